@@ -1,0 +1,58 @@
+-- The one spelling of each command, and the command that a body spells.
+use Rattle.std.specs.Prelude.{ℕ, List, [], ◌∷◌, ◌++◌, length, ◌==◌, nat_le, if◌then◌else◌, Option, Some, None}
+use Rattle.std.specs.Int.{w64}
+use Rattle.store_types.specs.Chain.Reading.{◌>>=◌, only_if}
+use Rattle.wire_frames.specs.Frames.{body_limit}
+use Rattle.wire_commands.specs.declared.command.Command.{Command}
+use Rattle.wire_commands.specs.declared.command.Command.TheVariants.{OpenWriter, Blob, Finish, OpenReader, Download, Bye}
+use Rattle.wire_commands.specs.Fields.{u64, text, whole, byte_at, number_at, text_at}
+
+unfoldable pub command_text : Command → List ℕ
+command_text (OpenWriter snapshot) = 10 ∷ text snapshot
+command_text (Blob file blob) = 17 ∷ text file ++ blob
+command_text Finish = 18 ∷ []
+command_text (OpenReader snapshot) = 20 ∷ text snapshot
+command_text (Download file offset) = 21 ∷ text file ++ u64 offset
+command_text Bye = 63 ∷ []
+
+-- ---- reading
+
+abbrev pub Reader : Type 0
+Reader = List ℕ → Option Command
+
+unfoldable pub nothing_more : Command → Reader
+nothing_more c bytes = if length bytes == 0 then Some c else None
+
+unfoldable pub one_text : (List ℕ → Command) → Reader
+one_text make bytes = do
+  t ← whole (text_at bytes)
+  Some (make t)
+
+unfoldable pub text_and_offset : (List ℕ → ℕ → Command) → Reader
+text_and_offset make bytes = do
+  t ← text_at bytes
+  offset ← whole (number_at w64 t.1)
+  Some (make t.0 offset)
+
+unfoldable pub blob : Reader
+blob bytes = do
+  file ← text_at bytes
+  Some (Blob file.0 file.1)
+
+-- what the fields of a code make
+unfoldable pub fields_of : ℕ → Reader
+fields_of code bytes =
+    if code == 10 then one_text OpenWriter bytes else
+    if code == 17 then blob bytes else
+    if code == 18 then nothing_more Finish bytes else
+    if code == 20 then one_text OpenReader bytes else
+    if code == 21 then text_and_offset Download bytes else
+    if code == 63 then nothing_more Bye bytes else
+    None
+
+-- the command whose text this is; no body is longer than a frame holds
+unfoldable pub command_of : List ℕ → Option Command
+command_of body = do
+  _ ← only_if (nat_le (length body) body_limit)
+  code ← byte_at body
+  fields_of code.0 code.1

@@ -1,0 +1,47 @@
+-- The fields of a body: how each is spelled, and how it is read from the front.
+use Rattle.std.specs.Prelude.{ℕ, List, [], ◌∷◌, length, take, drop, ◌==◌, nat_lt, if◌then◌else◌, Option, Some, None}
+use Rattle.std.specs.Int.{Width, w32, w64, byte_len, to_le_bytes, from_le_bytes}
+use Rattle.store_types.specs.declared.names.Digest32.{Digest32}
+use Rattle.store_types.specs.Chain.Reading.{◌>>=◌}
+
+abbrev pub u32 : ℕ → List ℕ
+u32 n = to_le_bytes w32 n
+
+abbrev pub u64 : ℕ → List ℕ
+u64 n = to_le_bytes w64 n
+
+-- one byte of length, and that many bytes
+abbrev pub text : List ℕ → List ℕ
+text t = length t ∷ t
+
+-- ---- reading: a value, and the bytes after it
+
+abbrev pub Read : Type 0 → Type 0
+Read A = Option (A × List ℕ)
+
+-- the value, where nothing is left
+abbrev pub whole : {A : Type 0} → Read A → Option A
+whole None = None
+whole (Some found) = if length found.1 == 0 then Some found.0 else None
+
+abbrev pub byte_at : List ℕ → Read ℕ
+byte_at [] = None
+byte_at (b ∷ rest) = Some (b, rest)
+
+abbrev pub bytes_at : ℕ → List ℕ → Read (List ℕ)
+bytes_at n bytes = if nat_lt (length bytes) n then None else Some (take n bytes, drop n bytes)
+
+abbrev pub number_at : Width → List ℕ → Read ℕ
+number_at w bytes = do
+  n ← bytes_at (byte_len w) bytes
+  Some (from_le_bytes w n.0, n.1)
+
+abbrev pub digest_at : List ℕ → Read Digest32
+digest_at bytes = do
+  d ← bytes_at 32 bytes
+  Some (record { 0 = d.0 }, d.1)
+
+abbrev pub text_at : List ℕ → Read (List ℕ)
+text_at bytes = do
+  n ← byte_at bytes
+  bytes_at n.0 n.1

@@ -1,0 +1,105 @@
+-- What has a spelling: texts of at most 255 bytes, digests of 32, and numbers and counts within their fields.
+use Rattle.std.specs.Prelude.{◌≡◌, ℕ, ◌<◌, ◌≤◌, ◌^◌, ◌↔◌, List, [], length, ⊤, Some, IsTrue}
+use Rattle.std.specs.List.{All}
+use Rattle.store_types.specs.declared.names.Digest32.{Digest32}
+use Rattle.store_types.specs.declared.refusal.BadBlob.{BadBlob as BlobCause}
+use Rattle.store_types.specs.declared.refusal.BadBlob.TheVariants as blobs
+use Rattle.store_types.specs.declared.refusal.CloseFault.{CloseFault}
+use Rattle.store_types.specs.declared.refusal.CloseFault.TheVariants.{Count, Size, Csum, Rest}
+use Rattle.store_types.specs.declared.refusal.ChunkFault.{ChunkFault}
+use Rattle.store_types.specs.declared.refusal.ChunkFault.TheVariants.{Other}
+use Rattle.store_types.specs.declared.refusal.Refusal.{Refusal}
+use Rattle.store_types.specs.declared.refusal.Refusal.TheVariants.{BadFrame, TooLong, GroupBusy, SnapshotBusy, NotNewer, BadBlob, WrongDigest, WrongSize, UnknownChunk, BadOffset, BadClose, OpenIndexes, BadManifest, ManifestMismatch, TooMany, BadRange, Damaged, Unreadable, CollectorBusy, Halted}
+use Rattle.wire_frames.specs.Frames.{body_limit}
+use Rattle.wire_commands.specs.declared.command.Command.{Command}
+use Rattle.wire_commands.specs.declared.command.Command.TheVariants.{OpenWriter, Blob, OpenReader, Download}
+use Rattle.wire_commands.specs.declared.reply.Reply.{Reply}
+use Rattle.wire_commands.specs.declared.reply.Reply.TheVariants.{Base, Part, Refused}
+use Rattle.wire_commands.specs.CommandText.{command_text, command_of}
+use Rattle.wire_commands.specs.ReplyText.{reply_text, answers_code}
+use Rattle.wire_commands.specs.ReplyReading.{reply_of}
+
+abbrev pub IsText : List ℕ → Type 0
+IsText t = length t < 256
+
+abbrev pub IsDigest : Digest32 → Type 0
+IsDigest d = length d.0 ≡ 32
+
+abbrev pub FitsCommand : Command → Type 0
+FitsCommand (OpenWriter snapshot) = IsText snapshot
+FitsCommand (Blob file blob) = IsText file
+FitsCommand (OpenReader snapshot) = IsText snapshot
+FitsCommand (Download file offset) = IsText file × (offset < 2 ^ 64)
+FitsCommand _ = ⊤
+
+-- the command has a spelling
+abbrev pub HasText : Command → Type 0
+HasText c = FitsCommand c × (length (command_text c) ≤ body_limit)
+
+-- ---- replies
+
+abbrev pub FitsBadBlob : BlobCause → Type 0
+FitsBadBlob (blobs.WrongCrc kept found) = (kept < 2 ^ 32) × (found < 2 ^ 32)
+FitsBadBlob _ = ⊤
+
+abbrev pub FitsCloseFault : CloseFault → Type 0
+FitsCloseFault (Count n) = n < 2 ^ 64
+FitsCloseFault (Size n) = n < 2 ^ 64
+FitsCloseFault (Csum d) = IsDigest d
+FitsCloseFault (Rest n) = n < 2 ^ 64
+
+abbrev pub FitsChunkFault : ChunkFault → Type 0
+FitsChunkFault (Other d) = IsDigest d
+FitsChunkFault _ = ⊤
+
+-- Just the fields 1 to 3 name no file.
+abbrev pub FitsMismatch : List ℕ → ℕ → Type 0
+FitsMismatch file field = IsText file × (1 ≤ field) × (field ≤ 7) × ((file ≡ []) ↔ (field ≤ 3))
+
+abbrev pub FitsRefusal : Refusal → Type 0
+FitsRefusal (BadFrame offset) = offset < 2 ^ 64
+FitsRefusal (TooLong len) = len < 2 ^ 32
+FitsRefusal (GroupBusy lane) = lane < 2 ^ 32
+FitsRefusal (SnapshotBusy lane) = lane < 2 ^ 32
+FitsRefusal (NotNewer latest) = latest < 2 ^ 64
+FitsRefusal (BadBlob fault) = FitsBadBlob fault
+FitsRefusal (WrongDigest found) = IsDigest found
+FitsRefusal (WrongSize place size) = (place < 2 ^ 32) × (size < 2 ^ 64)
+FitsRefusal (UnknownChunk place) = place < 2 ^ 32
+FitsRefusal (BadOffset place expected) = (place < 2 ^ 32) × (expected < 2 ^ 64)
+FitsRefusal (BadClose fault) = FitsCloseFault fault
+FitsRefusal (OpenIndexes count) = count < 256
+FitsRefusal (BadManifest cause) = (1 ≤ cause) × (cause ≤ 5)
+FitsRefusal (ManifestMismatch file field) = FitsMismatch file field
+FitsRefusal (TooMany limit) = limit < 2 ^ 32
+FitsRefusal (BadRange size) = size < 2 ^ 64
+FitsRefusal (Damaged digest fault) = IsDigest digest × FitsChunkFault fault
+FitsRefusal (Unreadable name) = IsText name
+FitsRefusal (CollectorBusy lane) = lane < 2 ^ 32
+FitsRefusal (Halted place) = place < 2 ^ 64
+FitsRefusal _ = ⊤
+
+abbrev pub FitsReply : Reply → Type 0
+FitsReply (Base snapshot) = IsText snapshot
+FitsReply (Part total bytes) = total < 2 ^ 64
+FitsReply (Refused refusal) = FitsRefusal refusal
+FitsReply _ = ⊤
+
+abbrev pub ReplyHasText : Reply → Type 0
+ReplyHasText r = FitsReply r × (length (reply_text r) ≤ body_limit)
+
+-- ---- laws
+
+-- what is written is read again, and what is read has one spelling
+abbrev pub CommandsAreReadAgain : Type 0
+CommandsAreReadAgain = (c : Command) → HasText c → command_of (command_text c) ≡ Some c
+
+abbrev pub CommandsHaveOneText : Type 0
+CommandsHaveOneText = (body : List ℕ) (c : Command) → All (λ b. b < 256) body → command_of body ≡ Some c → HasText c × (body ≡ command_text c)
+
+abbrev pub RepliesAreReadAgain : Type 0
+RepliesAreReadAgain = (code : ℕ) (r : Reply) → ReplyHasText r → IsTrue (answers_code code r) → reply_of code (reply_text r) ≡ Some r
+
+abbrev pub RepliesHaveOneText : Type 0
+RepliesHaveOneText = (code : ℕ) (body : List ℕ) (r : Reply) → All (λ b. b < 256) body → reply_of code body ≡ Some r →
+    ReplyHasText r × IsTrue (answers_code code r) × (body ≡ reply_text r)

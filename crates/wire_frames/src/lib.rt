@@ -1,0 +1,2 @@
+//! Frames: a length, and a body.
+#![tactic(auto)]
