@@ -1,0 +1,69 @@
+-- What stands next on a lane.
+use Rattle.std.specs.Prelude.{ℕ, ◌-◌, List, [], ◌++◌, map, length, Option, None, slice_index_or, slice_set}
+use Rattle.store_types.specs.declared.refusal.Refusal.{Refusal}
+use Rattle.store_types.specs.declared.refusal.Refusal.TheVariants.{BadFrame, TooLong}
+use Rattle.store_files.specs.Archive.{Snapshot}
+use Rattle.wire_frames.specs.Frames.{frame}
+use Rattle.wire_commands.specs.declared.command.Command.{Command}
+use Rattle.wire_commands.specs.declared.command.Command.TheVariants.{Bye}
+use Rattle.wire_commands.specs.declared.reply.Reply.{Reply}
+use Rattle.wire_commands.specs.Inputs.{Front, nothing, next, over_limit, no_command, front}
+use Rattle.wire_commands.specs.ReplyText.{reply_text}
+use Rattle.store_model.specs.Store.{Store, store_of}
+
+-- an input's size, what is left of it, and the replies so far
+pub record Lane : Type 0 where
+  pub size : ℕ
+  pub left : List ℕ
+  pub told : List ℕ
+
+-- the store, the remote's snapshots where there is one, the lanes, and the place of the first fault
+pub record Run : Type 0 where
+  pub store : Store
+  pub remote : Option (List Snapshot)
+  pub lanes : List Lane
+  pub fault : Option ℕ
+
+abbrev pub new_lane : List ℕ → Lane
+new_lane input = record { size = length input; left = input; told = [] }
+
+abbrev pub new_run : List Snapshot → Option (List Snapshot) → List (List ℕ) → Run
+new_run snapshots remote inputs =
+    record { store = store_of snapshots; remote = remote; lanes = map new_lane inputs; fault = None }
+
+abbrev pub lane_at : Run → ℕ → Lane
+lane_at r k = slice_index_or r.lanes k (new_lane [])
+
+abbrev pub with_lane : Run → ℕ → Lane → Run
+with_lane r k lane = record r { lanes = slice_set r.lanes k lane }
+
+-- one more reply
+abbrev pub say : Reply → Lane → Lane
+say reply lane = record lane { told = lane.told ++ frame (reply_text reply) }
+
+-- ---- what is next
+
+pub data Next : Type 0 where
+  -- a command, and what is left behind it
+  plain : Command → List ℕ → Next
+  -- the end: BYE, something that isn't a command, with its refusal, or nothing
+  bye : Next
+  broken : Refusal → Next
+  end : Next
+
+unfoldable pub command_next : Command → List ℕ → Next
+command_next Bye left = bye
+command_next c left = plain c left
+
+-- what stands at this offset of the input
+unfoldable pub front_next : ℕ → Front → Next
+front_next offset nothing = end
+front_next offset (next c left) = command_next c left
+front_next offset (over_limit n) = broken (TooLong n)
+front_next offset no_command = broken (BadFrame offset)
+
+unfoldable pub lane_next : Lane → Next
+lane_next lane = front_next (lane.size - length lane.left) (front lane.left)
+
+unfoldable pub next_of : Run → ℕ → Next
+next_of r k = lane_next (lane_at r k)

@@ -1,0 +1,9 @@
+pub mod Store
+pub mod Uploads
+pub mod WriterSteps
+pub mod ReaderSteps
+pub mod Steps
+pub mod Lanes
+pub mod Weave
+pub mod Stands
+pub mod Load

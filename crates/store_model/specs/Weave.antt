@@ -1,0 +1,164 @@
+-- The plain store and the replies, where lanes take turns in a given order.
+use Rattle.std.specs.Prelude.{IsTrue, IsOk, ℕ, ◌+◌, Bool, true, false, List, [], ◌∷◌, map, length, ◌==◌, if◌then◌else◌, Option, Some, None, Result, Ok, Err, slice_index_or}
+use Rattle.std.specs.List.{find}
+use Rattle.store_types.specs.declared.order.Entry.{Entry}
+use Rattle.store_types.specs.declared.refusal.Refusal.{Refusal}
+use Rattle.store_types.specs.declared.refusal.Refusal.TheVariants.{NoMemory, DiskFault, Halted}
+use Rattle.store_types.specs.Chain.Refusing.{◌>>=◌}
+use Rattle.store_files.specs.Archive.{Snapshot}
+use Rattle.store_files.specs.Order.{keeps_rules}
+use Rattle.wire_commands.specs.declared.reply.Reply.{Reply}
+use Rattle.wire_commands.specs.declared.reply.Reply.TheVariants.{Done, Refused}
+use Rattle.store_model.specs.declared.ending.Ending.{Ending}
+use Rattle.store_model.specs.declared.ending.Ending.TheVariants as endings
+use Rattle.store_model.specs.Store.{Store}
+use Rattle.store_model.specs.Steps.{ended, step}
+use Rattle.store_model.specs.Lanes.{Run, Next, plain, bye, broken, end, new_run, lane_at, with_lane, say, next_of}
+
+-- ---- what an entry may do
+
+-- the store is another
+unfoldable pub with_store : Run → Store → Run
+with_store r s = record r { store = s }
+
+-- a lane's reply, with this left of its input
+unfoldable pub tell : Run → ℕ → List ℕ → Reply → Run
+tell r k left reply = with_lane r k (say reply (record (lane_at r k) { left = left }))
+
+unfoldable pub answer : Run → ℕ → List ℕ → Store × Reply → Run
+answer r k left after = tell (with_store r after.0) k left after.1
+
+-- ---- the kinds
+
+-- 0: the next command
+unfoldable pub stepped : Run → ℕ → ℕ → Next → Option Run
+stepped r k moment (plain c left) = Some (answer r k left (step r.store k moment c))
+stepped r k moment _ = None
+
+-- 2: want of memory. What isn't a command is used up, with the rest of the input.
+unfoldable pub short : Run → ℕ → Next → Option Run
+short r k (plain c left) = Some (tell r k left (Refused NoMemory))
+short r k (broken refusal) = Some (tell r k [] (Refused NoMemory))
+short r k bye = None
+short r k end = None
+
+-- 5: a fault of the disk, and all that come after it; it is told of a command, and not of a lane's end
+abbrev pub fault_refusal : Option ℕ → Refusal
+fault_refusal None = DiskFault
+fault_refusal (Some first) = Halted first
+
+unfoldable pub told_fault : Run → ℕ → Refusal → Next → Run
+told_fault r k refusal (plain c left) = tell r k left (Refused refusal)
+told_fault r k refusal _ = r
+
+abbrev pub first_fault : ℕ → Option ℕ → Option ℕ
+first_fault place None = Some place
+first_fault place (Some first) = Some first
+
+abbrev pub is_end : Option Entry → Bool
+is_end None = false
+is_end (Some e) = e.kind == 6
+
+-- want of memory ended the lane, and its end comes next
+abbrev pub is_cut_off : ℕ → Ending → List Entry → Bool
+is_cut_off k endings.NoMemory later = is_end (find (λ e. e.lane == k) later)
+is_cut_off k _ later = false
+
+unfoldable pub faulted : Run → ℕ → ℕ → Ending → List Entry → Next → Run
+faulted r k place ending later n =
+    let after = if is_cut_off k ending later then r else told_fault r k (fault_refusal r.fault) n in
+    record after { fault = first_fault place r.fault }
+
+-- 6: the lane's end. Commands may be left unread where the source or the sink failed, the input was too long, or memory was wanting.
+abbrev pub is_replied : Ending → Bool
+is_replied endings.Clean = true
+is_replied (endings.Broken place) = true
+is_replied endings.SinkFault = true
+is_replied _ = false
+
+abbrev pub may_leave_unread : Ending → Bool
+may_leave_unread endings.Clean = false
+may_leave_unread (endings.Broken place) = false
+may_leave_unread _ = true
+
+unfoldable pub end_session : Run → ℕ → Run
+end_session r k = with_store r (ended r.store k)
+
+unfoldable pub ended_with : Run → ℕ → Ending → Reply → Run
+ended_with r k ending reply = if is_replied ending then tell (end_session r k) k [] reply else end_session r k
+
+unfoldable pub unread : Run → ℕ → Ending → Option Run
+unread r k ending = if may_leave_unread ending then Some (end_session r k) else None
+
+unfoldable pub ends : Run → ℕ → Ending → Next → Option Run
+ends r k ending bye = Some (ended_with r k ending Done)
+ends r k ending (broken refusal) = Some (ended_with r k ending (Refused refusal))
+ends r k ending end = Some (end_session r k)
+ends r k ending (plain c left) = unread r k ending
+
+-- ---- an order
+
+-- how a lane ends, where this is next on it
+abbrev pub Endings : Type 0
+Endings = ℕ → Next → Ending
+
+-- the run after one entry, or none where it doesn't fit
+unfoldable pub entered : Endings → Run → ℕ → Entry → List Entry → Option Run
+entered ending_of r place e later =
+    let n = next_of r e.lane in
+    let ending = ending_of e.lane n in
+    if e.kind == 0 then stepped r e.lane e.moment n else
+    if e.kind == 2 then short r e.lane n else
+    if e.kind == 5 then Some (faulted r e.lane place ending later n) else
+    if e.kind == 6 then ends r e.lane ending n else
+    None
+
+-- the first entry that doesn't fit, its lane, and how long that lane's replies are by then
+pub record Misfit : Type 0 where
+  pub entry : ℕ
+  pub lane : ℕ
+  pub replayed : ℕ
+
+abbrev pub misfit : Run → ℕ → Entry → Misfit
+misfit r place e = record { entry = place; lane = e.lane; replayed = length (lane_at r e.lane).told }
+
+-- the run after the entries from this place on
+unfoldable pub run_from : Endings → Run → ℕ → List Entry → Result Run Misfit
+run_from ending_of r place [] = Ok r
+run_from ending_of r place (e ∷ later) =
+    elim (entered ending_of r place e later) [
+      | None ↦ Err (misfit r place e)
+      | Some after ↦ run_from ending_of after (place + 1) later
+    ]
+
+pub record Woven : Type 0 where
+  pub store : Store
+  pub replies : List (List ℕ)
+
+abbrev pub woven_of : Run → Woven
+woven_of r = record { store = r.store; replies = map (λ lane. lane.told) r.lanes }
+
+-- the endings as they are known
+abbrev pub known : List Ending → Endings
+known es k n = slice_index_or es k endings.Clean
+
+-- the endings as the inputs tell them
+abbrev pub told_by_input : Endings
+told_by_input k bye = endings.Clean
+told_by_input k end = endings.Clean
+told_by_input k (broken refusal) = endings.Broken 0
+told_by_input k _ = endings.NoMemory
+
+-- the last store and each lane's replies, or the first misfit
+unfoldable pub woven : Endings → List Snapshot → Option (List Snapshot) → List Entry → List (List ℕ) → Result Woven Misfit
+woven ending_of snapshots remote order inputs = do
+  r ← run_from ending_of (new_run snapshots remote inputs) 0 order
+  Ok (woven_of r)
+
+unfoldable pub weave : List Snapshot → Option (List Snapshot) → List Entry → List (List ℕ) → List Ending → Result Woven Misfit
+weave snapshots remote order inputs es = woven (known es) snapshots remote order inputs
+
+-- the order keeps the rules of order files, and every entry fits
+abbrev pub Fits : List Snapshot → Option (List Snapshot) → List Entry → List (List ℕ) → List Ending → Type 0
+Fits snapshots remote order inputs es =
+    IsTrue (keeps_rules (length inputs) order) × IsOk (weave snapshots remote order inputs es)

@@ -1,0 +1,6 @@
+//! The plain store: snapshots with all their bytes, and what each command does to them. There is no code here but the types.
+#![tactic(auto)]
+
+mod ending;
+
+pub use ending::Ending;
