@@ -1,2 +1,203 @@
-//! Blobs: a magic, the CRC-32 of the data, and the data.
+//! Blobs, the form in which pieces and small files are sent and kept: a magic number of eight
+//! bytes, the CRC-32 of the data in four bytes, lowest first, and the data themselves, of at most
+//! 16,777,216 bytes. These are the uncompressed and unencrypted blobs of Proxmox Backup; the other
+//! three kinds are told apart and refused.
+//!
+//! Data have one blob, so a blob that decodes can be kept and sent on as it came.
 #![tactic(auto)]
+
+ghost use Rattle.std.specs.Prelude.{◌≡◌, ◌↔◌, ℕ, List, take, drop, Ok, Err, IsOk, IfOk, IfErr, MatchResult};
+ghost use Rattle.std.specs.Int.{w32, from_le_bytes};
+ghost use Rattle.blob_codec.specs.Blob.{blob, data_of, data_under, data_behind, FitsBlob};
+
+pub mod laws;
+
+use crc_core::crc32;
+use std::alloc::{AllocError, Global};
+pub use store_types::BadBlob;
+
+/// The bytes of a blob before its data.
+pub const HEADER_SIZE: usize = 12;
+
+/// The most bytes of data that a blob holds.
+pub const DATA_LIMIT: usize = 16_777_216;
+
+const MAGIC: [u8; 8] = [66, 171, 56, 7, 190, 131, 112, 161];
+
+const COMPRESSED_MAGIC: [u8; 8] = [49, 185, 88, 66, 111, 182, 163, 127];
+
+const ENCRYPTED_MAGIC: [u8; 8] = [123, 103, 133, 190, 34, 45, 76, 240];
+
+const ENCRYPTED_COMPRESSED_MAGIC: [u8; 8] = [230, 89, 27, 191, 11, 191, 216, 11];
+
+/// The blob of `data`, in one allocation of its size. The outer error is want of memory; the inner
+/// one is `TooLong` alone, and comes exactly where the data are over `DATA_LIMIT`.
+#[tactic(auto, unfolding(crate::specs::Blob::blob))]
+pub fn encode(alloc: Global, data: &[u8]) -> Result<Result<Vec<u8>, BadBlob>, AllocError>
+    ensures text { IfOk result (λ r. IfOk r (λ text. text.items ≡ blob «data».now)) }
+    ensures fits { IfOk result (λ r. IsOk r ↔ FitsBlob «data».now) }
+    ensures too_long { IfOk result (λ r. IfErr r (λ e. e ≡ BadBlob.TooLong)) }
+{
+    if data.len() > DATA_LIMIT {
+        return Ok(Err(BadBlob::TooLong));
+    }
+    let mut text = Vec::with_capacity(alloc, HEADER_SIZE + data.len())?;
+    text.extend_from_slice(&MAGIC)?;
+    text.extend_from_slice(&crc32(data).to_le_bytes())?;
+    text.extend_from_slice(data)?;
+    Ok(Ok(text))
+}
+
+/// The data of the blob, lent from its bytes, or the first cause for which they are none, in the
+/// order of `BadBlob`. It takes no memory and copies nothing.
+pub fn decode(bytes: &[u8]) -> Result<&[u8], BadBlob>
+    ensures { MatchResult result (λ d. data_of bytes.now ≡ Ok d.now) (λ e. data_of bytes.now ≡ Err e) }
+{
+    if bytes.len() < HEADER_SIZE {
+        return Err(BadBlob::Short);
+    }
+    let (magic, rest) = bytes.split_at(8);
+    check_magic(magic)?;
+    let (kept, data) = rest.split_at(4);
+    check_data(
+        u32::from_le_bytes([kept[0], kept[1], kept[2], kept[3]]),
+        data,
+    )?;
+    Ok(data)
+}
+
+/// The data of the blob, in the memory that held the blob, or the first cause, as by `decode`. It
+/// takes no memory, and copies the data once, to where the blob began.
+pub fn decode_vec(bytes: Vec<u8>) -> Result<Vec<u8>, BadBlob>
+    ensures { MatchResult result (λ d. data_of bytes.items ≡ Ok d.items) (λ e. data_of bytes.items ≡ Err e) }
+{
+    let length = decode(&bytes)?.len();
+    let mut data = bytes;
+    data.copy_within(HEADER_SIZE.., 0);
+    data.truncate(length);
+    Ok(data)
+}
+
+// `Ok` where these are the magic bytes of a blob with plain data.
+fn check_magic(magic: &[u8]) -> Result<(), BadBlob>
+    ensures { (rest : List ℕ) → MatchResult result
+        (λ _. data_under magic.now rest ≡ data_behind (from_le_bytes w32 (take 4 rest)) (drop 4 rest))
+        (λ e. data_under magic.now rest ≡ Err e) }
+{
+    if magic == COMPRESSED_MAGIC.as_slice() {
+        Err(BadBlob::Compressed)
+    } else if magic == ENCRYPTED_MAGIC.as_slice() {
+        Err(BadBlob::Encrypted)
+    } else if magic == ENCRYPTED_COMPRESSED_MAGIC.as_slice() {
+        Err(BadBlob::EncryptedCompressed)
+    } else if magic == MAGIC.as_slice() {
+        Ok(())
+    } else {
+        Err(BadBlob::UnknownMagic)
+    }
+}
+
+// `Ok` where the data are within the limit and have the CRC that is kept beside them.
+fn check_data(kept: u32, data: &[u8]) -> Result<(), BadBlob>
+    ensures { MatchResult result
+        (λ _. data_behind kept «data».now ≡ Ok «data».now)
+        (λ e. data_behind kept «data».now ≡ Err e) }
+{
+    if data.len() > DATA_LIMIT {
+        return Err(BadBlob::TooLong);
+    }
+    let found = crc32(data);
+    if kept != found {
+        return Err(BadBlob::WrongCrc { kept, found });
+    }
+    Ok(())
+}
+
+#[cfg(test)]
+mod tests {
+    use super::*;
+    use std::test::Fail;
+
+    #[test]
+    fn known_blobs(rt: HostRuntime) -> Result<(), Fail> {
+        for (data, text) in [
+            (
+                b"".as_slice(),
+                b"\x42\xab\x38\x07\xbe\x83\x70\xa1\0\0\0\0".as_slice(),
+            ),
+            (
+                b"abc".as_slice(),
+                b"\x42\xab\x38\x07\xbe\x83\x70\xa1\xc2\x41\x24\x35abc".as_slice(),
+            ),
+            (
+                b"123456789".as_slice(),
+                b"\x42\xab\x38\x07\xbe\x83\x70\xa1\x26\x39\xf4\xcb123456789".as_slice(),
+            ),
+        ] {
+            let blob = encode(rt.alloc(), data)??;
+            assert_eq!(rt; blob.as_slice(), text);
+            assert_eq!(rt; decode(text)?, data);
+            assert_eq!(rt; decode_vec(blob)?.as_slice(), data);
+        }
+        Ok(())
+    }
+
+    #[test]
+    fn first_cause(rt: HostRuntime) {
+        for (text, cause) in [
+            (
+                b"\x42\xab\x38\x07\xbe\x83\x70\xa1\0\0\0".as_slice(),
+                BadBlob::Short,
+            ),
+            (
+                b"\x31\xb9\x58\x42\x6f\xb6\xa3\x7f\0\0\0".as_slice(),
+                BadBlob::Short,
+            ),
+            (
+                b"\x31\xb9\x58\x42\x6f\xb6\xa3\x7f\x26\x39\xf4\xcb123456789".as_slice(),
+                BadBlob::Compressed,
+            ),
+            (
+                b"\x7b\x67\x85\xbe\x22\x2d\x4c\xf0\0\0\0\0".as_slice(),
+                BadBlob::Encrypted,
+            ),
+            (
+                b"\xe6\x59\x1b\xbf\x0b\xbf\xd8\x0b\0\0\0\0".as_slice(),
+                BadBlob::EncryptedCompressed,
+            ),
+            (
+                b"\x42\xab\x38\x07\xbe\x83\x70\xa2\0\0\0\0".as_slice(),
+                BadBlob::UnknownMagic,
+            ),
+            (
+                b"\x42\xab\x38\x07\xbe\x83\x70\xa1\x27\x39\xf4\xcb123456789".as_slice(),
+                BadBlob::WrongCrc {
+                    kept: 0xcbf43927,
+                    found: 0xcbf43926,
+                },
+            ),
+        ] {
+            assert_eq!(rt; decode(text), Err(cause));
+        }
+    }
+
+    fn zeros(alloc: Global, count: usize) -> Result<Vec<u8>, AllocError> {
+        vec![in alloc; 0; count]
+    }
+
+    #[test]
+    fn at_the_limit(rt: HostRuntime) -> Result<(), Fail> {
+        let most = zeros(rt.alloc(), DATA_LIMIT)?;
+        let blob = encode(rt.alloc(), &most)??;
+        assert_eq!(rt; blob.len(), 16_777_228);
+        assert_eq!(rt; decode(&blob)?.len(), DATA_LIMIT);
+
+        let more = zeros(rt.alloc(), DATA_LIMIT + 1)?;
+        assert_eq!(rt; encode(rt.alloc(), &more)?.err(), Some(BadBlob::TooLong));
+        let mut long = Vec::from_slice(rt.alloc(), b"\x42\xab\x38\x07\xbe\x83\x70\xa1\0\0\0\0")?;
+        long.extend_from_slice(&more)?;
+        assert_eq!(rt; long.len(), 16_777_229);
+        assert_eq!(rt; decode(&long), Err(BadBlob::TooLong));
+        Ok(())
+    }
+}

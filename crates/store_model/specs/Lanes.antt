@@ -7,7 +7,7 @@ use Rattle.wire_frames.specs.Frames.{frame}
 use Rattle.wire_commands.specs.declared.command.Command.{Command}
 use Rattle.wire_commands.specs.declared.command.Command.TheVariants.{Bye}
 use Rattle.wire_commands.specs.declared.reply.Reply.{Reply}
-use Rattle.wire_commands.specs.Inputs.{Front, nothing, next, over_limit, no_command, front}
+use Rattle.wire_commands.specs.Inputs.{InputFront, nothing, next, over_limit, no_command, front}
 use Rattle.wire_commands.specs.ReplyText.{reply_text}
 use Rattle.store_model.specs.Store.{Store, store_of}
 
@@ -56,7 +56,7 @@ command_next Bye left = bye
 command_next c left = plain c left
 
 -- what stands at this offset of the input
-unfoldable pub front_next : ℕ → Front → Next
+unfoldable pub front_next : ℕ → InputFront → Next
 front_next offset nothing = end
 front_next offset (next c left) = command_next c left
 front_next offset (over_limit n) = broken (TooLong n)

@@ -1,5 +1,5 @@
 -- The commands of a writer, with their refusals in order.
-use Rattle.std.specs.Prelude.{ℕ, List, [], length, nat_le, nat_lt, Option, Some, None, Result, Ok, Err, take, drop}
+use Rattle.std.specs.Prelude.{ℕ, List, [], length, nat_lt, Option, Some, None, Result, Ok, Err, take, drop}
 use Rattle.store_types.specs.declared.names.SnapshotKey.{SnapshotKey}
 use Rattle.store_types.specs.declared.refusal.Refusal.{Refusal}
 use Rattle.store_types.specs.declared.refusal.Refusal.TheVariants.{BadName, GroupBusy, NotNewer, TooMany, NoFile, BadBlob}

@@ -5,9 +5,7 @@
 pub enum Ending {
     Clean,
     /// At this offset of the input, in bytes, no command stands.
-    Broken {
-        place: u64,
-    },
+    Broken { place: u64 },
     SourceFault,
     SinkFault,
     /// The lane took 2^40 bytes without ending.

@@ -1,6 +1,5 @@
 -- What has a spelling: texts of at most 255 bytes, digests of 32, and numbers and counts within their fields.
 use Rattle.std.specs.Prelude.{◌≡◌, ℕ, ◌<◌, ◌≤◌, ◌^◌, ◌↔◌, List, [], length, ⊤, Some, IsTrue}
-use Rattle.std.specs.List.{All}
 use Rattle.store_types.specs.declared.names.Digest32.{Digest32}
 use Rattle.store_types.specs.declared.refusal.BadBlob.{BadBlob as BlobCause}
 use Rattle.store_types.specs.declared.refusal.BadBlob.TheVariants as blobs
@@ -10,7 +9,7 @@ use Rattle.store_types.specs.declared.refusal.ChunkFault.{ChunkFault}
 use Rattle.store_types.specs.declared.refusal.ChunkFault.TheVariants.{Other}
 use Rattle.store_types.specs.declared.refusal.Refusal.{Refusal}
 use Rattle.store_types.specs.declared.refusal.Refusal.TheVariants.{BadFrame, TooLong, GroupBusy, SnapshotBusy, NotNewer, BadBlob, WrongDigest, WrongSize, UnknownChunk, BadOffset, BadClose, OpenIndexes, BadManifest, ManifestMismatch, TooMany, BadRange, Damaged, Unreadable, CollectorBusy, Halted}
-use Rattle.wire_frames.specs.Frames.{body_limit}
+use Rattle.wire_frames.specs.Frames.{body_limit, AreBytes}
 use Rattle.wire_commands.specs.declared.command.Command.{Command}
 use Rattle.wire_commands.specs.declared.command.Command.TheVariants.{OpenWriter, Blob, OpenReader, Download}
 use Rattle.wire_commands.specs.declared.reply.Reply.{Reply}
@@ -95,11 +94,11 @@ abbrev pub CommandsAreReadAgain : Type 0
 CommandsAreReadAgain = (c : Command) → HasText c → command_of (command_text c) ≡ Some c
 
 abbrev pub CommandsHaveOneText : Type 0
-CommandsHaveOneText = (body : List ℕ) (c : Command) → All (λ b. b < 256) body → command_of body ≡ Some c → HasText c × (body ≡ command_text c)
+CommandsHaveOneText = (body : List ℕ) (c : Command) → AreBytes body → command_of body ≡ Some c → HasText c × (body ≡ command_text c)
 
 abbrev pub RepliesAreReadAgain : Type 0
 RepliesAreReadAgain = (code : ℕ) (r : Reply) → ReplyHasText r → IsTrue (answers_code code r) → reply_of code (reply_text r) ≡ Some r
 
 abbrev pub RepliesHaveOneText : Type 0
-RepliesHaveOneText = (code : ℕ) (body : List ℕ) (r : Reply) → All (λ b. b < 256) body → reply_of code body ≡ Some r →
+RepliesHaveOneText = (code : ℕ) (body : List ℕ) (r : Reply) → AreBytes body → reply_of code body ≡ Some r →
     ReplyHasText r × IsTrue (answers_code code r) × (body ≡ reply_text r)

@@ -1,6 +1,16 @@
 //! The commands.
 
+ghost use Rattle.std.specs.Prelude.{◌≡◌, ◌≤◌, ◌++◌, length, IsSome, IfOk, OnErr};
+ghost use Rattle.std.specs.Result.{result_ok};
+ghost use Rattle.wire_commands.specs.HasText.{HasText, FitsCommand};
+ghost use Rattle.wire_commands.specs.CommandText.{command_text, command_of, fields_of, nothing_more, one_text, text_and_offset, blob};
+
+use crate::fields::{byte_at, copied, only_text, text_at, u64_at, whole};
+use crate::head::{Head, Spelling};
+use std::alloc::{AllocError, Global};
 use store_types::Bytes;
+use thiserror::Error;
+use wire_frames::BODY_LIMIT;
 
 /// A command. Its texts are as they were sent, in their grammar or not.
 #[derive(Debug, Drop)]
@@ -17,4 +27,143 @@ pub enum Command {
     Download { file: Bytes, offset: u64 },
     /// 63: the lane's end.
     Bye,
+}
+
+/// A body is no command: its code is unknown, its fields are too short or too long, or it has more
+/// than 16,778,240 bytes.
+#[derive(Clone, Copy, Debug, PartialEq, Eq, Drop, Error)]
+#[error("the body is no command")]
+pub struct BadFrame;
+
+impl Command {
+    /// The command that a body spells. Only a command with texts takes memory, so what is no
+    /// command is always told.
+    pub fn read(alloc: Global, body: &[u8]) -> Result<Result<Command, BadFrame>, AllocError>
+        ensures command { IfOk result (λ read. result_ok read ≡ command_of body.now) }
+        ensures spelled { IfOk result (λ read. IfOk read (λ c. HasText c × (body.now ≡ command_text c))) }
+        ensures memory { OnErr result ((2 ≤ length body.now) × IsSome (command_of body.now)) }
+    {
+        Ok(command_in(alloc, body)?.ok_or(BadFrame))
+    }
+
+    /// The body of the command, which `read` reads as it.
+    pub fn text(&self, alloc: Global) -> Result<Vec<u8>, AllocError>
+        requires { HasText self.now }
+        ensures { IfOk result (λ text. text.items ≡ command_text self.now) }
+    {
+        let Spelling { head, rest } = self.spelling();
+        let head = head.as_slice();
+        let mut text = Vec::with_capacity(alloc, head.len() + rest.len())?;
+        text.extend_from_slice(head)?;
+        text.extend_from_slice(rest)?;
+        Ok(text)
+    }
+
+    #[tactic(auto, unfolding(crate::specs::CommandText::command_text))]
+    fn spelling(&self) -> Spelling<'_>
+        requires { FitsCommand self.now }
+        ensures { result.head ++ result.rest.now ≡ command_text self.now }
+    {
+        match self {
+            Command::OpenWriter { snapshot } => Spelling::of(Head::new(10).text(snapshot)),
+            Command::Blob { file, blob } => Spelling {
+                head: Head::new(17).text(file),
+                rest: blob.as_slice(),
+            },
+            Command::Finish => Spelling::of(Head::new(18)),
+            Command::OpenReader { snapshot } => Spelling::of(Head::new(20).text(snapshot)),
+            Command::Download { file, offset } => {
+                Spelling::of(Head::new(21).text(file).u64(*offset))
+            }
+            Command::Bye => Spelling::of(Head::new(63)),
+        }
+    }
+}
+
+#[tactic(auto, unfolding(crate::specs::CommandText::command_of))]
+fn command_in(alloc: Global, body: &[u8]) -> Result<Option<Command>, AllocError>
+    ensures command { IfOk result (λ c. c ≡ command_of body.now) }
+    ensures memory { OnErr result ((2 ≤ length body.now) × IsSome (command_of body.now)) }
+{
+    if body.len() > BODY_LIMIT as usize {
+        return Ok(None);
+    }
+    match byte_at(body) {
+        None => Ok(None),
+        Some((code, fields)) => with_code(alloc, code, fields),
+    }
+}
+
+/// The command of the code that has these fields.
+#[tactic(auto, unfolding(crate::specs::CommandText::fields_of))]
+fn with_code(alloc: Global, code: u8, fields: &[u8]) -> Result<Option<Command>, AllocError>
+    ensures command { IfOk result (λ c. c ≡ fields_of code fields.now) }
+    ensures memory { OnErr result ((1 ≤ length fields.now) × IsSome (fields_of code fields.now)) }
+{
+    match code {
+        10 => open_writer(alloc, fields),
+        17 => blob(alloc, fields),
+        18 => Ok(nothing_more(Command::Finish, fields)),
+        20 => open_reader(alloc, fields),
+        21 => download(alloc, fields),
+        63 => Ok(nothing_more(Command::Bye, fields)),
+        _ => Ok(None),
+    }
+}
+
+#[tactic(auto, unfolding(crate::specs::CommandText::nothing_more))]
+fn nothing_more(command: Command, fields: &[u8]) -> Option<Command>
+    ensures { result ≡ nothing_more command fields.now }
+{
+    if fields.is_empty() {
+        Some(command)
+    } else {
+        None
+    }
+}
+
+#[tactic(auto, unfolding(crate::specs::CommandText::one_text))]
+fn open_writer(alloc: Global, fields: &[u8]) -> Result<Option<Command>, AllocError>
+    ensures command { IfOk result (λ c. c ≡ one_text Command.OpenWriter fields.now) }
+    ensures memory { OnErr result ((1 ≤ length fields.now) × IsSome (one_text Command.OpenWriter fields.now)) }
+{
+    let snapshot = only_text(alloc, fields)?;
+    Ok(snapshot.map(|snapshot| Command::OpenWriter { snapshot }))
+}
+
+#[tactic(auto, unfolding(crate::specs::CommandText::one_text))]
+fn open_reader(alloc: Global, fields: &[u8]) -> Result<Option<Command>, AllocError>
+    ensures command { IfOk result (λ c. c ≡ one_text Command.OpenReader fields.now) }
+    ensures memory { OnErr result ((1 ≤ length fields.now) × IsSome (one_text Command.OpenReader fields.now)) }
+{
+    let snapshot = only_text(alloc, fields)?;
+    Ok(snapshot.map(|snapshot| Command::OpenReader { snapshot }))
+}
+
+#[tactic(auto, unfolding(crate::specs::CommandText::blob))]
+fn blob(alloc: Global, fields: &[u8]) -> Result<Option<Command>, AllocError>
+    ensures command { IfOk result (λ c. c ≡ blob fields.now) }
+    ensures memory { OnErr result ((1 ≤ length fields.now) × IsSome (blob fields.now)) }
+{
+    let Some((file, blob)) = text_at(fields) else {
+        return Ok(None);
+    };
+    let file = copied(alloc, file)?;
+    let blob = copied(alloc, blob)?;
+    Ok(Some(Command::Blob { file, blob }))
+}
+
+#[tactic(auto, unfolding(crate::specs::CommandText::text_and_offset))]
+fn download(alloc: Global, fields: &[u8]) -> Result<Option<Command>, AllocError>
+    ensures command { IfOk result (λ c. c ≡ text_and_offset Command.Download fields.now) }
+    ensures memory { OnErr result ((1 ≤ length fields.now) × IsSome (text_and_offset Command.Download fields.now)) }
+{
+    let Some((file, rest)) = text_at(fields) else {
+        return Ok(None);
+    };
+    let Some(offset) = whole(u64_at(rest)) else {
+        return Ok(None);
+    };
+    let file = copied(alloc, file)?;
+    Ok(Some(Command::Download { file, offset }))
 }

@@ -1,19 +1,136 @@
 //! The replies.
 
+ghost use Rattle.std.specs.Prelude.{◌≡◌, ◌≤◌, ◌++◌, length, is_ok, IsSome, IfSome, IfOk, OnErr};
+ghost use Rattle.port_traits.specs.Bytes.{Writes, WritesCounted};
+ghost use Rattle.port_traits.specs.Faults.{HasCause};
+ghost use Rattle.wire_frames.specs.Frames.{frame};
+ghost use Rattle.wire_commands.specs.HasText.{FitsReply, ReplyHasText};
+ghost use Rattle.wire_commands.specs.ReplyText.{reply_text, reply_form};
+ghost use Rattle.wire_commands.specs.ReplyReading.{part_in, accepted, reply_from, reply_of};
+
+use crate::fields::{byte_at, copied, only_text, u64_at};
+use crate::head::{Head, Spelling};
+use crate::refusal;
+use port_traits::{Failed, Sink};
+use std::alloc::{AllocError, Global};
 use store_types::{Bytes, Refusal};
+use wire_frames::{BODY_LIMIT, put_frame_counted};
 
 /// A reply. Commands whose replies have one form share a variant.
 #[derive(Debug, Drop)]
 pub enum Reply {
+    /// The command was done, and there is nothing to tell.
     Done,
     /// The base of a new writer, as the text of a snapshot, empty where there is none.
-    Base {
-        snapshot: Bytes,
-    },
+    Base { snapshot: Bytes },
     /// The size of a file in bytes, and a part of it.
-    Part {
-        total: u64,
-        bytes: Bytes,
-    },
+    Part { total: u64, bytes: Bytes },
+    /// The command was refused.
     Refused(Refusal),
+}
+
+impl Reply {
+    /// The reply to a command of the code that a body spells, where it spells one. A refusal is one
+    /// under any code. Only a reply of two bytes or more takes memory.
+    pub fn read(alloc: Global, code: u8, body: &[u8]) -> Result<Option<Reply>, AllocError>
+        ensures reply { IfOk result (λ r. r ≡ reply_of code body.now) }
+        ensures spelled { IfOk result (λ read. IfSome read (λ r. ReplyHasText r × (body.now ≡ reply_text r))) }
+        ensures memory { OnErr result ((2 ≤ length body.now) × IsSome (reply_of code body.now)) }
+    {
+        reply_in(alloc, code, body)
+    }
+
+    /// Writes the reply as a frame, or fails with a front of it written. It takes no memory.
+    pub fn put<K: Sink>(&self, sink: &mut K) -> Result<(), Failed>
+        requires { ReplyHasText self.now }
+        ensures bytes { Writes (K.taken sink.old) (K.taken sink.new) (frame (reply_text self.now)) (is_ok result) }
+        ensures cause { HasCause (K.faults sink.old) (K.faults sink.new) result }
+    {
+        self.put_counted(sink, &mut 0)
+    }
+
+    /// Writes as `put` does, and adds how many bytes were written to a count, also where it fails.
+    pub fn put_counted<K: Sink>(&self, sink: &mut K, given: &mut u64) -> Result<(), Failed>
+        requires { ReplyHasText self.now }
+        ensures bytes { WritesCounted (K.taken sink.old) (K.taken sink.new) given.old given.new (frame (reply_text self.now)) (is_ok result) }
+        ensures cause { HasCause (K.faults sink.old) (K.faults sink.new) result }
+    {
+        let Spelling { head, rest } = self.spelling();
+        put_frame_counted(sink, head.as_slice(), rest, given)
+    }
+
+    #[tactic(auto, unfolding(crate::specs::ReplyText::reply_text))]
+    fn spelling(&self) -> Spelling<'_>
+        requires { FitsReply self.now }
+        ensures { result.head ++ result.rest.now ≡ reply_text self.now }
+    {
+        match self {
+            Reply::Done => Spelling::of(Head::new(0)),
+            Reply::Base { snapshot } => Spelling::of(Head::new(0).text(snapshot)),
+            Reply::Part { total, bytes } => Spelling {
+                head: Head::new(0).u64(*total),
+                rest: bytes.as_slice(),
+            },
+            Reply::Refused(refusal) => Spelling::of(refusal::head(refusal)),
+        }
+    }
+}
+
+#[tactic(auto, unfolding(crate::specs::ReplyReading::reply_of))]
+fn reply_in(alloc: Global, code: u8, body: &[u8]) -> Result<Option<Reply>, AllocError>
+    ensures reply { IfOk result (λ r. r ≡ reply_of code body.now) }
+    ensures memory { OnErr result ((2 ≤ length body.now) × IsSome (reply_of code body.now)) }
+{
+    if body.len() > BODY_LIMIT as usize {
+        return Ok(None);
+    }
+    match byte_at(body) {
+        None => Ok(None),
+        Some((number, fields)) => with_number(alloc, code, number, fields),
+    }
+}
+
+#[tactic(auto, unfolding(crate::specs::ReplyReading::reply_from, crate::specs::ReplyReading::made))]
+fn with_number(
+    alloc: Global,
+    code: u8,
+    number: u8,
+    fields: &[u8],
+) -> Result<Option<Reply>, AllocError>
+    ensures reply { IfOk result (λ r. r ≡ reply_from (reply_form code) number fields.now) }
+    ensures memory { OnErr result ((1 ≤ length fields.now) × IsSome (reply_from (reply_form code) number fields.now)) }
+{
+    if number == 0 {
+        return accepted(alloc, code, fields);
+    }
+    let refusal = refusal::read(alloc, number, fields)?;
+    Ok(refusal.map(Reply::Refused))
+}
+
+#[tactic(auto, unfolding(crate::specs::ReplyReading::fields_in, crate::specs::ReplyReading::made))]
+fn accepted(alloc: Global, code: u8, fields: &[u8]) -> Result<Option<Reply>, AllocError>
+    ensures reply { IfOk result (λ r. r ≡ accepted (reply_form code) fields.now) }
+    ensures memory { OnErr result ((1 ≤ length fields.now) × IsSome (accepted (reply_form code) fields.now)) }
+{
+    match code {
+        10 => {
+            let snapshot = only_text(alloc, fields)?;
+            Ok(snapshot.map(|snapshot| Reply::Base { snapshot }))
+        }
+        21 => part(alloc, fields),
+        17 | 18 | 20 | 63 if fields.is_empty() => Ok(Some(Reply::Done)),
+        _ => Ok(None),
+    }
+}
+
+#[tactic(auto, unfolding(crate::specs::ReplyReading::part_in))]
+fn part(alloc: Global, fields: &[u8]) -> Result<Option<Reply>, AllocError>
+    ensures reply { IfOk result (λ r. r ≡ part_in fields.now) }
+    ensures memory { OnErr result ((1 ≤ length fields.now) × IsSome (part_in fields.now)) }
+{
+    let Some((total, bytes)) = u64_at(fields) else {
+        return Ok(None);
+    };
+    let bytes = copied(alloc, bytes)?;
+    Ok(Some(Reply::Part { total, bytes }))
 }

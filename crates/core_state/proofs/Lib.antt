@@ -1,0 +1,9 @@
+pub mod Clocks
+pub mod Opened
+pub mod Entered
+pub mod Answered
+pub mod Ended
+pub mod PathLengths
+pub mod Reserves
+pub mod Sessions
+pub mod Soundness

@@ -1,0 +1,72 @@
+-- What the code finds at a lane, and what a changed session leaves.
+use Rattle.std.proofs.Common.{◌≡◌, ◌≢◌, ◌↔◌, ◌⊎◌, inl, inr, ⊎_elim, ℕ, zero, suc, ◌<◌, ◌≤◌, Bool, true, false, length, get_or, set, map, List, [], ◌∷◌, refl, sym, ap, subst, ◌∙◌, arith}
+use Rattle.std.proofs.lemmas.Bool.{cases_eq}
+use Rattle.std.proofs.lemmas.List.{get_or-set_same, get_or-set_other, map-set, length-set, length-map, get_or_default}
+use Rattle.store_model.specs.Store as model
+use Rattle.store_model.specs.Store.{Store, session, with_session}
+use Rattle.core_state.specs.declared.kept.Session.{Session}
+use Rattle.core_state.specs.declared.kept.Session.TheVariants.{Idle, Writer, Reader}
+use Rattle.core_state.specs.declared.kept.Writing.{Writing}
+use Rattle.core_state.specs.declared.kept.Reading.{Reading}
+use Rattle.core_state.specs.Shown.{shown_session, shown_writer, shown_reader}
+
+pub by_lane : (i lane : ℕ) (P : Type 0) → (i ≡ lane → P) → (i ≢ lane → P) → P
+by_lane i lane P same other = ⊎_elim same other (cases_eq i lane)
+
+-- ---- lanes of the model
+
+pub session_same : (s : Store) (lane : ℕ) (x : model.Session) → lane < length s.sessions → session (with_session s lane x) lane ≡ x
+session_same s lane x lt = get_or-set_same s.sessions lane x model.none lt
+
+pub session_other : (s : Store) (lane : ℕ) (x : model.Session) (i : ℕ) → i ≢ lane → session (with_session s lane x) i ≡ session s i
+session_other s lane x i ne = get_or-set_other s.sessions lane i x model.none ne
+
+-- what a session after a change of a lane's is
+pub changed : (s : Store) (lane : ℕ) (x : model.Session) (i : ℕ) (y : model.Session) (P : Type 0) → lane < length s.sessions → session (with_session s lane x) i ≡ y
+    → (i ≡ lane → x ≡ y → P) → (i ≢ lane → session s i ≡ y → P) → P
+changed s lane x i y P lt is here there = by_lane i lane P
+    (λ e. here e (sym (session_same s lane x lt) ∙ ap (session (with_session s lane x)) (sym e) ∙ is))
+    (λ ne. there ne (sym (session_other s lane x i ne) ∙ is))
+
+pub writers_same : (v w : model.Writer) → model.writer v ≡ model.writer w → v ≡ w
+writers_same v w e = cc
+
+pub no_writer_none : (w : model.Writer) → model.none ≡ model.writer w → ⊥
+no_writer_none w e = cc
+
+pub no_reader_none : (r : model.Reader) → model.none ≡ model.reader r → ⊥
+no_reader_none r e = cc
+
+pub no_writer_reader : (w : model.Writer) (r : model.Reader) → model.reader r ≡ model.writer w → ⊥
+no_writer_reader w r e = cc
+
+pub no_reader_writer : (w : model.Writer) (r : model.Reader) → model.writer w ≡ model.reader r → ⊥
+no_reader_writer w r e = cc
+
+-- ---- what is kept of them
+
+at_map : (xs : List model.Session) (i : ℕ) → get_or (map shown_session xs) i Idle ≡ shown_session (get_or xs i model.none)
+at_map [] i = refl
+at_map (x ∷ xs) zero = refl
+at_map (x ∷ xs) (suc i) = at_map xs i
+
+pub shown_set : (s : Store) (lane : ℕ) (x : model.Session) → map shown_session (with_session s lane x).sessions ≡ set (map shown_session s.sessions) lane (shown_session x)
+shown_set s lane x = map-set shown_session s.sessions lane x
+
+-- what the code finds at a lane
+pub at_lane : (items : List Session) (s : Store) (lane : ℕ) (found : Session) → items ≡ map shown_session s.sessions → length s.sessions ≡ 64 → lane < 64 → found ≡ get_or items lane found → found ≡ shown_session (session s lane)
+at_lane items s lane found shown lanes lt is =
+    let within : lane < length (map shown_session s.sessions) = omega (arith, length-map s.sessions shown_session, lanes, lt) in
+    is ∙ ap (λ x. get_or x lane found) shown ∙ get_or_default (map shown_session s.sessions) lane found Idle within ∙ at_map s.sessions lane
+
+shows_writer : (x : model.Session) (w : Writing) → shown_session x ≡ Writer w → (v : model.Writer) × (x ≡ model.writer v) × (shown_writer v ≡ w)
+shows_writer model.none w e = cc
+shows_writer (model.writer v) w e = (v, refl, writings v w e)
+  where
+    writings : (v : model.Writer) (w : Writing) → Writer (shown_writer v) ≡ Writer w → shown_writer v ≡ w
+    writings v w e = cc
+shows_writer (model.reader r) w e = cc
+
+-- the lane's writer, of which the code keeps this
+pub writer_found : (s : Store) (lane : ℕ) (found : Session) (w : Writing) → found ≡ shown_session (session s lane) → found ≡ Writer w → (v : model.Writer) × (session s lane ≡ model.writer v) × (shown_writer v ≡ w)
+writer_found s lane found w is e = shows_writer (session s lane) w (sym is ∙ e)

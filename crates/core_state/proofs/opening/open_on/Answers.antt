@@ -1,0 +1,7 @@
+use Rattle.std.proofs.Common.{refl}
+use Rattle.core_state.proofs.Opened.{opened_stands}
+use Rattle.core_state.proofs.opening.open_on.Goals as goal
+
+pub returns-in-Ok-clause-opened : goal.returns-in-Ok-clause-opened
+returns-in-Ok-clause-opened g c = let d = g.D.Disk in λ R honest stands.
+    opened_stands d.honest d.content d.calls g.C.Clock.readings _ R honest stands c.in-Ok.ensures.0 c.in-Ok.ensures.1 refl refl c.new.ensures.items c.in-Ok.ensures.3

@@ -1,0 +1,62 @@
+-- What comes before an act.
+use Rattle.std.specs.Prelude.{◌≡◌, ◌≤◌, ◌<◌, ℕ, Option, Some, None}
+use Rattle.port_traits.specs.Readings.{Readings}
+use Rattle.store_types.specs.Times.{last_moment}
+use Rattle.store_types.specs.declared.refusal.Refusal.TheVariants.{NoMemory, Halted}
+use Rattle.wire_commands.specs.declared.reply.Reply.TheVariants.{Refused}
+use Rattle.store_history.specs.declared.act.Answer.{Answer}
+use Rattle.store_history.specs.Legal.{moment_at, later}
+use Rattle.core_state.specs.declared.state.Core.{Core}
+use Rattle.core_state.specs.declared.entering.Begun.{Begun}
+use Rattle.core_state.specs.declared.entering.Begun.TheVariants.{At, Answered}
+use Rattle.core_state.specs.Entering.{SameEntries, OthersHold, held_by}
+use Rattle.core_state.specs.Settles.{IsEntered}
+
+-- The clock was read once: by its reading, where that is told, the moment is the rule's.
+pub record ReadsClock {C : Type 0} (readings : C → Option Readings) (old new : C) (last moment : ℕ) : Type 0 where
+  pub rule : (c : Readings) → readings old ≡ Some c → (moment ≡ moment_at c last) × (readings new ≡ Some (later c))
+  pub risen : last ≤ moment
+  pub in_time : moment ≤ last_moment
+
+-- the clock was read, and the lane's reserve may have been filled up
+pub record IsBegun {D E C : Type 0} (readings : C → Option Readings) (old new : Core D E C) (lane moment : ℕ) : Type 0 where
+  pub clock : ReadsClock readings old.clock new.clock old.last moment
+  pub parts : new.parts ≡ old.parts
+  pub remote : new.remote ≡ old.remote
+  pub fault : new.fault ≡ old.fault
+  pub last : new.last ≡ old.last
+  pub entries : SameEntries old.journal new.journal
+  pub more : held_by old.journal lane ≤ held_by new.journal lane
+  pub others : OthersHold old.journal new.journal lane
+
+-- want of memory
+pub record IsShort {D E C : Type 0} (calls_of : D → ℕ) (readings : C → Option Readings) (old new : Core D E C) (lane : ℕ) (answer : Answer) : Type 0 where
+  pub moment : ℕ
+  pub between : Core D E C
+  pub begun : IsBegun readings old between lane moment
+  pub entered : IsEntered calls_of between new lane moment 2 (Some (Refused NoMemory)) answer
+
+-- the disk failed before
+pub record IsHalted {D E C : Type 0} (calls_of : D → ℕ) (readings : C → Option Readings) (old new : Core D E C) (lane : ℕ) (answer : Answer) : Type 0 where
+  pub moment : ℕ
+  pub first : ℕ
+  pub between : Core D E C
+  pub begun : IsBegun readings old between lane moment
+  pub fault : old.fault ≡ Some first
+  pub spare : 0 < (between.journal).spare
+  pub entered : IsEntered calls_of between new lane moment 5 (Some (Refused (Halted first))) answer
+
+pub data Refuses {D E C : Type 0} (calls_of : D → ℕ) (readings : C → Option Readings) (old new : Core D E C) (lane : ℕ) (answer : Answer) : Type 0 where
+  short : IsShort calls_of readings old new lane answer → Refuses calls_of readings old new lane answer
+  halted : IsHalted calls_of readings old new lane answer → Refuses calls_of readings old new lane answer
+
+-- the act may be done: the lane's reserve is whole, and there is a spare entry
+pub record IsReady {D E C : Type 0} (readings : C → Option Readings) (old new : Core D E C) (lane moment : ℕ) : Type 0 where
+  pub begun : IsBegun readings old new lane moment
+  pub whole : 3 ≤ held_by new.journal lane
+  pub spare : 0 < (new.journal).spare
+  pub no_fault : old.fault ≡ None
+
+abbrev pub Begins : {D E C : Type 0} → (D → ℕ) → (C → Option Readings) → Core D E C → Core D E C → ℕ → Begun → Type 0
+Begins calls_of readings old new lane (At moment) = IsReady readings old new lane moment
+Begins calls_of readings old new lane (Answered answer) = Refuses calls_of readings old new lane answer

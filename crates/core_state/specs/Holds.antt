@@ -1,0 +1,104 @@
+-- When the core's parts stand for a plain store, and what an act on them does.
+use Rattle.std.specs.Prelude.{◌≡◌, ◌<◌, ◌≤◌, ℕ, List, [], map, length, Some, IsTrue, IsSome, Result, MatchResult}
+use Rattle.std.specs.List.{All}
+use Rattle.std.specs.FinMap.{get}
+use Rattle.store_types.specs.declared.names.GroupKey.{GroupKey}
+use Rattle.store_types.specs.FileNames.{manifest_name}
+use Rattle.store_types.specs.Names.{IsKey, same_group, group_of_key}
+use Rattle.store_files.specs.Archive.{File, Snapshot, file_text}
+use Rattle.wire_commands.specs.declared.reply.Reply.{Reply}
+use Rattle.disk_trait.specs.Files.{Files}
+use Rattle.disk_trait.specs.declared.disk.DiskError.{DiskError}
+use Rattle.disk_trait.specs.declared.disk.DiskError.TheVariants.{NoMemory, Failed as DiskFailed}
+use Rattle.disk_trait.specs.declared.disk.Failed.{Failed}
+use Rattle.store_model.specs.Store.{Store, Writer, Reader, writer, reader, session, in_group, snapshot_named, Outcome}
+use Rattle.store_model.specs.Uploads.{file_path}
+use Rattle.store_model.specs.WriterSteps.{snapshot_of}
+use Rattle.store_model.specs.Steps.{answered, ended}
+use Rattle.store_model.specs.Stands.{StandsFor, HoldsPieces, IsSnapshot, names_content, names_rise, keys_rise, FitsContent, file_limit, group_limit}
+use Rattle.core_state.specs.declared.parts.Parts.{Parts}
+use Rattle.core_state.specs.Shown.{shown_snapshot, shown_session}
+
+-- ---- what holds of every plain store that is reached
+
+-- the snapshot is of another group, or older
+abbrev pub IsOlder : Writer → Snapshot → Type 0
+IsOlder w x = IsTrue (same_group (group_of_key x.key) (group_of_key w.key)) → (x.key).time < (w.key).time
+
+-- a writer beside these snapshots
+pub record IsWriter (snapshots : List Snapshot) (w : Writer) : Type 0 where
+  pub key : IsKey w.key
+  pub newer : All (IsOlder w) snapshots
+  pub room : length (in_group (group_of_key w.key) snapshots) < group_limit
+  pub names : IsTrue (names_rise w.files)
+  pub kinds : All (λ f. IsTrue (names_content f.content f.name)) w.files
+  pub contents : All (λ f. FitsContent f.content) w.files
+  pub count : length w.files ≤ file_limit
+  -- no archives yet
+  pub pool : w.pool ≡ []
+  pub begun : w.begun ≡ []
+
+pub record IsReader (snapshots : List Snapshot) (r : Reader) : Type 0 where
+  pub finished : IsSome (snapshot_named r.key snapshots)
+
+pub record IsSound (s : Store) : Type 0 where
+  pub lanes : length s.sessions ≡ 64
+  pub order : IsTrue (keys_rise s.snapshots)
+  pub each : All IsSnapshot s.snapshots
+  pub groups : (group : GroupKey) → length (in_group group s.snapshots) ≤ group_limit
+  pub writers : (lane : ℕ) (w : Writer) → session s lane ≡ writer w → IsWriter s.snapshots w
+  pub readers : (lane : ℕ) (r : Reader) → session s lane ≡ reader r → IsReader s.snapshots r
+  -- a group has one writer at most
+  pub apart : (i j : ℕ) (v w : Writer) → session s i ≡ writer v → session s j ≡ writer w →
+      IsTrue (same_group (group_of_key v.key) (group_of_key w.key)) → i ≡ j
+
+-- ---- the parts
+
+-- catalogue and sessions are those of the store
+pub record Shows {D : Type 0} (parts : Parts D) (s : Store) : Type 0 where
+  pub catalogue : map (λ x. x.kept) parts.catalogue.items ≡ map shown_snapshot s.snapshots
+  pub sessions : parts.sessions.items ≡ map shown_session s.sessions
+  pub sound : IsSound s
+
+-- a writer's files but the manifest are there
+abbrev pub IsPut : Files → Writer → File → Type 0
+IsPut m w f = (f.name ≡ manifest_name → ⊥) → get m (file_path w.key f.name) ≡ Some (file_text f.content)
+
+-- its files, and their pieces
+pub record HasUploads (m : Files) (w : Writer) : Type 0 where
+  pub files : All (IsPut m w) w.files
+  pub pieces : HoldsPieces m (snapshot_of w)
+
+-- the files of the snapshots and of the writers are there
+pub record IsOnDisk (m : Files) (s : Store) : Type 0 where
+  pub snapshots : StandsFor m s.snapshots
+  pub writers : (lane : ℕ) (w : Writer) → session s lane ≡ writer w → HasUploads m w
+
+-- The disk is honest, and the parts stand for the store.
+pub record Holds {D : Type 0} (is_honest : D → Type 0) (content : D → Files) (parts : Parts D) (s : Store) : Type 0 where
+  pub honest : is_honest parts.disk
+  pub shows : Shows parts s
+  pub files : IsOnDisk (content parts.disk) s
+
+-- ---- acts
+
+-- Want of memory has changed nothing. After a fault of the disk catalogue and sessions are as before.
+abbrev pub Refuses : {D : Type 0} → (D → Type 0) → (D → Files) → Parts D → Store → DiskError → Type 0
+Refuses honest content parts s NoMemory = Holds honest content parts s
+Refuses honest content parts s DiskFailed = honest parts.disk × Shows parts s
+
+-- The parts stand for the store after, and the reply is its; or the act was refused by memory or disk.
+abbrev pub Does : {D : Type 0} → (D → Type 0) → (D → Files) → Parts D → Store → Store × Reply → Result Reply DiskError → Type 0
+Does honest content new s after result =
+    MatchResult result (λ reply. (reply ≡ after.1) × Holds honest content new after.0) (λ e. Refuses honest content new s e)
+
+-- for every store that the parts stood for
+abbrev pub Acts : {D : Type 0} → (D → Type 0) → (D → Files) → Parts D → Parts D → (Store → Outcome) → Result Reply DiskError → Type 0
+Acts honest content old new outcome_of result =
+    (s : Store) → Holds honest content old s → Does honest content new s (answered s (outcome_of s)) result
+
+-- a lane's end, which takes no memory: its session has ended, or the disk failed
+abbrev pub Ends : {D : Type 0} → (D → Type 0) → (D → Files) → Parts D → Parts D → ℕ → Result (Unit {0}) Failed → Type 0
+Ends honest content old new lane result =
+    (s : Store) → Holds honest content old s →
+    MatchResult result (λ _. Holds honest content new (ended s lane)) (λ _. Refuses honest content new s DiskFailed)

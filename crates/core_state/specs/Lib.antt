@@ -1,0 +1,9 @@
+pub mod Named
+pub mod Entering
+pub mod Shown
+pub mod Holds
+pub mod History
+pub mod Settles
+pub mod Begins
+pub mod Opening
+pub mod States

@@ -1,0 +1,20 @@
+-- Snapshots whose keys have a text in the grammar.
+use Rattle.std.specs.Prelude.{Bool, true, ◌&&◌, nat_le}
+use Rattle.store_types.specs.declared.names.SnapshotKey.{SnapshotKey}
+use Rattle.store_types.specs.FileNames.{is_id}
+use Rattle.store_types.specs.Times.{last_moment}
+use Rattle.core_state.specs.declared.kept.Listed.{Listed}
+use Rattle.core_state.specs.declared.kept.Session.{Session}
+use Rattle.core_state.specs.declared.kept.Session.TheVariants.{Idle, Writer, Reader}
+
+abbrev pub has_text : SnapshotKey → Bool
+has_text k = is_id k.id && nat_le k.time last_moment
+
+abbrev pub is_named_snapshot : Listed → Bool
+is_named_snapshot x = has_text (x.kept).key
+
+-- a writer's snapshot
+abbrev pub is_named : Session → Bool
+is_named Idle = true
+is_named (Writer w) = has_text w.key
+is_named (Reader r) = true

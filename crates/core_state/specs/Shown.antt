@@ -1,0 +1,47 @@
+-- What the core keeps of the plain store.
+use Rattle.std.specs.Prelude.{ℕ, List, map, Option, Some, None}
+use Rattle.store_types.specs.declared.names.SnapshotKey.{SnapshotKey}
+use Rattle.store_types.specs.FileNames.{manifest_name}
+use Rattle.store_files.specs.Archive.{File, Snapshot, file_text, file_named}
+use Rattle.store_model.specs.Store as model
+use Rattle.store_model.specs.Uploads.{file_path}
+use Rattle.core_state.specs.declared.kept.StoredFile.{StoredFile}
+use Rattle.core_state.specs.declared.kept.Kept.{Kept}
+use Rattle.core_state.specs.declared.kept.Writing.{Writing}
+use Rattle.core_state.specs.declared.kept.Reading.{Reading}
+use Rattle.core_state.specs.declared.kept.Session.{Session}
+use Rattle.core_state.specs.declared.kept.Session.TheVariants.{Idle, Writer, Reader}
+
+abbrev pub shown_file : SnapshotKey → File → StoredFile
+shown_file key f = record { name = f.name; path = file_path key f.name }
+
+abbrev pub shown_files : SnapshotKey → List File → List StoredFile
+shown_files key files = map (shown_file key) files
+
+abbrev pub shown_snapshot : Snapshot → Kept
+shown_snapshot x = record { key = x.key; files = shown_files x.key x.files }
+
+abbrev pub text_of : Option File → Option (List ℕ)
+text_of None = None
+text_of (Some f) = Some (file_text f.content)
+
+-- the manifest's text among a writer's files
+abbrev pub manifest_text : List File → Option (List ℕ)
+manifest_text files = text_of (file_named manifest_name files)
+
+abbrev pub shown_writer : model.Writer → Writing
+shown_writer w = record {
+  key = w.key;
+  start = w.start;
+  base = w.base;
+  files = shown_files w.key w.files;
+  manifest = manifest_text w.files;
+}
+
+abbrev pub shown_reader : model.Reader → Reading
+shown_reader r = record { key = r.key; noted = r.noted }
+
+abbrev pub shown_session : model.Session → Session
+shown_session model.none = Idle
+shown_session (model.writer w) = Writer (shown_writer w)
+shown_session (model.reader r) = Reader (shown_reader r)

@@ -1,0 +1,72 @@
+//! What the core keeps of snapshots and sessions.
+
+use crate::path::Path;
+use store_types::{Bytes, FileName, Rows, SessionState, SnapshotKey};
+
+/// A file of a snapshot: its name there, and its name in the datastore folder.
+#[derive(Debug, Drop)]
+pub struct StoredFile {
+    pub name: FileName,
+    pub path: Path,
+}
+
+/// What is kept of a finished snapshot. The files stand in byte order of their names.
+#[derive(Debug, Drop)]
+pub struct Kept {
+    pub key: SnapshotKey,
+    pub files: Rows<StoredFile>,
+}
+
+/// A finished snapshot in the catalogue.
+#[derive(Debug, Drop)]
+pub struct Listed {
+    /// The number of the order's entry by which it was finished.
+    pub number: u64,
+    pub kept: Kept,
+}
+
+/// A writer: its snapshot is not finished.
+#[derive(Debug, Drop)]
+pub struct Writing {
+    pub key: SnapshotKey,
+    /// The moment at which it was opened.
+    pub start: u64,
+    /// The group's latest snapshot at that moment.
+    pub base: Option<SnapshotKey>,
+    /// Its files in byte order of their names, the manifest among them.
+    pub files: Rows<StoredFile>,
+    /// The manifest's file text, which stays in memory until the snapshot is finished.
+    pub manifest: Option<Bytes>,
+}
+
+/// A reader of a finished snapshot.
+#[derive(Debug, Drop)]
+pub struct Reading {
+    pub key: SnapshotKey,
+    /// The names of the archives that it downloaded.
+    pub noted: Rows<FileName>,
+}
+
+/// What a lane has.
+#[derive(Debug, Drop)]
+pub enum Session {
+    Idle,
+    Writer(Writing),
+    Reader(Reading),
+}
+
+impl Session {
+    ghost use Rattle.std.specs.Prelude.{◌≡◌};
+    ghost use Rattle.core_state.specs.States.{state_of};
+
+    /// Which session it is.
+    pub fn state(&self) -> SessionState
+        ensures { result ≡ state_of self.now }
+    {
+        match self {
+            Session::Idle => SessionState::Idle,
+            Session::Writer(_) => SessionState::Writer,
+            Session::Reader(_) => SessionState::Reader,
+        }
+    }
+}

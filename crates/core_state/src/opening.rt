@@ -1,0 +1,128 @@
+//! Opening a datastore, and closing it.
+
+ghost use Rattle.std.specs.Prelude.{◌≡◌, ℕ, List, [], ◌≤◌, length, replicate, map, option_map, IfOk, IfErr, Option, None, vec_len};
+ghost use Rattle.std.specs.List.{list_all};
+ghost use Rattle.store_files.specs.Archive.{Snapshot};
+ghost use Rattle.store_model.specs.Stands.{StandsFor as Stands};
+ghost use Rattle.core_state.specs.Entering.{AllHeld};
+ghost use Rattle.core_state.specs.History.{StandsFor, began};
+ghost use Rattle.core_state.specs.Opening.{opening_at};
+ghost use Rattle.core_state.specs.declared.kept.Session.TheVariants.{Idle};
+
+use crate::journal::{Journal, LANES};
+use crate::kept::Session;
+use crate::parts::Parts;
+use crate::state::{Core, CoreParts};
+use disk_trait::Disk;
+use port_traits::Clock;
+use std::alloc::{AllocError, Global};
+use thiserror::Error;
+
+/// Why a datastore was not opened.
+#[derive(Clone, Copy, Debug, PartialEq, Eq, Drop, Error)]
+pub enum OpenFault {
+    #[error("the disk failed")]
+    DiskFault,
+    #[error("out of memory")]
+    NoMemory,
+}
+
+/// All that was handed in, and why it was not opened.
+#[derive(Drop)]
+pub struct NotOpened<D, E, C> {
+    pub cause: OpenFault,
+    pub disk: D,
+    pub remote: Option<E>,
+    pub clock: C,
+}
+
+/// No session on any lane.
+fn idle_sessions(alloc: Global) -> Result<Vec<Session>, AllocError>
+    ensures { IfOk result (λ v. v.items ≡ replicate 64 Idle) }
+{
+    let mut sessions = Vec::with_capacity(alloc, LANES)?;
+    while sessions.len() < LANES {
+        sessions.push(Session::Idle)?;
+    }
+    Ok(sessions)
+}
+
+/// What memory an opening takes.
+fn state_of(alloc: Global) -> Result<(Journal, Vec<Session>), AllocError>
+    ensures { IfOk result (λ x. (x.0.entries.items ≡ []) × (x.0.calls.items ≡ []) × AllHeld x.0 × (x.1.items ≡ replicate 64 Idle)) }
+{
+    let journal = Journal::new(alloc)?;
+    let sessions = idle_sessions(alloc)?;
+    Ok((journal, sessions))
+}
+
+/// Opens a datastore without snapshots. It reads nothing: what stands in the folder is not looked at.
+pub fn open_on<D: Disk, E, C: Clock>(
+    alloc: Global,
+    disk: D,
+    remote: Option<E>,
+    clock: C,
+) -> Result<Core<D, E, C>, NotOpened<D, E, C>>
+    // it stands for a history without events, where the disk stands for no snapshots
+    ensures opened { IfOk result (λ core. (R : Option (List Snapshot)) → D.honest disk → Stands (D.content disk) []
+        → StandsFor D.honest D.content D.calls C.readings core (began (opening_at (D.calls disk)) R (C.readings clock))) }
+    ensures reserve { IfOk result (λ core. AllHeld core.journal) }
+    // all is handed on, or back
+    ensures disk { IfOk result (λ core. core.parts.disk ≡ disk) }
+    ensures remote { IfOk result (λ core. core.remote ≡ remote) }
+    ensures not_opened { IfErr result (λ e. (e.cause ≡ OpenFault.NoMemory) × (e.disk ≡ disk) × (e.remote ≡ remote) × (e.clock ≡ clock)) }
+{
+    match state_of(alloc) {
+        Ok((journal, sessions)) => Ok(Core {
+            parts: Parts {
+                disk,
+                catalogue: Vec::new(alloc),
+                sessions,
+            },
+            remote,
+            clock,
+            journal,
+            last: 0,
+            fault: None,
+        }),
+        Err(_) => Err(NotOpened {
+            cause: OpenFault::NoMemory,
+            disk,
+            remote,
+            clock,
+        }),
+    }
+}
+
+impl<D, E, C> Core<D, E, C> {
+    /// All that the core was made of, with its order.
+    pub fn parts(self) -> CoreParts<D, E, C>
+        ensures disk { result.disk ≡ self.parts.disk }
+        ensures remote { result.remote ≡ self.remote }
+        ensures clock { result.clock ≡ self.clock }
+        ensures order { result.order ≡ self.journal.entries }
+        ensures calls { result.calls ≡ self.journal.calls }
+    {
+        let Core {
+            parts,
+            remote,
+            clock,
+            journal,
+            last: _,
+            fault: _,
+        } = self;
+        let Parts {
+            disk,
+            catalogue: _,
+            sessions: _,
+        } = parts;
+        let Journal { entries, calls, .. } = journal;
+        CoreParts {
+            disk,
+            remote,
+            clock,
+            order: entries,
+            calls,
+        }
+    }
+}

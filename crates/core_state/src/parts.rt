@@ -1,0 +1,18 @@
+//! What the core has of the plain store: the disk, the catalogue and the sessions.
+
+ghost use Rattle.std.specs.Prelude.{◌≡◌, IsTrue, vec_len};
+ghost use Rattle.std.specs.List.{list_all};
+ghost use Rattle.core_state.specs.Named.{is_named, is_named_snapshot};
+
+use crate::kept::{Listed, Session};
+
+/// The disk, the finished snapshots in their order, and the session of each of the 64 lanes.
+#[derive(Drop)]
+pub struct Parts<D> {
+    pub disk: D,
+    pub catalogue: Vec<Listed>,
+    pub sessions: Vec<Session>,
+    ghost lanes: { vec_len sessions ≡ 64 },
+    ghost named: { IsTrue (list_all is_named sessions.items) },
+    ghost finished_named: { IsTrue (list_all is_named_snapshot catalogue.items) },
+}

@@ -1,0 +1,4 @@
+pub mod Bounds
+pub mod Shifting
+pub mod TableEntries
+pub mod Slicing

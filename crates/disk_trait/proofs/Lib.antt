@@ -1,0 +1,4 @@
+pub mod Kept
+pub mod NameSets
+pub mod Remaking
+pub mod CrashLemmas

@@ -1,0 +1,16 @@
+pub mod Files
+pub mod Disk
+pub mod Runs
+pub mod Laws
+pub mod Replay
+pub mod CrashImage
+pub mod Remade
+pub mod Replayed
+pub mod Traced
+pub mod Timeline
+pub mod Steps
+pub mod Named
+pub mod ShortNames
+pub mod Recorded
+pub mod FailurePlan
+pub mod Planned

@@ -1,0 +1,172 @@
+// A disk: a map from names to bytes as it reads, and for each moment the images that a crash then may leave.
+ghost use Rattle.std.specs.Prelude.{◌≡◌, ◌<◌, ◌≤◌, ◌+◌, ◌-◌, ◌^◌, ◌++◌, ℕ, List, length, take, drop, map, min, filter, eqb, true, false, Some, is_some, option_map, string_bytes, IfOk, OnOk, IsErrOf, IsErr, MatchOption};
+ghost use Rattle.std.specs.FinMap.{get, keys, remove};
+ghost use Rattle.std.specs.List.{starts_with};
+ghost use Rattle.disk_trait.specs.Files.{Files, HasShortNames, placed, renamed, SameBut};
+ghost use Rattle.disk_trait.specs.Disk.{Serves, Ticks, Steps, Now, Same, MayMove, MayGo};
+ghost use Rattle.disk_trait.specs.declared.disk.DiskError.TheVariants.{NoMemory, Failed as DiskFailed};
+
+use std::alloc::{AllocError, AllocFailed, Global};
+use thiserror::Error;
+
+/// The disk failed, and its count of faults rose.
+#[derive(Clone, Copy, Debug, PartialEq, Eq, Error)]
+#[error("the disk failed")]
+pub struct Failed;
+
+#[derive(Clone, Copy, Debug, PartialEq, Eq, Error)]
+pub enum DiskError {
+    #[error("the disk failed")]
+    Failed,
+    #[error("out of memory")]
+    NoMemory,
+}
+
+impl From<Failed> for DiskError {
+    ghost from_gives = { λ _ e. e ≡ DiskFailed };
+
+    fn from(_: Failed) -> Self {
+        DiskError::Failed
+    }
+}
+
+impl From<AllocError> for DiskError {
+    ghost from_gives = { λ _ e. e ≡ NoMemory };
+
+    fn from(_: AllocError) -> Self {
+        DiskError::NoMemory
+    }
+}
+
+impl<T: Drop> From<AllocFailed<T>> for DiskError {
+    ghost from_gives = { λ _ e. e ≡ NoMemory };
+
+    fn from(_: AllocFailed<T>) -> Self {
+        DiskError::NoMemory
+    }
+}
+
+/// A map from names of at most 255 bytes to bytes. Every `&mut` call is a moment, and the disk has for each moment the
+/// images that a crash then may leave. Its content and its images are told of an honest disk alone; of any disk its
+/// counts and the causes of its refusals.
+pub trait Disk {
+    /// The disk keeps what it is given, and nobody else writes it.
+    ghost honest: { Self → Type 0 };
+
+    /// The disk as it reads.
+    ghost content: { Self → Files };
+
+    /// The images that a crash at a moment may leave, or might have left.
+    ghost images: { Self → ℕ → Files → Type 0 };
+
+    /// The moment: how many calls there were, or any number that rises so.
+    ghost calls: { Self → ℕ };
+
+    /// How often the disk has failed.
+    ghost faults: { Self → ℕ };
+
+    /// Never falls. On an honest disk it rises with each `&mut` call while it is below 2^64 - 1; no clause tells of
+    /// images at that value.
+    fn calls(&self) -> u64
+        ensures { result ≡ calls self.now };
+
+    /// Never falls. A call fails only where it rose in that call, or stands at 2^64 - 1.
+    fn faults(&self) -> u64
+        ensures { result ≡ faults self.now };
+
+    /// The bytes at a name, or `None` where nothing is there.
+    fn read(&mut self, alloc: Global, name: &str) -> Result<Option<Vec<u8>>, DiskError>
+        ensures serves { Serves honest faults self.old self.new (IsErrOf result DiskError.Failed) }
+        ensures moment { Ticks honest calls self.old self.new }
+        ensures crash { Steps calls images self.old self.new Same }
+        ensures same { honest self.old → content self.new ≡ content self.old }
+        ensures bytes { honest self.old → IfOk result (λ found. option_map (λ v. v.items) found ≡ get (content self.old) name.now) }
+        ensures unchanged { IsErrOf result DiskError.NoMemory → faults self.new ≡ faults self.old };
+
+    /// Fills `into` from the front with bytes of a file from an offset: the smaller of its length and what is left, which
+    /// is the result. `None` where nothing is at the name, and then `into` stays.
+    fn read_part(
+        &mut self,
+        name: &str,
+        offset: u64,
+        into: &mut [u8],
+    ) -> Result<Option<usize>, Failed>
+        ensures serves { Serves honest faults self.old self.new (IsErr result) }
+        ensures moment { Ticks honest calls self.old self.new }
+        ensures crash { Steps calls images self.old self.new Same }
+        ensures same { honest self.old → content self.new ≡ content self.old }
+        ensures there { honest self.old → IfOk result (λ n. is_some n ≡ is_some (get (content self.old) name.now)) }
+        ensures bytes { honest self.old → IfOk result (λ n. MatchOption (get (content self.old) name.now) (into.new ≡ into.old) (λ file.
+            (n ≡ Some (min (length into.old) (length file - offset)))
+            × (into.new ≡ take (length into.old) (drop offset file) ++ drop (length file - offset) into.old))) };
+
+    /// How many bytes stand at a name, or `None` where nothing is there.
+    fn size(&mut self, name: &str) -> Result<Option<u64>, Failed>
+        ensures serves { Serves honest faults self.old self.new (IsErr result) }
+        ensures moment { Ticks honest calls self.old self.new }
+        ensures crash { Steps calls images self.old self.new Same }
+        ensures same { honest self.old → content self.new ≡ content self.old }
+        ensures size { honest self.old → IfOk result (λ n. n ≡ option_map (λ file. length file) (get (content self.old) name.now)) };
+
+    /// The names that begin with a prefix, in byte order.
+    fn list(&mut self, alloc: Global, prefix: &str) -> Result<Vec<String>, DiskError>
+        ensures serves { Serves honest faults self.old self.new (IsErrOf result DiskError.Failed) }
+        ensures moment { Ticks honest calls self.old self.new }
+        ensures crash { Steps calls images self.old self.new Same }
+        ensures same { honest self.old → content self.new ≡ content self.old }
+        ensures names { honest self.old → IfOk result (λ names. map string_bytes names.items ≡ filter (λ name. starts_with eqb name prefix.now) (keys (content self.old))) }
+        ensures unchanged { IsErrOf result DiskError.NoMemory → faults self.new ≡ faults self.old };
+
+    /// Places bytes at a name, in place of what was there. Until a sync, a crash may leave any bytes at the name, or
+    /// nothing.
+    fn put(&mut self, alloc: Global, name: &str, bytes: &[u8]) -> Result<(), DiskError>
+        requires { length name.now ≤ 255 }
+        ensures serves { Serves honest faults self.old self.new (IsErrOf result DiskError.Failed) }
+        ensures moment { Ticks honest calls self.old self.new }
+        ensures crash { Steps calls images self.old self.new (SameBut name.now) }
+        ensures put { honest self.old → OnOk result (content self.new ≡ placed (content self.old) name.now (Some bytes.now)) }
+        ensures unchanged { IsErrOf result DiskError.NoMemory → (honest self.old → content self.new ≡ content self.old)
+            × Steps calls images self.old self.new Same × (faults self.new ≡ faults self.old) };
+
+    /// Moves what stands at `from` to `to`, in place of what was there. Until a sync, it may or may not have happened.
+    /// `false` exactly where nothing is at `from`, and then nothing changed.
+    fn rename(&mut self, from: &str, to: &str) -> Result<bool, Failed>
+        requires { length to.now ≤ 255 }
+        ensures serves { Serves honest faults self.old self.new (IsErr result) }
+        ensures moment { Ticks honest calls self.old self.new }
+        ensures crash { Steps calls images self.old self.new (MayMove from.now to.now) }
+        ensures there { honest self.old → IfOk result (λ done. done ≡ is_some (get (content self.old) from.now)) }
+        ensures renamed { honest self.old → IfOk result (λ done. done ≡ true → content self.new ≡ renamed (content self.old) from.now to.now) }
+        ensures unchanged { IfOk result (λ done. done ≡ false → (honest self.old → content self.new ≡ content self.old)
+            × Steps calls images self.old self.new Same × (faults self.new ≡ faults self.old)) };
+
+    /// Removes what stands at a name. Until a sync, it may or may not have happened. `false` exactly where nothing is at
+    /// the name, and then nothing changed.
+    fn remove(&mut self, name: &str) -> Result<bool, Failed>
+        ensures serves { Serves honest faults self.old self.new (IsErr result) }
+        ensures moment { Ticks honest calls self.old self.new }
+        ensures crash { Steps calls images self.old self.new (MayGo name.now) }
+        ensures there { honest self.old → IfOk result (λ done. done ≡ is_some (get (content self.old) name.now)) }
+        ensures removed { honest self.old → OnOk result (content self.new ≡ remove (content self.old) name.now) }
+        ensures unchanged { IfOk result (λ done. done ≡ false → (honest self.old → content self.new ≡ content self.old)
+            × Steps calls images self.old self.new Same × (faults self.new ≡ faults self.old)) };
+
+    /// After Ok, a crash leaves only what is read.
+    fn sync(&mut self) -> Result<(), Failed>
+        ensures serves { Serves honest faults self.old self.new (IsErr result) }
+        ensures moment { Ticks honest calls self.old self.new }
+        ensures crash { Steps calls images self.old self.new Same }
+        ensures same { honest self.old → OnOk result (content self.new ≡ content self.old) }
+        ensures durable { OnOk result (Now calls images self.new (λ c. c ≡ content self.new)) };
+
+    /// Images are those of an honest disk, of moments up to now, below the greatest number.
+    ghost told: { (d : Self) (t : ℕ) (c : Files) → images d t c → honest d × (t ≤ calls d) × (t < 2 ^ 64 - 1) };
+
+    /// The disk as it reads is one of its images.
+    ghost as_read: { (d : Self) → honest d → calls d < 2 ^ 64 - 1 → images d (calls d) (content d) };
+
+    /// No name has more than 255 bytes, on the disk and in its images.
+    ghost short_names: { (d : Self) → honest d → HasShortNames (content d) };
+
+    ghost short_images: { (d : Self) (t : ℕ) (c : Files) → images d t c → HasShortNames c };
+}

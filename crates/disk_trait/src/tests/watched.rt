@@ -1,0 +1,140 @@
+// The host's files, with a record of what is synced, on a disk that can be full.
+use std::alloc::{Alloc, Allocator, Global};
+use std::cell::{Cell, RefCell};
+use std::fs::{File, Metadata, OpenFile, OpenOptions};
+use std::io::{self, ErrorKind, Read, Seek, SeekFrom, Write};
+use std::rt::Files;
+
+#[derive(Drop)]
+pub struct Record {
+    // The paths of the files and folders that were synced, one a line.
+    pub synced: RefCell<String>,
+    pub full: Cell<bool>,
+}
+
+#[derive(Clone, Copy)]
+pub struct Watched<'a> {
+    pub rt: HostRuntime,
+    pub record: &'a Record,
+}
+
+#[derive(Drop)]
+pub struct WatchedFile<'a> {
+    file: File,
+    path: String,
+    record: &'a Record,
+}
+
+impl Alloc for Watched<'_> {
+    type A = Global;
+
+    fn alloc(&self) -> Global {
+        self.rt.alloc()
+    }
+}
+
+impl<'a> Files for Watched<'a> {
+    type File = WatchedFile<'a>;
+
+    type Dir = <HostRuntime as Files>::Dir;
+
+    fn open_file(&self, how: &OpenOptions, path: &str) -> io::Result<WatchedFile<'a>> {
+        Ok(WatchedFile {
+            file: self.rt.open_file(how, path)?,
+            path: String::from_str(self.rt.alloc(), path)?,
+            record: self.record,
+        })
+    }
+
+    fn open_dir(&self, path: &str) -> io::Result<Self::Dir> {
+        self.rt.open_dir(path)
+    }
+
+    fn metadata(&self, path: &str) -> io::Result<Metadata> {
+        self.rt.metadata(path)
+    }
+
+    fn symlink_metadata(&self, path: &str) -> io::Result<Metadata> {
+        self.rt.symlink_metadata(path)
+    }
+
+    fn copy(&self, from: &str, to: &str) -> io::Result<u64> {
+        self.rt.copy(from, to)
+    }
+
+    fn rename(&self, from: &str, to: &str) -> io::Result<()> {
+        self.rt.rename(from, to)
+    }
+
+    fn remove_file(&self, path: &str) -> io::Result<()> {
+        self.rt.remove_file(path)
+    }
+
+    fn create_dir(&self, path: &str) -> io::Result<()> {
+        self.rt.create_dir(path)
+    }
+
+    fn remove_dir(&self, path: &str) -> io::Result<()> {
+        self.rt.remove_dir(path)
+    }
+
+    fn remove_dir_all<B: Allocator>(&self, alloc: B, path: &str) -> io::Result<()> {
+        self.rt.remove_dir_all(alloc, path)
+    }
+}
+
+impl WatchedFile<'_> {
+    fn note(&self) -> io::Result<()> {
+        match self.record.synced.try_borrow_mut() {
+            Ok(mut synced) => {
+                synced.push_str(self.path.as_str())?;
+                Ok(synced.push('\n')?)
+            }
+            Err(_) => Err(io::Error::from(ErrorKind::Other)),
+        }
+    }
+}
+
+impl OpenFile for WatchedFile<'_> {
+    fn metadata(&self) -> io::Result<Metadata> {
+        self.file.metadata()
+    }
+
+    fn set_len(&self, size: u64) -> io::Result<()> {
+        self.file.set_len(size)
+    }
+
+    fn sync_all(&self) -> io::Result<()> {
+        self.note()?;
+        self.file.sync_all()
+    }
+
+    fn sync_data(&self) -> io::Result<()> {
+        self.file.sync_data()
+    }
+}
+
+impl Read for WatchedFile<'_> {
+    fn read(&mut self, buf: &mut [u8]) -> io::Result<usize> {
+        self.file.read(buf)
+    }
+}
+
+impl Write for WatchedFile<'_> {
+    fn write(&mut self, buf: &[u8]) -> io::Result<usize> {
+        if self.record.full.get() {
+            return Err(io::Error::from(ErrorKind::StorageFull));
+        }
+        self.file.write(buf)
+    }
+
+    fn flush(&mut self) -> io::Result<()> {
+        self.file.flush()
+    }
+}
+
+impl Seek for WatchedFile<'_> {
+    fn seek(&mut self, to: SeekFrom) -> io::Result<u64> {
+        self.file.seek(to)
+    }
+}

@@ -1,0 +1,113 @@
+-- Lanes that run, and histories that are legal.
+use Rattle.std.specs.Prelude.{◌≡◌, ℕ, Bool, List, [], ◌∷◌, ◌++◌, refl, Option, Some, None, true, false, ⊤}
+use Rattle.std.specs.List.{flat_map}
+use Rattle.std.proofs.Common.{arith}
+use Rattle.store_types.specs.declared.refusal.Refusal.TheVariants.{BadFrame, DiskFault, Halted, NoMemory, WrongState}
+use Rattle.store_types.specs.declared.refusal.SessionState.TheVariants.{Idle}
+use Rattle.wire_frames.specs.Frames.{frame}
+use Rattle.wire_commands.specs.declared.command.Command.{Command}
+use Rattle.wire_commands.specs.declared.command.Command.TheVariants.{Finish, Bye}
+use Rattle.wire_commands.specs.declared.reply.Reply.{Reply}
+use Rattle.wire_commands.specs.declared.reply.Reply.TheVariants.{Done, Refused}
+use Rattle.wire_commands.specs.CommandText.{command_text}
+use Rattle.store_model.specs.declared.ending.Ending.TheVariants as endings
+use Rattle.store_model.proofs.OnLiterals.{store_model_on_literals}
+use Rattle.store_history.specs.declared.act.Act.{Act}
+use Rattle.store_history.specs.declared.act.Act.TheVariants as acts
+use Rattle.store_history.specs.declared.act.Event.{Event}
+use Rattle.store_history.specs.History.{Opening, act_outcome, moved, after, after_all, opened}
+use Rattle.store_history.specs.Legal.{IsLegal}
+use Rattle.store_history.specs.LaneRun.{LaneRan, text, next_at, heard_at, heard, last_words, position_after, may_want}
+
+abbrev event : Act → ℕ → Option Reply → ℕ → Bool → Event
+event a kind r place last = record { act = a; answer = record { reply = r; entry = record { lane = 0; moment = 5; kind = kind }; place = place; last = last }; calls = 3 }
+
+abbrev end : ℕ → Event
+end place = event acts.End 6 None place false
+
+abbrev sent : List Command → List ℕ
+sent = flat_map (λ c. frame (command_text c))
+
+unfoldable on_histories : ⊤
+unfolding act_outcome moved after after_all text next_at heard_at heard last_words position_after may_want store_model_on_literals
+on_histories = tt
+
+abbrev no_session : Reply
+no_session = Refused (WrongState Idle)
+
+abbrev short : Option Reply
+short = Some (Refused NoMemory)
+
+-- FINISH, want of memory, a fault, what comes after it, and BYE
+abbrev h : List Event
+h =
+    event (acts.Plain Finish) 0 (Some no_session) 0 false ∷ event (acts.Plain Finish) 2 short 1 false
+    ∷ event (acts.Plain Finish) 5 (Some (Refused DiskFault)) 2 false ∷ event (acts.Plain Finish) 5 (Some (Refused (Halted 2))) 3 false ∷ end 4 ∷ []
+
+abbrev told : List Reply
+told = no_session ∷ Refused NoMemory ∷ Refused DiskFault ∷ Refused (Halted 2) ∷ Done ∷ []
+
+ran : LaneRan (sent (Finish ∷ Finish ∷ Finish ∷ Finish ∷ Bye ∷ [])) endings.Clean h told
+unfolding on_histories
+ran = (refl, (refl, refl), (refl, (refl, refl), (refl, (refl, refl), (refl, (refl, refl), (refl, (refl, λ five. cc), (refl, refl))))))
+
+abbrev start : Opening
+start = record { snapshots = []; moment = 4; calls = 3 }
+
+legal : IsLegal None (opened start) h
+unfolding on_histories
+legal = (
+  record { says = (refl, refl); formed = tt; inside = omega arith; place = refl; last = λ is. cc; risen = omega arith; in_time = omega arith; counted = omega arith },
+  (
+    record { says = refl; formed = tt; inside = omega arith; place = refl; last = λ is. cc; risen = omega arith; in_time = omega arith; counted = omega arith },
+    (
+      record { says = refl; formed = tt; inside = omega arith; place = refl; last = λ is. cc; risen = omega arith; in_time = omega arith; counted = omega arith },
+      (
+        record { says = refl; formed = tt; inside = omega arith; place = refl; last = λ is. cc; risen = omega arith; in_time = omega arith; counted = omega arith },
+        (record { says = refl; formed = tt; inside = omega arith; place = refl; last = λ is. cc; risen = omega arith; in_time = omega arith; counted = omega arith }, tt),
+      ),
+    ),
+  ),
+)
+
+-- a cut frame behind a FINISH: what the lane's end is replied, and that it is not where the source failed
+abbrev cut_input : List ℕ
+cut_input = sent (Finish ∷ []) ++ 2 ∷ 0 ∷ []
+
+abbrev one : Event
+one = event (acts.Plain Finish) 0 (Some no_session) 0 false
+
+cut_frame : LaneRan cut_input (endings.Broken 5) (one ∷ end 1 ∷ []) (no_session ∷ Refused (BadFrame 5) ∷ [])
+unfolding on_histories
+cut_frame = (refl, (refl, refl), (refl, ((refl, refl), λ five. cc), (refl, refl)))
+
+source_failed : LaneRan cut_input endings.SourceFault (one ∷ end 1 ∷ []) (no_session ∷ [])
+unfolding on_histories
+source_failed = (refl, (refl, refl), (refl, ((refl, refl), λ five. cc), (refl, refl)))
+
+-- no lane leaves a whole frame without a reply because its source failed
+no_command_left : LaneRan (1 ∷ 0 ∷ 0 ∷ 0 ∷ 99 ∷ []) endings.SourceFault (end 0 ∷ []) [] → ⊥
+unfolding on_histories
+no_command_left ran = let is : Rattle.wire_frames.specs.Frames.whole (99 ∷ []) [] ≡ Rattle.wire_frames.specs.Frames.short = ((ran.1).0).1 in cc
+
+-- a frame that could not be held: the 28 uses it up and ends the lane, whose end meets a fault and comes again
+not_held : LaneRan (2 ∷ 0 ∷ 0 ∷ 0 ∷ []) endings.NoMemory
+    (event acts.Short 2 short 0 true ∷ event acts.End 5 (Some (Refused DiskFault)) 1 false ∷ end 2 ∷ []) (Refused NoMemory ∷ [])
+unfolding on_histories
+not_held = (refl, (refl, refl), (refl, (refl, λ five. (refl, refl)), (refl, (refl, λ five. cc), (refl, refl))))
+
+-- and no lane ends as if its input had ended, where it was used up
+not_clean : LaneRan (2 ∷ 0 ∷ 0 ∷ 0 ∷ []) endings.Clean (event acts.Short 2 short 0 false ∷ end 1 ∷ []) (Refused NoMemory ∷ []) → ⊥
+unfolding on_histories
+not_clean ran = let is : true ≡ false = ((ran.2).1).0 in cc
+
+-- memory is never wanting for a frame of one byte
+no_short_bye : LaneRan (sent (Bye ∷ [])) endings.NoMemory (event acts.Short 2 short 0 true ∷ end 1 ∷ []) (Refused NoMemory ∷ []) → ⊥
+unfolding on_histories
+no_short_bye ran = let is : false ≡ true = (ran.1).1 in cc
+
+-- the sink failed with a FINISH left, and the end met a fault: it counts as the FINISH's
+sink_failed : LaneRan (sent (Finish ∷ Finish ∷ [])) endings.SinkFault
+    (one ∷ event acts.End 5 (Some (Refused DiskFault)) 1 false ∷ end 2 ∷ []) (no_session ∷ Refused DiskFault ∷ [])
+unfolding on_histories
+sink_failed = (refl, (refl, refl), (refl, (tt, λ five. (refl, refl)), (refl, (tt, λ five. cc), (refl, refl))))

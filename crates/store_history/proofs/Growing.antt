@@ -1,0 +1,178 @@
+-- What a lane did stays as it is while more of its input comes, and goes on to a run of its program.
+use Rattle.std.proofs.Common.{◌≡◌, ℕ, ◌+◌, ◌-◌, ◌≤◌, Bool, true, false, ◌&&◌, ◌||◌, List, [], ◌∷◌, ◌++◌, length, take, Option, Some, None, refl, sym, ap, subst, ◌∙◌, arith, ◌==◌, nat_le}
+use Rattle.std.specs.Int.{w32, from_le_bytes}
+use Rattle.std.proofs.lemmas.List.{take-append-le, length-append}
+use Rattle.std.proofs.lemmas.Bool.Decides.{nat_tests}
+use Rattle.wire_frames.specs.Frames.{Front, short, too_long, whole, cut}
+use Rattle.wire_frames.proofs.FramesLemmas.{cut-append_whole}
+use Rattle.wire_commands.specs.declared.command.Command.{Command}
+use Rattle.wire_commands.specs.declared.command.Command.TheVariants as commands
+use Rattle.wire_commands.specs.declared.reply.Reply.{Reply}
+use Rattle.wire_commands.specs.CommandText.{command_of}
+use Rattle.wire_commands.specs.Inputs.{InputFront, nothing, next, over_limit, no_command, front, cut_front, body_front}
+use Rattle.store_model.specs.declared.ending.Ending.{Ending}
+use Rattle.store_model.specs.Lanes.{Next, plain, bye, broken, end, lane_next, front_next, command_next}
+use Rattle.store_history.specs.declared.act.Answer.{Answer}
+use Rattle.store_history.specs.declared.act.Event.{Event}
+use Rattle.store_history.specs.Acts.{Class, stepping, wanting, ending, class_of}
+use Rattle.store_history.specs.History.{kind, reply}
+use Rattle.store_history.specs.LaneRun.{Position, next_at, heard_at, heard, heard_as, position_after, Asks, may_want, Does, Runs}
+use Rattle.store_history.specs.SoFar.{goes_further, Follows, Leads, grown}
+
+-- ---- a command stays at the front
+
+pub front_more : (bytes more : List ℕ) (c : Command) (rest : List ℕ) → front bytes ≡ next c rest → front (bytes ++ more) ≡ next c (rest ++ more)
+unfolding front
+front_more [] more c rest h = cc
+front_more (b ∷ bytes) more c rest h = by_cut (cut (b ∷ bytes)) refl h
+  where
+    by_command : (o : Option Command) (tail : List ℕ) → body_front o tail ≡ next c rest → body_front o (tail ++ more) ≡ next c (rest ++ more)
+    by_command None tail h = cc
+    by_command (Some d) tail h = cc
+
+    by_cut : (f : Front) → cut (b ∷ bytes) ≡ f → cut_front f ≡ next c rest → cut_front (cut (b ∷ bytes ++ more)) ≡ next c (rest ++ more)
+    by_cut short is h = cc
+    by_cut (too_long n) is h = cc
+    by_cut (whole body tail) is h = ap cut_front (cut-append_whole (b ∷ bytes) more body tail is) ∙ by_command (command_of body) tail h
+
+-- ---- what is next stays next
+
+pub next_grown : List ℕ → Next → Next
+next_grown more (plain c left) = plain c (left ++ more)
+next_grown more n = n
+
+command_grown : (more : List ℕ) (c : Command) (left : List ℕ) → command_next c (left ++ more) ≡ next_grown more (command_next c left)
+unfolding command_next next_grown
+command_grown more commands.Bye left = refl
+command_grown more c left = refl
+
+front_stays : (more bytes : List ℕ) (m n : ℕ) → goes_further (front_next n (front bytes)) ≡ true
+    → front_next m (front (bytes ++ more)) ≡ next_grown more (front_next n (front bytes))
+unfolding front_next
+front_stays more bytes m n h = by_front (front bytes) refl h
+  where
+    by_front : (f : InputFront) → front bytes ≡ f → goes_further (front_next n f) ≡ true → front_next m (front (bytes ++ more)) ≡ next_grown more (front_next n f)
+    by_front nothing is h = cc
+    by_front (next c rest) is h = ap (λ f. front_next m f) (front_more bytes more c rest is) ∙ command_grown more c rest
+    by_front (over_limit k) is h = cc
+    by_front no_command is h = cc
+
+pub next_stays : (more : List ℕ) (p : Position) → goes_further (next_at p) ≡ true → next_at (grown more p) ≡ next_grown more (next_at p)
+unfolding next_at lane_next
+next_stays more p h = front_stays more p.left (p.size + length more - length (p.left ++ more)) (p.size - length p.left) h
+
+-- ---- and so does what is heard
+
+heard_at_grown : (more : List ℕ) (p : Position) (n : ℕ) (r : Option Reply) (x : Next) → goes_further x ≡ true
+    → heard_at (grown more p) n r (next_grown more x) ≡ grown more (heard_at p n r x)
+unfolding heard_at next_grown
+heard_at_grown more p n (Some r) (plain c left) h = refl
+heard_at_grown more p n None (plain c left) h = refl
+heard_at_grown more p n r bye h = cc
+heard_at_grown more p n r (broken refusal) h = cc
+heard_at_grown more p n r end h = cc
+
+heard_stays : (more : List ℕ) (p : Position) (a : Answer) → goes_further (next_at p) ≡ true → heard (grown more p) a ≡ grown more (heard p a)
+unfolding heard
+heard_stays more p a h =
+    let flag : Position → Position = λ q. record q { is_short = (a.entry).kind == 2; is_spent = a.last || q.is_spent } in
+    ap (λ x. flag (heard_at (grown more p) (a.entry).kind a.reply x)) (next_stays more p h)
+    ∙ ap flag (heard_at_grown more p (a.entry).kind a.reply (next_at p) h)
+
+asks_grown : (more : List ℕ) (x : Next) (v : Event) → Asks x v.act → Asks (next_grown more x) v.act
+unfolding next_grown
+asks_grown more (plain c left) v h = h
+asks_grown more bye v h = h
+asks_grown more (broken refusal) v h = h
+asks_grown more end v h = h
+
+pub asks_further : (x : Next) (v : Event) → Asks x v.act → goes_further x ≡ true
+asks_further (plain c left) v h = refl
+asks_further bye v h = absurd h
+asks_further (broken refusal) v h = absurd h
+asks_further end v h = absurd h
+
+further_grown : (more : List ℕ) (x : Next) → goes_further (next_grown more x) ≡ goes_further x
+unfolding next_grown
+further_grown more (plain c left) = refl
+further_grown more bye = refl
+further_grown more (broken refusal) = refl
+further_grown more end = refl
+
+is_further : (c : Class) (p : Position) (v : Event) → Follows c p v → goes_further (next_at p) ≡ true
+is_further stepping p v h = asks_further (next_at p) v h.1
+is_further wanting p v h = h.2
+is_further ending p v h = absurd h
+
+want_grown : (more left : List ℕ) → may_want left ≡ true → may_want (left ++ more) ≡ true
+unfolding may_want
+want_grown more left h = by_test (nat_le 4 (length left)) refl h
+  where
+    by_test : (t : Bool) → nat_le 4 (length left) ≡ t → (t && nat_le 2 (from_le_bytes w32 (take 4 left))) ≡ true
+        → (nat_le 4 (length (left ++ more)) && nat_le 2 (from_le_bytes w32 (take 4 (left ++ more)))) ≡ true
+    by_test false is h = cc
+    by_test true is h =
+        let le : 4 ≤ length left = grind (arith, nat_tests) in
+        let longer : nat_le 4 (length (left ++ more)) ≡ true = let l : 4 ≤ length (left ++ more) = omega (arith, length-append left more) in grind (arith, nat_tests) in
+        ap (λ t. t && nat_le 2 (from_le_bytes w32 (take 4 (left ++ more)))) longer
+        ∙ ap (λ xs. nat_le 2 (from_le_bytes w32 xs)) (take-append-le 4 left more le) ∙ h
+
+follows_grown : (c : Class) (more : List ℕ) (p : Position) (v : Event) → Follows c p v → Follows c (grown more p) v
+follows_grown stepping more p v h =
+    (h.0, subst (λ x. Asks x v.act) (sym (next_stays more p (asks_further (next_at p) v h.1))) (asks_grown more (next_at p) v h.1))
+follows_grown wanting more p v h =
+    (h.0, want_grown more p.left h.1, ap goes_further (next_stays more p h.2) ∙ further_grown more (next_at p) ∙ h.2)
+follows_grown ending more p v h = h
+
+-- what was done so far, where more of the input was taken
+pub leads_grown : (more : List ℕ) (vs : List Event) (p q : Position) → Leads p vs q → Leads (grown more p) vs (grown more q)
+leads_grown more [] p q h = ap (grown more) h
+leads_grown more (v ∷ vs) p q h = (
+  follows_grown (class_of v.act) more p v h.0,
+  subst (λ x. Leads x vs (grown more q)) (sym (heard_stays more p v.answer (is_further (class_of v.act) p v h.0)))
+      (leads_grown more vs (heard p v.answer) q h.1),
+)
+
+-- one more event
+pub leads_more : (vs : List Event) (p q : Position) (v : Event) → Leads p vs q → Follows (class_of v.act) q v → Leads p (vs ++ v ∷ []) (heard q v.answer)
+leads_more [] p q v h f = (subst (λ x. Follows (class_of v.act) x v) (sym h) f, ap (λ x. heard x v.answer) h)
+leads_more (u ∷ vs) p q v h f = (h.0, leads_more vs (heard p u.answer) q v h.1 f)
+
+-- ---- and leads to a run
+
+heard_at_over : (p : Position) (n : ℕ) (r : Option Reply) (x : Next) → goes_further x ≡ true → (heard_at p n r x).is_over ≡ p.is_over
+unfolding heard_at
+heard_at_over p n (Some r) (plain c left) h = refl
+heard_at_over p n None (plain c left) h = refl
+heard_at_over p n r bye h = cc
+heard_at_over p n r (broken refusal) h = cc
+heard_at_over p n r end h = cc
+
+heard_over : (c : Class) (p : Position) (v : Event) → Follows c p v → (heard p v.answer).is_over ≡ p.is_over
+unfolding heard
+heard_over c p v h = heard_at_over p (kind v) (reply v) (next_at p) (is_further c p v h)
+
+-- where events of the lane led, it is not over
+pub leads_over : (vs : List Event) (p q : Position) → Leads p vs q → q.is_over ≡ p.is_over
+leads_over [] p q h = ap (λ x. x.is_over) (sym h)
+leads_over (v ∷ vs) p q h = leads_over vs (heard p v.answer) q h.1 ∙ heard_over (class_of v.act) p v h.0
+
+follows_does : (c : Class) (e : Ending) (p : Position) (v : Event) (vs : List Event) → Follows c p v → Does c e p v vs
+follows_does stepping e p v vs h = h
+follows_does wanting e p v vs h = (h.0, h.1)
+follows_does ending e p v vs h = absurd h
+
+follows_heard : (c : Class) (e : Ending) (p : Position) (v : Event) → Follows c p v → heard_as c e p v.answer ≡ heard p v.answer
+follows_heard ending e p v h = absurd h
+follows_heard c e p v h = refl
+
+-- what was done so far, and a run from there on, are a run
+pub leads_runs : (e : Ending) (vs us : List Event) (p q : Position) (told : List Reply) → p.is_over ≡ false → Leads p vs q → Runs e q us told → Runs e p (vs ++ us) told
+unfolding position_after
+leads_runs e [] us p q told off h runs = subst (λ x. Runs e x us told) (sym h) runs
+leads_runs e (v ∷ vs) us p q told off h runs = (
+  off,
+  follows_does (class_of v.act) e p v (vs ++ us) h.0,
+  subst (λ x. Runs e x (vs ++ us) told) (sym (follows_heard (class_of v.act) e p v h.0))
+      (leads_runs e vs us (heard p v.answer) q told (heard_over (class_of v.act) p v h.0 ∙ off) h.1 runs),
+)

@@ -1,0 +1,13 @@
+pub mod Placed
+pub mod Wanting
+pub mod Events
+pub mod Whole
+pub mod Rules
+pub mod Picking
+pub mod Growing
+pub mod Longer
+pub mod Ending
+pub mod Prefixes
+pub mod Alone
+pub mod Lasting
+mod Examples

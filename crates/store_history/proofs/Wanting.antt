@@ -1,0 +1,101 @@
+-- Where memory may be wanting, a command or something else is next, but neither BYE nor the end of the input.
+use Rattle.std.proofs.Common.{◌≡◌, ℕ, ◌-◌, ◌≤◌, Bool, true, false, ◌&&◌, List, [], ◌∷◌, length, take, drop, Option, Some, None, refl, sym, subst, arith, if◌then◌else◌, ◌==◌, nat_lt, nat_le}
+use Rattle.std.specs.Int.{w32, w64, from_le_bytes}
+use Rattle.std.proofs.lemmas.Bool.{ltb-false, eqb-true}
+use Rattle.std.proofs.lemmas.Bool.Decides.{nat_tests}
+use Rattle.std.proofs.lemmas.List.{length-take}
+use Rattle.store_types.specs.Chain.Reading.{◌>>=◌, only_if}
+use Rattle.wire_frames.specs.Frames.{short, too_long, whole, cut, cut_body, body_limit}
+use Rattle.wire_commands.specs.declared.command.Command.{Command}
+use Rattle.wire_commands.specs.declared.command.Command.TheVariants as commands
+use Rattle.wire_commands.specs.Fields.{text_at, number_at}
+use Rattle.wire_commands.specs.Fields as fields
+use Rattle.wire_commands.specs.CommandText.{nothing_more, one_text, text_and_offset, blob, fields_of, command_of}
+use Rattle.wire_commands.specs.Inputs.{front, cut_front, body_front}
+use Rattle.store_model.specs.Lanes.{Next, bye, end, front_next, command_next, lane_next}
+use Rattle.store_history.specs.LaneRun.{Position, next_at, may_want}
+
+-- ---- a body of at least two bytes is no BYE
+
+IsNotBye : Option Command → Type 0
+IsNotBye (Some commands.Bye) = ⊥
+IsNotBye o = Unit {0}
+
+either : (b : Bool) (x y : Option Command) → IsNotBye x → IsNotBye y → IsNotBye (if b then x else y)
+either true x y h g = h
+either false x y h g = g
+
+bound : {A : Type 0} (o : Option A) (f : A → Option Command) → ((x : A) → IsNotBye (f x)) → IsNotBye (o >>= f)
+unfolding IsNotBye
+bound None f h = tt
+bound (Some x) f h = h x
+
+fields_not_bye : (code : ℕ) (bytes : List ℕ) → 1 ≤ length bytes → IsNotBye (fields_of code bytes)
+unfolding IsNotBye fields_of one_text blob nothing_more text_and_offset
+fields_not_bye code bytes more =
+    either (code == 10) (one_text commands.OpenWriter bytes) _ (bound (fields.whole (text_at bytes)) (λ t. Some (commands.OpenWriter t)) (λ t. tt))
+    (either (code == 17) (blob bytes) _ (bound (text_at bytes) (λ t. Some (commands.Blob t.0 t.1)) (λ t. tt))
+    (either (code == 18) (nothing_more commands.Finish bytes) _ (either (length bytes == 0) (Some commands.Finish) None tt tt)
+    (either (code == 20) (one_text commands.OpenReader bytes) _ (bound (fields.whole (text_at bytes)) (λ t. Some (commands.OpenReader t)) (λ t. tt))
+    (either (code == 21) (text_and_offset commands.Download bytes) _
+    (bound (text_at bytes) (λ t. fields.whole (number_at w64 t.1) >>= λ n. Some (commands.Download t.0 n))
+    (λ t. bound (fields.whole (number_at w64 t.1)) (λ n. Some (commands.Download t.0 n)) (λ n. tt)))
+    (either (code == 63) (nothing_more commands.Bye bytes) None (last (length bytes == 0) refl) tt)))))
+  where
+    last : (b : Bool) → (length bytes == 0) ≡ b → IsNotBye (if b then Some commands.Bye else None)
+    last true is = let none : length bytes ≡ 0 = eqb-true (length bytes) 0 is in absurd (omega arith)
+    last false is = tt
+
+body_not_bye : (body : List ℕ) → 2 ≤ length body → IsNotBye (command_of body)
+unfolding command_of
+body_not_bye [] two = absurd (omega arith)
+body_not_bye (b ∷ bytes) two =
+    bound (only_if (nat_le (length (b ∷ bytes)) body_limit)) (λ x. fields_of b bytes) (λ x. fields_not_bye b bytes (omega arith))
+
+-- ---- what is next
+
+-- neither BYE nor the end of the input is next
+abbrev pub Goes : Next → Type 0
+Goes bye = ⊥
+Goes end = ⊥
+Goes n = Unit {0}
+
+body_goes : (m : ℕ) (o : Option Command) (rest : List ℕ) → IsNotBye o → Goes (front_next m (body_front o rest))
+unfolding IsNotBye front_next command_next
+body_goes m None rest h = tt
+body_goes m (Some commands.Bye) rest h = h
+body_goes m (Some c) rest h = tt
+
+behind_goes : (m n : ℕ) (bytes : List ℕ) → 2 ≤ n → Goes (front_next m (cut_front (cut_body n bytes)))
+unfolding front_next
+behind_goes m n bytes two = by_limit (nat_lt body_limit n)
+  where
+    by_length : (b : Bool) → nat_lt (length bytes) n ≡ b → Goes (front_next m (cut_front (if b then short else whole (take n bytes) (drop n bytes))))
+    by_length true is = tt
+    by_length false is =
+        let held : n ≤ length bytes = ltb-false (length bytes) n is in
+        let whole_body : 2 ≤ length (take n bytes) = simp length-take (omega arith) in
+        body_goes m (command_of (take n bytes)) (drop n bytes) (body_not_bye (take n bytes) whole_body)
+
+    by_limit : (b : Bool) → Goes (front_next m (cut_front (if b then too_long n else if nat_lt (length bytes) n then short else whole (take n bytes) (drop n bytes))))
+    by_limit true = tt
+    by_limit false = by_length (nat_lt (length bytes) n) refl
+
+both : (a b : Bool) → (a && b) ≡ true → (a ≡ true) × (b ≡ true)
+both true true h = (refl, refl)
+both true false h = cc
+both false b h = cc
+
+front_goes : (m : ℕ) (left : List ℕ) → may_want left ≡ true → Goes (front_next m (front left))
+unfolding may_want front cut
+front_goes m [] h = cc
+front_goes m (b ∷ bytes) h =
+    let tests = both (nat_le 4 (length (b ∷ bytes))) (nat_le 2 (from_le_bytes w32 (take 4 (b ∷ bytes)))) h in
+    let held : nat_lt (length (b ∷ bytes)) 4 ≡ false = grind (arith, nat_tests) in
+    let two : 2 ≤ from_le_bytes w32 (take 4 (b ∷ bytes)) = grind (arith, nat_tests) in
+    subst (λ t. Goes (front_next m (cut_front (if t then short else cut_body (from_le_bytes w32 (take 4 (b ∷ bytes))) (drop 4 (b ∷ bytes)))))) (sym held)
+    (behind_goes m (from_le_bytes w32 (take 4 (b ∷ bytes))) (drop 4 (b ∷ bytes)) two)
+
+pub want_goes : (p : Position) → may_want p.left ≡ true → Goes (next_at p)
+unfolding next_at lane_next
+want_goes p h = front_goes (p.size - length p.left) p.left h

@@ -1,0 +1,211 @@
+-- A legal history whose lanes run their programs is what `weave` gives.
+use Rattle.std.proofs.Common.{◌≡◌, ◌≢◌, ℕ, suc, ◌+◌, ◌<◌, Bool, true, false, List, [], ◌∷◌, map, length, cond, Option, Some, None, Ok, Err, Result, refl, sym, ap, subst, ◌∙◌, arith, ◌==◌, slice_index_or, slice_set}
+use Rattle.std.specs.List.{find}
+use Rattle.std.proofs.lemmas.Bool.{eq-eqb, eqb-true}
+use Rattle.std.proofs.Math.ListN.{get_or-map}
+use Rattle.std.proofs.lemmas.List.{get_or-set_same, get_or-set_other, length-set, length-map}
+use Rattle.store_types.specs.declared.order.Entry.{Entry}
+use Rattle.store_files.specs.Archive.{Snapshot}
+use Rattle.wire_commands.specs.declared.reply.Reply.{Reply}
+use Rattle.store_model.specs.declared.ending.Ending.{Ending}
+use Rattle.store_model.specs.declared.ending.Ending.TheVariants as endings
+use Rattle.store_model.specs.Lanes.{Run, new_lane, new_run}
+use Rattle.store_model.specs.Weave.{is_cut_off, is_end, run_from, known, misfit, Misfit, entered, weave, woven, woven_of, Woven}
+use Rattle.store_history.specs.declared.act.Event.{Event}
+use Rattle.store_history.specs.Acts.{Class, ending, class_of}
+use Rattle.store_history.specs.History.{Opening, World, opened, kind_of, entry, lane, moment, kind, reply, entries, own, after, after_all}
+use Rattle.store_history.specs.Legal.{Right, IsRight, IsLegal}
+use Rattle.store_history.specs.LaneRun.{text, Position, begin, lane_of, heard, heard_as, position_after, Does, EndFollows, Runs}
+use Rattle.store_history.specs.Woven.{AreLanes, ending_at, IsServed, IsWoven}
+use Rattle.store_history.proofs.Placed.{run_of, at}
+use Rattle.store_history.proofs.Events.{IsEnding, ending_is, right_end, cuts, turned}
+
+clash : true ≡ false → ⊥
+clash h = cc
+
+-- ---- a lane's own events
+
+pub own_here : (v : Event) (vs : List Event) → own (lane v) (v ∷ vs) ≡ v ∷ own (lane v) vs
+own_here v vs = ap (λ b. cond b (v ∷ own (lane v) vs) (own (lane v) vs)) (eq-eqb (lane v) (lane v) refl)
+
+pub own_other : (k : ℕ) (v : Event) (vs : List Event) → (lane v == k) ≡ false → own k (v ∷ vs) ≡ own k vs
+own_other k v vs is = ap (λ b. cond b (v ∷ own k vs) (own k vs)) is
+
+head_entry : List Event → Option Entry
+head_entry [] = None
+head_entry (v ∷ vs) = Some (entry v)
+
+find_own : (k : ℕ) (vs : List Event) → find (λ e. e.lane == k) (entries vs) ≡ head_entry (own k vs)
+unfolding head_entry
+find_own k [] = refl
+find_own k (v ∷ vs) = by_test (lane v == k) (find_own k vs)
+  where
+    by_test : (b : Bool) → find (λ e. e.lane == k) (entries vs) ≡ head_entry (own k vs)
+        → cond b (Some (entry v)) (find (λ e. e.lane == k) (entries vs)) ≡ head_entry (cond b (v ∷ own k vs) (own k vs))
+    by_test true ih = refl
+    by_test false ih = ih
+
+-- an entry of kind 6 is an end's
+EndsRight : List Event → Type 0
+EndsRight [] = Unit {0}
+EndsRight (v ∷ vs) = kind v ≡ 6 → IsEnding (class_of v.act)
+
+legal_own : (R : Option (List Snapshot)) (w : World) (k : ℕ) (vs : List Event) → IsLegal R w vs → EndsRight (own k vs)
+unfolding EndsRight
+legal_own R w k [] legal = tt
+legal_own R w k (v ∷ vs) legal = by_test (lane v == k) (legal_own R (after R w v) k vs legal.1)
+  where
+    by_test : (b : Bool) → EndsRight (own k vs) → EndsRight (cond b (v ∷ own k vs) (own k vs))
+    by_test true ih = λ h. right_end R w [] (lane v) (moment v) v.act (reply v) (class_of v.act) (subst (λ n. Right R w (lane v) (moment v) v.act (reply v) (class_of v.act) (kind_of n)) h (legal.0).says)
+    by_test false ih = ih
+
+-- ---- which fault is not told
+
+-- where want of memory ended the lane, a command that met a fault is not its last event
+told_first : (q : Position) (vs : List Event) (told : List Reply) → q.is_short ≡ false
+    → Runs endings.NoMemory q vs told → EndsRight vs → is_end (head_entry vs) ≡ false
+unfolding EndsRight head_entry
+told_first q [] told off runs right = refl
+told_first q (v ∷ vs) told off runs right = by_test (kind v == 6) refl
+  where
+    by_test : (b : Bool) → (kind v == 6) ≡ b → (kind v == 6) ≡ false
+    by_test true is =
+        let c = ending_is (class_of v.act) (right (eqb-true (kind v) 6 is)) in
+        let does : Does ending endings.NoMemory q v vs = subst (λ x. Does x endings.NoMemory q v vs) c runs.1 in
+        absurd (clash (sym does.0 ∙ off))
+    by_test false is = is
+
+end_follows : (vs : List Event) → EndFollows vs → is_end (head_entry vs) ≡ true
+unfolding head_entry
+end_follows [] h = absurd h
+end_follows (v ∷ []) h = ap (λ n. n == 6) h.1
+end_follows (v ∷ u ∷ vs) h = absurd h
+
+not_short : (p : Position) (v : Event) → kind v ≡ 5 → (heard p v.answer).is_short ≡ false
+unfolding heard
+not_short p v is = ap (λ n. n == 2) is
+
+cut_is : (k : ℕ) (c : Class) (e : Ending) (p : Position) (v : Event) (vs : List Event) (told : List Reply) → Does c e p v (own k vs) → kind v ≡ 5
+    → Runs e (heard_as c e p v.answer) (own k vs) told → EndsRight (own k vs) → is_cut_off k e (entries vs) ≡ cuts c e
+cut_is k ending endings.NoMemory p v vs told does is runs right = ap is_end (find_own k vs) ∙ end_follows (own k vs) (does.1 is)
+cut_is k c endings.NoMemory p v vs told does is runs right = ap is_end (find_own k vs) ∙ told_first (heard p v.answer) (own k vs) told (not_short p v is) runs right
+cut_is k c e p v vs told does is runs right = refl
+
+-- ---- the induction
+
+AllRun : List Ending → List Position → List Event → (ℕ → List Reply) → Type 0
+AllRun es ps h told = (k : ℕ) → k < length ps → Runs (ending_at es k) (at ps k) (own k h) (told k)
+
+Weaves : Option (List Snapshot) → List Ending → World → List Position → List Event → (ℕ → List Reply) → Type 0
+Weaves R es w ps h told =
+    (qs : List Position) × (run_from (known es) (run_of R w ps) w.events (entries h) ≡ Ok (run_of R (after_all R w h) qs))
+    × (length qs ≡ length ps) × ((k : ℕ) → k < length ps → (at qs k).told ≡ told k)
+
+module _ (R : Option (List Snapshot)) (es : List Ending) (told : ℕ → List Reply) where
+  -- the run goes on by one event
+  one_more : (w : World) (ps : List Position) (v : Event) (vs : List Event) (w' : World) (ps' qs : List Position)
+      → entered (known es) (run_of R w ps) w.events (entry v) (entries vs) ≡ Some (run_of R w' ps')
+      → run_from (known es) (run_of R w' ps') (w.events + 1) (entries vs) ≡ Ok (run_of R (after_all R w' vs) qs)
+      → run_from (known es) (run_of R w ps) w.events (entries (v ∷ vs)) ≡ Ok (run_of R (after_all R w' vs) qs)
+  unfolding run_from
+  one_more w ps v vs w' ps' qs first rest =
+      ap (λ o. elim o [ None ↦ Err (misfit (run_of R w ps) w.events (entry v)) | Some next ↦ run_from (known es) next (w.events + 1) (entries vs) ]) first ∙ rest
+
+  not_same : (j : ℕ) (v : Event) → (lane v == j) ≡ false → j ≢ lane v
+  not_same j v is h = clash (sym (eq-eqb (lane v) j (sym h)) ∙ is)
+
+  abbrev next : List Position → Event → Position
+  next ps v = position_after (ending_at es (lane v)) (at ps (lane v)) v
+
+  -- each lane goes on with its program
+  runs_next : (ps : List Position) (v : Event) (vs : List Event) → lane v < length ps → AllRun es ps (v ∷ vs) told
+      → Runs (ending_at es (lane v)) (next ps v) (own (lane v) vs) (told (lane v)) → AllRun es (slice_set ps (lane v) (next ps v)) vs told
+  unfolding AllRun
+  runs_next ps v vs inside runs rest j lt = by_test (lane v == j) refl
+    where
+      by_test : (b : Bool) → (lane v == j) ≡ b → Runs (ending_at es j) (at (slice_set ps (lane v) (next ps v)) j) (own j vs) (told j)
+      by_test true is =
+          subst (λ i. Runs (ending_at es i) (at (slice_set ps (lane v) (next ps v)) i) (own i vs) (told i)) (eqb-true (lane v) j is)
+          (subst (λ x. Runs (ending_at es (lane v)) x (own (lane v) vs) (told (lane v))) (sym (get_or-set_same ps (lane v) (next ps v) (begin []) inside)) rest)
+      by_test false is =
+          subst (λ x. Runs (ending_at es j) x (own j vs) (told j)) (sym (get_or-set_other ps (lane v) j (next ps v) (begin []) (not_same j v is)))
+          (subst (λ xs. Runs (ending_at es j) (at ps j) xs (told j)) (own_other j v vs is)
+          (runs j (subst (λ n. j < n) (length-set ps (lane v) (next ps v)) lt)))
+
+  entered_is : (w : World) (ps : List Position) (v : Event) (vs : List Event) → IsRight R w v
+      → Does (class_of v.act) (ending_at es (lane v)) (at ps (lane v)) v (own (lane v) vs)
+      → Runs (ending_at es (lane v)) (next ps v) (own (lane v) vs) (told (lane v)) → EndsRight (own (lane v) vs)
+      → entered (known es) (run_of R w ps) w.events (entry v) (entries vs) ≡ Some (run_of R (after R w v) (slice_set ps (lane v) (next ps v)))
+  unfolding after position_after
+  entered_is w ps v vs right does rest ends =
+      turned R w ps (lane v) (moment v) es (entries vs) v (own (lane v) vs) refl refl does
+      (λ is. cut_is (lane v) (class_of v.act) (ending_at es (lane v)) (at ps (lane v)) v vs (told (lane v)) does is rest ends)
+      right.says
+
+  weaves : (h : List Event) (w : World) (ps : List Position) → IsLegal R w h → AreLanes (length ps) h → AllRun es ps h told → Weaves R es w ps h told
+  unfolding AllRun Weaves run_from after_all after
+  weaves [] w ps legal lanes runs = (ps, refl, refl, λ k lt. (runs k lt).1)
+  weaves (v ∷ vs) w ps legal lanes runs =
+      let run : Runs (ending_at es (lane v)) (at ps (lane v)) (v ∷ own (lane v) vs) (told (lane v)) = subst (λ xs. Runs (ending_at es (lane v)) (at ps (lane v)) xs (told (lane v))) (own_here v vs) (runs (lane v) lanes.0) in
+      let len : length (slice_set ps (lane v) (next ps v)) ≡ length ps = length-set ps (lane v) (next ps v) in
+      let ih = weaves vs (after R w v) (slice_set ps (lane v) (next ps v)) legal.1 (subst (λ n. AreLanes n vs) (sym len) lanes.1) (runs_next ps v vs lanes.0 runs run.2) in
+      let first = entered_is w ps v vs legal.0 run.1 run.2 (legal_own R (after R w v) (lane v) vs legal.1) in (
+        ih.0,
+        one_more w ps v vs (after R w v) (slice_set ps (lane v) (next ps v)) ih.0 first ih.1,
+        ih.2 ∙ len,
+        λ k lt. ih.3 k (subst (λ n. k < n) (sym len) lt),
+      )
+
+-- ---- the theorem
+
+begun : (inputs : List (List ℕ)) → map lane_of (map begin inputs) ≡ map new_lane inputs
+unfolding text
+begun [] = refl
+begun (x ∷ xs) = ap (λ ls. new_lane x ∷ ls) (begun xs)
+
+begun_at : (inputs : List (List ℕ)) (k : ℕ) → at (map begin inputs) k ≡ begin (slice_index_or inputs k [])
+begun_at inputs k = get_or-map begin inputs k []
+
+replies_are : (ps : List Position) (ts : List (List Reply)) → length ps ≡ length ts
+    → ((k : ℕ) → k < length ps → (at ps k).told ≡ slice_index_or ts k []) → map (λ l. l.told) (map lane_of ps) ≡ map text ts
+replies_are [] [] len each = refl
+replies_are [] (t ∷ ts) len each = cc
+replies_are (p ∷ ps) [] len each = cc
+replies_are (p ∷ ps) (t ∷ ts) len each =
+    ap (λ x. text x ∷ map (λ l. l.told) (map lane_of ps)) (each 0 (omega arith))
+    ∙ ap (λ xs. text t ∷ xs) (replies_are ps ts (suc_inj len) (λ k lt. each (suc k) (omega arith)))
+  where
+    suc_inj : suc (length ps) ≡ suc (length ts) → length ps ≡ length ts
+    suc_inj h = omega arith
+
+run_begun : (R : Option (List Snapshot)) (o : Opening) (inputs : List (List ℕ)) → new_run o.snapshots R inputs ≡ run_of R (opened o) (map begin inputs)
+run_begun R o inputs = ap (λ ls. record (run_of R (opened o) []) { lanes = ls }) (sym (begun inputs))
+
+woven_by : Result Run Misfit → Result Woven Misfit
+woven_by (Ok r) = Ok (woven_of r)
+woven_by (Err x) = Err x
+
+weave_is : (R : Option (List Snapshot)) (snapshots : List Snapshot) (order : List Entry) (inputs : List (List ℕ)) (es : List Ending)
+    → weave snapshots R order inputs es ≡ woven_by (run_from (known es) (new_run snapshots R inputs) 0 order)
+unfolding weave woven woven_by
+weave_is R snapshots order inputs es = by_result (run_from (known es) (new_run snapshots R inputs) 0 order)
+  where
+    by_result : (x : Result Run Misfit) → Rattle.store_types.specs.Chain.Refusing.◌>>=◌ x (λ r. Ok (woven_of r)) ≡ woven_by x
+    by_result (Ok r) = refl
+    by_result (Err e) = refl
+
+-- a legal history whose lanes run their programs is what `weave` gives
+pub served_woven : (o : Opening) (R : Option (List Snapshot)) (h : List Event) (inputs : List (List ℕ)) (es : List Ending) (told : List (List Reply))
+    → IsServed o R h inputs es told → IsWoven o R h inputs es told
+unfolding AllRun Weaves woven_by
+served_woven o R h inputs es told s =
+    let ps = map begin inputs in
+    let len : length ps ≡ length inputs = length-map inputs begin in
+    let all = weaves R es (λ k. slice_index_or told k []) h (opened o) ps s.legal
+    (subst (λ n. AreLanes n h) (sym len) s.lanes)
+    (λ k lt. subst (λ x. Runs (ending_at es k) x (own k h) (slice_index_or told k [])) (sym (begun_at inputs k)) (s.runs k (subst (λ n. k < n) len lt))) in
+    weave_is R o.snapshots (entries h) inputs es
+    ∙ ap (λ r. woven_by (run_from (known es) r 0 (entries h))) (run_begun R o inputs)
+    ∙ ap woven_by all.1
+    ∙ ap (λ xs. Ok (record { store = (after_all R (opened o) h).store; replies = xs }))
+    (replies_are all.0 told (all.2 ∙ len ∙ sym s.each) (λ k lt. all.3 k (subst (λ n. k < n) all.2 lt)))

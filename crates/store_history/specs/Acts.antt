@@ -1,0 +1,53 @@
+-- The acts of a lane.
+use Rattle.std.specs.Prelude.{ℕ, List, Result, Ok, Err, IsOk}
+use Rattle.store_types.specs.declared.refusal.Refusal.{Refusal}
+use Rattle.store_types.specs.declared.refusal.Refusal.TheVariants.{BadBlob}
+use Rattle.blob_codec.specs.Blob.{data_of}
+use Rattle.wire_commands.specs.declared.command.Command.{Command}
+use Rattle.wire_commands.specs.declared.command.Command.TheVariants as commands
+use Rattle.store_history.specs.declared.act.Act.{Act}
+use Rattle.store_history.specs.declared.act.Act.TheVariants as acts
+
+-- ---- well-formed acts
+
+-- a command that is an act of its own: no upload, and no BYE, which belongs to the lane's end
+abbrev pub IsPlain : Command → Type 0
+IsPlain (commands.Blob file blob) = ⊥
+IsPlain commands.Bye = ⊥
+IsPlain c = Unit {0}
+
+-- what the check of an upload gives: its bytes, where they are a blob, or what is wrong with them
+abbrev pub IsChecked : Result (List ℕ) Refusal → Type 0
+IsChecked (Ok bytes) = IsOk (data_of bytes)
+IsChecked (Err (BadBlob fault)) = Unit {0}
+IsChecked (Err refusal) = ⊥
+
+abbrev pub IsWellFormed : Act → Type 0
+IsWellFormed (acts.Plain c) = IsPlain c
+IsWellFormed (acts.Blob name checked) = IsChecked checked
+IsWellFormed acts.Short = Unit {0}
+IsWellFormed acts.End = Unit {0}
+
+-- ---- which act does a command
+
+abbrev pub check_blob : List ℕ → Result (List ℕ) Refusal
+check_blob bytes = elim (data_of bytes) [ Ok piece ↦ Ok bytes | Err fault ↦ Err (BadBlob fault) ]
+
+abbrev pub act_of_command : Command → Act
+act_of_command (commands.Blob file blob) = acts.Blob file (check_blob blob)
+act_of_command c = acts.Plain c
+
+-- ---- what an act is
+
+pub data Class : Type 0 where
+  -- a command
+  stepping : Class
+  -- want of memory
+  wanting : Class
+  -- the lane's end
+  ending : Class
+
+abbrev pub class_of : Act → Class
+class_of acts.Short = wanting
+class_of acts.End = ending
+class_of a = stepping

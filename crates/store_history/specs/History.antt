@@ -1,0 +1,111 @@
+-- What acts do to the plain store, and what they answer.
+use Rattle.std.specs.Prelude.{zero, suc, ℕ, ◌+◌, Bool, List, [], ◌∷◌, map, filter, ◌==◌, Option, None, Result, Ok, Err}
+use Rattle.store_types.specs.declared.order.Entry.{Entry}
+use Rattle.store_types.specs.declared.refusal.Refusal.{Refusal}
+use Rattle.store_types.specs.declared.refusal.Refusal.TheVariants.{NoMemory}
+use Rattle.store_files.specs.Archive.{Snapshot}
+use Rattle.wire_commands.specs.declared.reply.Reply.{Reply}
+use Rattle.wire_commands.specs.declared.reply.Reply.TheVariants.{Done}
+use Rattle.store_model.specs.Store.{Store, store_of, Outcome}
+use Rattle.store_model.specs.WriterSteps.{checked_blob, want_data}
+use Rattle.store_model.specs.Steps.{outcome, ended, answered}
+use Rattle.store_model.specs.Weave.{first_fault}
+use Rattle.store_history.specs.declared.act.Act.{Act}
+use Rattle.store_history.specs.declared.act.Act.TheVariants as acts
+use Rattle.store_history.specs.declared.act.Event.{Event}
+
+-- ---- events
+
+abbrev pub entry : Event → Entry
+entry e = (e.answer).entry
+
+abbrev pub lane : Event → ℕ
+lane e = (entry e).lane
+
+abbrev pub moment : Event → ℕ
+moment e = (entry e).moment
+
+abbrev pub kind : Event → ℕ
+kind e = (entry e).kind
+
+abbrev pub reply : Event → Option Reply
+reply e = (e.answer).reply
+
+abbrev pub entries : List Event → List Entry
+entries h = map entry h
+
+-- a lane's own events
+abbrev pub is_of : ℕ → Event → Bool
+is_of k e = lane e == k
+
+abbrev pub own : ℕ → List Event → List Event
+own k h = filter (is_of k) h
+
+-- ---- the kinds of entries
+
+pub data EntryKind : Type 0 where
+  -- the next command
+  step_kind : EntryKind
+  -- want of memory
+  short_kind : EntryKind
+  -- a fault of the disk, and what comes after it
+  fault_kind : EntryKind
+  -- a lane's end
+  end_kind : EntryKind
+  no_kind : EntryKind
+
+abbrev pub kind_of : ℕ → EntryKind
+kind_of zero = step_kind
+kind_of (suc (suc zero)) = short_kind
+kind_of (suc (suc (suc (suc (suc zero))))) = fault_kind
+kind_of (suc (suc (suc (suc (suc (suc zero)))))) = end_kind
+kind_of _ = no_kind
+
+-- ---- the plain store in the course of a history
+
+-- what a store is opened with: its finished snapshots, the last moment of its book, and its disk's count of calls
+pub record Opening : Type 0 where
+  pub snapshots : List Snapshot
+  pub moment : ℕ
+  pub calls : ℕ
+
+-- the store, the place of the first fault, the number of events, the last moment, and the disk's count of calls
+pub record World : Type 0 where
+  pub store : Store
+  pub fault : Option ℕ
+  pub events : ℕ
+  pub moment : ℕ
+  pub calls : ℕ
+
+abbrev pub opened : Opening → World
+opened o = record { store = store_of o.snapshots; fault = None; events = 0; moment = o.moment; calls = o.calls }
+
+-- the data of an upload that was checked
+abbrev pub data_in : Result (List ℕ) Refusal → Result (List ℕ) Refusal
+data_in (Ok bytes) = want_data bytes
+data_in (Err refusal) = Err refusal
+
+-- what an act of the lane at the moment does, where neither disk nor memory fails
+unfoldable pub act_outcome : Option (List Snapshot) → World → ℕ → ℕ → Act → Outcome
+act_outcome remote w k m (acts.Plain c) = outcome w.store k m c
+act_outcome remote w k m (acts.Blob name checked) = checked_blob w.store k name (data_in checked)
+act_outcome remote w k m acts.Short = Err NoMemory
+act_outcome remote w k m acts.End = Ok (ended w.store k, Done)
+
+-- ---- after an event
+
+-- after an act whose entry is of this kind
+unfoldable pub moved : Option (List Snapshot) → World → ℕ → ℕ → Act → EntryKind → World
+moved remote w k m a step_kind = record w { store = (answered w.store (act_outcome remote w k m a)).0 }
+moved remote w k m a fault_kind = record w { fault = first_fault w.events w.fault }
+moved remote w k m a end_kind = record w { store = ended w.store k }
+moved remote w k m a _ = w
+
+unfoldable pub after : Option (List Snapshot) → World → Event → World
+after remote w e =
+    let w' = moved remote w (lane e) (moment e) e.act (kind_of (kind e)) in
+    record w' { events = w.events + 1; moment = moment e; calls = e.calls }
+
+unfoldable pub after_all : Option (List Snapshot) → World → List Event → World
+after_all remote w [] = w
+after_all remote w (e ∷ es) = after_all remote (after remote w e) es

@@ -1,0 +1,128 @@
+-- The program of a lane: its acts, one after another, and what it tells its sink.
+use Rattle.std.specs.Prelude.{ℕ, ◌≡◌, ◌-◌, Bool, true, false, ◌&&◌, ◌||◌, List, [], ◌∷◌, ◌++◌, length, take, nat_le, ◌==◌, if◌then◌else◌, Option, Some}
+use Rattle.std.specs.Int.{w32, from_le_bytes}
+use Rattle.std.specs.List.{flat_map}
+use Rattle.wire_frames.specs.Frames.{frame, short, cut}
+use Rattle.wire_commands.specs.declared.reply.Reply.{Reply}
+use Rattle.wire_commands.specs.declared.reply.Reply.TheVariants.{Done, Refused}
+use Rattle.wire_commands.specs.ReplyText.{reply_text}
+use Rattle.store_model.specs.declared.ending.Ending.{Ending}
+use Rattle.store_model.specs.declared.ending.Ending.TheVariants as endings
+use Rattle.store_model.specs.Lanes.{Lane, Next, plain, bye, broken, end, lane_next}
+use Rattle.store_model.specs.Weave.{is_replied}
+use Rattle.store_history.specs.declared.act.Act.{Act}
+use Rattle.store_history.specs.declared.act.Answer.{Answer}
+use Rattle.store_history.specs.declared.act.Event.{Event}
+use Rattle.store_history.specs.Acts.{Class, stepping, wanting, ending, class_of, act_of_command}
+use Rattle.store_history.specs.History.{kind}
+
+-- the bytes that the sink is given
+unfoldable pub text : List Reply → List ℕ
+text told = flat_map (λ r. frame (reply_text r)) told
+
+-- ---- where a lane is
+
+-- The input's size and what is left of it; whether want of memory was the last answer; whether it ended the lane, so
+-- that only the lane's end may come; what was told; whether the lane is over.
+pub record Position : Type 0 where
+  pub size : ℕ
+  pub left : List ℕ
+  pub is_short : Bool
+  pub is_spent : Bool
+  pub told : List Reply
+  pub is_over : Bool
+
+abbrev pub begin : List ℕ → Position
+begin input = record { size = length input; left = input; is_short = false; is_spent = false; told = []; is_over = false }
+
+-- the lane as `weave` has it
+abbrev pub lane_of : Position → Lane
+lane_of p = record { size = p.size; left = p.left; told = text p.told }
+
+unfoldable pub next_at : Position → Next
+next_at p = lane_next (lane_of p)
+
+-- ---- after an answer
+
+abbrev pub tells : Position → List ℕ → Reply → Position
+tells p left r = record p { left = left; told = p.told ++ r ∷ [] }
+
+-- what is no command is used up, with the rest of the input
+abbrev pub used_up : Position → Reply → Position
+used_up p r = record (tells p [] r) { is_spent = true }
+
+unfoldable pub heard_at : Position → ℕ → Option Reply → Next → Position
+heard_at p kind (Some r) (plain c left) = tells p left r
+heard_at p kind (Some r) (broken refusal) = if kind == 2 then used_up p r else p
+heard_at p kind _ _ = p
+
+-- an answer whose entry was the reserve's is the last but for the lane's end
+unfoldable pub heard : Position → Answer → Position
+heard p a =
+    let q = heard_at p (a.entry).kind a.reply (next_at p) in
+    record q { is_short = (a.entry).kind == 2; is_spent = a.last || q.is_spent }
+
+-- The lane's end. Its reply is that of BYE, or of what is no command.
+unfoldable pub last_words : Ending → Position → Next → Position
+last_words e p bye = if is_replied e then tells p [] Done else p
+last_words e p (broken refusal) = if is_replied e then tells p [] (Refused refusal) else p
+last_words e p _ = p
+
+-- An end that met a fault is not told, but that where the sink failed it counts as the next command's.
+abbrev pub end_faulted : Ending → Position → Option Reply → Position
+end_faulted endings.NoMemory p r = p
+end_faulted _ p r = heard_at p 5 r (next_at p)
+
+abbrev pub end_heard : Ending → Position → ℕ → Option Reply → Position
+end_heard e p kind r = if kind == 5 then end_faulted e p r else record (last_words e p (next_at p)) { is_over = true }
+
+-- the lane after one of its answers
+abbrev pub heard_as : Class → Ending → Position → Answer → Position
+heard_as ending e p a = end_heard e p (a.entry).kind a.reply
+heard_as _ e p a = heard p a
+
+unfoldable pub position_after : Ending → Position → Event → Position
+position_after e p v = heard_as (class_of v.act) e p v.answer
+
+-- ---- which acts the program makes
+
+-- the act for what is next
+abbrev pub Asks : Next → Act → Type 0
+Asks (plain c left) a = a ≡ act_of_command c
+Asks _ a = ⊥
+
+-- Memory may be wanting for a frame whose length is known and at least 2. A lane holds the first five bytes of a frame
+-- without memory, so it never wants any for BYE or for the end of the input.
+unfoldable pub may_want : List ℕ → Bool
+may_want left = nat_le 4 (length left) && nat_le 2 (from_le_bytes w32 (take 4 left))
+
+-- How a lane may end where this is next. Want of memory ended it where that was the last answer. Where the source
+-- failed or gave too much, only a part of a frame is left without an answer.
+abbrev pub EndsSo : Ending → Position → Next → Type 0
+EndsSo endings.Clean p bye = p.is_spent ≡ false
+EndsSo endings.Clean p end = p.is_spent ≡ false
+EndsSo (endings.Broken place) p (broken refusal) = (p.is_spent ≡ false) × (place ≡ p.size - length p.left)
+EndsSo endings.SourceFault p n = (p.is_spent ≡ false) × (cut p.left ≡ short)
+EndsSo endings.SourceTooLong p n = (p.is_spent ≡ false) × (cut p.left ≡ short)
+EndsSo endings.SinkFault p n = Unit {0}
+EndsSo endings.NoMemory p n = p.is_short ≡ true
+EndsSo _ p n = ⊥
+
+-- the lane's end, and no other event, follows
+abbrev pub EndFollows : List Event → Type 0
+EndFollows (v ∷ []) = (class_of v.act ≡ ending) × (kind v ≡ 6)
+EndFollows _ = ⊥
+
+-- The program makes this act here, before these events of its own. An end that met a fault comes again.
+abbrev pub Does : Class → Ending → Position → Event → List Event → Type 0
+Does stepping e p v vs = (p.is_spent ≡ false) × Asks (next_at p) v.act
+Does wanting e p v vs = (p.is_spent ≡ false) × (may_want p.left ≡ true)
+Does ending e p v vs = EndsSo e p (next_at p) × (kind v ≡ 5 → EndFollows vs)
+
+-- The lane's own events from this position on are a run of its program, and this is what it told in the end.
+abbrev pub Runs : Ending → Position → List Event → List Reply → Type 0
+Runs e p [] told = (p.is_over ≡ true) × (p.told ≡ told)
+Runs e p (v ∷ vs) told = (p.is_over ≡ false) × Does (class_of v.act) e p v vs × Runs e (position_after e p v) vs told
+
+abbrev pub LaneRan : List ℕ → Ending → List Event → List Reply → Type 0
+LaneRan input e events told = Runs e (begin input) events told

@@ -1,0 +1,76 @@
+-- Which histories are legal: each answer is the plain store's at that point.
+use Rattle.std.specs.Prelude.{ℕ, ◌≡◌, ◌<◌, ◌≤◌, true, List, [], ◌∷◌, Option, Some, None, min, max}
+use Rattle.store_types.specs.Times.{last_moment}
+use Rattle.store_types.specs.declared.refusal.Refusal.TheVariants.{NoMemory}
+use Rattle.port_traits.specs.Readings.{Readings, reading_at, readings_after}
+use Rattle.store_files.specs.Archive.{Snapshot}
+use Rattle.wire_commands.specs.declared.reply.Reply.{Reply}
+use Rattle.wire_commands.specs.declared.reply.Reply.TheVariants.{Refused}
+use Rattle.store_model.specs.Store.{lane_count}
+use Rattle.store_model.specs.Steps.{answered}
+use Rattle.store_model.specs.Weave.{fault_refusal}
+use Rattle.store_history.specs.declared.act.Act.{Act}
+use Rattle.store_history.specs.declared.act.Event.{Event}
+use Rattle.store_history.specs.Acts.{IsWellFormed, Class, stepping, wanting, ending, class_of}
+use Rattle.store_history.specs.History.{World, act_outcome, after, lane, moment, kind, reply, EntryKind, kind_of, step_kind, short_kind, fault_kind, end_kind}
+
+abbrev pub Says : Option (List Snapshot) → World → ℕ → ℕ → Act → Option Reply → Type 0
+Says remote w k m a r = r ≡ Some (answered w.store (act_outcome remote w k m a)).1
+
+-- what an act is answered whose entry is of this kind
+abbrev pub Right : Option (List Snapshot) → World → ℕ → ℕ → Act → Option Reply → Class → EntryKind → Type 0
+-- the next command
+Right remote w k m a r stepping step_kind = (w.fault ≡ None) × Says remote w k m a r
+-- want of memory, which comes to no lane's end
+Right remote w k m a r ending short_kind = ⊥
+Right remote w k m a r _ short_kind = r ≡ Some (Refused NoMemory)
+-- a fault of the disk, and what comes after it; a lane's end is not refused for an earlier fault
+Right remote w k m a r wanting fault_kind = ⊥
+Right remote w k m a r ending fault_kind = (w.fault ≡ None) × (r ≡ Some (Refused (fault_refusal w.fault)))
+Right remote w k m a r stepping fault_kind = r ≡ Some (Refused (fault_refusal w.fault))
+-- the lane's end
+Right remote w k m a r ending end_kind = r ≡ None
+Right remote w k m a r _ _ = ⊥
+
+-- the answer is the plain store's
+pub record IsRight (remote : Option (List Snapshot)) (w : World) (e : Event) : Type 0 where
+  pub says : Right remote w (lane e) (moment e) e.act (reply e) (class_of e.act) (kind_of (kind e))
+  pub formed : IsWellFormed e.act
+  pub inside : lane e < lane_count
+  -- its entry's number is that of the events before
+  pub place : (e.answer).place ≡ w.events
+  -- an entry of the reserve is one of want of memory
+  pub last : (e.answer).last ≡ true → kind e ≡ 2
+  -- moments and calls never fall
+  pub risen : w.moment ≤ moment e
+  pub in_time : moment e ≤ last_moment
+  pub counted : w.calls ≤ e.calls
+
+-- the answers from this world on
+abbrev pub IsLegal : Option (List Snapshot) → World → List Event → Type 0
+IsLegal remote w [] = Unit {0}
+IsLegal remote w (e ∷ es) = IsRight remote w e × IsLegal remote (after remote w e) es
+
+-- ---- moments
+
+-- the readings without the first
+abbrev pub later : Readings → Readings
+later c = readings_after 1 c
+
+-- the moment of an act: the reading, at least the moment before and at most the last of all
+abbrev pub moment_at : Readings → ℕ → ℕ
+moment_at c before = min (max (reading_at c 0) before) last_moment
+
+-- each event's moment is by the clock's next reading
+abbrev pub IsTimed : Readings → ℕ → List Event → Type 0
+IsTimed c before [] = Unit {0}
+IsTimed c before (e ∷ es) = (moment e ≡ moment_at c before) × IsTimed (later c) (moment e) es
+
+-- the readings that are left after a history, and its last moment
+abbrev pub readings_left : Readings → List Event → Readings
+readings_left c [] = c
+readings_left c (e ∷ es) = readings_left (later c) es
+
+abbrev pub moment_after : ℕ → List Event → ℕ
+moment_after before [] = before
+moment_after before (e ∷ es) = moment_after (moment e) es

@@ -1,0 +1,8 @@
+pub mod Acts
+pub mod History
+pub mod Legal
+pub mod LaneRun
+pub mod SoFar
+pub mod Woven
+pub mod Moments
+pub mod Seats

@@ -1,0 +1,37 @@
+-- The whole: a legal history, whose own events on each lane are a run of the lane's program, is what `weave` gives.
+use Rattle.std.specs.Prelude.{IsTrue, ℕ, ◌≡◌, ◌<◌, List, [], ◌∷◌, map, length, Option, Ok, slice_index_or}
+use Rattle.store_files.specs.Archive.{Snapshot}
+use Rattle.store_files.specs.Order.{keeps_rules}
+use Rattle.wire_commands.specs.declared.reply.Reply.{Reply}
+use Rattle.store_model.specs.declared.ending.Ending.{Ending}
+use Rattle.store_model.specs.declared.ending.Ending.TheVariants as endings
+use Rattle.store_model.specs.Weave.{weave}
+use Rattle.store_history.specs.declared.act.Event.{Event}
+use Rattle.store_history.specs.History.{Opening, opened, after_all, entries, own, lane}
+use Rattle.store_history.specs.Legal.{IsLegal}
+use Rattle.store_history.specs.LaneRun.{text, LaneRan}
+
+-- every event is of one of so many lanes
+abbrev pub AreLanes : ℕ → List Event → Type 0
+AreLanes lanes [] = Unit {0}
+AreLanes lanes (e ∷ es) = (lane e < lanes) × AreLanes lanes es
+
+abbrev pub ending_at : List Ending → ℕ → Ending
+ending_at es k = slice_index_or es k endings.Clean
+
+-- From this opening the history is legal. It has events of these lanes alone, and each lane's own are a run of its
+-- program on its input, to its ending, which told this.
+pub record IsServed (o : Opening) (remote : Option (List Snapshot)) (h : List Event) (inputs : List (List ℕ)) (es : List Ending) (told : List (List Reply)) : Type 0 where
+  pub legal : IsLegal remote (opened o) h
+  pub lanes : AreLanes (length inputs) h
+  pub each : length told ≡ length inputs
+  pub runs : (k : ℕ) → k < length inputs → LaneRan (slice_index_or inputs k []) (ending_at es k) (own k h) (slice_index_or told k [])
+
+-- The plain store, asked in the history's order, gives what each lane told and the history's last store.
+abbrev pub IsWoven : Opening → Option (List Snapshot) → List Event → List (List ℕ) → List Ending → List (List Reply) → Type 0
+IsWoven o remote h inputs es told =
+    weave o.snapshots remote (entries h) inputs es ≡ Ok (record { store = (after_all remote (opened o) h).store; replies = map text told })
+
+-- the history's order keeps the rules of order files
+abbrev pub FitsRules : List Event → List (List ℕ) → Type 0
+FitsRules h inputs = IsTrue (keeps_rules (length inputs) (entries h))

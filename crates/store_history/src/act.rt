@@ -1,0 +1,41 @@
+//! What a lane asks of the core, and what it is answered.
+
+use store_types::{Bytes, Entry, Refusal};
+use wire_commands::{Command, Reply};
+
+/// One act of a lane.
+#[derive(Debug, Drop)]
+pub enum Act {
+    /// A command that is no upload and no BYE.
+    Plain(Command),
+    /// An upload of a blob: its bytes, whose check found data in them, or the refusal of that check.
+    Blob {
+        name: Bytes,
+        checked: Result<Bytes, Refusal>,
+    },
+    /// Want of memory outside the turn.
+    Short,
+    /// The lane's end.
+    End,
+}
+
+/// What an act is answered.
+#[derive(Debug, Drop)]
+pub struct Answer {
+    /// None for a lane's end, where it met no fault.
+    pub reply: Option<Reply>,
+    pub entry: Entry,
+    /// The entry's number in the order, from 0.
+    pub place: u64,
+    /// The entry was the reserve's. The lane ends after it.
+    pub last: bool,
+}
+
+/// One act of a history. No value of it is made.
+#[derive(Debug, Drop)]
+pub struct Event {
+    pub act: Act,
+    pub answer: Answer,
+    /// The disk's count of calls as it was answered.
+    pub calls: u64,
+}

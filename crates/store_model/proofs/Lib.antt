@@ -1,0 +1,8 @@
+pub mod OnLiterals
+mod SessionExamples
+mod LaneExamples
+mod LoadExamples
+pub mod Paths
+pub mod Insertions
+pub mod FileInsertions
+pub mod StandsLemmas

@@ -1,0 +1,29 @@
+-- What an example unfolds to compute these definitions on literals.
+use Rattle.std.specs.Prelude.{⊤}
+use Rattle.std.specs.Str.{is_utf8, chars}
+use Rattle.serde_json.proofs.OnLiterals.{serde_json_on_literals}
+use Rattle.hex.proofs.OnLiterals.{hex_on_literals}
+use Rattle.sha2.specs.Sha256.{sha256, first_words, schedule, rounds, compress, hash_after, digest_bytes}
+use Rattle.store_types.proofs.OnLiterals.{store_types_on_literals}
+use Rattle.store_files.proofs.OnLiterals.{store_files_on_literals}
+use Rattle.wire_commands.proofs.OnLiterals.{wire_commands_on_literals}
+use Rattle.store_model.specs.Load as load_
+use Rattle.store_model.specs.WriterSteps as writer_
+use Rattle.store_model.specs.ReaderSteps as reader_
+use Rattle.store_model.specs.Steps as steps_
+use Rattle.store_model.specs.Lanes as lanes_
+use Rattle.store_model.specs.Weave as weave_
+
+unfoldable pub store_model_on_literals : ⊤
+unfolding store_types_on_literals store_files_on_literals wire_commands_on_literals writer_.goes_on writer_.open_writer writer_.checked_blob writer_.put_blob writer_.finish reader_.open_reader reader_.download steps_.outcome steps_.step lanes_.command_next lanes_.front_next lanes_.lane_next lanes_.next_of weave_.with_store weave_.tell weave_.answer weave_.stepped weave_.short weave_.told_fault weave_.faulted weave_.end_session weave_.ended_with weave_.unread weave_.ends weave_.entered weave_.run_from weave_.woven weave_.weave
+store_model_on_literals = tt
+
+-- digests
+unfoldable pub digests_on_literals : ⊤
+unfolding hex_on_literals sha256 first_words schedule rounds compress hash_after digest_bytes
+digests_on_literals = tt
+
+-- the reading of a datastore
+unfoldable pub loading_on_literals : ⊤
+unfolding serde_json_on_literals is_utf8 chars load_.piece_in load_.content_in load_.files_in load_.snapshot_in load_.entry_snapshot load_.in_order load_.snapshots_in load_.load
+loading_on_literals = tt

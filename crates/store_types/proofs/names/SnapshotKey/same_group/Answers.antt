@@ -1,0 +1,7 @@
+use Rattle.std.proofs.Common.{◌∙◌, rules}
+use Rattle.store_types.specs.Names.{group_of_key}
+use Rattle.store_types.proofs.NameLemmas.{same_group-ids}
+use Rattle.store_types.proofs.names.SnapshotKey.same_group.Goals as goal
+
+pub returns-then-eq : goal.returns-then-eq
+returns-then-eq c = c.eq-then-eq.ensures ∙ same_group-ids (group_of_key c.args.self.now) (group_of_key c.args.other.now) (search rules)

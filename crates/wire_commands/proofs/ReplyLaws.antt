@@ -1,0 +1,135 @@
+-- A reply that is read is spelled so, and one that is spelled is read again.
+use Rattle.std.proofs.Common.{◌≡◌, ℕ, zero, suc, ◌≤◌, Bool, List, [], ◌∷◌, length, leb, Option, Some, None, IsTrue, IfSome, Result, Ok, Err, IfOk, refl, sym, ap, subst, ◌∙◌}
+use Rattle.std.proofs.lemmas.Bool.{leb-true, le-leb, false≢true}
+use Rattle.store_types.specs.declared.refusal.Refusal.{Refusal}
+use Rattle.store_types.specs.declared.refusal.Refusal.TheVariants as refusals
+use Rattle.store_types.specs.Chain.Reading.{◌>>=◌, only_if}
+use Rattle.wire_frames.specs.Frames.{body_limit, AreBytes}
+use Rattle.wire_commands.specs.declared.reply.Reply.{Reply}
+use Rattle.wire_commands.specs.declared.reply.Reply.TheVariants.{Done, Base, Part, Refused}
+use Rattle.wire_commands.specs.Fields.{text, byte_at, text_at, whole}
+use Rattle.wire_commands.specs.RefusalText.{refusal_text}
+use Rattle.wire_commands.specs.RefusalReading.{refusal_from}
+use Rattle.wire_commands.specs.ReplyText.{Form, empty, base, part, reply_form, may_have_form, reply_text}
+use Rattle.wire_commands.specs.ReplyReading.{made, part_in, fields_in, accepted, reply_from, reply_of}
+use Rattle.wire_commands.specs.HasText.{FitsRefusal, FitsReply, ReplyHasText, RepliesAreReadAgain, RepliesHaveOneText}
+use Rattle.wire_commands.proofs.FieldLaws.{u64_field, text_field}
+use Rattle.wire_commands.proofs.RefusalFields.{only_if_some}
+use Rattle.wire_commands.proofs.BodyLaws.{Spells, value_spells, none_spells, nothing_spells, one_spells, one_again, rest_spells, rest_again}
+use Rattle.wire_commands.proofs.RefusalLaws.{refusal_in, refusal_spells, refusal_again}
+
+made_is : {A : Type 0} (make : A → Reply) (o : Option A) → made make o ≡ (o >>= (λ x. Some (make x)))
+unfolding made
+made_is make None = refl
+made_is make (Some x) = refl
+
+-- the reply of a body of any length
+abbrev reply_in : Option Form → List ℕ → Option Reply
+reply_in form body = byte_at body >>= (λ first. reply_from form first.0 first.1)
+
+-- ---- what is read
+
+abbrev IsReply : Option Form → Reply → Type 0
+IsReply form r = FitsReply r × IsTrue (may_have_form form r)
+
+accepted_spells : (form : Option Form) (bytes : List ℕ) → AreBytes bytes → Spells reply_text (IsReply form) bytes 0 (accepted form bytes)
+unfolding fields_in part_in reply_text
+accepted_spells None bytes fits = none_spells reply_text (IsReply None) bytes 0
+accepted_spells (Some empty) bytes fits = nothing_spells reply_text (IsReply (Some empty)) bytes 0 Done (tt, refl) refl
+accepted_spells (Some base) bytes fits =
+    subst (Spells reply_text (IsReply (Some base)) bytes 0) (sym (made_is Base (whole (text_at bytes))))
+    (one_spells reply_text (IsReply (Some base)) text_field Base bytes 0 fits (λ t. refl) (λ t h. (h, refl)))
+accepted_spells (Some part) bytes fits = rest_spells reply_text (IsReply (Some part)) u64_field Part bytes 0 fits (λ n rest. refl) (λ n rest h. (h, refl))
+
+refused_spells : (form : Option Form) (n : ℕ) (bytes : List ℕ) (o : Option Refusal) → Spells refusal_text FitsRefusal bytes n o → Spells reply_text (IsReply form) bytes n (made Refused o)
+unfolding made reply_text
+refused_spells form n bytes None spells = none_spells reply_text (IsReply form) bytes n
+refused_spells form n bytes (Some r) spells =
+    let is = spells r refl in
+    value_spells reply_text (IsReply form) bytes n (Refused r) (is.0, refl) is.1
+
+reply_spells : (form : Option Form) (n : ℕ) (bytes : List ℕ) → AreBytes bytes → Spells reply_text (IsReply form) bytes n (reply_from form n bytes)
+unfolding reply_from
+reply_spells form zero bytes fits = accepted_spells form bytes fits
+reply_spells form (suc n) bytes fits = refused_spells form (suc n) bytes (refusal_from (suc n) bytes) (refusal_spells (suc n) bytes fits)
+
+body_spells : (form : Option Form) (body : List ℕ) (r : Reply) → AreBytes body → reply_in form body ≡ Some r → IsReply form r × (body ≡ reply_text r)
+body_spells form [] r fits e = absurd cc
+body_spells form (n ∷ bytes) r fits e = reply_spells form n bytes (λ i. fits (suc i)) r e
+
+pub replies_one_text : RepliesHaveOneText
+unfolding reply_of
+replies_one_text code body r bytes e =
+    let held = only_if_some (leb (length body) body_limit) (reply_in (reply_form code) body) r e in
+    let is = body_spells (reply_form code) body r bytes held.1 in
+    let short : length body ≤ body_limit = leb-true (length body) body_limit held.0 in
+    ((is.0.0, subst (λ (t : List ℕ). length t ≤ body_limit) is.1 short), is.0.1, is.1)
+
+-- ---- what is spelled
+
+within_limit : (code : ℕ) (body : List ℕ) → length body ≤ body_limit → reply_of code body ≡ reply_in (reply_form code) body
+unfolding reply_of
+within_limit code body h = ap (λ (b : Bool). only_if b >>= (λ u. reply_in (reply_form code) body)) (le-leb (length body) body_limit h)
+
+numbered : (form : Option Form) (r : Refusal) → reply_in form (refusal_text r) ≡ made Refused (refusal_in (refusal_text r))
+unfolding reply_from refusal_text
+numbered form (refusals.BadFrame offset) = refl
+numbered form (refusals.TooLong len) = refl
+numbered form (refusals.WrongState state) = refl
+numbered form refusals.BadName = refl
+numbered form (refusals.GroupBusy lane) = refl
+numbered form (refusals.SnapshotBusy lane) = refl
+numbered form (refusals.NotNewer latest) = refl
+numbered form refusals.NoSnapshot = refl
+numbered form refusals.NoFile = refl
+numbered form refusals.Exists = refl
+numbered form (refusals.BadBlob fault) = refl
+numbered form (refusals.WrongDigest digest) = refl
+numbered form (refusals.WrongSize place size) = refl
+numbered form (refusals.UnknownChunk place) = refl
+numbered form (refusals.BadOffset place expected) = refl
+numbered form (refusals.BadClose fault) = refl
+numbered form (refusals.OpenIndexes count) = refl
+numbered form (refusals.BadManifest cause) = refl
+numbered form (refusals.ManifestMismatch file field) = refl
+numbered form refusals.NotAllowed = refl
+numbered form (refusals.TooMany limit) = refl
+numbered form (refusals.BadRange size) = refl
+numbered form (refusals.Damaged digest fault) = refl
+numbered form (refusals.Unreadable name) = refl
+numbered form (refusals.CollectorBusy lane) = refl
+numbered form refusals.DiskFault = refl
+numbered form (refusals.Halted place) = refl
+numbered form refusals.NoMemory = refl
+numbered form refusals.NoRemote = refl
+numbered form refusals.RemoteFault = refl
+
+reply_again : (form : Option Form) (r : Reply) → FitsReply r → IsTrue (may_have_form form r) → reply_in form (reply_text r) ≡ Some r
+unfolding reply_text reply_from fields_in part_in made
+reply_again form (Refused r) fits has = numbered form r ∙ ap (made Refused) (refusal_again r fits)
+reply_again (Some empty) Done fits has = refl
+reply_again (Some base) (Base snapshot) fits has = made_is Base (whole (text_at (text snapshot))) ∙ one_again text_field Base snapshot fits
+reply_again (Some part) (Part total bytes) fits has = rest_again u64_field Part total bytes fits
+reply_again None Done fits has = absurd (false≢true has)
+reply_again None (Base snapshot) fits has = absurd (false≢true has)
+reply_again None (Part total bytes) fits has = absurd (false≢true has)
+reply_again (Some base) Done fits has = absurd (false≢true has)
+reply_again (Some part) Done fits has = absurd (false≢true has)
+reply_again (Some empty) (Base snapshot) fits has = absurd (false≢true has)
+reply_again (Some part) (Base snapshot) fits has = absurd (false≢true has)
+reply_again (Some empty) (Part total bytes) fits has = absurd (false≢true has)
+reply_again (Some base) (Part total bytes) fits has = absurd (false≢true has)
+
+pub replies_again : RepliesAreReadAgain
+replies_again code r h has = within_limit code (reply_text r) h.1 ∙ reply_again (reply_form code) r h.0 has
+
+-- of a read
+abbrev IsSpelledBy : List ℕ → Reply → Type 0
+IsSpelledBy body r = ReplyHasText r × (body ≡ reply_text r)
+
+pub read_spelled : {E : Type 0} (code : ℕ) (body : List ℕ) (r : Result (Option Reply) E) → AreBytes body → IfOk r (λ o. o ≡ reply_of code body) → IfOk r (λ o. IfSome o (IsSpelledBy body))
+read_spelled code body (Ok (Some reply)) bytes is =
+    let both = replies_one_text code body reply bytes (sym is) in
+    (both.0, both.2)
+read_spelled code body (Ok None) bytes is = tt
+read_spelled code body (Err e) bytes is = tt
