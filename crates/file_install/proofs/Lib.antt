@@ -1,2 +1,3 @@
 pub mod Crash
+pub mod InstallLaws
 pub mod SnapshotLemmas

@@ -77,6 +77,7 @@ impl<T: Replays> Turn<T> {
     }
 
     /// Draws a ticket, waits until it is served, and takes the value out. The value stands for all of the history.
+    /// A waiting thread yields the processor a few times, and then sleeps until its ticket is next.
     pub fn take<R: Wait>(&self, rt: &R, seat: &mut Seat<T>) -> Held<T>
         requires own { seat.old.turn ≡ self.now.id }
         requires idle { seat.old.holding ≡ false }

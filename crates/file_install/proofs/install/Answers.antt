@@ -1,4 +1,4 @@
-use Rattle.std.proofs.Common.{◌≡◌, ◌∙◌, refl}
+use Rattle.std.proofs.Common.{◌∙◌, refl}
 use Rattle.file_install.proofs.Crash.{stage_leaves, rename_leaves, rename_whole, rename_content, none_is, none_leaves_old}
 use Rattle.file_install.proofs.install.Goals as goal
 

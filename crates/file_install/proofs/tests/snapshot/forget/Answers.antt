@@ -1,6 +1,4 @@
-use Rattle.std.proofs.Common.{◌≡◌, ◌⊎◌, inl, inr, ◌∙◌, ap, refl, Some, None}
-use Rattle.disk_trait.specs.Files.{Files}
-use Rattle.disk_trait.specs.Disk.{MayGo}
+use Rattle.std.proofs.Common.{inl, ◌∙◌, ap}
 use Rattle.disk_trait.specs.Runs.{leaves_as, both_leave, now_leaves}
 use Rattle.file_install.specs.Snapshot.{loaded}
 use Rattle.file_install.proofs.SnapshotLemmas.{dropped, chunk_gone, manifest_gone}

@@ -1,7 +1,6 @@
-use Rattle.std.proofs.Common.{◌≡◌, ◌⊎◌, inl, inr, ◌∙◌, ap, Some, None}
+use Rattle.std.proofs.Common.{◌≡◌, inl, ◌∙◌, ap, None}
 use Rattle.std.specs.Prelude.{codes}
 use Rattle.std.specs.FinMap.{get}
-use Rattle.disk_trait.specs.Files.{Files}
 use Rattle.disk_trait.specs.Runs.{steps_to, step_to}
 use Rattle.file_install.specs.Snapshot.{loaded}
 use Rattle.file_install.proofs.SnapshotLemmas.{chunk_step, manifest_step, saved, has_chunk}
