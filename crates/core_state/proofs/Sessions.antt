@@ -1,14 +1,13 @@
 -- What the code finds at a lane, and what a changed session leaves.
-use Rattle.std.proofs.Common.{◌≡◌, ◌≢◌, ◌↔◌, ◌⊎◌, inl, inr, ⊎_elim, ℕ, zero, suc, ◌<◌, ◌≤◌, Bool, true, false, length, get_or, set, map, List, [], ◌∷◌, refl, sym, ap, subst, ◌∙◌, arith}
+use Rattle.std.proofs.Common.{◌≡◌, ◌≢◌, ⊎_elim, ℕ, zero, suc, ◌<◌, length, get_or, set, map, List, [], ◌∷◌, refl, sym, ap, ◌∙◌, arith}
 use Rattle.std.proofs.lemmas.Bool.{cases_eq}
-use Rattle.std.proofs.lemmas.List.{get_or-set_same, get_or-set_other, map-set, length-set, length-map, get_or_default}
+use Rattle.std.proofs.lemmas.List.{get_or-set_same, get_or-set_other, map-set, length-map, get_or_default}
 use Rattle.store_model.specs.Store as model
 use Rattle.store_model.specs.Store.{Store, session, with_session}
 use Rattle.core_state.specs.declared.kept.Session.{Session}
-use Rattle.core_state.specs.declared.kept.Session.TheVariants.{Idle, Writer, Reader}
+use Rattle.core_state.specs.declared.kept.Session.TheVariants.{Idle, Writer}
 use Rattle.core_state.specs.declared.kept.Writing.{Writing}
-use Rattle.core_state.specs.declared.kept.Reading.{Reading}
-use Rattle.core_state.specs.Shown.{shown_session, shown_writer, shown_reader}
+use Rattle.core_state.specs.Shown.{shown_session, shown_writer}
 
 pub by_lane : (i lane : ℕ) (P : Type 0) → (i ≡ lane → P) → (i ≢ lane → P) → P
 by_lane i lane P same other = ⊎_elim same other (cases_eq i lane)

@@ -1,7 +1,6 @@
 -- A store with another session is sound, and its files are there.
-use Rattle.std.proofs.Common.{◌≡◌, ◌≢◌, ℕ, ◌<◌, ◌≤◌, Bool, true, false, length, get_or, set, map, List, [], ◌∷◌, refl, sym, ap, subst, ◌∙◌, arith}
+use Rattle.std.proofs.Common.{◌≡◌, ◌≢◌, ℕ, ◌<◌, length, set, map, sym, ap, subst, ◌∙◌, arith}
 use Rattle.std.proofs.lemmas.List.{length-set}
-use Rattle.std.specs.List.{All}
 use Rattle.std.specs.Bool.{IsTrue}
 use Rattle.disk_trait.specs.Files.{Files}
 use Rattle.store_types.specs.KeyOrder.{same_group_equiv}
@@ -11,7 +10,7 @@ use Rattle.store_model.specs.Store.{Store, session, with_session}
 use Rattle.core_state.specs.declared.parts.Parts.{Parts}
 use Rattle.core_state.specs.declared.kept.Session.{Session}
 use Rattle.core_state.specs.Shown.{shown_session}
-use Rattle.core_state.specs.Holds.{IsSound, IsWriter, IsReader, Shows, IsOnDisk, HasUploads}
+use Rattle.core_state.specs.Holds.{IsSound, IsWriter, Shows, IsOnDisk, HasUploads}
 use Rattle.core_state.proofs.Sessions.{changed, shown_set, writers_same, no_writer_none, no_reader_none, no_reader_writer}
 
 -- the group of no other lane's writer

@@ -9,7 +9,7 @@ use Rattle.store_history.specs.Legal.{moment_at, later}
 use Rattle.core_state.specs.declared.state.Core.{Core}
 use Rattle.core_state.specs.declared.entering.Begun.{Begun}
 use Rattle.core_state.specs.declared.entering.Begun.TheVariants.{At, Answered}
-use Rattle.core_state.specs.Entering.{SameEntries, OthersHold, held_by}
+use Rattle.core_state.specs.Entering.{SameEntries, OthersHold, NoneLost, held_by}
 use Rattle.core_state.specs.Settles.{IsEntered}
 
 -- The clock was read once: by its reading, where that is told, the moment is the rule's.
@@ -27,6 +27,7 @@ pub record IsBegun {D E C : Type 0} (readings : C → Option Readings) (old new 
   pub last : new.last ≡ old.last
   pub entries : SameEntries old.journal new.journal
   pub more : held_by old.journal lane ≤ held_by new.journal lane
+  pub none_lost : NoneLost old.journal new.journal lane
   pub others : OthersHold old.journal new.journal lane
 
 -- want of memory

@@ -18,6 +18,10 @@ pub record SameEntries (old new : Journal) : Type 0 where
 abbrev pub OthersHold : Journal → Journal → ℕ → Type 0
 OthersHold old new lane = (other : ℕ) → (other ≡ lane → ⊥) → held_by new other ≡ held_by old other
 
+-- no entry is lost to the lane
+abbrev pub NoneLost : Journal → Journal → ℕ → Type 0
+NoneLost old new lane = old.spare + held_by old lane ≤ new.spare + held_by new lane
+
 -- the lane's reserve is whole, and there is a spare entry
 pub record Fills (old new : Journal) (lane : ℕ) : Type 0 where
   pub whole : 3 ≤ held_by new lane
@@ -34,7 +38,9 @@ pub record Enters (old new : Journal) (lane : ℕ) (is_held : Bool) : Type 0 whe
   pub uses : Uses old new lane is_held
   pub others : OthersHold old new lane
 
--- An act uses one entry of the lane's reserve at most. It leaves a whole reserve whole, unless its entry was the last.
+-- An act that is no lane's end uses one entry of the lane's reserve at most, and none of another lane's. It leaves a whole
+-- reserve whole, unless its entry was the last.
 pub record KeepsReserve (old new : Journal) (lane : ℕ) (last : Bool) : Type 0 where
   pub one : held_by old lane ≤ held_by new lane + 1
   pub whole : last ≡ false → 3 ≤ held_by old lane → 3 ≤ held_by new lane
+  pub others : OthersHold old new lane

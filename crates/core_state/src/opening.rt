@@ -67,9 +67,17 @@ pub fn open_on<D: Disk, E, C: Clock>(
     ensures opened { IfOk result (λ core. (R : Option (List Snapshot)) → D.honest disk → Stands (D.content disk) []
         → StandsFor D.honest D.content D.calls C.readings core (began (opening_at (D.calls disk)) R (C.readings clock))) }
     ensures reserve { IfOk result (λ core. AllHeld core.journal) }
+    // whatever the disk is, nothing has happened yet
+    ensures fault { IfOk result (λ core. core.fault ≡ None) }
+    ensures last { IfOk result (λ core. core.last ≡ 0) }
+    ensures entries { IfOk result (λ core. core.journal.entries.items ≡ []) }
+    ensures calls { IfOk result (λ core. core.journal.calls.items ≡ []) }
+    ensures catalogue { IfOk result (λ core. core.parts.catalogue.items ≡ []) }
+    ensures sessions { IfOk result (λ core. core.parts.sessions.items ≡ replicate 64 Idle) }
     // all is handed on, or back
     ensures disk { IfOk result (λ core. core.parts.disk ≡ disk) }
     ensures remote { IfOk result (λ core. core.remote ≡ remote) }
+    ensures clock { IfOk result (λ core. core.clock ≡ clock) }
     ensures not_opened { IfErr result (λ e. (e.cause ≡ OpenFault.NoMemory) × (e.disk ≡ disk) × (e.remote ≡ remote) × (e.clock ≡ clock)) }
 {
     match state_of(alloc) {

@@ -27,7 +27,7 @@ pub struct Answer {
     pub entry: Entry,
     /// The entry's number in the order, from 0.
     pub place: u64,
-    /// The entry was the reserve's. The lane ends after it.
+    /// This is want of memory, and its entry was the reserve's. The lane ends after it.
     pub last: bool,
 }
 

@@ -1,9 +1,9 @@
 -- What a snapshot in its place among others leaves true.
-use Rattle.std.proofs.Common.{◌≡◌, ◌≢◌, ◌↔◌, ◌⊎◌, inl, inr, ⊎_elim, ℕ, zero, suc, ◌+◌, ◌<◌, ◌≤◌, Bool, true, false, not, cond, ◌&&◌, length, get_or, map, filter, List, [], ◌∷◌, ◌++◌, Option, Some, None, refl, sym, ap, subst, ◌∙◌, arith}
+use Rattle.std.proofs.Common.{◌≡◌, ◌⊎◌, inl, inr, ⊎_elim, ℕ, zero, suc, ◌<◌, Bool, true, false, cond, ◌&&◌, length, get_or, map, List, [], ◌∷◌, Some, refl, sym, ap, subst, ◌∙◌, arith}
 use Rattle.std.proofs.lemmas.Bool.{and_parts, and_from, cond_both}
-use Rattle.std.proofs.lemmas.List.Elements.{All-cons, All-head, All-tail, All-append}
+use Rattle.std.proofs.lemmas.List.Elements.{All-cons, All-head, All-tail}
 use Rattle.std.specs.Cmp.{IsTotalOrder}
-use Rattle.std.specs.List.{All, Contains, find, flat_map}
+use Rattle.std.specs.List.{All, Contains}
 use Rattle.std.specs.Ordering.{is_eq, is_lt, ordering_reverse}
 use Rattle.std.specs.declared.cmp.Ordering.{Ordering}
 use Rattle.std.specs.declared.cmp.Ordering.TheVariants.{Less, Equal, Greater}
@@ -11,10 +11,10 @@ use Rattle.std.specs.Option.{IsSome}
 use Rattle.store_types.specs.declared.names.SnapshotKey.{SnapshotKey}
 use Rattle.store_types.specs.declared.names.GroupKey.{GroupKey}
 use Rattle.store_types.specs.KeyOrder.{key_cmp_total}
-use Rattle.store_types.specs.Names.{key_cmp, text_cmp, key_lt, name_lt, same_key, same_group, group_of_key}
-use Rattle.store_files.specs.Archive.{File, Snapshot, file_named}
-use Rattle.store_model.specs.Store.{in_group, snapshot_named, insert_snapshot, insert_file}
-use Rattle.store_model.specs.Stands.{keys_rise, names_rise}
+use Rattle.store_types.specs.Names.{key_cmp, key_lt, same_key, same_group, group_of_key}
+use Rattle.store_files.specs.Archive.{Snapshot}
+use Rattle.store_model.specs.Store.{in_group, snapshot_named, insert_snapshot}
+use Rattle.store_model.specs.Stands.{keys_rise}
 
 -- ---- elements
 

@@ -1,18 +1,17 @@
 -- Names of different files differ.
-use Rattle.std.proofs.Common.{◌≡◌, ◌≢◌, ℕ, Bool, true, false, ◌&&◌, length, get_or, append_assoc, List, [], ◌∷◌, ◌++◌, refl, sym, ap, ◌∙◌, arith}
+use Rattle.std.proofs.Common.{◌≡◌, ◌≢◌, ℕ, true, get_or, append_assoc, List, [], ◌∷◌, ◌++◌, refl, sym, ap, ◌∙◌, arith}
 use Rattle.std.proofs.lemmas.Bool.{and_parts}
-use Rattle.std.specs.Prelude.{codes}
 use Rattle.store_types.specs.declared.names.Kind.{Kind}
 use Rattle.store_types.specs.declared.names.Kind.TheVariants.{Ct, Host, Vm}
 use Rattle.store_types.specs.declared.names.SnapshotKey.{SnapshotKey}
-use Rattle.store_types.specs.FileNames.{is_id, is_file_name, is_index_name, is_fixed_name, is_dynamic_name, is_blob_name, has_ending, fixed_ending, dynamic_ending, blob_ending, manifest_name}
+use Rattle.store_types.specs.FileNames.{is_id, is_fixed_name, is_dynamic_name, is_blob_name, has_ending, fixed_ending, dynamic_ending, blob_ending, manifest_name}
 use Rattle.store_types.specs.Times.{time_text}
-use Rattle.store_types.specs.Names.{IsKey, kind_text, group_text, group_of_key, key_text, parts}
+use Rattle.store_types.specs.Names.{IsKey, kind_text, group_text, key_text, parts}
 use Rattle.store_types.proofs.KeyTexts.{no_slash, first_part, last_part, id_no_slash, time_no_slash}
 use Rattle.store_types.proofs.KeyLaws.{key_texts}
 use Rattle.store_files.specs.Archive.{Layout, dynamic, fixed, Content, archive, blob}
 use Rattle.store_model.specs.Uploads.{file_path}
-use Rattle.store_model.specs.Stands.{names_content, chunk_name, manifest_path}
+use Rattle.store_model.specs.Stands.{names_content, chunk_name}
 
 kind_no_slash : (k : Kind) → no_slash (kind_text k) ≡ true
 kind_no_slash Ct = refl

@@ -1,23 +1,22 @@
 -- What changes of a map leave it standing for a list.
-use Rattle.std.proofs.Common.{◌≡◌, ◌≢◌, ◌↔◌, ◌⊎◌, inl, inr, ⊎_elim, ℕ, suc, ◌+◌, ◌<◌, ◌≤◌, Bool, true, false, cond, length, get_or, map, List, [], ◌∷◌, ◌++◌, Option, Some, None, refl, sym, ap, subst, ◌∙◌, arith}
+use Rattle.std.proofs.Common.{◌≡◌, ◌≢◌, ◌↔◌, ⊎_elim, ℕ, suc, ◌<◌, ◌≤◌, Bool, true, false, cond, length, get_or, map, List, ◌∷◌, Option, Some, refl, sym, ap, subst, ◌∙◌, arith}
 use Rattle.std.proofs.lemmas.List.Elements.{All-weaker}
 use Rattle.std.proofs.lemmas.Slice.Eq.{bytes_eq-Decides}
-use Rattle.std.specs.FinMap.{get, insert}
-use Rattle.std.specs.List.{All, Contains, flat_map}
+use Rattle.std.specs.FinMap.{get}
+use Rattle.std.specs.List.{All, Contains}
 use Rattle.std.specs.Option.{IsSome}
 use Rattle.std.specs.Str.{bytes_eq}
 use Rattle.sha2.specs.Sha256.{sha256}
-use Rattle.blob_codec.specs.Blob as blobs
 use Rattle.store_types.specs.declared.names.SnapshotKey.{SnapshotKey}
 use Rattle.store_types.specs.declared.names.GroupKey.{GroupKey}
 use Rattle.store_types.specs.FileNames.{manifest_name}
 use Rattle.store_types.specs.Names.{IsKey, same_key, same_group, group_of_key}
 use Rattle.store_types.proofs.KeyTexts.{no_slash}
 use Rattle.store_types.proofs.OrderLaws.{same_keys, same_groups}
-use Rattle.store_files.specs.Archive.{Content, File, Snapshot, file_text, pieces_of, file_named}
+use Rattle.store_files.specs.Archive.{File, Snapshot, file_text}
 use Rattle.store_model.specs.Store.{in_group, insert_snapshot}
 use Rattle.store_model.specs.Uploads.{file_path}
-use Rattle.store_model.specs.Stands.{Files, StandsFor, IsSnapshot, HoldsFiles, HoldsPieces, HasWholeChunks, IsDigest, IsPiece, pieces_in, manifest_path, chunk_name, names_content, keys_rise, group_limit}
+use Rattle.store_model.specs.Stands.{Files, StandsFor, IsSnapshot, HoldsFiles, HoldsPieces, HasWholeChunks, pieces_in, manifest_path, chunk_name, group_limit}
 use Rattle.store_model.proofs.Paths.{same_path, content_plain, manifest_plain, chunk_apart}
 use Rattle.store_model.proofs.Insertions.{All-insert, Contains-new, Contains-kept, Contains-insert_cases, length-in_group-insert, rise-insert}
 

@@ -1,6 +1,6 @@
 -- The list of snapshots that a map from names to bytes gives. Damaged ones are left out.
 use Rattle.std.specs.Prelude.{◌≡◌, ℕ, ◌-◌, ◌≤◌, ◌↔◌, not, List, [], ◌∷◌, ◌++◌, map, filter, length, take, nat_le, if◌then◌else◌, Option, Some, None, Ok, Err, codes, pos}
-use Rattle.std.specs.List.{All, Contains, filter_map}
+use Rattle.std.specs.List.{Contains, filter_map}
 use Rattle.std.specs.Str.{bytes_eq}
 use Rattle.std.specs.FinMap.{find, entries}
 use Rattle.sha2.specs.Sha256.{sha256}
@@ -15,7 +15,7 @@ use Rattle.store_files.specs.Archive.{Layout, dynamic, fixed, Archive, Content, 
 use Rattle.store_files.specs.Manifest.{Manifest, manifest_of}
 use Rattle.store_model.specs.Store.{insert_snapshot, insert_file}
 use Rattle.store_model.specs.Uploads.{file_path}
-use Rattle.store_model.specs.Stands.{Files, chunk_name, manifest_path, StandsFor}
+use Rattle.store_model.specs.Stands.{Files, chunk_name, manifest_path}
 
 -- a map's names and their bytes, in byte order of the names
 abbrev pub Entries : Type 0
@@ -129,7 +129,3 @@ ListsFiles x = (bytes : List ℕ) × (m : Manifest)
     × (manifest_data (file_named manifest_name x.files) ≡ Some bytes) × (manifest_of bytes ≡ Ok m)
     × (length m.files ≤ 63)
     × ((name : List ℕ) → Contains (map (λ f. f.name) x.files) name ↔ Contains (manifest_name ∷ listed_names m) name)
-
--- a map that stands for a list gives it, where each manifest lists its snapshot's files
-abbrev pub LoadsWhatItStandsFor : Type 0
-LoadsWhatItStandsFor = (m : Files) (snapshots : List Snapshot) → StandsFor m snapshots → All ListsFiles snapshots → load m ≡ snapshots

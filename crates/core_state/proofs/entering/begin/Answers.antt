@@ -9,7 +9,7 @@ returns-then-is_err g c = short (record {
   moment = _;
   between = _;
   begun = is_begun g.C.Clock.readings _ _ _ _ _ c.now.ensures.value c.now.ensures.after c.moment_by-moment.ensures (c.args.core.now).in_time
-      refl refl refl refl c.fill.ensures.same c.fill.ensures.more c.fill.ensures.others;
+      refl refl refl refl c.fill.ensures.same c.fill.ensures.more c.fill.ensures.none_lost c.fill.ensures.others;
   entered = c.enter.ensures;
 })
 
@@ -21,7 +21,7 @@ returns-in-Some g c =
       first = _;
       between = _;
       begun = is_begun g.C.Clock.readings _ _ _ _ _ c.now.ensures.value c.now.ensures.after c.moment_by-moment.ensures (c.args.core.now).in_time
-          refl refl refl refl c.fill.ensures.same c.fill.ensures.more c.fill.ensures.others;
+          refl refl refl refl c.fill.ensures.same c.fill.ensures.more c.fill.ensures.none_lost c.fill.ensures.others;
       fault = c.in-Some.is;
       spare = filled.spare;
       entered = c.enter-in-Some.ensures;
