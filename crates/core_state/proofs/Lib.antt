@@ -4,6 +4,9 @@ pub mod Entered
 pub mod Answered
 pub mod Ended
 pub mod PathLengths
+pub mod NamedLemmas
 pub mod Reserves
 pub mod Sessions
+pub mod Acting
 pub mod Soundness
+pub mod OnDisk

@@ -6,3 +6,4 @@ pub mod Paths
 pub mod Insertions
 pub mod FileInsertions
 pub mod StandsLemmas
+pub mod GroupTimes

@@ -114,7 +114,7 @@ by_key a b P same other = by_test (same_key a b) refl
         not_both : true ≡ false → ⊥
         not_both e = cc
 
-different : (a b : SnapshotKey) → a ≢ b → same_key a b ≡ false
+pub different : (a b : SnapshotKey) → a ≢ b → same_key a b ≡ false
 different a b ne = by_test (same_key a b) refl
   where
     by_test : (t : Bool) → same_key a b ≡ t → same_key a b ≡ false

@@ -1,0 +1,9 @@
+pub mod Places
+pub mod CatalogueLemmas
+pub mod UploadLemmas
+pub mod EndingLemmas
+pub mod OpenedLemmas
+pub mod OpeningLemmas
+pub mod BlobStep
+pub mod BlobLemmas
+pub mod FinishLemmas

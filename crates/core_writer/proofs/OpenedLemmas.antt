@@ -1,0 +1,112 @@
+-- What OPEN_WRITER tests of what is kept is what the store tests.
+use Rattle.std.proofs.Common.{◌≡◌, ℕ, zero, suc, ◌+◌, ◌<◌, ◌≤◌, Bool, true, false, not, cond, length, get_or, map, filter, List, [], ◌∷◌, Option, Some, None, Result, Ok, Err, refl, sym, ap, subst, ◌∙◌, arith}
+use Rattle.std.proofs.lemmas.Bool.{and_parts, ltb-true}
+use Rattle.std.proofs.lemmas.List.{length-map}
+use Rattle.std.specs.List.{last_or, list_all, position_or_len}
+use Rattle.std.specs.Prelude.{nat_lt, position}
+use Rattle.store_types.specs.declared.names.SnapshotKey.{SnapshotKey}
+use Rattle.store_types.specs.declared.names.GroupKey.{GroupKey}
+use Rattle.store_types.specs.declared.refusal.Refusal.{Refusal}
+use Rattle.store_types.specs.declared.refusal.Refusal.TheVariants.{GroupBusy, TooMany}
+use Rattle.store_types.specs.Chain.Refusing.{◌>>=◌, unless, if_none}
+use Rattle.store_types.specs.Names.{same_group, group_of_key}
+use Rattle.store_files.specs.Archive.{Snapshot}
+use Rattle.store_model.specs.Store as model
+use Rattle.store_model.specs.Store.{writes_group, group_holder, in_group, keys_in, latest_in}
+use Rattle.store_model.specs.WriterSteps.{want_newer}
+use Rattle.core_state.specs.declared.kept.Kept.{Kept}
+use Rattle.core_state.specs.declared.kept.Listed.{Listed}
+use Rattle.core_state.specs.declared.kept.Session.{Session}
+use Rattle.core_state.specs.Named.{has_text, is_named_snapshot}
+use Rattle.core_state.specs.Shown.{shown_session, shown_snapshot}
+use Rattle.core_writer.specs.Opened.{want_idle, writes, kept_in, latest_kept, base_kept}
+
+-- ---- each test
+
+pub shown_idle : (x : model.Session) → want_idle (shown_session x) ≡ model.want_idle x
+shown_idle model.none = refl
+shown_idle (model.writer w) = refl
+shown_idle (model.reader r) = refl
+
+shown_writes : (group : GroupKey) (x : model.Session) → writes group (shown_session x) ≡ writes_group group x
+shown_writes group model.none = refl
+shown_writes group (model.writer w) = refl
+shown_writes group (model.reader r) = refl
+
+place_shown : (group : GroupKey) (xs : List model.Session) → position_or_len (writes group) (map shown_session xs) ≡ position_or_len (writes_group group) xs
+place_shown group [] = refl
+place_shown group (x ∷ xs) =
+    ap (λ b. cond (not b) (1 + position_or_len (writes group) (map shown_session xs)) 0) (shown_writes group x)
+    ∙ ap (λ n. cond (not (writes_group group x)) (1 + n) 0) (place_shown group xs)
+
+pub position_shown : (group : GroupKey) (xs : List model.Session) → position (writes group) (map shown_session xs) ≡ position (writes_group group) xs
+position_shown group xs =
+    ap (λ n. cond (nat_lt n (length (map shown_session xs))) (Some n) None) (place_shown group xs)
+    ∙ ap (λ n. cond (nat_lt (position_or_len (writes_group group) xs) n) (Some (position_or_len (writes_group group) xs)) None) (length-map xs shown_session)
+
+cond_shown : (b : Bool) (x : Snapshot) (xs : List Snapshot) (ys : List Kept) → ys ≡ map shown_snapshot xs → cond b (shown_snapshot x ∷ ys) ys ≡ map shown_snapshot (cond b (x ∷ xs) xs)
+cond_shown true x xs ys e = ap (λ (l : List Kept). shown_snapshot x ∷ l) e
+cond_shown false x xs ys e = e
+
+pub kept_in-shown : (group : GroupKey) (xs : List Snapshot) → kept_in group (map shown_snapshot xs) ≡ map shown_snapshot (in_group group xs)
+kept_in-shown group [] = refl
+kept_in-shown group (x ∷ xs) = cond_shown (same_group (group_of_key x.key) group) x (in_group group xs) (kept_in group (map shown_snapshot xs)) (kept_in-shown group xs)
+
+keys_shown : (xs : List Snapshot) → map (λ (x : Kept). x.key) (map shown_snapshot xs) ≡ map (λ (x : Snapshot). x.key) xs
+keys_shown [] = refl
+keys_shown (x ∷ xs) = ap (λ (l : List SnapshotKey). x.key ∷ l) (keys_shown xs)
+
+pub latest_shown : (group : GroupKey) (xs : List Snapshot) → latest_kept group (map shown_snapshot xs) ≡ latest_in group xs
+latest_shown group xs = ap (λ l. last_or None (map (λ (x : Kept). x.key) l)) (kept_in-shown group xs) ∙ ap (λ l. last_or None l) (keys_shown (in_group group xs))
+
+pub count_shown : (group : GroupKey) (xs : List Snapshot) → length (kept_in group (map shown_snapshot xs)) ≡ length (in_group group xs)
+count_shown group xs = ap length (kept_in-shown group xs) ∙ length-map (in_group group xs) shown_snapshot
+
+-- ---- the tests in a row
+
+-- what the tests find, where none refuses
+pub record MayOpen (kept : List Kept) (sessions : List Session) (key : SnapshotKey) (base : Option SnapshotKey) : Type 0 where
+  pub free : position (writes (group_of_key key)) sessions ≡ None
+  pub newer : want_newer key.time (latest_kept (group_of_key key) kept) ≡ Ok tt
+  pub room : length (kept_in (group_of_key key) kept) < 4096
+  pub latest : latest_kept (group_of_key key) kept ≡ base
+
+may_by : (p : Option ℕ) (n : Result (Unit {0}) Refusal) (b : Bool) (l base : Option SnapshotKey) → (if_none GroupBusy p >>= λ _. n >>= λ _. unless (TooMany 4096) b >>= λ _. Ok l) ≡ Ok base
+    → (p ≡ None) × (n ≡ Ok tt) × (b ≡ true) × (l ≡ base)
+may_by (Some lane) n b l base e = cc
+may_by None (Err r) b l base e = cc
+may_by None (Ok u) false l base e = cc
+may_by None (Ok u) true l base e = (refl, refl, refl, same l base e)
+  where
+    same : (l base : Option SnapshotKey) → let k : Result (Option SnapshotKey) Refusal = Ok l in k ≡ Ok base → l ≡ base
+    same l base e = cc
+
+pub may_open : (kept : List Kept) (sessions : List Session) (key : SnapshotKey) (base : Option SnapshotKey) → base_kept kept sessions key ≡ Ok base → MayOpen kept sessions key base
+unfolding base_kept
+may_open kept sessions key base e =
+    let all = may_by (position (writes (group_of_key key)) sessions) (want_newer key.time (latest_kept (group_of_key key) kept)) (nat_lt (length (kept_in (group_of_key key) kept)) 4096) (latest_kept (group_of_key key) kept) base e in
+    record { free = all.0; newer = all.1; room = ltb-true (length (kept_in (group_of_key key) kept)) 4096 all.2; latest = all.3 }
+
+-- ---- the base has a text
+
+last_named : (o : Option SnapshotKey) (group : GroupKey) (xs : List Listed) (k : SnapshotKey) → ((j : SnapshotKey) → o ≡ Some j → has_text j ≡ true) → list_all is_named_snapshot xs ≡ true
+    → last_or o (map (λ (x : Kept). x.key) (kept_in group (map (λ (x : Listed). x.kept) xs))) ≡ Some k → has_text k ≡ true
+last_named o group [] k first h e = first k e
+last_named o group (x ∷ xs) k first h e =
+    let both = and_parts (is_named_snapshot x) (list_all is_named_snapshot xs) h in
+    by_test (same_group (group_of_key (x.kept).key) group) (λ p f. last_named p group xs k f both.1) both.0 e
+  where
+    by_test : (b : Bool) → ((p : Option SnapshotKey) → ((j : SnapshotKey) → p ≡ Some j → has_text j ≡ true) → last_or p (map (λ (x : Kept). x.key) (kept_in group (map (λ (x : Listed). x.kept) xs))) ≡ Some k → has_text k ≡ true)
+        → has_text (x.kept).key ≡ true
+        → last_or o (map (λ (x : Kept). x.key) (cond b (x.kept ∷ kept_in group (map (λ (x : Listed). x.kept) xs)) (kept_in group (map (λ (x : Listed). x.kept) xs)))) ≡ Some k → has_text k ≡ true
+    by_test true go here e = go (Some (x.kept).key) (λ j s. subst (λ q. has_text q ≡ true) (keys_same (x.kept).key j s) here) e
+      where
+        keys_same : (a b : SnapshotKey) → Some a ≡ Some b → a ≡ b
+        keys_same a b e = cc
+    by_test false go here e = go o first e
+
+pub latest_named : (group : GroupKey) (xs : List Listed) (k : SnapshotKey) → list_all is_named_snapshot xs ≡ true → latest_kept group (map (λ (x : Listed). x.kept) xs) ≡ Some k → has_text k ≡ true
+latest_named group xs k h e = last_named None group xs k (λ j n. absurd (none_some j n)) h e
+  where
+    none_some : (j : SnapshotKey) → None ≡ Some j → ⊥
+    none_some j e = cc

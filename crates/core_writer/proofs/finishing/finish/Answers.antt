@@ -1,0 +1,53 @@
+use Rattle.std.proofs.Common.{◌≡◌, ◌<◌, ◌∙◌, ℕ, List, Option, ap, refl, sym, subst, set, length, arith, rules, Some, None, Err}
+use Rattle.std.specs.List.{list_all}
+use Rattle.store_types.specs.declared.refusal.Refusal.TheVariants.{WrongState, NoFile}
+use Rattle.core_state.specs.declared.kept.Session.TheVariants.{Writer, Idle}
+use Rattle.core_state.specs.Named.{is_named, is_named_snapshot}
+use Rattle.core_state.specs.Shown.{shown_writer}
+use Rattle.core_state.proofs.Acting.{does_refused}
+use Rattle.core_state.proofs.NamedLemmas.{list_all-set, list_all-at}
+use Rattle.core_state.proofs.Sessions.{at_lane, writer_found}
+use Rattle.core_writer.specs.Opened.{state_of}
+use Rattle.core_writer.specs.Closed.{kept_manifest, closed}
+use Rattle.core_writer.proofs.FinishLemmas.{not_writing, no_file, does_finish, named_closed}
+use Rattle.core_writer.proofs.finishing.finish.Goals as goal
+
+pub returns-in_default-clause-act : goal.returns-in_default-clause-act
+returns-in_default-clause-act g c = let d = g.D.Disk in λ moment s h.
+    let old = c.args.parts.now in
+    let here = at_lane old.sessions.items s c.args.lane c.index-session.result.now (h.shows).sessions ((h.shows).sound).lanes c.requires c.index-session.ensures in
+    does_refused d.honest d.content old _ s _ c.wrong_state.result refl refl refl
+    (not_writing s c.args.lane moment c.index-session.result.now here c.in_default.not-Writer ∙ ap (λ r. Err r) (sym c.wrong_state.ensures)) h
+
+pub returns-in_default-manifest_of-clause-act : goal.returns-in_default-manifest_of-clause-act
+returns-in_default-manifest_of-clause-act g c = let d = g.D.Disk in λ moment s h.
+    let old = c.args.parts.now in
+    let here = at_lane old.sessions.items s c.args.lane c.index-session.result.now (h.shows).sessions ((h.shows).sound).lanes c.requires c.index-session.ensures in
+    let f = writer_found s c.args.lane c.index-session.result.now c.in-Writer.w here c.in-Writer.is in
+    let none : kept_manifest c.in-Writer.w ≡ None = search rules in
+    does_refused d.honest d.content old _ s _ NoFile refl refl refl (no_file s c.args.lane moment f.0 f.1 (ap kept_manifest f.2 ∙ none)) h
+
+pub invariant_of-parts-2-clause-named : goal.invariant_of-parts-2-clause-named
+invariant_of-parts-2-clause-named g c =
+    let old = c.args.parts.now in
+    ap (λ x. list_all is_named (set old.sessions.items c.args.lane x)) c.close.ensures.session ∙ (list_all-set is_named old.sessions.items c.args.lane Idle old.named refl)
+
+pub invariant_of-parts-2-clause-finished_named : goal.invariant_of-parts-2-clause-finished_named
+invariant_of-parts-2-clause-finished_named g c =
+    let old = c.args.parts.now in
+    let within : c.args.lane < length old.sessions.items = omega (arith, old.lanes, old.sessions.ok.0, c.requires) in
+    ap (list_all is_named_snapshot) (c.close.ensures.catalogue ∙ ap (closed c.args.number c.index_mut.result.now) c.reserve.ensures.items)
+    ∙ named_closed c.args.number c.index_mut.result.now old.catalogue.items (list_all-at is_named old.sessions.items c.args.lane c.index_mut.result.now old.named within c.index_mut.ensures.value) old.finished_named
+
+pub returns-clause-act : goal.returns-clause-act
+returns-clause-act g c = let d = g.D.Disk in λ moment s h.
+    let old = c.args.parts.now in
+    let here = at_lane old.sessions.items s c.args.lane c.index-session.result.now (h.shows).sessions ((h.shows).sound).lanes c.requires c.index-session.ensures in
+    let here2 = at_lane old.sessions.items s c.args.lane c.index_mut.result.now (h.shows).sessions ((h.shows).sound).lanes c.requires c.index_mut.ensures.value in
+    let f = writer_found s c.args.lane c.index-session.result.now c.in-Writer.w here c.in-Writer.is in
+    let manifest : kept_manifest c.in-Writer.w ≡ Some (c.in-Some.path.now, c.in-Some.text.now) = search rules in
+    does_finish d.honest d.content old _ s c.args.lane moment c.args.number c.index_mut.result.now f.0 c.in-Some.path.now c.in-Some.text.now c.requires f.1
+    (here2 ∙ sym here ∙ c.in-Writer.is ∙ ap (λ x. Writer x) (sym f.2)) (ap kept_manifest f.2 ∙ manifest)
+    c.put_manifest.ensures.serves.kept c.in_ok-put_manifest.ensures.put
+    (c.close.ensures.catalogue ∙ ap (closed c.args.number c.index_mut.result.now) c.reserve.ensures.items)
+    (ap (set old.sessions.items c.args.lane) c.close.ensures.session) h

@@ -1,0 +1,4 @@
+pub mod Opened
+pub mod Closed
+pub mod Uploaded
+pub mod Ended

@@ -1,0 +1,14 @@
+//! The commands of a writer and the end of a lane, as acts on the core's parts. Each does the step of the plain store.
+#![tactic(auto)]
+
+mod catalogue;
+mod ending;
+mod finishing;
+mod opening;
+mod sessions;
+mod uploads;
+
+pub use ending::end;
+pub use finishing::finish;
+pub use opening::open_writer;
+pub use uploads::blob;

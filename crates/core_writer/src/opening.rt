@@ -1,0 +1,97 @@
+//! OPEN_WRITER.
+
+ghost use Rattle.std.specs.Prelude.{◌≡◌, ◌<◌, ◌≤◌, map, length, option_map, Ok, Err, MatchResult, IfOk, IsErrOf};
+ghost use Rattle.std.specs.Option.{ForSome};
+ghost use Rattle.disk_trait.specs.Disk.{Serves};
+ghost use Rattle.store_types.specs.Names.{IsKey};
+ghost use Rattle.wire_commands.specs.declared.command.Command.TheVariants as commands;
+ghost use Rattle.store_model.specs.Steps.{outcome};
+ghost use Rattle.store_model.specs.WriterSteps.{base_text as text_of_base};
+ghost use Rattle.core_state.specs.Holds.{Acts};
+ghost use Rattle.core_writer.specs.Opened.{base_kept};
+
+use crate::catalogue::{latest_in, want_newer, want_room};
+use crate::sessions::{want_free, want_idle};
+use core_state::{Listed, Parts, Session, Writing};
+use disk_trait::{Disk, DiskError};
+use std::alloc::{AllocError, Global};
+use store_types::{Bytes, Refusal, Rows, SnapshotKey};
+use wire_commands::Reply;
+
+/// The latest snapshot of the group, where a writer of the snapshot may begin.
+#[tactic(auto, unfolding(crate::specs::Opened::base_kept))]
+fn base_of<'a>(
+    catalogue: &'a [Listed],
+    sessions: &[Session],
+    key: &SnapshotKey,
+) -> Result<Option<&'a SnapshotKey>, Refusal>
+    requires { length sessions.now ≡ 64 }
+    ensures { MatchResult result (λ base. base_kept (map (λ x. x.kept) catalogue.now) sessions.now key.now ≡ Ok (option_map (λ k. k.now) base))
+        (λ refusal. base_kept (map (λ x. x.kept) catalogue.now) sessions.now key.now ≡ Err refusal) }
+{
+    want_free(sessions, key)?;
+    let latest = latest_in(catalogue, key);
+    want_newer(key, latest)?;
+    want_room(catalogue, key)?;
+    Ok(latest)
+}
+
+/// The base's text, empty where there is none.
+fn base_text(alloc: Global, base: Option<&SnapshotKey>) -> Result<Bytes, AllocError>
+    requires { ForSome base (λ k. IsKey k.now) }
+    ensures { IfOk result (λ text. text ≡ text_of_base (option_map (λ k. k.now) base.entry)) }
+{
+    match base {
+        None => Ok(Bytes::new(alloc)),
+        Some(key) => Ok(Bytes::from_vec(key.print(alloc)?.into_bytes())),
+    }
+}
+
+fn copied(base: Option<&SnapshotKey>) -> Result<Option<SnapshotKey>, AllocError>
+    ensures { IfOk result (λ copy. copy ≡ option_map (λ k. k.now) base.entry) }
+{
+    match base {
+        None => Ok(None),
+        Some(key) => Ok(Some(key.clone()?)),
+    }
+}
+
+/// The lane gets a writer of the snapshot. It makes no disk call.
+///
+/// The moment is in seconds since 1970. The reply is the text of the base: the group's latest snapshot, or nothing. The
+/// refusals, in the order in which they are tested: the lane has a session; the text names no snapshot; a writer has the
+/// group; the snapshot is not later than the group's latest; the group has 4,096 snapshots.
+pub fn open_writer<D: Disk>(
+    parts: &mut Parts<D>,
+    alloc: Global,
+    lane: u32,
+    moment: u64,
+    snapshot: &[u8],
+) -> Result<Reply, DiskError>
+    requires { lane < 64 }
+    ensures serves { Serves D.honest D.faults parts.old.disk parts.new.disk (IsErrOf result DiskError.Failed) }
+    ensures calls { D.calls parts.old.disk ≤ D.calls parts.new.disk }
+    ensures act { Acts D.honest D.content parts.old parts.new (λ s. outcome s lane moment (commands.OpenWriter snapshot.now)) result }
+{
+    let lane = lane as usize;
+    if let Err(refusal) = want_idle(&parts.sessions[lane]) {
+        return Ok(Reply::Refused(refusal));
+    }
+    let Ok(key) = SnapshotKey::parse(alloc, snapshot)? else {
+        return Ok(Reply::Refused(Refusal::BadName));
+    };
+    let base = match base_of(&parts.catalogue, &parts.sessions, &key) {
+        Ok(base) => base,
+        Err(refusal) => return Ok(Reply::Refused(refusal)),
+    };
+    let text = base_text(alloc, base)?;
+    let base = copied(base)?;
+    parts.sessions[lane] = Session::Writer(Writing {
+        key,
+        start: moment,
+        base,
+        files: Rows::new(alloc),
+        manifest: None,
+    });
+    Ok(Reply::Base { snapshot: text })
+}

@@ -1,0 +1,67 @@
+//! What the sessions are asked.
+
+ghost use Rattle.std.specs.Prelude.{◌≡◌, ◌<◌, length, IfSome, position};
+ghost use Rattle.store_types.specs.Names.{group_of_key};
+ghost use Rattle.wire_commands.specs.declared.reply.Reply.TheVariants.{Refused};
+ghost use Rattle.store_types.specs.declared.refusal.Refusal.TheVariants.{WrongState};
+ghost use Rattle.store_types.specs.Chain.Refusing.{if_none};
+ghost use Rattle.store_types.specs.declared.refusal.Refusal.TheVariants.{GroupBusy};
+ghost use Rattle.core_writer.specs.Opened.{state_of, writes, want_idle as needs_idle};
+
+use core_state::Session;
+use store_types::{Refusal, SessionState, SnapshotKey};
+
+fn state(session: &Session) -> SessionState
+    ensures { result ≡ state_of session.now }
+{
+    match session {
+        Session::Idle => SessionState::Idle,
+        Session::Writer(_) => SessionState::Writer,
+        Session::Reader(_) => SessionState::Reader,
+    }
+}
+
+/// The refusal of a command that needs another session.
+pub fn wrong_state(session: &Session) -> Refusal
+    ensures { result ≡ WrongState (state_of session.now) }
+{
+    Refusal::WrongState(state(session))
+}
+
+pub fn want_idle(session: &Session) -> Result<(), Refusal>
+    ensures { result ≡ needs_idle session.now }
+{
+    match session {
+        Session::Idle => Ok(()),
+        _ => Err(wrong_state(session)),
+    }
+}
+
+fn writes_group(session: &Session, key: &SnapshotKey) -> bool
+    ensures { result ≡ writes (group_of_key key.now) session.now }
+{
+    match session {
+        Session::Writer(w) => key.same_group(&w.key),
+        _ => false,
+    }
+}
+
+/// The lane whose writer has the snapshot's group.
+fn group_holder(sessions: &[Session], key: &SnapshotKey) -> Option<usize>
+    ensures { result ≡ position (writes (group_of_key key.now)) sessions.now }
+{
+    sessions
+        .iter()
+        .position(|session| writes_group(session, key))
+}
+
+/// No writer has the snapshot's group.
+pub fn want_free(sessions: &[Session], key: &SnapshotKey) -> Result<(), Refusal>
+    requires { length sessions.now ≡ 64 }
+    ensures { result ≡ if_none GroupBusy (position (writes (group_of_key key.now)) sessions.now) }
+{
+    match group_holder(sessions, key) {
+        None => Ok(()),
+        Some(lane) => Err(Refusal::GroupBusy { lane: lane as u32 }),
+    }
+}
