@@ -1,5 +1,5 @@
 -- BLOB leaves what the store has.
-use Rattle.std.proofs.Common.{◌≡◌, ◌≢◌, ◌↔◌, ℕ, ◌+◌, ◌<◌, ◌≤◌, Bool, true, false, cond, length, get_or, set, map, List, [], ◌∷◌, Option, Some, None, Result, Ok, Err, refl, sym, ap, subst, ◌∙◌, arith}
+use Rattle.std.proofs.Common.{◌≡◌, ◌≢◌, ◌↔◌, ℕ, ◌<◌, Bool, true, false, cond, length, get_or, set, List, [], ◌∷◌, Option, Some, Result, Ok, Err, refl, sym, ap, subst, ◌∙◌, arith}
 use Rattle.std.proofs.lemmas.Bool.{or_parts}
 use Rattle.std.proofs.lemmas.List.Elements.{All-nil, All-cons}
 use Rattle.std.proofs.lemmas.Slice.Eq.{bytes_eq-Decides}
@@ -21,15 +21,13 @@ use Rattle.store_types.specs.declared.refusal.Refusal.TheVariants.{BadBlob}
 use Rattle.store_types.specs.Chain.Refusing.{◌>>=◌}
 use Rattle.store_types.specs.FileNames.{manifest_name, is_blob_name}
 use Rattle.store_types.specs.Names.{name_lt}
-use Rattle.store_files.specs.Archive.{Content, blob, File, Snapshot, file_text, pieces_of, file_named}
-use Rattle.wire_commands.specs.declared.reply.Reply.{Reply}
+use Rattle.store_files.specs.Archive.{blob, File, file_text, pieces_of}
 use Rattle.wire_commands.specs.declared.reply.Reply.TheVariants.{Done}
 use Rattle.store_history.specs.Acts.{IsChecked}
 use Rattle.store_history.specs.History.{data_in}
-use Rattle.store_model.specs.Store as model
-use Rattle.store_model.specs.Store.{Store, Writer, writer, session, with_session, Outcome, insert_file}
+use Rattle.store_model.specs.Store.{Store, Writer, writer, session, with_session, insert_file}
 use Rattle.store_model.specs.Uploads.{file_path}
-use Rattle.store_model.specs.WriterSteps.{checked_blob, want_data, with_file, goes_on, snapshot_of}
+use Rattle.store_model.specs.WriterSteps.{checked_blob, with_file, goes_on, snapshot_of}
 use Rattle.store_model.specs.Steps.{answered}
 use Rattle.store_model.specs.Stands.{names_content, FitsContent, chunk_name}
 use Rattle.store_model.proofs.Paths.{same_path, blob_plain, chunk_apart}
@@ -42,7 +40,7 @@ use Rattle.core_state.specs.declared.parts.Parts.{Parts}
 use Rattle.core_state.specs.Named.{is_named}
 use Rattle.core_state.specs.Shown.{shown_file, shown_files, shown_writer, shown_session, manifest_text, text_of}
 use Rattle.core_state.specs.Holds.{IsSound, IsWriter, IsPut, HasUploads, IsOnDisk, Holds, Does}
-use Rattle.core_state.proofs.Sessions.{at_lane, changed, writers_same}
+use Rattle.core_state.proofs.Sessions.{changed, writers_same}
 use Rattle.core_state.proofs.Soundness.{IsAlone, sound_writer, disk_writer, shows_changed}
 use Rattle.core_state.proofs.OnDisk.{IsOff, names_plain, apart_upload, keys_apart, off_other, uploads_off}
 use Rattle.core_writer.specs.Uploaded.{insert_stored, with_upload, with_put}

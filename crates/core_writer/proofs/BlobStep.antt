@@ -1,6 +1,6 @@
 -- BLOB is refused as the store refuses it.
-use Rattle.std.proofs.Common.{◌≡◌, ◌≢◌, ℕ, ◌+◌, ◌<◌, ◌≤◌, Bool, true, false, not, cond, ◌||◌, length, map, List, [], ◌∷◌, Option, Some, None, Result, Ok, Err, refl, sym, ap, ◌∙◌, arith, add-zero}
-use Rattle.std.proofs.lemmas.Bool.{ltb-true, not-true}
+use Rattle.std.proofs.Common.{◌≡◌, ℕ, ◌+◌, ◌<◌, Bool, true, false, not, ◌||◌, length, List, [], ◌∷◌, Result, Ok, Err, refl, sym, ap, ◌∙◌, arith}
+use Rattle.std.proofs.lemmas.Bool.{ltb-true}
 use Rattle.std.proofs.lemmas.List.{length-map}
 use Rattle.std.specs.List.{list_any}
 use Rattle.std.specs.Prelude.{nat_lt}
@@ -15,10 +15,9 @@ use Rattle.store_files.specs.Archive.{File, blob}
 use Rattle.wire_commands.specs.declared.reply.Reply.TheVariants.{Done}
 use Rattle.store_model.specs.Store as model
 use Rattle.store_model.specs.Store.{Store, Writer, writer, session, with_session, Outcome}
-use Rattle.store_model.specs.Uploads.{file_path, has_file, want_room}
+use Rattle.store_model.specs.Uploads.{file_path, has_file}
 use Rattle.store_model.specs.WriterSteps.{checked_blob, with_file, goes_on}
 use Rattle.core_state.specs.declared.kept.StoredFile.{StoredFile}
-use Rattle.core_state.specs.declared.kept.Session.{Session}
 use Rattle.core_state.specs.declared.kept.Session.TheVariants as kept
 use Rattle.core_state.specs.Shown.{shown_session, shown_writer, shown_file, shown_files}
 use Rattle.core_writer.specs.Uploaded.{has_stored, upload_of}

@@ -1,5 +1,5 @@
 -- FINISH is the store's.
-use Rattle.std.proofs.Common.{◌≡◌, ◌≢◌, ◌↔◌, ℕ, suc, ◌+◌, ◌<◌, ◌≤◌, Bool, true, false, cond, ◌&&◌, length, get_or, set, map, List, [], ◌∷◌, Option, Some, None, Result, Ok, Err, refl, sym, ap, subst, ◌∙◌, arith}
+use Rattle.std.proofs.Common.{◌≡◌, ◌≢◌, ◌↔◌, ℕ, ◌<◌, Bool, true, false, cond, length, get_or, set, map, List, [], ◌∷◌, Option, Some, None, Ok, Err, refl, sym, ap, subst, ◌∙◌, arith}
 use Rattle.std.proofs.lemmas.Bool.{and_parts, and_from, false_from_ne_true}
 use Rattle.std.proofs.lemmas.List.{length-set}
 use Rattle.std.proofs.lemmas.Option.{some_pair_parts}
@@ -12,11 +12,9 @@ use Rattle.std.specs.Str.{bytes_eq}
 use Rattle.disk_trait.specs.Files.{Files, placed}
 use Rattle.disk_trait.specs.Laws.{placed_same, placed_other}
 use Rattle.store_types.specs.declared.names.SnapshotKey.{SnapshotKey}
-use Rattle.store_types.specs.declared.refusal.Refusal.{Refusal}
 use Rattle.store_types.specs.declared.refusal.Refusal.TheVariants.{NoFile, WrongState}
 use Rattle.store_types.specs.FileNames.{manifest_name}
-use Rattle.store_types.specs.KeyOrder.{same_group_equiv}
-use Rattle.store_types.specs.Names.{IsKey, key_lt, same_group, group_of_key}
+use Rattle.store_types.specs.Names.{key_lt, same_group, group_of_key}
 use Rattle.store_files.specs.Archive.{File, Snapshot, file_text, file_named}
 use Rattle.wire_commands.specs.declared.command.Command.TheVariants.{Finish}
 use Rattle.wire_commands.specs.declared.reply.Reply.TheVariants.{Done}
@@ -25,22 +23,21 @@ use Rattle.store_model.specs.Store.{Store, Writer, none, writer, session, with_s
 use Rattle.store_model.specs.Uploads.{file_path}
 use Rattle.store_model.specs.WriterSteps.{snapshot_of, finish}
 use Rattle.store_model.specs.Steps.{outcome, answered}
-use Rattle.store_model.specs.Stands.{IsSnapshot, StandsFor, manifest_path, chunk_name, group_limit}
-use Rattle.store_model.proofs.Paths.{same_path, manifest_plain, chunk_apart}
+use Rattle.store_model.specs.Stands.{IsSnapshot, manifest_path, group_limit}
+use Rattle.store_model.proofs.Paths.{manifest_plain, chunk_apart}
 use Rattle.store_model.proofs.Insertions.{All-insert, find-insert, length-in_group-insert, rise-insert}
 use Rattle.store_model.proofs.FileInsertions.{only_named}
 use Rattle.store_model.proofs.StandsLemmas.{Puts, IsReady, different, stands_finished, groups_insert}
-use Rattle.core_state.specs.declared.kept.StoredFile.{StoredFile}
 use Rattle.core_state.specs.declared.kept.Kept.{Kept}
 use Rattle.core_state.specs.declared.kept.Listed.{Listed}
 use Rattle.core_state.specs.declared.kept.Writing.{Writing}
 use Rattle.core_state.specs.declared.kept.Session.{Session}
 use Rattle.core_state.specs.declared.kept.Session.TheVariants as sessions
 use Rattle.core_state.specs.declared.parts.Parts.{Parts}
-use Rattle.core_state.specs.Named.{has_text, is_named, is_named_snapshot}
+use Rattle.core_state.specs.Named.{is_named, is_named_snapshot}
 use Rattle.core_state.specs.Shown.{shown_file, shown_files, shown_snapshot, shown_writer, shown_session, text_of, manifest_text}
-use Rattle.core_state.specs.Holds.{IsSound, IsWriter, IsReader, IsOlder, IsPut, HasUploads, IsOnDisk, Shows, Holds, Does}
-use Rattle.core_state.proofs.Sessions.{at_lane, changed, shown_set, writer_found, no_writer_none, no_reader_none}
+use Rattle.core_state.specs.Holds.{IsSound, IsWriter, IsReader, IsOlder, HasUploads, IsOnDisk, Holds, Does}
+use Rattle.core_state.proofs.Sessions.{changed, shown_set, no_writer_none, no_reader_none}
 use Rattle.core_state.proofs.Soundness.{sound_idle}
 use Rattle.core_state.proofs.OnDisk.{IsOff, fresh, off_other, keys_apart, uploads_off}
 use Rattle.core_writer.specs.Opened.{state_of}

@@ -7,3 +7,4 @@ pub mod OpeningLemmas
 pub mod BlobStep
 pub mod BlobLemmas
 pub mod FinishLemmas
+pub mod ActLemmas

@@ -1,13 +1,11 @@
 -- OPEN_WRITER is the store's.
-use Rattle.std.proofs.Common.{◌≡◌, ◌≢◌, ℕ, zero, suc, ◌+◌, ◌<◌, ◌≤◌, Bool, true, false, not, cond, length, get_or, set, map, List, [], ◌∷◌, Option, Some, None, Result, Ok, Err, refl, sym, ap, subst, ◌∙◌, arith}
-use Rattle.std.proofs.lemmas.Bool.{ltb-true, ltb-false}
+use Rattle.std.proofs.Common.{◌≡◌, ℕ, zero, suc, ◌+◌, ◌<◌, ◌≤◌, Bool, true, false, not, cond, length, get_or, set, map, List, [], ◌∷◌, Option, Some, None, Result, Ok, Err, refl, sym, ap, subst, ◌∙◌, arith}
+use Rattle.std.proofs.lemmas.Bool.{ltb-false}
 use Rattle.std.proofs.lemmas.List.Elements.{All-nil}
-use Rattle.std.specs.List.{All, position_or_len}
-use Rattle.std.specs.Prelude.{nat_lt, position}
+use Rattle.std.specs.List.{position_or_len}
+use Rattle.std.specs.Prelude.{nat_lt}
 use Rattle.disk_trait.specs.Files.{Files}
-use Rattle.disk_trait.specs.declared.disk.DiskError.{DiskError}
 use Rattle.store_types.specs.declared.names.SnapshotKey.{SnapshotKey}
-use Rattle.store_types.specs.declared.names.GroupKey.{GroupKey}
 use Rattle.store_types.specs.declared.refusal.Refusal.{Refusal}
 use Rattle.store_types.specs.declared.refusal.Refusal.TheVariants.{BadName, GroupBusy, TooMany}
 use Rattle.store_types.specs.Chain.Refusing.{◌>>=◌, unless, if_none}
@@ -20,7 +18,6 @@ use Rattle.store_model.specs.Store as model
 use Rattle.store_model.specs.Store.{Store, Writer, writer, session, with_session, Outcome, writes_group, group_holder, in_group, latest_in}
 use Rattle.store_model.specs.WriterSteps.{want_newer, new_writer, base_text, goes_on, open_writer}
 use Rattle.store_model.specs.Steps.{outcome, answered}
-use Rattle.store_model.specs.Stands.{HoldsPieces}
 use Rattle.store_model.proofs.GroupTimes.{newer_than_all}
 use Rattle.core_state.specs.declared.kept.Session.{Session}
 use Rattle.core_state.specs.declared.kept.Session.TheVariants as kept
@@ -29,8 +26,8 @@ use Rattle.core_state.specs.Shown.{shown_session, shown_snapshot}
 use Rattle.core_state.specs.Holds.{IsSound, IsWriter, Shows, IsOnDisk, HasUploads, Holds, Does}
 use Rattle.core_state.proofs.Sessions.{at_lane}
 use Rattle.core_state.proofs.Soundness.{IsAlone, sound_writer, disk_writer, shows_changed}
-use Rattle.core_writer.specs.Opened.{want_idle, base_kept, latest_kept, kept_in, writes, new_writing}
-use Rattle.core_writer.proofs.OpenedLemmas.{shown_idle, position_shown, latest_shown, count_shown, MayOpen, may_open}
+use Rattle.core_writer.specs.Opened.{want_idle, base_kept, new_writing}
+use Rattle.core_writer.proofs.OpenedLemmas.{shown_idle, position_shown, latest_shown, count_shown, may_open}
 
 -- ---- the store's tests
 

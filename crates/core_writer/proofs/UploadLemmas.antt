@@ -1,9 +1,8 @@
 -- What a new file of a writer is refused for, and where it comes.
-use Rattle.std.proofs.Common.{◌≡◌, ℕ, ◌≤◌, ◌<◌, Bool, true, false, not, ◌||◌, length, List, Option, Some, None, Result, Ok, Err, is_ok, refl, sym, ap, ◌∙◌, arith}
+use Rattle.std.proofs.Common.{◌≡◌, ℕ, Bool, false, List, Err, refl}
 use Rattle.std.proofs.lemmas.Bool.{or_parts}
 use Rattle.std.specs.List.{insert, position_or_len}
 use Rattle.store_types.specs.declared.refusal.Refusal.TheVariants.{BadName}
-use Rattle.store_types.specs.Chain.Refusing.{◌>>=◌, unless}
 use Rattle.store_types.specs.FileNames.{is_file_name, is_index_name, is_blob_name}
 use Rattle.store_types.specs.Names.{name_lt}
 use Rattle.core_state.specs.declared.kept.Session.TheVariants.{Writer}

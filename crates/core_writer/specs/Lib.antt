@@ -2,3 +2,4 @@ pub mod Opened
 pub mod Closed
 pub mod Uploaded
 pub mod Ended
+pub mod WriterActs

@@ -3,7 +3,9 @@
 ghost use Rattle.std.specs.Prelude.{◌≡◌, ◌<◌, ◌≤◌, ℕ, List, None, if◌then◌else◌, IsErr, OnOk};
 ghost use Rattle.std.specs.FinMap.{get};
 ghost use Rattle.disk_trait.specs.Disk.{Serves};
-ghost use Rattle.core_state.specs.Holds.{Ends};
+ghost use Rattle.store_model.specs.Store.{Store};
+ghost use Rattle.store_model.specs.Steps.{ended};
+ghost use Rattle.core_state.specs.Holds.{Ends, Shows};
 ghost use Rattle.core_writer.specs.Ended.{is_removed, removed_by, stored_files};
 
 use core_state::{Parts, Session, StoredFile};
@@ -56,4 +58,13 @@ pub fn end<D: Disk>(parts: &mut Parts<D>, lane: u32) -> Result<(), Failed>
     remove_files(&mut parts.disk, files_of(&parts.sessions[lane]))?;
     parts.sessions[lane] = Session::Idle;
     Ok(())
+}
+
+/// The lane has no session any more, and the disk is not called: what is left of its writer stays where it is.
+pub fn forget_session<D>(parts: &mut Parts<D>, lane: u32)
+    requires { lane < 64 }
+    ensures disk { parts.new.disk ≡ parts.old.disk }
+    ensures shows { (s : Store) → Shows parts.old s → Shows parts.new (ended s lane) }
+{
+    parts.sessions[lane as usize] = Session::Idle;
 }

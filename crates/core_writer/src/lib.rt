@@ -1,6 +1,7 @@
 //! The commands of a writer and the end of a lane, as acts on the core's parts. Each does the step of the plain store.
 #![tactic(auto)]
 
+mod act;
 mod catalogue;
 mod ending;
 mod finishing;
@@ -8,6 +9,7 @@ mod opening;
 mod sessions;
 mod uploads;
 
+pub use act::{end_act, writer_act};
 pub use ending::end;
 pub use finishing::finish;
 pub use opening::open_writer;

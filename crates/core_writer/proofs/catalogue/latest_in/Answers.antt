@@ -1,8 +1,8 @@
-use Rattle.std.proofs.Common.{◌≡◌, ◌∙◌, ◌++◌, ◌∷◌, [], take, map, arith, rules, sym, ap, cond, get_or, true, false, ◌<◌, length, Some}
+use Rattle.std.proofs.Common.{◌∙◌, ◌++◌, ◌∷◌, [], take, map, arith, sym, ap}
 use Rattle.std.specs.Prelude.{option_map}
 use Rattle.std.proofs.lemmas.Bool.{cond-true, cond-false}
 use Rattle.std.proofs.lemmas.List.{take_more}
-use Rattle.store_types.specs.Names.{same_group, group_of_key}
+use Rattle.store_types.specs.Names.{group_of_key}
 use Rattle.core_writer.specs.Opened.{latest_kept}
 use Rattle.core_writer.proofs.CatalogueLemmas.{latest_kept-push}
 use Rattle.core_writer.proofs.catalogue.latest_in.Goals as goal

@@ -1,4 +1,4 @@
-use Rattle.std.proofs.Common.{◌≡◌, ◌∙◌, ap, refl, get_or}
+use Rattle.std.proofs.Common.{◌∙◌, ap, refl}
 use Rattle.core_state.specs.Named.{is_named}
 use Rattle.core_state.specs.declared.kept.Session.TheVariants.{Idle}
 use Rattle.core_state.proofs.NamedLemmas.{list_all-set}

@@ -1,13 +1,11 @@
-use Rattle.std.proofs.Common.{◌≡◌, ◌<◌, ◌∙◌, ℕ, List, Option, ap, refl, sym, subst, set, length, arith, rules, Some, None, Err}
+use Rattle.std.proofs.Common.{◌≡◌, ◌<◌, ◌∙◌, ap, refl, sym, set, length, arith, rules, Some, None, Err}
 use Rattle.std.specs.List.{list_all}
-use Rattle.store_types.specs.declared.refusal.Refusal.TheVariants.{WrongState, NoFile}
+use Rattle.store_types.specs.declared.refusal.Refusal.TheVariants.{NoFile}
 use Rattle.core_state.specs.declared.kept.Session.TheVariants.{Writer, Idle}
 use Rattle.core_state.specs.Named.{is_named, is_named_snapshot}
-use Rattle.core_state.specs.Shown.{shown_writer}
 use Rattle.core_state.proofs.Acting.{does_refused}
 use Rattle.core_state.proofs.NamedLemmas.{list_all-set, list_all-at}
 use Rattle.core_state.proofs.Sessions.{at_lane, writer_found}
-use Rattle.core_writer.specs.Opened.{state_of}
 use Rattle.core_writer.specs.Closed.{kept_manifest, closed}
 use Rattle.core_writer.proofs.FinishLemmas.{not_writing, no_file, does_finish, named_closed}
 use Rattle.core_writer.proofs.finishing.finish.Goals as goal

@@ -12,7 +12,7 @@ use Rattle.core_state.specs.declared.kept.StoredFile.{StoredFile}
 use Rattle.core_state.specs.Named.{is_named, is_named_snapshot}
 use Rattle.core_state.proofs.Acting.{does_refused}
 use Rattle.core_state.proofs.NamedLemmas.{list_all-set, key_text_is, is_key}
-use Rattle.core_writer.specs.Opened.{want_idle, base_kept, new_writing}
+use Rattle.core_writer.specs.Opened.{want_idle, base_kept}
 use Rattle.core_writer.proofs.OpenedLemmas.{may_open, latest_named}
 use Rattle.core_writer.proofs.OpeningLemmas.{not_idle, bad_name, refused, idle_is, tests_are, does_open}
 use Rattle.core_writer.proofs.opening.open_writer.Goals as goal

@@ -1,4 +1,4 @@
-use Rattle.std.proofs.Common.{◌≡◌, ◌<◌, ◌∙◌, ap, refl, sym, set, length, arith, Ok, Err}
+use Rattle.std.proofs.Common.{◌<◌, ◌∙◌, ap, refl, sym, set, length, arith}
 use Rattle.store_types.specs.Chain.Refusing.{◌>>=◌}
 use Rattle.store_files.specs.Archive.{blob}
 use Rattle.wire_commands.specs.declared.reply.Reply.TheVariants.{Done}
