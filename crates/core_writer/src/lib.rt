@@ -14,3 +14,6 @@ pub use ending::end;
 pub use finishing::finish;
 pub use opening::open_writer;
 pub use uploads::blob;
+
+#[cfg(test)]
+mod tests;
