@@ -1,0 +1,81 @@
+-- What a run leaves, and that a session is answered as the plain store answers it.
+use Rattle.std.specs.Prelude.{◌≡◌, ◌≤◌, ◌^◌, ◌↔◌, ◌⊎◌, ℕ, Bool, false, true, List, [], ◌∷◌, ◌++◌, map, length, Option, Some, None, IfSome, IsSome, IsTrue, Ok, string_bytes}
+use Rattle.port_traits.specs.Bytes.{WritesCounted}
+use Rattle.port_traits.specs.Readings.{Readings}
+use Rattle.disk_trait.specs.Files.{Files}
+use Rattle.store_types.specs.declared.order.Entry.{Entry}
+use Rattle.store_files.specs.Archive.{Snapshot}
+use Rattle.store_files.specs.Order.{keeps_rules}
+use Rattle.store_model.specs.Store.{Store}
+use Rattle.store_model.specs.Stands.{StandsFor}
+use Rattle.store_model.specs.Weave.{weave}
+use Rattle.store_history.specs.declared.act.Event.{Event}
+use Rattle.store_history.specs.History.{opened, entries}
+use Rattle.store_history.specs.Legal.{IsLegal, IsTimed}
+use Rattle.core_state.specs.Opening.{opening_at}
+use Rattle.lane.specs.declared.port.LaneReport.{LaneReport}
+use Rattle.lane.specs.declared.port.Port.{Port}
+use Rattle.lane.specs.Acting.{gave_all}
+use Rattle.lane.specs.Causes.{HasCauses}
+use Rattle.lane.specs.Ran.{Took, ReadsOut}
+use Rattle.pbs_server.specs.declared.served.Served.{Served}
+use Rattle.pbs_server.specs.declared.status.Status.TheVariants as statuses
+use Rattle.pbs_server.specs.Statuses.{has_kind, status_by}
+use Rattle.pbs_server.specs.Words.{reading}
+
+-- The plain store of whole archives, opened without snapshots and asked by the session's commands in the returned order, gives
+-- the bytes that the sink was given (a front of them where the sink failed) and this last store. The order fits, and its
+-- moments are by the clock's readings. What the disk now holds stands for the last store's snapshots, where the disk did not fail.
+pub record IsPlain (remote : Option (List Snapshot)) (readings : Option Readings) (before : ℕ) (left left' taken taken' : Option (List ℕ)) (order : List Entry) (calls : List ℕ) (report : LaneReport) (files : Files) : Type 0 where
+  -- the bytes that the session's source gave, the acts with their answers, the last store, and the bytes of all replies
+  pub input : List ℕ
+  pub events : List Event
+  pub store : Store
+  pub replies : List ℕ
+  pub woven : weave [] remote order (input ∷ []) (report.ending ∷ []) ≡ Ok (record { store = store; replies = replies ∷ [] })
+  pub gave : WritesCounted taken taken' 0 report.given replies (gave_all report.ending)
+  pub took : Took report.ending left left' input
+  pub size_is : length input ≡ report.taken
+  pub rules : IsTrue (keeps_rules 1 order)
+  pub times : IfSome readings (λ c. IsTimed c 0 events)
+  pub legal : IsLegal remote (opened (opening_at before)) events
+  pub order_is : order ≡ entries events
+  pub calls_are : calls ≡ map (λ e. e.calls) events
+  -- a session that ends cleanly, or where no command stands, was read to there
+  pub read_out : (acts : List Event) × (ends : List Event) × (events ≡ acts ++ ends) × ReadsOut report.ending input acts ends left'
+  pub stands : has_kind 5 order ≡ false → StandsFor files store.snapshots
+
+-- One session was served.
+pub record HasServed {D E S K : Type 0} (honest : D → Type 0) (content : D → Files) (calls_of faults_of : D → ℕ) (left : S → Option (List ℕ)) (source_faults : S → ℕ) (taken : K → Option (List ℕ)) (sink_faults : K → ℕ)
+    (readings : Option Readings) (disk : D) (remote : Option E) (old new : Port S K) (report : LaneReport) (result : Served D E) : Type 0 where
+  pub plain : (R : Option (List Snapshot)) → honest disk → StandsFor (content disk) []
+      → IsPlain R readings (calls_of disk) (left old.source) (left new.source) (taken old.sink) (taken new.sink)
+      (result.order).items ((result.report).calls).items report (content result.disk)
+  -- on any disk
+  pub status : result.status ≡ status_by (result.order).items report.ending
+  pub causes : HasCauses (source_faults old.source) (source_faults new.source) (sink_faults old.sink) (sink_faults new.sink) report.taken (Some report.ending)
+  pub budget : report.taken ≤ 2 ^ 40
+  pub faults : faults_of disk ≤ faults_of result.disk
+  pub remote_is : result.remote ≡ remote
+
+-- No session was served: none was read, and nothing was done.
+pub record HasNotServed {D E P : Type 0} (disk : D) (remote : Option E) (old new : List P) (result : Served D E) : Type 0 where
+  pub status : (result.status ≡ statuses.Usage) ⊎ (result.status ≡ statuses.NoMemory)
+  pub order : (result.order).items ≡ []
+  pub calls : ((result.report).calls).items ≡ []
+  pub ports : new ≡ old
+  pub disk_is : result.disk ≡ disk
+  pub remote_is : result.remote ≡ remote
+
+-- what was served is told by the reports
+abbrev pub Leaves : {D E S K : Type 0} → (D → Type 0) → (D → Files) → (D → ℕ) → (D → ℕ) → (S → Option (List ℕ)) → (S → ℕ) → (K → Option (List ℕ)) → (K → ℕ)
+    → Option Readings → D → Option E → Served D E → List (Port S K) → List (Port S K) → List LaneReport → Type 0
+Leaves honest content calls_of faults_of left source_faults taken sink_faults readings disk remote result (old ∷ []) (new ∷ []) (report ∷ []) =
+    HasServed honest content calls_of faults_of left source_faults taken sink_faults readings disk remote old new report result
+Leaves honest content calls_of faults_of left source_faults taken sink_faults readings disk remote result old new [] =
+    HasNotServed disk remote old new result
+Leaves honest content calls_of faults_of left source_faults taken sink_faults readings disk remote result old new _ = ⊥
+
+-- the words have a reading, and ask for as many sessions as there are ports
+abbrev pub IsAsked : List (List ℕ) → ℕ → Type 0
+IsAsked words ports = IsSome (reading words) × (ports ≡ 1)

@@ -1,0 +1,48 @@
+-- The status of a run.
+use Rattle.std.specs.Prelude.{ℕ, Bool, true, false, List, ◌==◌, if◌then◌else◌}
+use Rattle.std.specs.List.{list_any}
+use Rattle.store_types.specs.declared.order.Entry.{Entry}
+use Rattle.store_model.specs.declared.ending.Ending.{Ending}
+use Rattle.store_model.specs.declared.ending.Ending.TheVariants as endings
+use Rattle.pbs_server.specs.declared.status.Status.{Status}
+use Rattle.pbs_server.specs.declared.status.Status.TheVariants as statuses
+
+-- an entry of the order is of this kind
+abbrev pub has_kind : ℕ → List Entry → Bool
+has_kind kind order = list_any (λ e. e.kind == kind) order
+
+-- by the lane's ending alone
+abbrev pub status_of_ending : Ending → Status
+status_of_ending endings.Clean = statuses.Ok
+status_of_ending (endings.Broken place) = statuses.BadFrame
+status_of_ending endings.SourceFault = statuses.SourceFault
+status_of_ending endings.SinkFault = statuses.SinkFault
+status_of_ending endings.SourceTooLong = statuses.SourceTooLong
+status_of_ending endings.NoMemory = statuses.NoMemory
+
+abbrev pub is_short : Ending → Bool
+is_short endings.NoMemory = true
+is_short _ = false
+
+-- Want of memory comes first: an entry of kind 2, or a lane that ended by it. Then a fault of the disk: an entry of kind 5. Then
+-- how the lane ended.
+abbrev pub status_by : List Entry → Ending → Status
+status_by order ending =
+    if has_kind 2 order then statuses.NoMemory else
+    if is_short ending then statuses.NoMemory else
+    if has_kind 5 order then statuses.DiskFault else
+    status_of_ending ending
+
+abbrev pub number_of : Status → ℕ
+number_of statuses.Ok = 0
+number_of statuses.BadFrame = 1
+number_of statuses.Usage = 2
+number_of statuses.DiskFault = 3
+number_of statuses.SourceFault = 4
+number_of statuses.SinkFault = 5
+number_of statuses.NoMemory = 6
+number_of statuses.TooManyLanes = 7
+number_of statuses.Unequal = 8
+number_of statuses.SourceTooLong = 9
+number_of statuses.RemoteFault = 10
+number_of statuses.BadOrder = 11

@@ -1,0 +1,16 @@
+//! The program's call: sessions are served on a datastore, and all that was handed in is handed back.
+#![tactic(auto)]
+
+mod plan;
+mod run;
+mod served;
+mod serve;
+mod status;
+
+pub use plan::{Plan, WordFault, plan_words};
+pub use serve::serve;
+pub use served::{RunReport, Served, Unequal};
+pub use status::Status;
+
+#[cfg(test)]
+mod tests;

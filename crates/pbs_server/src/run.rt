@@ -1,0 +1,101 @@
+//! A run of one lane.
+
+ghost use Rattle.std.specs.Prelude.{◌≡◌, ◌∷◌, [], None};
+ghost use Rattle.pbs_server.specs.Headline.{Leaves};
+ghost use Rattle.pbs_server.specs.Statuses.{status_by};
+
+use crate::served::{RunReport, Served};
+use crate::status::{Status, status_of};
+use core_state::{Core, CoreParts, NotOpened, open_on};
+use disk_trait::Disk;
+use lane::{Ending, LaneReport, Port, run_alone};
+use port_traits::{Clock, Gate, Sink, Source};
+use std::alloc::Global;
+
+/// No lane was served.
+pub fn not_served<D, E>(alloc: Global, status: Status, disk: D, remote: Option<E>) -> Served<D, E>
+    ensures status { result.status ≡ status }
+    ensures order { result.order.items ≡ [] }
+    ensures lanes { result.report.lanes.items ≡ [] }
+    ensures calls { result.report.calls.items ≡ [] }
+    ensures unequal { result.report.unequal ≡ None }
+    ensures disk { result.disk ≡ disk }
+    ensures remote { result.remote ≡ remote }
+{
+    Served {
+        status,
+        order: Vec::new(alloc),
+        report: RunReport {
+            lanes: Vec::new(alloc),
+            calls: Vec::new(alloc),
+            unequal: None,
+        },
+        disk,
+        remote,
+    }
+}
+
+/// What the core was made of, with its order.
+fn handed_back<D, E, C>(
+    core: Core<D, E, C>,
+    lanes: Vec<LaneReport>,
+    ending: Ending,
+) -> Served<D, E>
+    ensures status { result.status ≡ status_by core.journal.entries.items ending }
+    ensures order { result.order ≡ core.journal.entries }
+    ensures lanes { result.report.lanes ≡ lanes }
+    ensures calls { result.report.calls ≡ core.journal.calls }
+    ensures unequal { result.report.unequal ≡ None }
+    ensures disk { result.disk ≡ core.parts.disk }
+    ensures remote { result.remote ≡ core.remote }
+{
+    let parts = core.parts();
+    let status = status_of(&parts.order, ending);
+    let CoreParts {
+        disk,
+        remote,
+        order,
+        calls,
+        ..
+    } = parts;
+    Served {
+        status,
+        order,
+        report: RunReport {
+            lanes,
+            calls,
+            unequal: None,
+        },
+        disk,
+        remote,
+    }
+}
+
+/// Opens the datastore and serves one session on it.
+pub fn serve_alone<D: Disk, E, C: Clock, S: Source, K: Sink, G: Gate>(
+    alloc: Global,
+    port: &mut Port<S, K>,
+    disk: D,
+    remote: Option<E>,
+    clock: C,
+    gate: &G,
+) -> Served<D, E>
+    ensures leaves { Leaves D.honest D.content D.calls D.faults S.left S.faults K.taken K.faults (C.readings clock) disk remote result
+        (port.old ∷ []) (port.new ∷ []) result.report.lanes.items }
+    ensures unequal { result.report.unequal ≡ None }
+{
+    let Ok(mut reports) = Vec::with_capacity(alloc, 1) else {
+        return not_served(alloc, Status::NoMemory, disk, remote);
+    };
+    match open_on(alloc, disk, remote, clock) {
+        Ok(mut core) => {
+            let report = run_alone(&mut core, alloc, 0, port, gate);
+            reports.push_reserved(report);
+            handed_back(core, reports, report.ending)
+        }
+        Err(not_opened) => {
+            let NotOpened { disk, remote, .. } = not_opened;
+            not_served(alloc, Status::NoMemory, disk, remote)
+        }
+    }
+}

@@ -1,0 +1,34 @@
+//! What a run leaves.
+
+use crate::status::Status;
+use lane::LaneReport;
+use store_types::Entry;
+
+/// The first byte at which replayed and kept replies differ. None where that side has ended.
+#[derive(Clone, Copy, Debug, PartialEq, Eq)]
+pub struct Unequal {
+    pub lane: u32,
+    pub place: u64,
+    pub replayed: Option<u8>,
+    pub kept: Option<u8>,
+}
+
+/// How each lane was served, and for each entry of the order the disk's count of calls as it was answered. Empty where no
+/// lane was served.
+#[derive(Debug, Drop)]
+pub struct RunReport {
+    pub lanes: Vec<LaneReport>,
+    pub calls: Vec<u64>,
+    /// Only a check of a run tells one.
+    pub unequal: Option<Unequal>,
+}
+
+/// The status, the order of all acts, the report, and the disks that were handed in.
+#[derive(Drop)]
+pub struct Served<D, E> {
+    pub status: Status,
+    pub order: Vec<Entry>,
+    pub report: RunReport,
+    pub disk: D,
+    pub remote: Option<E>,
+}

@@ -1,0 +1,114 @@
+//! What a run is answered.
+
+ghost use Rattle.std.specs.Prelude.{◌≡◌, ◌==◌};
+ghost use Rattle.std.specs.List.{list_any};
+ghost use Rattle.pbs_server.specs.Statuses.{has_kind, status_by, status_of_ending, number_of};
+
+use lane::Ending;
+use store_types::Entry;
+
+/// How a run ended. The program's exit status is its number.
+#[derive(Clone, Copy, Debug, PartialEq, Eq)]
+pub enum Status {
+    /// 0. Every lane was served to its end. Refused commands are replies, and leave it so.
+    Ok,
+    /// 1. On a lane something stands that isn't a command.
+    BadFrame,
+    /// 2. The words have no reading, or ask for another number of sessions than were handed in.
+    Usage,
+    /// 3. The disk failed.
+    DiskFault,
+    /// 4. A session's source failed.
+    SourceFault,
+    /// 5. A session's sink, or the journal, failed.
+    SinkFault,
+    /// 6. There was no memory.
+    NoMemory,
+    /// 7. There are more than 64 sessions.
+    TooManyLanes,
+    /// 8. The replies that were kept are others than those of the plain store.
+    Unequal,
+    /// 9. A session has 2^40 bytes or more.
+    SourceTooLong,
+    /// 10. The remote failed.
+    RemoteFault,
+    /// 11. The order file is none, or doesn't belong to the datastore.
+    BadOrder,
+}
+
+impl Status {
+    ghost use Rattle.std.specs.Prelude.{◌≡◌};
+    ghost use Rattle.pbs_server.specs.Statuses.{number_of};
+
+    /// The exit status.
+    pub fn number(self) -> u8
+        ensures { result ≡ number_of self }
+    {
+        match self {
+            Status::Ok => 0,
+            Status::BadFrame => 1,
+            Status::Usage => 2,
+            Status::DiskFault => 3,
+            Status::SourceFault => 4,
+            Status::SinkFault => 5,
+            Status::NoMemory => 6,
+            Status::TooManyLanes => 7,
+            Status::Unequal => 8,
+            Status::SourceTooLong => 9,
+            Status::RemoteFault => 10,
+            Status::BadOrder => 11,
+        }
+    }
+
+    /// The name that the program prints.
+    pub fn name(self) -> &'static str {
+        match self {
+            Status::Ok => "Ok",
+            Status::BadFrame => "BadFrame",
+            Status::Usage => "Usage",
+            Status::DiskFault => "DiskFault",
+            Status::SourceFault => "SourceFault",
+            Status::SinkFault => "SinkFault",
+            Status::NoMemory => "NoMemory",
+            Status::TooManyLanes => "TooManyLanes",
+            Status::Unequal => "Unequal",
+            Status::SourceTooLong => "SourceTooLong",
+            Status::RemoteFault => "RemoteFault",
+            Status::BadOrder => "BadOrder",
+        }
+    }
+}
+
+/// An entry of the order is of this kind.
+fn has_entry(order: &[Entry], kind: u8) -> bool
+    ensures { result ≡ has_kind kind order.now }
+{
+    order.iter().any(|entry| entry.kind == kind)
+}
+
+/// By the lane's ending alone.
+fn by_ending(ending: Ending) -> Status
+    ensures { result ≡ status_of_ending ending }
+{
+    match ending {
+        Ending::Clean => Status::Ok,
+        Ending::Broken { .. } => Status::BadFrame,
+        Ending::SourceFault => Status::SourceFault,
+        Ending::SinkFault => Status::SinkFault,
+        Ending::SourceTooLong => Status::SourceTooLong,
+        Ending::NoMemory => Status::NoMemory,
+    }
+}
+
+/// The status of a run of one lane: want of memory comes first, then a fault of the disk, then how the lane ended.
+pub fn status_of(order: &[Entry], ending: Ending) -> Status
+    ensures { result ≡ status_by order.now ending }
+{
+    if has_entry(order, 2) || ending == Ending::NoMemory {
+        return Status::NoMemory;
+    }
+    if has_entry(order, 5) {
+        return Status::DiskFault;
+    }
+    by_ending(ending)
+}

@@ -1,0 +1,87 @@
+//! The program `pbstore`: serves the session that its words name on a datastore folder. The replies to the session in a
+//! file go to the file of its name with `.out` behind it.
+#![tactic(auto)]
+
+use disk_trait::FileDisk;
+use lane::Port;
+use pbs_server::{Plan, Status, plan_words, serve};
+use port_traits::{FileSink, FileSource, FreeGate, WallClock};
+use std::alloc::{AllocError, Global};
+use std::fs::File;
+use std::io::ErrorKind;
+use std::process::ExitCode;
+use std::{env, io};
+
+/// A session's file, and the file of its replies.
+type FilePort = Port<FileSource<HostRuntime>, FileSink<File>>;
+
+/// The words after the program's name. Words that cannot be read as text are a faulty command line.
+fn words_of(rt: HostRuntime) -> Result<Vec<String>, Status> {
+    match env::args(&rt) {
+        Ok(args) => args.skip(1).try_collect(rt.alloc()).map_err(|_| Status::NoMemory),
+        Err(error) if error.kind() == ErrorKind::OutOfMemory => Err(Status::NoMemory),
+        Err(_) => Err(Status::Usage),
+    }
+}
+
+/// The port of a session.
+fn port_of(rt: HostRuntime, alloc: Global, session: &str) -> Result<FilePort, AllocError> {
+    let mut out = String::from_str(alloc, session)?;
+    out.push_str(".out")?;
+    Ok(Port {
+        source: FileSource::new(rt, String::from_str(alloc, session)?),
+        sink: FileSink::create(&rt, out.as_str()),
+    })
+}
+
+fn ports_of(rt: HostRuntime, alloc: Global, sessions: &[String]) -> Result<Vec<FilePort>, AllocError> {
+    let mut ports = Vec::with_capacity(alloc, sessions.len())?;
+    for session in sessions {
+        ports.push(port_of(rt, alloc, session.as_str())?)?;
+    }
+    Ok(ports)
+}
+
+/// Makes the real objects that the words name, and serves.
+fn serve_words(rt: HostRuntime, alloc: Global, words: &[String]) -> Result<Status, AllocError> {
+    let plan = plan_words(alloc, words);
+    let (root, sessions): (&str, &[String]) = match &plan {
+        Ok(Plan::Run { root, sessions, .. }) => (root.as_str(), sessions.as_slice()),
+        Err(_) => ("", &[]),
+    };
+    let mut ports = ports_of(rt, alloc, sessions)?;
+    let disk = FileDisk::new(rt, alloc, root)?;
+    let remote = None::<FileDisk<HostRuntime>>;
+    let clock = WallClock::new(rt);
+    let mut journal = FileSink::over(io::writer(&rt));
+    let served = serve(
+        alloc,
+        words,
+        &mut ports,
+        disk,
+        remote,
+        clock,
+        &mut journal,
+        &FreeGate,
+    );
+    Ok(served.status)
+}
+
+fn run(rt: HostRuntime) -> Status {
+    let words = match words_of(rt) {
+        Ok(words) => words,
+        Err(status) => return status,
+    };
+    match serve_words(rt, rt.alloc(), &words) {
+        Ok(status) => status,
+        Err(_) => Status::NoMemory,
+    }
+}
+
+fn main(rt: HostRuntime) -> ExitCode {
+    let status = run(rt);
+    if status != Status::Ok {
+        let _ = eprintln!(rt; "pbstore: {}", status.name());
+    }
+    ExitCode::from(status.number())
+}
