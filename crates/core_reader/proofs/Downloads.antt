@@ -37,7 +37,8 @@ use Rattle.core_state.proofs.Acting.{holds_same}
 use Rattle.core_state.proofs.Soundness.{shows_changed}
 use Rattle.core_reader.specs.Asked.{kept_named, path_named, path_of_kept, path_in, part_from, noting}
 use Rattle.core_reader.proofs.Noted.{note_key, note_shown}
-use Rattle.core_reader.proofs.Steps.{find_map, kept_is, is_some, sound_reader, disk_reader}
+use Rattle.core_reader.proofs.Finding.{find_map, mapped, no_mapped, is_some, found_in, found_passes}
+use Rattle.core_reader.proofs.OpenSteps.{kept_is, sound_reader, disk_reader}
 
 -- ---- the step
 
@@ -99,9 +100,6 @@ down_part s lane m name offset r f at good found =
 
 -- ---- the lane's reader
 
-some_same : {A : Type 0} (x y : A) → Some x ≡ Some y → x ≡ y
-some_same x y e = cc
-
 shows_reader : (x : model.Session) (r : Reading) → shown_session x ≡ Reader r → (v : model.Reader) × (x ≡ reader v) × (shown_reader v ≡ r)
 shows_reader none r e = cc
 shows_reader (writer w) r e = cc
@@ -130,14 +128,6 @@ path_is name x = ap (option_map (λ f. f.path)) (find_map (shown_file x.key) (λ
     twice None = refl
     twice (Some f) = refl
 
-mapped : {A B : Type 0} (f : A → B) (o : Option A) (y : B) → option_map f o ≡ Some y → (x : A) × (o ≡ Some x) × (y ≡ f x)
-mapped f None y e = cc
-mapped f (Some x) y e = (x, refl, sym (some_same (f x) y e))
-
-no_mapped : {A B : Type 0} (f : A → B) (o : Option A) → option_map f o ≡ None → o ≡ None
-no_mapped f None e = refl
-no_mapped f (Some x) e = cc
-
 kept_path : (name : List ℕ) (catalogue : List Listed) (s : Store) (r : model.Reader) → map (λ x. x.kept) catalogue ≡ map shown_snapshot s.snapshots
     → path_in r.key name catalogue ≡ path_of_kept name (option_map shown_snapshot (snapshot_named r.key s.snapshots))
 kept_path name catalogue s r is = ap (path_of_kept name) (kept_is catalogue s.snapshots r.key is)
@@ -161,23 +151,6 @@ not_there name catalogue s r is missing = by_snapshot (snapshot_named r.key s.sn
 
 pub there_named : (s : Store) (r : model.Reader) (name path : List ℕ) (t : IsThere s r name path) → file_named name (reader_files s r) ≡ Some t.file
 there_named s r name path t = ap (λ o. file_named name (elim o [ None ↦ [] | Some x ↦ x.files ])) t.kept ∙ t.named
-
--- what holds of each holds of what is found
-found_in : {A : Type 0} (P : A → Type 0) (p : A → Bool) (xs : List A) (x : A) → All P xs → find p xs ≡ Some x → P x
-found_in P p [] x all e = cc
-found_in P p (y ∷ ys) x all e = by_test (p y) e (λ later. found_in P p ys x (All-tail P y ys all) later)
-  where
-    by_test : (b : Bool) → cond b (Some y) (find p ys) ≡ Some x → (find p ys ≡ Some x → P x) → P x
-    by_test true e go = subst P (some_same y x e) (All-head P y ys all)
-    by_test false e go = go e
-
-found_passes : {A : Type 0} (p : A → Bool) (xs : List A) (x : A) → find p xs ≡ Some x → p x ≡ true
-found_passes p [] x e = cc
-found_passes p (y ∷ ys) x e = by_test (p y) refl e (λ later. found_passes p ys x later)
-  where
-    by_test : (b : Bool) → p y ≡ b → cond b (Some y) (find p ys) ≡ Some x → (find p ys ≡ Some x → p x ≡ true) → p x ≡ true
-    by_test true is e go = ap p (sym (some_same y x e)) ∙ is
-    by_test false is e go = go e
 
 pub there_text : (m : Files) (s : Store) (r : model.Reader) (name path : List ℕ) (t : IsThere s r name path) → All (HoldsFiles m) s.snapshots → get m path ≡ Some (file_text (t.file).content)
 there_text m s r name path t all =

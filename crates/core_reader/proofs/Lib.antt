@@ -1,7 +1,7 @@
-pub mod Naming
-pub mod Steps
+pub mod Finding
+pub mod OpenSteps
 pub mod Noted
 pub mod Downloads
+pub mod PartLemmas
 pub mod Texts
 pub mod ActLemmas
-pub mod PartLemmas

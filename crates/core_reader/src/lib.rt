@@ -9,3 +9,6 @@ mod parts;
 pub use act::reader_act;
 pub use opening::open_reader;
 pub use parts::download;
+
+#[cfg(test)]
+mod tests;

@@ -9,22 +9,19 @@ use Rattle.core_state.proofs.Sessions.{at_lane}
 use Rattle.core_reader.specs.Asked.{path_in, noting}
 use Rattle.core_reader.proofs.Downloads.{down_busy, down_bad, down_missing, reader_found, not_there, does_refused_part, does_part}
 use Rattle.core_reader.proofs.Noted.{named_after}
-use Rattle.core_reader.proofs.Steps.{none_served}
 use Rattle.core_reader.proofs.Texts.{state_text, bad_name_text, no_file_text}
 use Rattle.core_reader.proofs.parts.download.Goals as goal
 
-pub returns-in_default : goal.returns-in_default
-returns-in_default g c = let d = g.D.Disk in record {
-  serves = none_served d.honest d.faults _ _ _;
-  calls = omega arith;
-  act = λ m s h.
-      let old = c.args.parts.now in
-      let one = at_lane old.sessions.items s c.args.lane c.index.result.now (h.shows).sessions ((h.shows).sound).lanes c.requires c.index.ensures in
-      let two = at_lane old.sessions.items s c.args.lane c.index-in_default.result.now (h.shows).sessions ((h.shows).sound).lanes c.requires c.index-in_default.ensures in
-      does_refused d.honest d.content old _ s _ _ refl refl refl
-      (down_busy s c.args.lane m c.args.file.now c.args.offset c.index-in_default.result.now two (λ r e. c.in_default.not-Reader r (one ∙ sym two ∙ e)) ∙ ap (λ x. Err (WrongState x)) (sym c.state.ensures)) h;
-  text = state_text c.state.result;
-}
+pub returns-in_default-clause-act : goal.returns-in_default-clause-act
+returns-in_default-clause-act g c = let d = g.D.Disk in λ m s h.
+    let old = c.args.parts.now in
+    let one = at_lane old.sessions.items s c.args.lane c.index.result.now (h.shows).sessions ((h.shows).sound).lanes c.requires c.index.ensures in
+    let two = at_lane old.sessions.items s c.args.lane c.index-in_default.result.now (h.shows).sessions ((h.shows).sound).lanes c.requires c.index-in_default.ensures in
+    does_refused d.honest d.content old _ s _ _ refl refl refl
+    (down_busy s c.args.lane m c.args.file.now c.args.offset c.index-in_default.result.now two (λ r e. c.in_default.not-Reader r (one ∙ sym two ∙ e)) ∙ ap (λ x. Err (WrongState x)) (sym c.state.ensures)) h
+
+pub returns-in_default-clause-text : goal.returns-in_default-clause-text
+returns-in_default-clause-text g c = state_text c.state.result
 
 pub returns-in_default-2-clause-act : goal.returns-in_default-2-clause-act
 returns-in_default-2-clause-act g c = let d = g.D.Disk in λ m s h.

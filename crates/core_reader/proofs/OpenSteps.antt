@@ -1,4 +1,4 @@
--- What a reader's commands find in the core, and what the plain store does there.
+-- OPEN_READER: what is found in the core, and what the plain store does there.
 use Rattle.std.proofs.Common.{◌≡◌, ◌≢◌, ◌<◌, ◌≤◌, ◌-◌, ℕ, zero, suc, min, Bool, true, false, cond, List, [], ◌∷◌, ◌++◌, map, length, take, drop, Option, Some, None, Result, Ok, Err, IsErrOf, IsTrue, IsSome, refl, sym, ap, subst, ◌∙◌, arith, nat_le, not}
 use Rattle.std.specs.Option.{option_map}
 use Rattle.std.specs.List.{find}
@@ -31,25 +31,9 @@ use Rattle.core_state.specs.States.{state_of}
 use Rattle.core_state.specs.Holds.{IsSound, IsReader, IsOnDisk, Shows, Holds, Does}
 use Rattle.core_state.proofs.Sessions.{changed, no_writer_reader, no_reader_none}
 use Rattle.core_reader.specs.Asked.{kept_named}
+use Rattle.core_reader.proofs.Finding.{find_map, no_mapped}
 
--- ---- answers
-
-ok_err : {A E : Type 0} (a : A) (e : E) → Ok a ≡ Err e → ⊥
-ok_err a e h = cc
-
--- no disk call was made
-pub none_served : {D : Type 0} (honest : D → Type 0) (faults : D → ℕ) (d : D) (reply : Reply) (e : DiskError) → Serves honest faults d d (IsErrOf (Ok reply) e)
-none_served honest faults d reply e = record { kept = (λ h. h, λ h. h); count = omega arith; cause = λ h. absurd (ok_err reply e h) }
-
-pub does_refused : {D : Type 0} (honest : D → Type 0) (content : D → Files) (new : Parts D) (s : Store) (o : Outcome) (r : Refusal)
-    → o ≡ Err r → Holds honest content new s → Does honest content new s (answered s o) (Ok (Refused r))
-does_refused honest content new s o r e h = subst (λ x. Does honest content new s (answered s x) (Ok (Refused r))) (sym e) (refl, h)
-
-pub does_ok : {D : Type 0} (honest : D → Type 0) (content : D → Files) (new : Parts D) (s after : Store) (o : Outcome) (reply : Reply)
-    → o ≡ Ok (after, reply) → Holds honest content new after → Does honest content new s (answered s o) (Ok reply)
-does_ok honest content new s after o reply e h = subst (λ x. Does honest content new s (answered s x) (Ok reply)) (sym e) (refl, h)
-
--- ---- OPEN_READER
+-- ---- the step
 
 abbrev found_then : Store → ℕ → SnapshotKey → Option Snapshot → Outcome
 found_then s lane key o = or_else NoSnapshot o >>= (λ _. Ok (with_session s lane (reader (record { key = key; noted = [] })), Done))
@@ -93,34 +77,15 @@ open_found s lane m text key x is named found = idle_is s lane m text is ∙ ap 
 
 -- ---- the catalogue
 
-pub find_map : {A B : Type 0} (f : A → B) (p : B → Bool) (xs : List A) → find p (map f xs) ≡ option_map f (find (λ x. p (f x)) xs)
-find_map f p [] = refl
-find_map f p (x ∷ xs) =
-    elim (p (f x)) as (λ b. cond b (Some (f x)) (find p (map f xs)) ≡ option_map f (cond b (Some x) (find (λ y. p (f y)) xs))) [
-      | true ↦ refl
-      | false ↦ find_map f p xs
-    ]
-
 pub kept_is : (catalogue : List Listed) (snapshots : List Snapshot) (key : SnapshotKey) → map (λ x. x.kept) catalogue ≡ map shown_snapshot snapshots
     → kept_named key catalogue ≡ option_map shown_snapshot (snapshot_named key snapshots)
 kept_is catalogue snapshots key is =
     let p : Kept → Bool = λ k. same_key k.key key in
     sym (find_map (λ x. x.kept) p catalogue) ∙ ap (find p) is ∙ find_map shown_snapshot p snapshots
 
-shown_none : (o : Option Snapshot) → option_map shown_snapshot o ≡ None → o ≡ None
-shown_none None e = refl
-shown_none (Some x) e = cc
-
-pub shown_some : (o : Option Snapshot) (k : Kept) → option_map shown_snapshot o ≡ Some k → (x : Snapshot) × (o ≡ Some x) × (shown_snapshot x ≡ k)
-shown_some None k e = cc
-shown_some (Some x) k e = (x, refl, some_same (shown_snapshot x) k e)
-  where
-    some_same : (a b : Kept) → Some a ≡ Some b → a ≡ b
-    some_same a b h = cc
-
 pub not_kept : (catalogue : List Listed) (snapshots : List Snapshot) (key : SnapshotKey) → map (λ x. x.kept) catalogue ≡ map shown_snapshot snapshots
     → kept_named key catalogue ≡ None → snapshot_named key snapshots ≡ None
-not_kept catalogue snapshots key is missing = shown_none (snapshot_named key snapshots) (sym (kept_is catalogue snapshots key is) ∙ missing)
+not_kept catalogue snapshots key is missing = no_mapped shown_snapshot (snapshot_named key snapshots) (sym (kept_is catalogue snapshots key is) ∙ missing)
 
 -- ---- a reader more
 
@@ -145,13 +110,8 @@ disk_reader m s lane x l h = record {
   writers = λ i w is. changed s lane (reader x) i (writer w) _ l is (λ e n. absurd (no_writer_reader w x n)) (λ ne old. h.writers i w old);
 }
 
-pub is_some : {A : Type 0} (o : Option A) (x : A) → o ≡ Some x → IsSome o
-is_some o x e = ap Rattle.std.specs.Option.is_some e
+-- ---- the act
 
--- what is found where something is there
-pub there_is : {A B : Type 0} (f : A → B) (o : Option A) (q : Option B) → option_map f o ≡ q → Rattle.std.specs.Option.is_none o ≡ false → (k : B) × (q ≡ Some k)
-there_is f None q is empty = absurd (true_false empty)
-  where
-    true_false : true ≡ false → ⊥
-    true_false e = cc
-there_is f (Some x) q is there = (f x, sym is)
+pub does_ok : {D : Type 0} (honest : D → Type 0) (content : D → Files) (new : Parts D) (s after : Store) (o : Outcome) (reply : Reply)
+    → o ≡ Ok (after, reply) → Holds honest content new after → Does honest content new s (answered s o) (Ok reply)
+does_ok honest content new s after o reply e h = subst (λ x. Does honest content new s (answered s x) (Ok reply)) (sym e) (refl, h)
