@@ -1,19 +1,16 @@
 -- DOWNLOAD: what is found in the core, and what the plain store does there.
-use Rattle.std.proofs.Common.{◌≡◌, ◌↔◌, ◌<◌, ℕ, Bool, true, false, cond, ◌&&◌, ◌||◌, not, List, [], ◌∷◌, ◌++◌, map, set, length, nat_le, Option, Some, None, Result, Ok, Err, refl, sym, ap, subst, ◌∙◌, arith}
-use Rattle.std.proofs.lemmas.Bool.{and_parts}
-use Rattle.std.proofs.lemmas.List.Elements.{All-head, All-tail}
+use Rattle.std.proofs.Common.{◌≡◌, ◌↔◌, ◌<◌, ℕ, Bool, true, false, List, [], map, set, length, nat_le, Option, Some, None, Result, Ok, Err, refl, sym, ap, subst, ◌∙◌, arith}
 use Rattle.std.proofs.lemmas.Slice.Eq.{bytes_eq-Decides}
 use Rattle.std.specs.FinMap.{get}
-use Rattle.std.specs.List.{All, find, list_any}
+use Rattle.std.specs.List.{All}
 use Rattle.std.specs.Option.{option_map}
 use Rattle.std.specs.Str.{bytes_eq}
 use Rattle.disk_trait.specs.Files.{Files}
-use Rattle.store_types.specs.declared.names.SnapshotKey.{SnapshotKey}
 use Rattle.store_types.specs.declared.refusal.Refusal.{Refusal}
 use Rattle.store_types.specs.declared.refusal.Refusal.TheVariants.{WrongState, BadName, NoFile, BadRange}
 use Rattle.store_types.specs.Chain.Refusing.{◌>>=◌, unless, or_else}
-use Rattle.store_types.specs.FileNames.{is_id, is_file_name, is_index_name, is_fixed_name, is_dynamic_name, is_blob_name, has_ending, fixed_ending, dynamic_ending, blob_ending}
-use Rattle.store_files.specs.Archive.{Layout, dynamic, fixed, Content, archive, blob, File, Snapshot, file_named, file_text}
+use Rattle.store_types.specs.FileNames.{is_file_name}
+use Rattle.store_files.specs.Archive.{File, Snapshot, file_named, file_text}
 use Rattle.wire_commands.specs.declared.reply.Reply.{Reply}
 use Rattle.wire_commands.specs.declared.reply.Reply.TheVariants.{Refused}
 use Rattle.wire_commands.specs.declared.command.Command.TheVariants.{Download}
@@ -21,21 +18,20 @@ use Rattle.store_model.specs.Store as model
 use Rattle.store_model.specs.Store.{Store, Outcome, none, writer, reader, session, with_session, want_reader, snapshot_named}
 use Rattle.store_model.specs.Uploads.{file_path}
 use Rattle.store_model.specs.WriterSteps.{part_of}
-use Rattle.store_model.specs.ReaderSteps.{download, reader_files, is_noted, note}
+use Rattle.store_model.specs.ReaderSteps.{download, reader_files, note}
 use Rattle.store_model.specs.Stands.{IsSnapshot, HoldsFiles, names_content}
 use Rattle.store_model.specs.Steps.{outcome, answered}
 use Rattle.core_state.specs.declared.parts.Parts.{Parts}
 use Rattle.core_state.specs.declared.kept.Listed.{Listed}
-use Rattle.core_state.specs.declared.kept.Kept.{Kept}
 use Rattle.core_state.specs.declared.kept.Reading.{Reading}
 use Rattle.core_state.specs.declared.kept.Session.{Session}
-use Rattle.core_state.specs.declared.kept.Session.TheVariants.{Idle, Writer, Reader}
+use Rattle.core_state.specs.declared.kept.Session.TheVariants.{Reader}
 use Rattle.core_state.specs.Shown.{shown_session, shown_snapshot, shown_file, shown_files, shown_reader}
 use Rattle.core_state.specs.States.{state_of}
 use Rattle.core_state.specs.Holds.{IsReader, IsOnDisk, Holds, Does}
 use Rattle.core_state.proofs.Acting.{holds_same}
 use Rattle.core_state.proofs.Soundness.{shows_changed}
-use Rattle.core_reader.specs.Asked.{kept_named, path_named, path_of_kept, path_in, part_from, noting}
+use Rattle.core_reader.specs.Asked.{path_named, path_of_kept, path_in, part_from, noting}
 use Rattle.core_reader.proofs.Noted.{note_key, note_shown}
 use Rattle.core_reader.proofs.Finding.{find_map, mapped, no_mapped, is_some, found_in, found_passes}
 use Rattle.core_reader.proofs.OpenSteps.{kept_is, sound_reader, disk_reader}

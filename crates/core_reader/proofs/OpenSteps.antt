@@ -1,22 +1,16 @@
 -- OPEN_READER: what is found in the core, and what the plain store does there.
-use Rattle.std.proofs.Common.{◌≡◌, ◌≢◌, ◌<◌, ◌≤◌, ◌-◌, ℕ, zero, suc, min, Bool, true, false, cond, List, [], ◌∷◌, ◌++◌, map, length, take, drop, Option, Some, None, Result, Ok, Err, IsErrOf, IsTrue, IsSome, refl, sym, ap, subst, ◌∙◌, arith, nat_le, not}
+use Rattle.std.proofs.Common.{◌≡◌, ◌≢◌, ◌<◌, ℕ, Bool, List, [], map, length, Option, Some, None, Ok, Err, refl, sym, ap, subst, ◌∙◌, arith}
 use Rattle.std.specs.Option.{option_map}
 use Rattle.std.specs.List.{find}
-use Rattle.std.specs.Str.{bytes_eq}
 use Rattle.disk_trait.specs.Files.{Files}
-use Rattle.disk_trait.specs.Disk.{Serves, Rose}
-use Rattle.disk_trait.specs.declared.disk.DiskError.{DiskError}
 use Rattle.store_types.specs.declared.names.SnapshotKey.{SnapshotKey}
-use Rattle.store_types.specs.declared.refusal.Refusal.{Refusal}
-use Rattle.store_types.specs.declared.refusal.Refusal.TheVariants.{WrongState, BadName, NoSnapshot, NoFile, BadRange}
-use Rattle.store_types.specs.declared.refusal.SessionState.TheVariants as states
-use Rattle.store_types.specs.Chain.Refusing.{◌>>=◌, unless, or_else}
+use Rattle.store_types.specs.declared.refusal.Refusal.TheVariants.{WrongState, BadName, NoSnapshot}
+use Rattle.store_types.specs.Chain.Refusing.{◌>>=◌, or_else}
 use Rattle.store_types.specs.Names.{key_of, same_key}
-use Rattle.store_types.specs.FileNames.{is_file_name}
-use Rattle.store_files.specs.Archive.{File, Snapshot, file_named, file_text}
+use Rattle.store_files.specs.Archive.{Snapshot}
 use Rattle.wire_commands.specs.declared.reply.Reply.{Reply}
-use Rattle.wire_commands.specs.declared.reply.Reply.TheVariants.{Done, Refused}
-use Rattle.wire_commands.specs.declared.command.Command.TheVariants.{OpenReader, Download}
+use Rattle.wire_commands.specs.declared.reply.Reply.TheVariants.{Done}
+use Rattle.wire_commands.specs.declared.command.Command.TheVariants.{OpenReader}
 use Rattle.store_model.specs.Store as model
 use Rattle.store_model.specs.Store.{Store, Outcome, none, writer, reader, session, with_session, want_idle, want_reader, snapshot_named}
 use Rattle.store_model.specs.ReaderSteps.{open_reader}
@@ -25,11 +19,11 @@ use Rattle.core_state.specs.declared.parts.Parts.{Parts}
 use Rattle.core_state.specs.declared.kept.Listed.{Listed}
 use Rattle.core_state.specs.declared.kept.Kept.{Kept}
 use Rattle.core_state.specs.declared.kept.Session.{Session}
-use Rattle.core_state.specs.declared.kept.Session.TheVariants.{Idle, Writer, Reader}
+use Rattle.core_state.specs.declared.kept.Session.TheVariants.{Idle}
 use Rattle.core_state.specs.Shown.{shown_session, shown_snapshot}
 use Rattle.core_state.specs.States.{state_of}
-use Rattle.core_state.specs.Holds.{IsSound, IsReader, IsOnDisk, Shows, Holds, Does}
-use Rattle.core_state.proofs.Sessions.{changed, no_writer_reader, no_reader_none}
+use Rattle.core_state.specs.Holds.{IsSound, IsReader, IsOnDisk, Holds, Does}
+use Rattle.core_state.proofs.Sessions.{changed, no_writer_reader}
 use Rattle.core_reader.specs.Asked.{kept_named}
 use Rattle.core_reader.proofs.Finding.{find_map, no_mapped}
 

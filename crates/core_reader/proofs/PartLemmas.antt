@@ -1,13 +1,11 @@
 -- A part that was read is the part of the text.
-use Rattle.std.proofs.Common.{◌≡◌, ◌≤◌, ◌-◌, ◌++◌, ℕ, min, List, [], length, take, drop, nat_le, true, Option, Some, MatchOption, Result, Ok, refl, sym, ap, subst, ◌∙◌, arith}
+use Rattle.std.proofs.Common.{◌≡◌, ◌≤◌, ◌-◌, ◌++◌, ℕ, min, List, [], length, take, drop, nat_le, true, Option, Some, MatchOption, Ok, sym, ap, subst, ◌∙◌, arith}
 use Rattle.std.proofs.Math.ListN.{drop_of_length-le}
 use Rattle.std.proofs.Math.Seq.{take-append_seam}
 use Rattle.std.proofs.lemmas.Bool.{le-leb}
 use Rattle.std.proofs.lemmas.List.{append-nil, length-drop, take_min}
-use Rattle.store_types.specs.declared.refusal.Refusal.{Refusal}
 use Rattle.store_types.specs.declared.refusal.Refusal.TheVariants.{BadRange}
 use Rattle.store_types.specs.Chain.Refusing.{◌>>=◌, unless}
-use Rattle.wire_commands.specs.declared.reply.Reply.{Reply}
 use Rattle.wire_commands.specs.declared.reply.Reply.TheVariants.{Part}
 use Rattle.store_model.specs.WriterSteps.{part_limit, part_of}
 use Rattle.core_reader.specs.Asked.{part_from}

@@ -1,10 +1,11 @@
 //! A reader's act.
 
-ghost use Rattle.std.specs.Prelude.{◌≡◌, ◌<◌, ◌≤◌, ◌⊎◌, ℕ, List, Option, IfOk, IsErrOf, slice_index};
+ghost use Rattle.std.specs.Prelude.{◌≡◌, ◌<◌, ◌≤◌, ◌⊎◌, ℕ, List, Option, IfOk, IsSome, IsErrOf, slice_index};
 ghost use Rattle.disk_trait.specs.Disk.{Serves};
 ghost use Rattle.store_files.specs.Archive.{Snapshot};
 ghost use Rattle.wire_commands.specs.HasText.{ReplyHasText};
 ghost use Rattle.store_history.specs.History.{World, act_outcome};
+ghost use Rattle.core_state.specs.Answers.{IsAnswered};
 ghost use Rattle.core_state.specs.Entering.{KeepsReserve};
 ghost use Rattle.core_state.specs.History.{History, StandsFor, then_event, event_of};
 ghost use Rattle.core_state.specs.Holds.{Acts};
@@ -29,8 +30,8 @@ fn perform<D: Disk>(
     requires kind { IsReaders act }
     ensures serves { Serves D.honest D.faults parts.old.disk parts.new.disk (IsErrOf result DiskError.Failed) }
     ensures calls { D.calls parts.old.disk ≤ D.calls parts.new.disk }
-    ensures act { (remote : Option (List Snapshot)) (w : World) (moment : ℕ) → Acts D.honest D.content parts.old parts.new (λ s. act_outcome remote (record w { store = s }) lane moment act) result }
     ensures text { IfOk result ReplyHasText }
+    ensures act { (remote : Option (List Snapshot)) (w : World) (moment : ℕ) → Acts D.honest D.content parts.old parts.new (λ s. act_outcome remote (record w { store = s }) lane moment act) result }
 {
     match act {
         Act::Plain(Command::OpenReader { snapshot }) => {
@@ -55,6 +56,8 @@ pub fn reader_act<D: Disk, E, C: Clock>(
     requires kind { IsReaders act }
     ensures history { (h : History) → StandsFor D.honest D.content D.calls C.readings core.old h
         → StandsFor D.honest D.content D.calls C.readings core.new (then_event h (event_of act result (D.calls core.new.parts.disk))) }
+    ensures answers { IsAnswered D.calls D.faults core.old core.new lane result }
+    ensures told { IsSome result.reply }
     ensures remote { core.new.remote ≡ core.old.remote }
     ensures reserve { KeepsReserve core.old.journal core.new.journal lane result.last }
 {

@@ -109,8 +109,8 @@ pub fn download<D: Disk>(
     requires { lane < 64 }
     ensures serves { Serves D.honest D.faults parts.old.disk parts.new.disk (IsErrOf result DiskError.Failed) }
     ensures calls { D.calls parts.old.disk ≤ D.calls parts.new.disk }
-    ensures act { (moment : ℕ) → Acts D.honest D.content parts.old parts.new (λ s. outcome s lane moment (commands.Download file.now offset)) result }
     ensures text { IfOk result ReplyHasText }
+    ensures act { (moment : ℕ) → Acts D.honest D.content parts.old parts.new (λ s. outcome s lane moment (commands.Download file.now offset)) result }
 {
     let lane = lane as usize;
     let Session::Reader(reader) = &parts.sessions[lane] else {

@@ -17,7 +17,8 @@ const SNAPSHOT: &[u8] = b"host/a/2020-01-15T06:30:03Z";
 const MANIFEST_PATH: &str = "host/a/2020-01-15T06:30:03Z/index.json.blob";
 
 /// The blob of a manifest that lists no files.
-const MANIFEST: &[u8] = b"\x42\xab\x38\x07\xbe\x83\x70\xa1\xb2\x94\x08\x45{\"backup-id\":\"a\",\"backup-time\":1579069803,\"backup-type\":\"host\",\"files\":[]}";
+const MANIFEST: &[u8] =
+    b"\x42\xab\x38\x07\xbe\x83\x70\xa1\xb2\x94\x08\x45{\"backup-id\":\"a\",\"backup-time\":1579069803,\"backup-type\":\"host\",\"files\":[]}";
 
 /// The check of an upload.
 fn checked(text: Bytes) -> Result<Bytes, Refusal>
@@ -50,11 +51,7 @@ fn open(parts: &mut Parts<MemoryDisk>, alloc: Global, snapshot: &[u8]) -> Result
     Ok(open_reader(parts, alloc, 5, snapshot)?)
 }
 
-fn manifest_from(
-    parts: &mut Parts<MemoryDisk>,
-    alloc: Global,
-    offset: u64,
-) -> Result<Reply, Fail> {
+fn manifest_from(parts: &mut Parts<MemoryDisk>, alloc: Global, offset: u64) -> Result<Reply, Fail> {
     Ok(download(parts, alloc, 5, b"index.json.blob", offset)?)
 }
 
@@ -68,14 +65,24 @@ fn snapshots_are_read(rt: HostRuntime) -> Result<(), Fail> {
     write_snapshot(&mut parts, alloc)?;
 
     let none = manifest_from(&mut parts, alloc, 0)?;
-    assert!(rt; matches!(none, Reply::Refused(Refusal::WrongState(SessionState::Idle))));
+    assert!(rt;
+        matches!(
+            none,
+            Reply::Refused(Refusal::WrongState(SessionState::Idle))
+        )
+    );
     let later = open(&mut parts, alloc, b"host/a/2020-01-15T06:30:04Z")?;
     assert!(rt; matches!(later, Reply::Refused(Refusal::NoSnapshot)));
     let group = open(&mut parts, alloc, b"host/a")?;
     assert!(rt; matches!(group, Reply::Refused(Refusal::BadName)));
     assert!(rt; matches!(open(&mut parts, alloc, SNAPSHOT)?, Reply::Done));
     let twice = open(&mut parts, alloc, SNAPSHOT)?;
-    assert!(rt; matches!(twice, Reply::Refused(Refusal::WrongState(SessionState::Reader))));
+    assert!(rt;
+        matches!(
+            twice,
+            Reply::Refused(Refusal::WrongState(SessionState::Reader))
+        )
+    );
 
     assert!(rt; is_part(&manifest_from(&mut parts, alloc, 0)?, 86, MANIFEST));
     assert!(rt; is_part(&manifest_from(&mut parts, alloc, 80)?, 86, b"s\":[]}"));

@@ -1,5 +1,5 @@
 use Rattle.std.specs.Option.{is_none}
-use Rattle.std.proofs.Common.{rules, ◌≡◌, ◌<◌, ◌∙◌, refl, sym, ap, arith, length, List, [], Some, None, Err, true, false}
+use Rattle.std.proofs.Common.{rules, ◌≡◌, ◌<◌, ◌∙◌, refl, sym, ap, arith, length, [], Some, None, Err, false}
 use Rattle.store_types.specs.declared.refusal.Refusal.TheVariants.{WrongState, BadName, NoSnapshot}
 use Rattle.store_types.specs.Names.{key_of}
 use Rattle.wire_commands.specs.declared.reply.Reply.TheVariants.{Done}
@@ -8,15 +8,15 @@ use Rattle.store_model.specs.Store.{reader, with_session, snapshot_named}
 use Rattle.core_state.specs.Named.{is_named}
 use Rattle.core_state.specs.Shown.{shown_snapshot}
 use Rattle.core_state.specs.declared.kept.Kept.{Kept}
-use Rattle.core_state.specs.declared.kept.Session.TheVariants.{Idle, Reader}
+use Rattle.core_state.specs.declared.kept.Session.TheVariants.{Reader}
 use Rattle.core_state.proofs.Acting.{does_refused}
 use Rattle.core_state.proofs.NamedLemmas.{list_all-set}
 use Rattle.core_state.proofs.Sessions.{at_lane}
 use Rattle.core_state.proofs.Soundness.{shows_changed}
+use Rattle.core_state.proofs.Texts.{wrong_state_has_text, bad_name_has_text, no_snapshot_has_text, done_has_text}
 use Rattle.core_reader.specs.Asked.{kept_named}
 use Rattle.core_reader.proofs.Finding.{mapped, is_some, there_is}
 use Rattle.core_reader.proofs.OpenSteps.{does_ok, open_busy, open_bad, open_missing, open_found, kept_is, not_kept, sound_reader, disk_reader}
-use Rattle.core_reader.proofs.Texts.{state_text, bad_name_text, no_snapshot_text, done_text}
 use Rattle.core_reader.proofs.opening.open_reader.Goals as goal
 
 pub invariant_of-parts : goal.invariant_of-parts
@@ -35,7 +35,7 @@ returns-in_default-clause-act g c = let d = g.D.Disk in λ m s h.
     (open_busy s c.args.lane m c.args.snapshot.now c.index-in_default.result.now two (λ e. c.in_default.not-Idle (one ∙ sym two ∙ e)) ∙ ap (λ x. Err (WrongState x)) (sym c.state.ensures)) h
 
 pub returns-in_default-clause-text : goal.returns-in_default-clause-text
-returns-in_default-clause-text g c = state_text c.state.result
+returns-in_default-clause-text g c = wrong_state_has_text c.state.result
 
 pub returns-in_default-2-clause-act : goal.returns-in_default-2-clause-act
 returns-in_default-2-clause-act g c = let d = g.D.Disk in λ m s h.
@@ -71,10 +71,10 @@ returns-clause-act g c = let d = g.D.Disk in λ m s h.
     })
 
 pub returns-in_default-2-clause-text : goal.returns-in_default-2-clause-text
-returns-in_default-2-clause-text g c = bad_name_text
+returns-in_default-2-clause-text g c = bad_name_has_text
 
 pub returns-then-is_none-clause-text : goal.returns-then-is_none-clause-text
-returns-then-is_none-clause-text g c = no_snapshot_text
+returns-then-is_none-clause-text g c = no_snapshot_has_text
 
 pub returns-clause-text : goal.returns-clause-text
-returns-clause-text g c = done_text
+returns-clause-text g c = done_has_text

@@ -1,4 +1,4 @@
-use Rattle.std.proofs.Common.{◌≡◌, ◌<◌, ◌∙◌, refl, sym, ap, subst, set, length, true, false, Some, None, Ok, Err, rules, arith}
+use Rattle.std.proofs.Common.{◌≡◌, ◌<◌, ◌∙◌, refl, sym, ap, length, true, false, Some, None, Err, rules, arith}
 use Rattle.store_types.specs.FileNames.{is_file_name}
 use Rattle.store_types.specs.declared.refusal.Refusal.TheVariants.{WrongState, BadName, NoFile}
 use Rattle.core_state.specs.Named.{is_named}
@@ -6,10 +6,10 @@ use Rattle.core_state.specs.declared.kept.Session.TheVariants.{Reader}
 use Rattle.core_state.proofs.Acting.{does_refused}
 use Rattle.core_state.proofs.NamedLemmas.{list_all-set, list_all-at}
 use Rattle.core_state.proofs.Sessions.{at_lane}
+use Rattle.core_state.proofs.Texts.{wrong_state_has_text, bad_name_has_text, no_file_has_text}
 use Rattle.core_reader.specs.Asked.{path_in, noting}
 use Rattle.core_reader.proofs.Downloads.{down_busy, down_bad, down_missing, reader_found, not_there, does_refused_part, does_part}
 use Rattle.core_reader.proofs.Noted.{named_after}
-use Rattle.core_reader.proofs.Texts.{state_text, bad_name_text, no_file_text}
 use Rattle.core_reader.proofs.parts.download.Goals as goal
 
 pub returns-in_default-clause-act : goal.returns-in_default-clause-act
@@ -21,7 +21,7 @@ returns-in_default-clause-act g c = let d = g.D.Disk in λ m s h.
     (down_busy s c.args.lane m c.args.file.now c.args.offset c.index-in_default.result.now two (λ r e. c.in_default.not-Reader r (one ∙ sym two ∙ e)) ∙ ap (λ x. Err (WrongState x)) (sym c.state.ensures)) h
 
 pub returns-in_default-clause-text : goal.returns-in_default-clause-text
-returns-in_default-clause-text g c = state_text c.state.result
+returns-in_default-clause-text g c = wrong_state_has_text c.state.result
 
 pub returns-in_default-2-clause-act : goal.returns-in_default-2-clause-act
 returns-in_default-2-clause-act g c = let d = g.D.Disk in λ m s h.
@@ -32,7 +32,7 @@ returns-in_default-2-clause-act g c = let d = g.D.Disk in λ m s h.
     does_refused d.honest d.content old _ s _ BadName refl refl refl (down_bad s c.args.lane m c.args.file.now c.args.offset r.0 r.1 bad) h
 
 pub returns-in_default-2-clause-text : goal.returns-in_default-2-clause-text
-returns-in_default-2-clause-text g c = bad_name_text
+returns-in_default-2-clause-text g c = bad_name_has_text
 
 pub returns-in_default-path_in_snapshot-clause-act : goal.returns-in_default-path_in_snapshot-clause-act
 returns-in_default-path_in_snapshot-clause-act g c = let d = g.D.Disk in λ m s h.
@@ -46,7 +46,7 @@ returns-in_default-path_in_snapshot-clause-act g c = let d = g.D.Disk in λ m s 
     (not_there c.args.file.now old.catalogue.items s r.0 (h.shows).catalogue (ap (λ x. path_in x.key c.args.file.now old.catalogue.items) r.2 ∙ missing))) h
 
 pub returns-in_default-path_in_snapshot-clause-text : goal.returns-in_default-path_in_snapshot-clause-text
-returns-in_default-path_in_snapshot-clause-text g c = no_file_text
+returns-in_default-path_in_snapshot-clause-text g c = no_file_has_text
 
 pub returns-in-Err-clause-act : goal.returns-in-Err-clause-act
 returns-in-Err-clause-act g c = let d = g.D.Disk in λ m s h.

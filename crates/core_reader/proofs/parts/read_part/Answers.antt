@@ -1,14 +1,14 @@
 use Rattle.std.proofs.Common.{◌≡◌, ◌<◌, ◌≤◌, ◌-◌, ◌^◌, ◌∙◌, min, length, Some, option_map, sym, ap, rules, arith}
 use Rattle.std.specs.FinMap.{get}
 use Rattle.store_model.specs.WriterSteps.{part_limit}
+use Rattle.core_state.proofs.Texts.{bad_range_has_text, part_has_text}
 use Rattle.core_reader.proofs.PartLemmas.{at_some, total_is, seam, part_is}
-use Rattle.core_reader.proofs.Texts.{range_text, part_text}
 use Rattle.core_reader.proofs.parts.read_part.Goals as goal
 
 pub returns-then-offset-total-clause-text : goal.returns-then-offset-total-clause-text
 returns-then-offset-total-clause-text g c =
     let fits : c.in-Some.total < 2 ^ 64 = search rules in
-    range_text c.in-Some.total fits
+    bad_range_has_text c.in-Some.total fits
 
 pub returns-in-Some-2-clause-part : goal.returns-in-Some-2-clause-part
 returns-in-Some-2-clause-part g c = let d = g.D.Disk in λ text honest there.
@@ -30,4 +30,4 @@ returns-in-Some-2-clause-text g c =
     let len : length c.read_part.new.into ≡ c.in_ok-bytes.bytes.len = search rules in
     let wanted : c.in_ok-bytes.bytes.len ≤ part_limit = search rules in
     let bytes : c.from_vec.result ≡ c.read_part.new.into = c.from_vec.ensures ∙ seam c.read_part.new.into _ c.in_ok-bytes.bytes.len len in
-    part_text c.in-Some.total c.from_vec.result fits (omega (arith, ap length bytes, len, wanted))
+    part_has_text c.in-Some.total c.from_vec.result fits (omega (arith, ap length bytes, len, wanted))
