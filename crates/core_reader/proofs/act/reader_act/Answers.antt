@@ -1,8 +1,8 @@
-use Rattle.std.proofs.Common.{refl}
+use Rattle.std.proofs.Common.{is_some, refl, ap}
 use Rattle.store_history.specs.History.{act_outcome}
 use Rattle.core_state.specs.History.{world}
 use Rattle.core_state.proofs.Answered.{refused_stands, done_stands}
-use Rattle.core_state.proofs.Answering.{refused_answered, done_answered, refused_told, settled_told}
+use Rattle.core_state.proofs.Answering.{refused_answered, done_answered, refused_told}
 use Rattle.core_reader.proofs.ActLemmas.{readers_formed, readers_step}
 use Rattle.core_reader.proofs.act.reader_act.Goals as goal
 
@@ -32,4 +32,4 @@ returns-in-At-clause-answers g c = let d = g.D.Disk in
     c.perform-outcome.ensures.serves c.perform-outcome.ensures.text c.settle.ensures
 
 pub returns-in-At-clause-told : goal.returns-in-At-clause-told
-returns-in-At-clause-told g c = settled_told g.D.Disk.calls _ _ c.args.lane c.in-At.moment _ _ c.settle.ensures
+returns-in-At-clause-told g c = ap is_some c.settle.ensures.reply_is
