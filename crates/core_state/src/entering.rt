@@ -84,9 +84,7 @@ pub fn begin<D: Disk, E, C: Clock>(core: &mut Core<D, E, C>, alloc: Global, lane
     }
     match core.fault {
         None => Begun::At(moment),
-        Some(place) => {
-            Begun::Answered(enter(core, lane, moment, 5, Some(halted(place))))
-        }
+        Some(place) => { Begun::Answered(enter(core, lane, moment, 5, Some(halted(place)))) }
     }
 }
 

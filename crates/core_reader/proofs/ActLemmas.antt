@@ -1,0 +1,24 @@
+-- The acts of readers are well-formed commands.
+use Rattle.std.proofs.Common.{◌≡◌, refl}
+use Rattle.wire_commands.specs.declared.command.Command.TheVariants.{OpenWriter, Blob as BlobCommand, Finish, OpenReader, Download, Bye}
+use Rattle.store_history.specs.declared.act.Act.{Act}
+use Rattle.store_history.specs.declared.act.Act.TheVariants.{Plain, Blob, Short, End}
+use Rattle.store_history.specs.Acts.{IsWellFormed, class_of, stepping}
+use Rattle.core_reader.specs.ReaderActs.{IsReaders}
+
+pub readers_formed : (a : Act) → IsReaders a → IsWellFormed a
+readers_formed (Plain (OpenReader snapshot)) h = tt
+readers_formed (Plain (Download file offset)) h = tt
+readers_formed (Plain (OpenWriter snapshot)) h = absurd h
+readers_formed (Plain Finish) h = absurd h
+readers_formed (Plain (BlobCommand file blob)) h = absurd h
+readers_formed (Plain Bye) h = absurd h
+readers_formed (Blob name checked) h = absurd h
+readers_formed Short h = absurd h
+readers_formed End h = absurd h
+
+pub readers_step : (a : Act) → IsReaders a → class_of a ≡ stepping
+readers_step (Plain c) h = refl
+readers_step (Blob name checked) h = absurd h
+readers_step Short h = absurd h
+readers_step End h = absurd h

@@ -1,0 +1,6 @@
+pub mod Finding
+pub mod OpenSteps
+pub mod Noted
+pub mod Downloads
+pub mod PartLemmas
+pub mod ActLemmas

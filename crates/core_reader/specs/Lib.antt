@@ -1,0 +1,2 @@
+pub mod ReaderActs
+pub mod Asked

@@ -1,0 +1,46 @@
+//! OPEN_READER.
+
+ghost use Rattle.std.specs.Prelude.{◌<◌, ◌≤◌, ℕ, IfOk, IsErrOf};
+ghost use Rattle.disk_trait.specs.Disk.{Serves};
+ghost use Rattle.wire_commands.specs.HasText.{ReplyHasText};
+ghost use Rattle.wire_commands.specs.declared.command.Command.TheVariants as commands;
+ghost use Rattle.store_model.specs.Steps.{outcome};
+ghost use Rattle.core_state.specs.Holds.{Acts};
+
+use crate::files::snapshot_named;
+use core_state::{Parts, Reading, Session};
+use disk_trait::{Disk, DiskError};
+use std::alloc::Global;
+use store_types::{Refusal, Rows, SnapshotKey};
+use wire_commands::Reply;
+
+/// The lane gets a reader of the snapshot. It makes no disk call.
+///
+/// The refusals, in the order in which they are tested: the lane has a session; the text names no snapshot; there is no
+/// such snapshot.
+pub fn open_reader<D: Disk>(
+    parts: &mut Parts<D>,
+    alloc: Global,
+    lane: u32,
+    snapshot: &[u8],
+) -> Result<Reply, DiskError>
+    requires { lane < 64 }
+    ensures serves { Serves D.honest D.faults parts.old.disk parts.new.disk (IsErrOf result DiskError.Failed) }
+    ensures calls { D.calls parts.old.disk ≤ D.calls parts.new.disk }
+    ensures text { IfOk result ReplyHasText }
+    ensures act { (moment : ℕ) → Acts D.honest D.content parts.old parts.new (λ s. outcome s lane moment (commands.OpenReader snapshot.now)) result }
+{
+    let lane = lane as usize;
+    let Session::Idle = &parts.sessions[lane] else {
+        return Ok(Reply::Refused(Refusal::WrongState(parts.sessions[lane].state())));
+    };
+    let Ok(key) = SnapshotKey::parse(alloc, snapshot)? else {
+        return Ok(Reply::Refused(Refusal::BadName));
+    };
+    if snapshot_named(&parts.catalogue, &key).is_none() {
+        return Ok(Reply::Refused(Refusal::NoSnapshot));
+    }
+    let noted = Rows::new(alloc);
+    parts.sessions[lane] = Session::Reader(Reading { key, noted });
+    Ok(Reply::Done)
+}
