@@ -10,3 +10,5 @@ pub mod Sessions
 pub mod Acting
 pub mod Soundness
 pub mod OnDisk
+pub mod Texts
+pub mod Answering

@@ -1,9 +1,10 @@
 -- What comes before an act.
-use Rattle.std.specs.Prelude.{◌≡◌, ◌≤◌, ◌<◌, ℕ, Option, Some, None}
+use Rattle.std.specs.Prelude.{◌≡◌, ◌≤◌, ◌<◌, ℕ, Option, Some, None, IfSome}
 use Rattle.port_traits.specs.Readings.{Readings}
 use Rattle.store_types.specs.Times.{last_moment}
 use Rattle.store_types.specs.declared.refusal.Refusal.TheVariants.{NoMemory, Halted}
 use Rattle.wire_commands.specs.declared.reply.Reply.TheVariants.{Refused}
+use Rattle.wire_commands.specs.HasText.{ReplyHasText}
 use Rattle.store_history.specs.declared.act.Answer.{Answer}
 use Rattle.store_history.specs.Legal.{moment_at, later}
 use Rattle.core_state.specs.declared.state.Core.{Core}
@@ -61,3 +62,8 @@ pub record IsReady {D E C : Type 0} (readings : C → Option Readings) (old new 
 abbrev pub Begins : {D E C : Type 0} → (D → ℕ) → (C → Option Readings) → Core D E C → Core D E C → ℕ → Begun → Type 0
 Begins calls_of readings old new lane (At moment) = IsReady readings old new lane moment
 Begins calls_of readings old new lane (Answered answer) = Refuses calls_of readings old new lane answer
+
+-- what is answered has a spelling
+abbrev pub BegunHasText : Begun → Type 0
+BegunHasText (At moment) = Unit {0}
+BegunHasText (Answered answer) = IfSome answer.reply ReplyHasText

@@ -7,3 +7,4 @@ pub mod Settles
 pub mod Begins
 pub mod Opening
 pub mod States
+pub mod Answers

@@ -2,7 +2,10 @@
 
 ghost use Rattle.std.specs.Prelude.{◌≡◌, ℕ, ◌≤◌, ◌<◌, ◌+◌, ◌⊎◌, min, max, length, slice_index, Some, Option};
 ghost use Rattle.store_types.specs.Times.{last_moment};
-ghost use Rattle.core_state.specs.Begins.{Begins, IsBegun, IsShort};
+ghost use Rattle.store_types.specs.declared.refusal.Refusal.TheVariants.{Halted};
+ghost use Rattle.wire_commands.specs.declared.reply.Reply.TheVariants.{Refused};
+ghost use Rattle.wire_commands.specs.HasText.{ReplyHasText};
+ghost use Rattle.core_state.specs.Begins.{Begins, BegunHasText, IsBegun, IsShort};
 ghost use Rattle.core_state.specs.Settles.{IsEntered, Settles};
 
 use crate::state::Core;
@@ -58,11 +61,21 @@ pub fn enter<D: Disk, E, C>(
     }
 }
 
+/// The reply to an act after the disk failed, which was entered at this place.
+#[tactic(auto, using(crate::proofs::Texts::halted_has_text))]
+fn halted(place: u64) -> Reply
+    ensures reply { result ≡ Refused (Halted place) }
+    ensures text { ReplyHasText result }
+{
+    Reply::Refused(Refusal::Halted { place })
+}
+
 /// Reads the clock, fills up the lane's reserve, and refuses the act where memory is wanting or the disk failed before.
 pub fn begin<D: Disk, E, C: Clock>(core: &mut Core<D, E, C>, alloc: Global, lane: u32) -> Begun
     requires lane { lane < 64 }
     requires room { 0 < core.old.journal.spare ⊎ 0 < slice_index core.old.journal.held lane }
-    ensures { Begins D.calls C.readings core.old core.new lane result }
+    ensures begun { Begins D.calls C.readings core.old core.new lane result }
+    ensures text { BegunHasText result }
 {
     let moment = moment_by(core.clock.now(), core.last);
     if core.journal.fill(lane as usize).is_err() {
@@ -72,8 +85,7 @@ pub fn begin<D: Disk, E, C: Clock>(core: &mut Core<D, E, C>, alloc: Global, lane
     match core.fault {
         None => Begun::At(moment),
         Some(place) => {
-            let reply = Reply::Refused(Refusal::Halted { place });
-            Begun::Answered(enter(core, lane, moment, 5, Some(reply)))
+            Begun::Answered(enter(core, lane, moment, 5, Some(halted(place))))
         }
     }
 }

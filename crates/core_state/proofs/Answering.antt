@@ -1,0 +1,102 @@
+-- What an act's answer is on any disk.
+use Rattle.std.proofs.Common.{◌≡◌, ◌<◌, ◌≤◌, ◌+◌, ◌^◌, ℕ, Bool, true, false, ◌&&◌, ◌==◌, [], ◌∷◌, ◌++◌, length, Option, Some, None, Result, Ok, Err, IfSome, IfOk, IsErrOf, refl, sym, ap, subst, ◌∙◌, arith}
+use Rattle.port_traits.specs.Readings.{Readings}
+use Rattle.disk_trait.specs.Disk.{Rose, Serves}
+use Rattle.disk_trait.specs.declared.disk.DiskError.{DiskError}
+use Rattle.disk_trait.specs.declared.disk.DiskError.TheVariants.{NoMemory as DiskMemory, Failed as DiskFailed}
+use Rattle.wire_commands.specs.declared.reply.Reply.{Reply}
+use Rattle.wire_commands.specs.HasText.{ReplyHasText}
+use Rattle.store_model.specs.Weave.{first_fault}
+use Rattle.store_history.specs.declared.act.Answer.{Answer}
+use Rattle.core_state.specs.declared.state.Core.{Core}
+use Rattle.core_state.specs.declared.entering.Begun.TheVariants.{Answered}
+use Rattle.core_state.specs.Settles.{IsEntered, Settles, kind_by, reply_by, fault_by}
+use Rattle.core_state.specs.Begins.{IsBegun, IsShort, IsHalted, Refuses, short, halted, IsReady, BegunHasText}
+use Rattle.core_state.specs.Answers.{IsAnswered, fault_after}
+use Rattle.core_state.proofs.Texts.{no_memory_has_text, disk_fault_has_text}
+
+and_second : (a : Bool) (n : ℕ) → a && (n == 2) ≡ true → n ≡ 2
+and_second true n e = search arith
+and_second false n e = absurd (false_true e)
+  where
+    false_true : false ≡ true → ⊥
+    false_true e = cc
+
+-- an entry after which no more has changed than at `mid`
+pub entered_answered : {D E C : Type 0} (calls_of faults_of : D → ℕ) (old mid new : Core D E C) (lane moment kind : ℕ) (reply : Option Reply) (answer : Answer)
+    → IsEntered calls_of mid new lane moment kind reply answer
+    → (mid.journal).entries.items ≡ (old.journal).entries.items → (mid.journal).calls.items ≡ (old.journal).calls.items
+    → IfSome reply ReplyHasText
+    → mid.fault ≡ fault_after (length (old.journal).entries.items) kind old.fault
+    → faults_of (old.parts).disk ≤ faults_of (mid.parts).disk
+    → (kind ≡ 5 → old.fault ≡ None → Rose (faults_of (old.parts).disk) (faults_of (mid.parts).disk))
+    → IsAnswered calls_of faults_of old new lane answer
+entered_answered calls_of faults_of old mid new lane moment kind reply answer e entries calls text fault count cause =
+    let kind_is : (answer.entry).kind ≡ kind = ap (λ x. x.kind) e.entry in record {
+      lane_is = ap (λ x. x.lane) e.entry;
+      place = e.place ∙ ap length entries;
+      entries = e.entries ∙ ap (λ xs. xs ++ answer.entry ∷ []) entries;
+      calls = e.calls ∙ ap (λ xs. xs ++ calls_of (mid.parts).disk ∷ []) calls ∙ ap (λ p. (old.journal).calls.items ++ calls_of p.disk ∷ []) (sym e.parts);
+      text = subst (λ r. IfSome r ReplyHasText) (sym e.reply_is) text;
+      last = λ is. kind_is ∙ and_second e.is_held kind (sym e.last_held ∙ is);
+      fault = e.fault ∙ fault ∙ ap (λ k. fault_after (length (old.journal).entries.items) k old.fault) (sym kind_is);
+      count = subst (λ p. faults_of (old.parts).disk ≤ faults_of p.disk) (sym e.parts) count;
+      cause = λ is before. subst (λ p. Rose (faults_of (old.parts).disk) (faults_of p.disk)) (sym e.parts) (cause (sym kind_is ∙ is) before);
+    }
+
+same_count : {D : Type 0} (faults_of : D → ℕ) (old mid : D) → mid ≡ old → faults_of old ≤ faults_of mid
+same_count faults_of old mid same = let e = ap faults_of same in omega (arith, e)
+
+pub short_answered : {D E C : Type 0} (calls_of faults_of : D → ℕ) (readings : C → Option Readings) (old new : Core D E C) (lane : ℕ) (answer : Answer)
+    → IsShort calls_of readings old new lane answer → IsAnswered calls_of faults_of old new lane answer
+short_answered calls_of faults_of readings old new lane answer is = let b = is.begun in
+    entered_answered calls_of faults_of old is.between new lane is.moment 2 _ answer is.entered (b.entries).entries (b.entries).calls
+    no_memory_has_text b.fault (same_count faults_of _ _ (ap (λ p. p.disk) b.parts)) (λ is. absurd (omega (arith, is)))
+
+pub refused_answered : {D E C : Type 0} (calls_of faults_of : D → ℕ) (readings : C → Option Readings) (old new : Core D E C) (lane : ℕ) (answer : Answer)
+    → Refuses calls_of readings old new lane answer → BegunHasText (Answered answer) → IsAnswered calls_of faults_of old new lane answer
+refused_answered calls_of faults_of readings old new lane answer (short is) text = short_answered calls_of faults_of readings old new lane answer is
+refused_answered calls_of faults_of readings old new lane answer (halted is) text = let b = is.begun in
+    entered_answered calls_of faults_of old is.between new lane is.moment 5 _ answer is.entered (b.entries).entries (b.entries).calls
+    (subst (λ r. IfSome r ReplyHasText) (is.entered).reply_is text)
+    (b.fault ∙ is.fault ∙ ap (first_fault (length (old.journal).entries.items)) (sym is.fault))
+    (same_count faults_of _ _ (ap (λ p. p.disk) b.parts)) (λ _ before. absurd (some_none is.first (sym is.fault ∙ before)))
+  where
+    some_none : (n : ℕ) → Some n ≡ None → ⊥
+    some_none n e = cc
+
+pub done_answered : {D E C : Type 0} (honest : D → Type 0) (calls_of faults_of : D → ℕ) (readings : C → Option Readings) (old mid acted new : Core D E C) (lane moment : ℕ) (result : Result Reply DiskError) (answer : Answer)
+    → IsReady readings old mid lane moment → acted.journal ≡ mid.journal → acted.fault ≡ mid.fault
+    → Serves honest faults_of (mid.parts).disk (acted.parts).disk (IsErrOf result DiskFailed) → IfOk result ReplyHasText
+    → Settles calls_of acted new lane moment result answer → IsAnswered calls_of faults_of old new lane answer
+done_answered honest calls_of faults_of readings old mid acted new lane moment result answer ready journal fault serves text settles =
+    by_result result serves text settles
+  where
+    b : IsBegun readings old mid lane moment
+    b = ready.begun
+
+    place : ℕ
+    place = length (old.journal).entries.items
+
+    entries : (acted.journal).entries.items ≡ (old.journal).entries.items
+    entries = ap (λ j. j.entries.items) journal ∙ (b.entries).entries
+
+    calls : (acted.journal).calls.items ≡ (old.journal).calls.items
+    calls = ap (λ j. j.calls.items) journal ∙ (b.entries).calls
+
+    before : acted.fault ≡ old.fault
+    before = fault ∙ b.fault
+
+    risen : (failed : Type 0) → Serves honest faults_of (mid.parts).disk (acted.parts).disk failed → faults_of (old.parts).disk ≤ faults_of (acted.parts).disk
+    risen failed s = subst (λ p. faults_of p.disk ≤ faults_of (acted.parts).disk) b.parts s.count
+
+    by_result : (r : Result Reply DiskError) → Serves honest faults_of (mid.parts).disk (acted.parts).disk (IsErrOf r DiskFailed) → IfOk r ReplyHasText
+        → Settles calls_of acted new lane moment r answer → IsAnswered calls_of faults_of old new lane answer
+    by_result (Ok reply) s t e =
+        entered_answered calls_of faults_of old (record acted { fault = acted.fault }) new lane moment 0 (Some reply) answer e entries calls t before (risen _ s) (λ is. absurd (omega (arith, is)))
+    by_result (Err DiskMemory) s t e =
+        entered_answered calls_of faults_of old (record acted { fault = acted.fault }) new lane moment 2 _ answer e entries calls no_memory_has_text before (risen _ s) (λ is. absurd (omega (arith, is)))
+    by_result (Err DiskFailed) s t e =
+        entered_answered calls_of faults_of old (record acted { fault = Some (length (acted.journal).entries.items) }) new lane moment 5 _ answer e entries calls disk_fault_has_text
+        (ap (λ n. Some n) (ap length entries) ∙ sym (ap (first_fault place) ready.no_fault))
+        (risen _ s) (λ _ _. subst (λ p. Rose (faults_of p.disk) (faults_of (acted.parts).disk)) b.parts (s.cause refl))

@@ -1,0 +1,96 @@
+-- Which replies have a spelling.
+use Rattle.std.proofs.Common.{◌≡◌, ◌<◌, ◌≤◌, ◌+◌, ◌^◌, ℕ, List, length, Some, subst, arith}
+use Rattle.store_types.specs.declared.refusal.Refusal.{Refusal}
+use Rattle.store_types.specs.declared.refusal.Refusal.TheVariants.{WrongState, BadName, GroupBusy, NotNewer, NoSnapshot, NoFile, Exists, BadBlob, TooMany, BadRange, Unreadable, DiskFault, Halted, NoMemory}
+use Rattle.store_types.specs.declared.refusal.SessionState.{SessionState}
+use Rattle.store_types.specs.declared.refusal.SessionState.TheVariants.{Idle, Writer, Reader}
+use Rattle.store_types.specs.declared.refusal.BadBlob.{BadBlob as BlobCause}
+use Rattle.store_types.specs.declared.refusal.BadBlob.TheVariants as blobs
+use Rattle.wire_commands.specs.declared.reply.Reply.{Reply}
+use Rattle.wire_commands.specs.declared.reply.Reply.TheVariants.{Done, Base, Part, Refused}
+use Rattle.wire_commands.specs.HasText.{FitsBadBlob, ReplyHasText}
+use Rattle.wire_commands.specs.RefusalText.{refusal_text}
+use Rattle.wire_commands.specs.ReplyText.{reply_text}
+use Rattle.store_history.specs.declared.act.Answer.{Answer}
+use Rattle.core_state.specs.declared.state.Core.{Core}
+use Rattle.core_state.specs.Settles.{IsEntered}
+
+pub done_has_text : ReplyHasText Done
+unfolding reply_text
+done_has_text = (tt, omega arith)
+
+pub base_has_text : (snapshot : List ℕ) → length snapshot < 256 → ReplyHasText (Base snapshot)
+unfolding reply_text
+base_has_text snapshot lt = (lt, omega (arith, lt))
+
+-- a part has at most 4,194,304 bytes
+pub part_has_text : (total : ℕ) (bytes : List ℕ) → total < 2 ^ 64 → length bytes ≤ 4_194_304 → ReplyHasText (Part total bytes)
+unfolding reply_text
+part_has_text total bytes lt short = (lt, omega (arith, short))
+
+pub wrong_state_has_text : (state : SessionState) → ReplyHasText (Refused (WrongState state))
+unfolding reply_text refusal_text
+wrong_state_has_text state = (tt, omega arith)
+
+pub bad_name_has_text : ReplyHasText (Refused BadName)
+unfolding reply_text refusal_text
+bad_name_has_text = (tt, omega arith)
+
+pub group_busy_has_text : (lane : ℕ) → lane < 2 ^ 32 → ReplyHasText (Refused (GroupBusy lane))
+unfolding reply_text refusal_text
+group_busy_has_text lane lt = (lt, omega arith)
+
+pub not_newer_has_text : (latest : ℕ) → latest < 2 ^ 64 → ReplyHasText (Refused (NotNewer latest))
+unfolding reply_text refusal_text
+not_newer_has_text latest lt = (lt, omega arith)
+
+pub no_snapshot_has_text : ReplyHasText (Refused NoSnapshot)
+unfolding reply_text refusal_text
+no_snapshot_has_text = (tt, omega arith)
+
+pub no_file_has_text : ReplyHasText (Refused NoFile)
+unfolding reply_text refusal_text
+no_file_has_text = (tt, omega arith)
+
+pub exists_has_text : ReplyHasText (Refused Exists)
+unfolding reply_text refusal_text
+exists_has_text = (tt, omega arith)
+
+pub bad_blob_has_text : (fault : BlobCause) → FitsBadBlob fault → ReplyHasText (Refused (BadBlob fault))
+unfolding reply_text refusal_text
+bad_blob_has_text blobs.Short fits = (fits, omega arith)
+bad_blob_has_text blobs.Compressed fits = (fits, omega arith)
+bad_blob_has_text blobs.Encrypted fits = (fits, omega arith)
+bad_blob_has_text blobs.EncryptedCompressed fits = (fits, omega arith)
+bad_blob_has_text blobs.UnknownMagic fits = (fits, omega arith)
+bad_blob_has_text blobs.TooLong fits = (fits, omega arith)
+bad_blob_has_text (blobs.WrongCrc kept found) fits = (fits, omega arith)
+
+pub too_many_has_text : (limit : ℕ) → limit < 2 ^ 32 → ReplyHasText (Refused (TooMany limit))
+unfolding reply_text refusal_text
+too_many_has_text limit lt = (lt, omega arith)
+
+pub bad_range_has_text : (size : ℕ) → size < 2 ^ 64 → ReplyHasText (Refused (BadRange size))
+unfolding reply_text refusal_text
+bad_range_has_text size lt = (lt, omega arith)
+
+pub unreadable_has_text : (name : List ℕ) → length name < 256 → ReplyHasText (Refused (Unreadable name))
+unfolding reply_text refusal_text
+unreadable_has_text name lt = (lt, omega (arith, lt))
+
+pub disk_fault_has_text : ReplyHasText (Refused DiskFault)
+unfolding reply_text refusal_text
+disk_fault_has_text = (tt, omega arith)
+
+pub halted_has_text : (place : ℕ) → place < 2 ^ 64 → ReplyHasText (Refused (Halted place))
+unfolding reply_text refusal_text
+halted_has_text place lt = (lt, omega arith)
+
+pub no_memory_has_text : ReplyHasText (Refused NoMemory)
+unfolding reply_text refusal_text
+no_memory_has_text = (tt, omega arith)
+
+-- an entry's reply is another text for the same reply
+pub entered_as : {D E C : Type 0} (calls_of : D → ℕ) (old new : Core D E C) (lane moment kind : ℕ) (r s : Reply) (answer : Answer)
+    → r ≡ s → IsEntered calls_of old new lane moment kind (Some r) answer → IsEntered calls_of old new lane moment kind (Some s) answer
+entered_as calls_of old new lane moment kind r s answer is e = subst (λ x. IsEntered calls_of old new lane moment kind (Some x) answer) is e
