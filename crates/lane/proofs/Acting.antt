@@ -15,7 +15,7 @@ use Rattle.store_model.specs.Weave.{first_fault}
 use Rattle.store_history.specs.Legal.{Right, IsRight, IsLegal}
 use Rattle.core_state.specs.declared.journal.Journal.{Journal}
 use Rattle.core_state.specs.Entering.{KeepsReserve}
-use Rattle.lane.specs.Answers.{IsTold, Keeps}
+use Rattle.core_state.specs.Answers.{IsTold, Keeps}
 use Rattle.lane.specs.Acting.{IsNoEnd}
 
 -- ---- acts other than a lane's end

@@ -22,7 +22,7 @@ use Rattle.store_history.specs.Seats.{AreOf}
 use Rattle.store_history.proofs.Ending.{end_runs, end_again_runs, faulted_same}
 use Rattle.store_history.proofs.Longer.{of_more}
 use Rattle.core_state.specs.History.{History, then_event, event_of}
-use Rattle.lane.specs.Answers.{EndIsTold}
+use Rattle.core_state.specs.Answers.{EndIsTold}
 use Rattle.lane.specs.Acting.{gave_all}
 use Rattle.lane.specs.Closing.{IsEndOf, AreEndOf, EndsLane}
 use Rattle.lane.specs.Progress.{Start, HasStopped, HasWords}
@@ -253,7 +253,7 @@ all_given before after start k left taken taken' size given given' e words ends 
       size_is = s.size_is;
       took = s.took;
       gave = gave;
-      read_out = (s.events, c.vs, refl, read_before e s.input s.events c.vs left (are_ends k c.vs c.ends) s.read_out);
+      read_out = record { before = s.events; ends = c.vs; split = refl; read = read_before e s.input s.events c.vs left (are_ends k c.vs c.ends) s.read_out };
     }
 
 -- the sink had failed before
@@ -274,7 +274,7 @@ sink_failed before after start k left taken size given words ends s =
       took = s.took;
       gave = subst (λ xs. WritesCounted start.taken taken 0 given xs false) (sym (ap text r.begins ∙ text_append (s.last).told r.more))
           (WritesCounted-stopped start.taken taken 0 given (text (s.last).told) (text r.more) s.gave);
-      read_out = (s.events, c.vs, refl, tt);
+      read_out = record { before = s.events; ends = c.vs; split = refl; read = tt };
     }
 
 -- no reply comes behind the end
@@ -324,7 +324,7 @@ closed_in_fault before after start k left taken taken' size given given' e words
       size_is = s.size_is;
       took = all_taken e s.last w start.left left s.input s.says s.took;
       gave = gave_more start.taken taken taken' given given' (s.last).told w false (subst (λ b. WritesCounted start.taken taken 0 given (text (s.last).told) b) (gives_all e ne) s.gave) wrote;
-      read_out = (s.events, c.vs, refl, tt);
+      read_out = record { before = s.events; ends = c.vs; split = refl; read = tt };
     }
 
 -- ---- an end that met a fault comes again
@@ -337,8 +337,7 @@ ends_again before between after k a b m n first second legal of also five told h
     let v = event_of acts.End a m in
     let u = event_of acts.End b n in
     let stands = second (then_event h v) (first h s) in
-    let right = legal (then_event (then_event h v) u) stands in
-    (
+    let right = legal (then_event (then_event h v) u) stands in (
       v ∷ u ∷ [],
       (
         subst (λ es. after (with_events h es)) (append_assoc h.events (v ∷ []) (u ∷ [])) stands,

@@ -8,7 +8,7 @@ use Rattle.wire_frames.specs.Frames.{Tail, Front, short, too_long, whole, cut, a
 use Rattle.wire_frames.proofs.FramesLemmas.{cut-few, cut-whole, cut-length, cut-is_whole}
 use Rattle.wire_commands.specs.declared.command.Command.{Command}
 use Rattle.wire_commands.specs.declared.command.Command.TheVariants as commands
-use Rattle.wire_commands.specs.declared.reply.Reply.TheVariants.{Done, Refused}
+use Rattle.wire_commands.specs.declared.reply.Reply.TheVariants.{Refused}
 use Rattle.wire_commands.specs.CommandText.{command_of}
 use Rattle.wire_commands.specs.HasText.{ReplyHasText}
 use Rattle.wire_commands.specs.Inputs.{front, cut_front, body_front}
@@ -20,10 +20,6 @@ use Rattle.lane.specs.declared.commands.Ahead.{Ahead}
 use Rattle.lane.specs.Fronts.{next_in, IsCommandAhead, IsLastAhead, IsAhead, IsFrontSize, ahead_of}
 
 -- ---- replies with a spelling
-
-pub done_has_text : ReplyHasText Done
-unfolding reply_text
-done_has_text = (tt, omega arith)
 
 pub bad_frame_has_text : (offset : ℕ) → offset < 2 ^ 64 → ReplyHasText (Refused (BadFrame offset))
 unfolding reply_text refusal_text

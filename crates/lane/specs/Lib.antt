@@ -1,4 +1,3 @@
-pub mod Answers
 pub mod Fronts
 pub mod Taking
 pub mod Causes

@@ -41,6 +41,13 @@ ReadsOut endings.Clean input before ends left = IsReadOut input before ends left
 ReadsOut (endings.Broken place) input before ends left = IsReadOut input before ends left
 ReadsOut e input before ends left = Unit {0}
 
+-- the lane's end stands behind the events of its commands
+pub record EndsRead (e : Ending) (input : List ℕ) (events : List Event) (left : Option (List ℕ)) : Type 0 where
+  pub before : List Event
+  pub ends : List Event
+  pub split : events ≡ before ++ ends
+  pub read : ReadsOut e input before ends left
+
 -- A lane's events are a run of its program on the input that its source gave, and its sink was given the replies, or a front of
 -- them where it failed.
 pub record RanAlone (stands : History → Type 0) (h : History) (k : ℕ) (left left' taken taken' : Option (List ℕ)) (report : LaneReport) : Type 0 where
@@ -53,4 +60,4 @@ pub record RanAlone (stands : History → Type 0) (h : History) (k : ℕ) (left 
   pub size_is : length input ≡ report.taken
   pub took : Took report.ending left left' input
   pub gave : WritesCounted taken taken' 0 report.given (text told) (gave_all report.ending)
-  pub read_out : (before : List Event) × (ends : List Event) × (events ≡ before ++ ends) × ReadsOut report.ending input before ends left'
+  pub read_out : EndsRead report.ending input events left'

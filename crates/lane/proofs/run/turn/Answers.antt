@@ -1,7 +1,7 @@
 use Rattle.std.proofs.Common.{Some, sym, subst, ap}
 use Rattle.lane.specs.declared.ending.Last.{Last}
 use Rattle.lane.specs.Causes.{HasCauses}
-use Rattle.lane.proofs.Fronts.{done_has_text}
+use Rattle.core_state.proofs.Texts.{done_has_text}
 use Rattle.lane.proofs.Turning.{bye_stops, broken_stops}
 use Rattle.lane.proofs.Serving.{short_here, as_last}
 use Rattle.lane.proofs.run.turn.Goals as goal
