@@ -1,5 +1,5 @@
 -- What an act's answer is on any disk.
-use Rattle.std.proofs.Common.{◌≡◌, ◌<◌, ◌≤◌, ◌+◌, ◌^◌, ℕ, Bool, true, false, ◌&&◌, ◌==◌, [], ◌∷◌, ◌++◌, length, Option, Some, None, Result, Ok, Err, IfSome, IfOk, IsErrOf, refl, sym, ap, subst, ◌∙◌, arith}
+use Rattle.std.proofs.Common.{◌≡◌, ◌<◌, ◌≤◌, ◌+◌, ◌^◌, ℕ, Bool, true, false, ◌&&◌, ◌==◌, [], ◌∷◌, ◌++◌, length, Option, Some, None, Result, Ok, Err, IfSome, IsSome, is_some, IfOk, IsErrOf, inl, inr, refl, sym, ap, subst, ◌∙◌, arith}
 use Rattle.port_traits.specs.Readings.{Readings}
 use Rattle.disk_trait.specs.Disk.{Rose, Serves}
 use Rattle.disk_trait.specs.declared.disk.DiskError.{DiskError}
@@ -12,7 +12,8 @@ use Rattle.core_state.specs.declared.state.Core.{Core}
 use Rattle.core_state.specs.declared.entering.Begun.TheVariants.{Answered}
 use Rattle.core_state.specs.Settles.{IsEntered, Settles, kind_by, reply_by, fault_by}
 use Rattle.core_state.specs.Begins.{IsBegun, IsShort, IsHalted, Refuses, short, halted, IsReady, BegunHasText}
-use Rattle.core_state.specs.Answers.{IsAnswered, fault_after}
+use Rattle.core_state.specs.Entering.{Enters}
+use Rattle.core_state.specs.Answers.{IsAnswered, EndIsTold, EndKeeps, fault_after}
 use Rattle.core_state.proofs.Texts.{no_memory_has_text, disk_fault_has_text}
 
 and_second : (a : Bool) (n : ℕ) → a && (n == 2) ≡ true → n ≡ 2
@@ -100,3 +101,72 @@ done_answered honest calls_of faults_of readings old mid acted new lane moment r
         entered_answered calls_of faults_of old (record acted { fault = Some (length (acted.journal).entries.items) }) new lane moment 5 _ answer e entries calls disk_fault_has_text
         (ap (λ n. Some n) (ap length entries) ∙ sym (ap (first_fault place) ready.no_fault))
         (risen _ s) (λ _ _. subst (λ p. Rose (faults_of p.disk) (faults_of (acted.parts).disk)) b.parts (s.cause refl))
+
+-- ---- each has a reply
+
+some_told : (r : Option Reply) (reply : Reply) → r ≡ Some reply → IsSome r
+some_told r reply is = ap is_some is
+
+pub short_told : {D E C : Type 0} (calls_of : D → ℕ) (readings : C → Option Readings) (old new : Core D E C) (lane : ℕ) (answer : Answer)
+    → IsShort calls_of readings old new lane answer → IsSome answer.reply
+short_told calls_of readings old new lane answer is = some_told answer.reply _ (is.entered).reply_is
+
+pub refused_told : {D E C : Type 0} (calls_of : D → ℕ) (readings : C → Option Readings) (old new : Core D E C) (lane : ℕ) (answer : Answer)
+    → Refuses calls_of readings old new lane answer → IsSome answer.reply
+refused_told calls_of readings old new lane answer (short is) = short_told calls_of readings old new lane answer is
+refused_told calls_of readings old new lane answer (halted is) = some_told answer.reply _ (is.entered).reply_is
+
+pub settled_told : {D E C : Type 0} (calls_of : D → ℕ) (mid acted new : Core D E C) (lane moment : ℕ) (result : Result Reply DiskError) (answer : Answer)
+    → acted.fault ≡ mid.fault → Settles calls_of acted new lane moment result answer → IsSome answer.reply
+settled_told calls_of mid acted new lane moment result answer same e = some_told answer.reply _ e.reply_is
+
+-- ---- a lane's end
+
+-- no disk call was made
+pub untouched : {D : Type 0} (honest : D → Type 0) (faults_of : D → ℕ) (old new : D) → new ≡ old → Serves honest faults_of old new ⊥
+untouched honest faults_of old new same = record {
+  kept = (λ h. subst honest (sym same) h, λ h. subst honest same h);
+  count = same_count faults_of old new same;
+  cause = λ f. absurd f;
+}
+
+-- it was entered, and the disk did not fail in it
+pub ended_answered : {D E C : Type 0} (honest : D → Type 0) (calls_of faults_of : D → ℕ) (readings : C → Option Readings) (failed : Type 0) (old mid acted new : Core D E C) (lane moment : ℕ) (answer : Answer)
+    → IsBegun readings old mid lane moment → acted.journal ≡ mid.journal → acted.fault ≡ mid.fault
+    → Serves honest faults_of (mid.parts).disk (acted.parts).disk failed
+    → IsEntered calls_of acted new lane moment 6 None answer → IsAnswered calls_of faults_of old new lane answer
+ended_answered honest calls_of faults_of readings failed old mid acted new lane moment answer b journal fault serves e =
+    entered_answered calls_of faults_of old acted new lane moment 6 None answer e
+    (ap (λ j. j.entries.items) journal ∙ (b.entries).entries) (ap (λ j. j.calls.items) journal ∙ (b.entries).calls) tt (fault ∙ b.fault)
+    (subst (λ p. faults_of p.disk ≤ faults_of (acted.parts).disk) b.parts serves.count) (λ is. absurd (omega (arith, is)))
+
+-- the disk failed in it
+pub end_failed_answered : {D E C : Type 0} (honest : D → Type 0) (calls_of faults_of : D → ℕ) (readings : C → Option Readings) (failed : Type 0) (old mid acted new : Core D E C) (lane moment : ℕ) (answer : Answer)
+    → IsBegun readings old mid lane moment → old.fault ≡ None → acted.journal ≡ mid.journal → acted.fault ≡ mid.fault
+    → failed → Serves honest faults_of (mid.parts).disk (acted.parts).disk failed
+    → Settles calls_of acted new lane moment (Err DiskFailed) answer → IsAnswered calls_of faults_of old new lane answer
+end_failed_answered honest calls_of faults_of readings failed old mid acted new lane moment answer b before journal fault has_failed serves e =
+    entered_answered calls_of faults_of old (record acted { fault = Some (length (acted.journal).entries.items) }) new lane moment 5 _ answer e
+    entries (ap (λ j. j.calls.items) journal ∙ (b.entries).calls) disk_fault_has_text
+    (ap (λ n. Some n) (ap length entries) ∙ sym (ap (first_fault (length (old.journal).entries.items)) before))
+    (subst (λ p. faults_of p.disk ≤ faults_of (acted.parts).disk) b.parts serves.count)
+    (λ _ _. subst (λ p. Rose (faults_of p.disk) (faults_of (acted.parts).disk)) b.parts (serves.cause has_failed))
+  where
+    entries : (acted.journal).entries.items ≡ (old.journal).entries.items
+    entries = ap (λ j. j.entries.items) journal ∙ (b.entries).entries
+
+pub ended_told : {D E C : Type 0} (calls_of : D → ℕ) (old new : Core D E C) (lane moment : ℕ) (answer : Answer)
+    → IsEntered calls_of old new lane moment 6 None answer → EndIsTold answer
+ended_told calls_of old new lane moment answer e = inl (ap (λ x. x.kind) e.entry, e.reply_is)
+
+pub end_failed_told : {D E C : Type 0} (calls_of : D → ℕ) (mid acted new : Core D E C) (lane moment : ℕ) (answer : Answer)
+    → acted.fault ≡ mid.fault → Settles calls_of acted new lane moment (Err DiskFailed) answer → EndIsTold answer
+end_failed_told calls_of mid acted new lane moment answer same e = inr (ap (λ x. x.kind) e.entry, some_told answer.reply _ e.reply_is)
+
+pub entry_keeps : {D E C : Type 0} (calls_of : D → ℕ) (old new : Core D E C) (lane moment kind : ℕ) (reply : Option Reply) (answer : Answer)
+    → IsEntered calls_of old new lane moment kind reply answer → EndKeeps old.journal new.journal lane
+entry_keeps calls_of old new lane moment kind reply answer e = by_use e.is_held e.room
+  where
+    by_use : (b : Bool) → Enters old.journal new.journal lane b → EndKeeps old.journal new.journal lane
+    by_use true r = record { one = let same = (r.uses).1 in omega (arith, same); others = r.others }
+    by_use false r = record { one = let same = (r.uses).1 in omega (arith, same); others = r.others }

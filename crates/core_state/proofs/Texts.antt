@@ -1,5 +1,5 @@
 -- Which replies have a spelling.
-use Rattle.std.proofs.Common.{◌≡◌, ◌<◌, ◌≤◌, ◌+◌, ◌^◌, ℕ, List, length, Some, subst, arith}
+use Rattle.std.proofs.Common.{◌≡◌, ◌<◌, ◌≤◌, ◌+◌, ◌^◌, ℕ, List, length, Some, refl, subst, arith}
 use Rattle.store_types.specs.declared.refusal.Refusal.{Refusal}
 use Rattle.store_types.specs.declared.refusal.Refusal.TheVariants.{WrongState, BadName, GroupBusy, NotNewer, NoSnapshot, NoFile, Exists, BadBlob, TooMany, BadRange, Unreadable, DiskFault, Halted, NoMemory}
 use Rattle.store_types.specs.declared.refusal.SessionState.{SessionState}
@@ -65,6 +65,16 @@ bad_blob_has_text blobs.EncryptedCompressed fits = (fits, omega arith)
 bad_blob_has_text blobs.UnknownMagic fits = (fits, omega arith)
 bad_blob_has_text blobs.TooLong fits = (fits, omega arith)
 bad_blob_has_text (blobs.WrongCrc kept found) fits = (fits, omega arith)
+
+-- a cause without fields
+pub plain_cause_has_text : (fault : BlobCause) → ((kept found : ℕ) → fault ≡ blobs.WrongCrc kept found → ⊥) → ReplyHasText (Refused (BadBlob fault))
+plain_cause_has_text blobs.Short other = bad_blob_has_text blobs.Short tt
+plain_cause_has_text blobs.Compressed other = bad_blob_has_text blobs.Compressed tt
+plain_cause_has_text blobs.Encrypted other = bad_blob_has_text blobs.Encrypted tt
+plain_cause_has_text blobs.EncryptedCompressed other = bad_blob_has_text blobs.EncryptedCompressed tt
+plain_cause_has_text blobs.UnknownMagic other = bad_blob_has_text blobs.UnknownMagic tt
+plain_cause_has_text blobs.TooLong other = bad_blob_has_text blobs.TooLong tt
+plain_cause_has_text (blobs.WrongCrc kept found) other = absurd (other kept found refl)
 
 pub too_many_has_text : (limit : ℕ) → limit < 2 ^ 32 → ReplyHasText (Refused (TooMany limit))
 unfolding reply_text refusal_text

@@ -1,11 +1,13 @@
 //! A writer's act, and a lane's end.
 
-ghost use Rattle.std.specs.Prelude.{◌≡◌, ◌<◌, ◌≤◌, ◌+◌, ◌⊎◌, List, Option, slice_index, IsErrOf};
+ghost use Rattle.std.specs.Prelude.{◌≡◌, ◌<◌, ◌≤◌, ◌⊎◌, List, Option, slice_index, IfOk, IsSome, IsErrOf};
 ghost use Rattle.disk_trait.specs.Disk.{Serves};
 ghost use Rattle.store_files.specs.Archive.{Snapshot};
+ghost use Rattle.wire_commands.specs.HasText.{ReplyHasText};
 ghost use Rattle.store_history.specs.History.{World, act_outcome};
 ghost use Rattle.store_history.specs.declared.act.Act.TheVariants.{End};
-ghost use Rattle.core_state.specs.Entering.{KeepsReserve, held_by};
+ghost use Rattle.core_state.specs.Answers.{IsAnswered, EndIsTold, EndKeeps};
+ghost use Rattle.core_state.specs.Entering.{KeepsReserve};
 ghost use Rattle.core_state.specs.History.{History, StandsFor, then_event, event_of};
 ghost use Rattle.core_state.specs.Holds.{Acts};
 ghost use Rattle.core_writer.specs.WriterActs.{IsWriters};
@@ -33,6 +35,7 @@ fn perform<D: Disk>(
     requires kind { IsWriters act }
     ensures serves { Serves D.honest D.faults parts.old.disk parts.new.disk (IsErrOf result DiskError.Failed) }
     ensures calls { D.calls parts.old.disk ≤ D.calls parts.new.disk }
+    ensures text { IfOk result ReplyHasText }
     ensures act { (remote : Option (List Snapshot)) (w : World) → Acts D.honest D.content parts.old parts.new (λ s. act_outcome remote (record w { store = s }) lane moment act) result }
 {
     match act {
@@ -57,6 +60,8 @@ pub fn writer_act<D: Disk, E, C: Clock>(
     requires kind { IsWriters act }
     ensures history { (h : History) → StandsFor D.honest D.content D.calls C.readings core.old h
         → StandsFor D.honest D.content D.calls C.readings core.new (then_event h (event_of act result (D.calls core.new.parts.disk))) }
+    ensures answers { IsAnswered D.calls D.faults core.old core.new lane result }
+    ensures told { IsSome result.reply }
     ensures remote { core.new.remote ≡ core.old.remote }
     ensures reserve { KeepsReserve core.old.journal core.new.journal lane result.last }
 {
@@ -77,8 +82,10 @@ pub fn end_act<D: Disk, E, C: Clock>(core: &mut Core<D, E, C>, lane: u32) -> Ans
     requires room { 0 < core.old.journal.spare ⊎ 0 < slice_index core.old.journal.held lane }
     ensures history { (h : History) → StandsFor D.honest D.content D.calls C.readings core.old h
         → StandsFor D.honest D.content D.calls C.readings core.new (then_event h (event_of End result (D.calls core.new.parts.disk))) }
+    ensures answers { IsAnswered D.calls D.faults core.old core.new lane result }
+    ensures told { EndIsTold result }
     ensures remote { core.new.remote ≡ core.old.remote }
-    ensures reserve { held_by core.old.journal lane ≤ held_by core.new.journal lane + 1 }
+    ensures reserve { EndKeeps core.old.journal core.new.journal lane }
 {
     let moment = begin_end(core);
     if core.fault.is_some() {

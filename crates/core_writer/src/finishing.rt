@@ -1,11 +1,12 @@
 //! FINISH.
 
-ghost use Rattle.std.specs.Prelude.{◌≡◌, ◌<◌, ◌≤◌, ℕ, Some, option_map, OnOk, IsErrOf, vec_len, vec_capacity};
+ghost use Rattle.std.specs.Prelude.{◌≡◌, ◌<◌, ◌≤◌, ℕ, Some, option_map, IfOk, OnOk, IsErrOf, vec_len, vec_capacity};
 ghost use Rattle.std.specs.List.{find};
 ghost use Rattle.std.specs.Str.{bytes_eq};
 ghost use Rattle.store_types.specs.FileNames.{manifest_name};
 ghost use Rattle.disk_trait.specs.Files.{placed};
 ghost use Rattle.disk_trait.specs.Disk.{Serves};
+ghost use Rattle.wire_commands.specs.HasText.{ReplyHasText};
 ghost use Rattle.wire_commands.specs.declared.command.Command.TheVariants as commands;
 ghost use Rattle.store_model.specs.Steps.{outcome};
 ghost use Rattle.core_state.specs.Holds.{Acts};
@@ -79,6 +80,7 @@ pub fn finish<D: Disk>(
     requires { lane < 64 }
     ensures serves { Serves D.honest D.faults parts.old.disk parts.new.disk (IsErrOf result DiskError.Failed) }
     ensures calls { D.calls parts.old.disk ≤ D.calls parts.new.disk }
+    ensures text { IfOk result ReplyHasText }
     ensures act { (moment : ℕ) → Acts D.honest D.content parts.old parts.new (λ s. outcome s lane moment commands.Finish) result }
 {
     let lane = lane as usize;

@@ -1,9 +1,11 @@
 //! OPEN_WRITER.
 
-ghost use Rattle.std.specs.Prelude.{◌≡◌, ◌<◌, ◌≤◌, map, length, option_map, Ok, Err, MatchResult, IfOk, IsErrOf};
+ghost use Rattle.std.specs.Prelude.{◌≡◌, ◌<◌, ◌≤◌, map, length, option_map, Ok, Err, MatchResult, IfOk, IfErr, IsErrOf};
 ghost use Rattle.std.specs.Option.{ForSome};
 ghost use Rattle.disk_trait.specs.Disk.{Serves};
 ghost use Rattle.store_types.specs.Names.{IsKey};
+ghost use Rattle.wire_commands.specs.HasText.{ReplyHasText};
+ghost use Rattle.wire_commands.specs.declared.reply.Reply.TheVariants.{Refused};
 ghost use Rattle.wire_commands.specs.declared.command.Command.TheVariants as commands;
 ghost use Rattle.store_model.specs.Steps.{outcome};
 ghost use Rattle.store_model.specs.WriterSteps.{base_text as text_of_base};
@@ -26,7 +28,8 @@ fn base_of<'a>(
     key: &SnapshotKey,
 ) -> Result<Option<&'a SnapshotKey>, Refusal>
     requires { length sessions.now ≡ 64 }
-    ensures { MatchResult result (λ base. base_kept (map (λ x. x.kept) catalogue.now) sessions.now key.now ≡ Ok (option_map (λ k. k.now) base))
+    ensures text { IfErr result (λ refusal. ReplyHasText (Refused refusal)) }
+    ensures value { MatchResult result (λ base. base_kept (map (λ x. x.kept) catalogue.now) sessions.now key.now ≡ Ok (option_map (λ k. k.now) base))
         (λ refusal. base_kept (map (λ x. x.kept) catalogue.now) sessions.now key.now ≡ Err refusal) }
 {
     want_free(sessions, key)?;
@@ -39,7 +42,8 @@ fn base_of<'a>(
 /// The base's text, empty where there is none.
 fn base_text(alloc: Global, base: Option<&SnapshotKey>) -> Result<Bytes, AllocError>
     requires { ForSome base (λ k. IsKey k.now) }
-    ensures { IfOk result (λ text. text ≡ text_of_base (option_map (λ k. k.now) base.entry)) }
+    ensures short { IfOk result (λ text. length text < 256) }
+    ensures value { IfOk result (λ text. text ≡ text_of_base (option_map (λ k. k.now) base.entry)) }
 {
     match base {
         None => Ok(Bytes::new(alloc)),
@@ -71,6 +75,7 @@ pub fn open_writer<D: Disk>(
     requires { lane < 64 }
     ensures serves { Serves D.honest D.faults parts.old.disk parts.new.disk (IsErrOf result DiskError.Failed) }
     ensures calls { D.calls parts.old.disk ≤ D.calls parts.new.disk }
+    ensures text { IfOk result ReplyHasText }
     ensures act { Acts D.honest D.content parts.old parts.new (λ s. outcome s lane moment (commands.OpenWriter snapshot.now)) result }
 {
     let lane = lane as usize;

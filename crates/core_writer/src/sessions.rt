@@ -1,8 +1,9 @@
 //! What the sessions are asked.
 
-ghost use Rattle.std.specs.Prelude.{◌≡◌, ◌<◌, length, IfSome, position};
+ghost use Rattle.std.specs.Prelude.{◌≡◌, ◌<◌, length, IfErr, position};
 ghost use Rattle.store_types.specs.Names.{group_of_key};
 ghost use Rattle.wire_commands.specs.declared.reply.Reply.TheVariants.{Refused};
+ghost use Rattle.wire_commands.specs.HasText.{ReplyHasText};
 ghost use Rattle.store_types.specs.declared.refusal.Refusal.TheVariants.{WrongState};
 ghost use Rattle.store_types.specs.Chain.Refusing.{if_none};
 ghost use Rattle.store_types.specs.declared.refusal.Refusal.TheVariants.{GroupBusy};
@@ -22,14 +23,17 @@ fn state(session: &Session) -> SessionState
 }
 
 /// The refusal of a command that needs another session.
+#[tactic(auto, using(core_state::proofs::Texts::wrong_state_has_text))]
 pub fn wrong_state(session: &Session) -> Refusal
-    ensures { result ≡ WrongState (state_of session.now) }
+    ensures value { result ≡ WrongState (state_of session.now) }
+    ensures text { ReplyHasText (Refused result) }
 {
     Refusal::WrongState(state(session))
 }
 
 pub fn want_idle(session: &Session) -> Result<(), Refusal>
-    ensures { result ≡ needs_idle session.now }
+    ensures value { result ≡ needs_idle session.now }
+    ensures text { IfErr result (λ refusal. ReplyHasText (Refused refusal)) }
 {
     match session {
         Session::Idle => Ok(()),
@@ -56,9 +60,11 @@ fn group_holder(sessions: &[Session], key: &SnapshotKey) -> Option<usize>
 }
 
 /// No writer has the snapshot's group.
+#[tactic(auto, using(core_state::proofs::Texts::group_busy_has_text))]
 pub fn want_free(sessions: &[Session], key: &SnapshotKey) -> Result<(), Refusal>
     requires { length sessions.now ≡ 64 }
-    ensures { result ≡ if_none GroupBusy (position (writes (group_of_key key.now)) sessions.now) }
+    ensures text { IfErr result (λ refusal. ReplyHasText (Refused refusal)) }
+    ensures value { result ≡ if_none GroupBusy (position (writes (group_of_key key.now)) sessions.now) }
 {
     match group_holder(sessions, key) {
         None => Ok(()),

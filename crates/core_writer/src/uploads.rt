@@ -1,10 +1,14 @@
 //! BLOB.
 
-ghost use Rattle.std.specs.Prelude.{◌≡◌, ◌<◌, ◌≤◌, length, position, remove, slice_get, Some, IfOk, OnOk, OnErr, IsErrOf, IsTrue};
+ghost use Rattle.std.specs.Prelude.{◌≡◌, ◌<◌, ◌≤◌, length, position, remove, slice_get, Some, Err, IfOk, IfErr, OnOk, OnErr, IsErrOf, IsTrue};
 ghost use Rattle.disk_trait.specs.Files.{placed};
 ghost use Rattle.store_types.specs.Names.{name_lt};
 ghost use Rattle.disk_trait.specs.Disk.{Serves};
 ghost use Rattle.blob_codec.specs.Laws.{AreBytes};
+ghost use Rattle.store_types.specs.declared.refusal.Refusal.TheVariants.{BadBlob as BadBlobOf};
+ghost use Rattle.store_types.specs.declared.refusal.BadBlob.TheVariants as causes;
+ghost use Rattle.wire_commands.specs.HasText.{ReplyHasText};
+ghost use Rattle.wire_commands.specs.declared.reply.Reply.TheVariants.{Refused};
 ghost use Rattle.store_history.specs.Acts.{IsChecked};
 ghost use Rattle.store_history.specs.History.{data_in};
 ghost use Rattle.store_model.specs.WriterSteps.{checked_blob};
@@ -16,7 +20,7 @@ use crate::sessions::wrong_state;
 use core_state::{Parts, Session, StoredFile, path_of};
 use disk_trait::{Disk, DiskError};
 use std::alloc::{AllocError, Global};
-use store_types::{Bytes, FileName, Refusal, Rows};
+use store_types::{BadBlob, Bytes, FileName, Refusal, Rows};
 use wire_commands::Reply;
 
 fn has_file(files: &[StoredFile], name: &FileName) -> bool
@@ -26,14 +30,15 @@ fn has_file(files: &[StoredFile], name: &FileName) -> bool
 }
 
 /// The new file of the session's writer, where it may have one of that name.
-#[tactic(auto, unfolding(crate::specs::Uploaded::upload_of))]
+#[tactic(auto, using(core_state::proofs::Texts::bad_name_has_text, core_state::proofs::Texts::exists_has_text, core_state::proofs::Texts::too_many_has_text), unfolding(crate::specs::Uploaded::upload_of))]
 fn upload_of(
     alloc: Global,
     session: &Session,
     name: &[u8],
 ) -> Result<Result<StoredFile, Refusal>, AllocError>
     requires { IsTrue (is_named session.now) }
-    ensures { IfOk result (λ upload. upload ≡ upload_from session.now name.now) }
+    ensures text { IfOk result (λ upload. IfErr upload (λ refusal. ReplyHasText (Refused refusal))) }
+    ensures value { IfOk result (λ upload. upload ≡ upload_from session.now name.now) }
 {
     let Session::Writer(w) = session else {
         return Ok(Err(wrong_state(session)));
@@ -126,6 +131,36 @@ fn take_upload<D: Disk>(
     Ok(())
 }
 
+/// The reply to an upload whose CRC-32 isn't the one that it keeps.
+fn wrong_crc(kept: u32, found: u32) -> Reply
+    ensures value { result ≡ Refused (BadBlobOf (causes.WrongCrc kept found)) }
+    ensures text { ReplyHasText result }
+{
+    Reply::Refused(Refusal::BadBlob(BadBlob::WrongCrc { kept, found }))
+}
+
+fn bad_blob(cause: BadBlob) -> Reply
+    ensures value { result ≡ Refused (BadBlobOf cause) }
+    ensures text { ReplyHasText result }
+{
+    match cause {
+        BadBlob::WrongCrc { kept, found } => wrong_crc(kept, found),
+        cause => Reply::Refused(Refusal::BadBlob(cause)),
+    }
+}
+
+/// The reply to an upload that is refused as its check was.
+fn refused(refusal: Refusal) -> Reply
+    requires { IsChecked (Err refusal) }
+    ensures value { result ≡ Refused refusal }
+    ensures text { ReplyHasText result }
+{
+    match refusal {
+        Refusal::BadBlob(cause) => bad_blob(cause),
+        _ => unreachable!(),
+    }
+}
+
 /// The lane's writer gets a file of these bytes, or is refused as the check of the upload was.
 ///
 /// The refusals, in the order in which they are tested: the lane has no writer; the name is no blob's; the writer has
@@ -142,6 +177,7 @@ pub fn blob<D: Disk>(
     requires checked { IsChecked checked }
     ensures serves { Serves D.honest D.faults parts.old.disk parts.new.disk (IsErrOf result DiskError.Failed) }
     ensures calls { D.calls parts.old.disk ≤ D.calls parts.new.disk }
+    ensures text { IfOk result ReplyHasText }
     ensures act { Acts D.honest D.content parts.old parts.new (λ s. checked_blob s lane name.now (data_in checked)) result }
 {
     let lane = lane as usize;
@@ -151,7 +187,7 @@ pub fn blob<D: Disk>(
     };
     let text = match checked {
         Ok(text) => text,
-        Err(refusal) => return Ok(Reply::Refused(refusal)),
+        Err(refusal) => return Ok(refused(refusal)),
     };
     take_upload(
         &mut parts.disk,

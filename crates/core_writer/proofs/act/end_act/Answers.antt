@@ -1,6 +1,7 @@
 use Rattle.std.proofs.Common.{◌∙◌, refl, sym, ap, subst, arith}
 use Rattle.core_state.specs.Holds.{Shows, Holds}
 use Rattle.core_state.specs.History.{world}
+use Rattle.core_state.proofs.Answering.{untouched, ended_answered, end_failed_answered, ended_told, end_failed_told, entry_keeps}
 use Rattle.core_state.proofs.Ended.{ended_stands, end_failed_stands, end_halted_stands}
 use Rattle.core_writer.proofs.ActLemmas.{some_is, none_is}
 use Rattle.core_writer.proofs.act.end_act.Goals as goal
@@ -39,3 +40,31 @@ returns-in-Err-clause-history g c = let d = g.D.Disk in λ h s.
     end_failed_stands d.honest d.content d.calls g.C.Clock.readings _ c.begin_end-moment.new.core _ _ h c.args.lane c.begin_end-moment.result _ s c.requires.lane
     (record { begun = b; journal = refl; clock = refl; fault = refl; later = c.end.ensures.calls })
     (sym b.fault ∙ fault) after.0 after.1 c.settle.ensures
+
+pub returns-then-is_some-clause-answers : goal.returns-then-is_some-clause-answers
+returns-then-is_some-clause-answers g c = let d = g.D.Disk in
+    let b = c.begin_end-moment.ensures.begun c.args.lane in
+    ended_answered d.honest d.calls d.faults g.C.Clock.readings ⊥ _ c.begin_end-moment.new.core _ _ c.args.lane c.begin_end-moment.result _ b refl refl
+    (untouched d.honest d.faults _ _ c.forget_session.ensures.disk) c.enter.ensures
+
+pub returns-then-is_some-clause-told : goal.returns-then-is_some-clause-told
+returns-then-is_some-clause-told g c = ended_told g.D.Disk.calls _ _ c.args.lane c.begin_end-moment.result _ c.enter.ensures
+
+pub returns-in-Ok-clause-answers : goal.returns-in-Ok-clause-answers
+returns-in-Ok-clause-answers g c = let d = g.D.Disk in
+    let b = c.begin_end-moment.ensures.begun c.args.lane in
+    ended_answered d.honest d.calls d.faults g.C.Clock.readings _ _ c.begin_end-moment.new.core _ _ c.args.lane c.begin_end-moment.result _ b refl refl
+    c.end.ensures.serves c.enter-in-Ok.ensures
+
+pub returns-in-Ok-clause-told : goal.returns-in-Ok-clause-told
+returns-in-Ok-clause-told g c = ended_told g.D.Disk.calls _ _ c.args.lane c.begin_end-moment.result _ c.enter-in-Ok.ensures
+
+pub returns-in-Err-clause-answers : goal.returns-in-Err-clause-answers
+returns-in-Err-clause-answers g c = let d = g.D.Disk in
+    let b = c.begin_end-moment.ensures.begun c.args.lane in
+    let fault = none_is _ (sym c.is_some.ensures ∙ c.if-is_some.false) in
+    end_failed_answered d.honest d.calls d.faults g.C.Clock.readings _ _ c.begin_end-moment.new.core _ _ c.args.lane c.begin_end-moment.result _ b (sym b.fault ∙ fault) refl refl refl
+    c.in-Err.ensures.serves c.settle.ensures
+
+pub returns-in-Err-clause-told : goal.returns-in-Err-clause-told
+returns-in-Err-clause-told g c = end_failed_told g.D.Disk.calls c.begin_end-moment.new.core _ _ c.args.lane c.begin_end-moment.result _ refl c.settle.ensures

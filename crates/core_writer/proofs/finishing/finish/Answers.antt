@@ -8,6 +8,7 @@ use Rattle.core_state.proofs.NamedLemmas.{list_all-set, list_all-at}
 use Rattle.core_state.proofs.Sessions.{at_lane, writer_found}
 use Rattle.core_writer.specs.Closed.{kept_manifest, closed}
 use Rattle.core_writer.proofs.FinishLemmas.{not_writing, no_file, does_finish, named_closed}
+use Rattle.core_state.proofs.Texts.{no_file_has_text, done_has_text}
 use Rattle.core_writer.proofs.finishing.finish.Goals as goal
 
 pub returns-in_default-clause-act : goal.returns-in_default-clause-act
@@ -15,7 +16,7 @@ returns-in_default-clause-act g c = let d = g.D.Disk in λ moment s h.
     let old = c.args.parts.now in
     let here = at_lane old.sessions.items s c.args.lane c.index-session.result.now (h.shows).sessions ((h.shows).sound).lanes c.requires c.index-session.ensures in
     does_refused d.honest d.content old _ s _ c.wrong_state.result refl refl refl
-    (not_writing s c.args.lane moment c.index-session.result.now here c.in_default.not-Writer ∙ ap (λ r. Err r) (sym c.wrong_state.ensures)) h
+    (not_writing s c.args.lane moment c.index-session.result.now here c.in_default.not-Writer ∙ ap (λ r. Err r) (sym c.wrong_state.ensures.value)) h
 
 pub returns-in_default-manifest_of-clause-act : goal.returns-in_default-manifest_of-clause-act
 returns-in_default-manifest_of-clause-act g c = let d = g.D.Disk in λ moment s h.
@@ -49,3 +50,12 @@ returns-clause-act g c = let d = g.D.Disk in λ moment s h.
     c.put_manifest.ensures.serves.kept c.in_ok-put_manifest.ensures.put
     (c.close.ensures.catalogue ∙ ap (closed c.args.number c.index_mut.result.now) c.reserve.ensures.items)
     (ap (set old.sessions.items c.args.lane) c.close.ensures.session) h
+
+pub returns-in_default-clause-text : goal.returns-in_default-clause-text
+returns-in_default-clause-text g c = c.wrong_state.ensures.text
+
+pub returns-in_default-manifest_of-clause-text : goal.returns-in_default-manifest_of-clause-text
+returns-in_default-manifest_of-clause-text g c = no_file_has_text
+
+pub returns-clause-text : goal.returns-clause-text
+returns-clause-text g c = done_has_text

@@ -15,12 +15,13 @@ use Rattle.core_state.proofs.NamedLemmas.{list_all-set, key_text_is, is_key}
 use Rattle.core_writer.specs.Opened.{want_idle, base_kept}
 use Rattle.core_writer.proofs.OpenedLemmas.{may_open, latest_named}
 use Rattle.core_writer.proofs.OpeningLemmas.{not_idle, bad_name, refused, idle_is, tests_are, does_open}
+use Rattle.core_state.proofs.Texts.{bad_name_has_text, base_has_text}
 use Rattle.core_writer.proofs.opening.open_writer.Goals as goal
 
 pub returns-in-Err-clause-act : goal.returns-in-Err-clause-act
 returns-in-Err-clause-act g c = let d = g.D.Disk in λ s h.
     let old = c.args.parts.now in
-    let idle = idle_is old s c.args.lane c.index.result.now (Err c.in-Err.refusal) c.requires c.index.ensures (sym c.want_idle.ensures ∙ c.in-Err.is) h.shows in
+    let idle = idle_is old s c.args.lane c.index.result.now (Err c.in-Err.refusal) c.requires c.index.ensures (sym c.want_idle.ensures.value ∙ c.in-Err.is) h.shows in
     does_refused d.honest d.content old _ s _ c.in-Err.refusal refl refl refl (not_idle s c.args.lane c.args.moment c.args.snapshot.now c.in-Err.refusal idle) h
 
 pub returns-in_default-2-clause-act : goal.returns-in_default-2-clause-act
@@ -43,7 +44,7 @@ returns-in-Err-base_of-clause-act g c = let d = g.D.Disk in λ s h.
 
 pub base_text-requires : goal.base_text-requires
 base_text-requires g c = λ x is.
-    is_key x.now (latest_named (group_of_key c.in-Ok.key) c.deref.result.now x.now (ap (list_all is_named_snapshot) c.deref.ensures.value ∙ c.args.parts.now.finished_named) ((may_open _ _ _ _ c.in-Ok-base_of.ensures).latest ∙ ap (option_map (λ k. k.now)) is))
+    is_key x.now (latest_named (group_of_key c.in-Ok.key) c.deref.result.now x.now (ap (list_all is_named_snapshot) c.deref.ensures.value ∙ c.args.parts.now.finished_named) ((may_open _ _ _ _ c.in-Ok-base_of.ensures.value).latest ∙ ap (option_map (λ k. k.now)) is))
 
 pub invariant_of-parts-2-clause-named : goal.invariant_of-parts-2-clause-named
 invariant_of-parts-2-clause-named g c =
@@ -66,3 +67,15 @@ returns-clause-act g c = let d = g.D.Disk in λ s h.
     c.requires c.index.ensures free named key tested refl refl refl
     (ap (λ b. writing c.in-Ok.key c.args.moment b c.new.result) base ∙ ap (λ fs. writing c.in-Ok.key c.args.moment (option_map (λ k. k.now) c.in-Ok-base_of.base) fs) c.new.ensures)
     (ap (λ t. Base t) text) h
+
+pub returns-in-Err-clause-text : goal.returns-in-Err-clause-text
+returns-in-Err-clause-text g c = c.in-Err.ensures.text
+
+pub returns-in_default-2-clause-text : goal.returns-in_default-2-clause-text
+returns-in_default-2-clause-text g c = bad_name_has_text
+
+pub returns-in-Err-base_of-clause-text : goal.returns-in-Err-base_of-clause-text
+returns-in-Err-base_of-clause-text g c = c.in-Err-base_of.ensures.text
+
+pub returns-clause-text : goal.returns-clause-text
+returns-clause-text g c = base_has_text c.in_ok-text.text c.in_ok-text.ensures.short

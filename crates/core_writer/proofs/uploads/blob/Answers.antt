@@ -1,7 +1,8 @@
-use Rattle.std.proofs.Common.{◌<◌, ◌∙◌, ap, refl, sym, set, length, arith}
+use Rattle.std.proofs.Common.{◌<◌, ◌∙◌, IfErr, ap, refl, sym, subst, set, length, arith}
 use Rattle.store_types.specs.Chain.Refusing.{◌>>=◌}
 use Rattle.store_files.specs.Archive.{blob}
-use Rattle.wire_commands.specs.declared.reply.Reply.TheVariants.{Done}
+use Rattle.wire_commands.specs.declared.reply.Reply.TheVariants.{Done, Refused}
+use Rattle.wire_commands.specs.HasText.{ReplyHasText}
 use Rattle.store_history.specs.History.{data_in}
 use Rattle.store_model.specs.WriterSteps.{with_file, goes_on}
 use Rattle.core_state.specs.Named.{is_named}
@@ -11,6 +12,7 @@ use Rattle.core_state.proofs.Sessions.{at_lane}
 use Rattle.core_writer.specs.Uploaded.{upload_of}
 use Rattle.core_writer.proofs.BlobStep.{upload_refused, may_upload}
 use Rattle.core_writer.proofs.BlobLemmas.{named_after, does_blob}
+use Rattle.core_state.proofs.Texts.{done_has_text}
 use Rattle.core_writer.proofs.uploads.blob.Goals as goal
 
 pub returns-in-Err-clause-act : goal.returns-in-Err-clause-act
@@ -19,16 +21,17 @@ returns-in-Err-clause-act g c = let d = g.D.Disk in λ s h.
     let here = at_lane old.sessions.items s c.args.lane c.index.result.now (h.shows).sessions ((h.shows).sound).lanes c.requires.lane c.index.ensures in
     does_refused d.honest d.content old _ s _ c.in-Err.refusal refl refl refl
     (upload_refused s c.args.lane c.args.name.now (data_in c.args.checked) c.in-Err.refusal (λ w at. (((h.shows).sound).writers c.args.lane w at).begun)
-    (ap (λ x. upload_of x c.args.name.now) (sym here) ∙ sym c.in_ok-file.ensures ∙ c.in-Err.is)) h
+    (ap (λ x. upload_of x c.args.name.now) (sym here) ∙ sym c.in_ok-file.ensures.value ∙ c.in-Err.is)) h
 
 pub returns-in-Err-checked-clause-act : goal.returns-in-Err-checked-clause-act
 returns-in-Err-checked-clause-act g c = let d = g.D.Disk in λ s h.
     let old = c.args.parts.now in
     let here = at_lane old.sessions.items s c.args.lane c.index.result.now (h.shows).sessions ((h.shows).sound).lanes c.requires.lane c.index.ensures in
     let may = may_upload s c.args.lane c.args.name.now c.in-Ok.file (λ w at. (((h.shows).sound).writers c.args.lane w at).begun)
-    (ap (λ x. upload_of x c.args.name.now) (sym here) ∙ sym c.in_ok-file.ensures ∙ c.in-Ok.is) in
-    does_refused d.honest d.content old _ s _ c.in-Err-checked.refusal refl refl refl
-    (may.1.step (data_in c.args.checked) ∙ ap (λ k. data_in k >>= λ contents. goes_on s c.args.lane (with_file c.args.name.now (blob contents) may.0) Done) c.in-Err-checked.is) h
+    (ap (λ x. upload_of x c.args.name.now) (sym here) ∙ sym c.in_ok-file.ensures.value ∙ c.in-Ok.is) in
+    let does = does_refused d.honest d.content old _ s _ c.in-Err-checked.refusal refl refl refl
+    (may.1.step (data_in c.args.checked) ∙ ap (λ k. data_in k >>= λ contents. goes_on s c.args.lane (with_file c.args.name.now (blob contents) may.0) Done) c.in-Err-checked.is) h in
+    (c.refused.ensures.value ∙ does.0, does.1)
 
 pub invariant_of-parts-2-clause-named : goal.invariant_of-parts-2-clause-named
 invariant_of-parts-2-clause-named g c =
@@ -43,6 +46,15 @@ returns-clause-act g c = let d = g.D.Disk in λ s h.
     let here = at_lane old.sessions.items s c.args.lane c.index.result.now (h.shows).sessions ((h.shows).sound).lanes c.requires.lane c.index.ensures in
     let here2 = at_lane old.sessions.items s c.args.lane c.index_mut.result.now (h.shows).sessions ((h.shows).sound).lanes c.requires.lane c.index_mut.ensures.value in
     let may = may_upload s c.args.lane c.args.name.now c.in-Ok.file (λ w at. (((h.shows).sound).writers c.args.lane w at).begun)
-    (ap (λ x. upload_of x c.args.name.now) (sym here) ∙ sym c.in_ok-file.ensures ∙ c.in-Ok.is) in
+    (ap (λ x. upload_of x c.args.name.now) (sym here) ∙ sym c.in_ok-file.ensures.value ∙ c.in-Ok.is) in
     does_blob d.honest d.content old _ s c.args.lane c.args.name.now c.args.checked c.in-Ok.file c.in-Ok-checked.text c.index_mut.result.now may.0 c.requires.lane may.1 c.requires.checked c.in-Ok-checked.is c.take_upload.ensures.bytes here2
     c.take_upload.ensures.serves.kept c.in_ok-take_upload.ensures.put refl (ap (set old.sessions.items c.args.lane) c.in_ok-take_upload.ensures.ok) h
+
+pub returns-in-Err-clause-text : goal.returns-in-Err-clause-text
+returns-in-Err-clause-text g c = subst (λ u. IfErr u (λ r. ReplyHasText (Refused r))) c.in-Err.is c.in_ok-file.ensures.text
+
+pub returns-in-Err-checked-clause-text : goal.returns-in-Err-checked-clause-text
+returns-in-Err-checked-clause-text g c = c.refused.ensures.text
+
+pub returns-clause-text : goal.returns-clause-text
+returns-clause-text g c = done_has_text

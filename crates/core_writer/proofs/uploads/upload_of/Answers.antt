@@ -8,8 +8,8 @@ use Rattle.core_writer.specs.Uploaded.{upload_of}
 use Rattle.core_writer.proofs.UploadLemmas.{no_name}
 use Rattle.core_writer.proofs.uploads.upload_of.Goals as goal
 
-pub returns-in_default-2 : goal.returns-in_default-2
-returns-in_default-2 c =
+pub returns-in_default-2-clause-value : goal.returns-in_default-2-clause-value
+returns-in_default-2-clause-value c =
     let bad : is_file_name c.args.name.now ≡ false = search rules in
     no_name c.in-Writer.w c.args.name.now bad ∙ ap (λ s. upload_of s c.args.name.now) (sym c.in-Writer.is)
 
