@@ -8,10 +8,10 @@ ghost use Rattle.lane.specs.Causes.{HasCauses};
 ghost use Rattle.lane.specs.Closing.{EndsLane, Closes};
 ghost use Rattle.lane.specs.Progress.{Start};
 
-use crate::stub::apply;
 use core_state::{Act, Core};
 use disk_trait::Disk;
 use port_traits::{Clock, Sink};
+use shared_store::apply;
 use std::alloc::Global;
 use store_model::Ending;
 use wire_commands::Reply;

@@ -6,8 +6,10 @@ mod ending;
 mod input;
 mod port;
 mod run;
-mod stub;
 
 pub use port::{LaneReport, Port};
 pub use run::run_alone;
 
+
+#[cfg(test)]
+mod tests;
