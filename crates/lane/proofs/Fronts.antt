@@ -1,0 +1,140 @@
+-- What stands at the front, by the frame there.
+use Rattle.std.proofs.Common.{◌≡◌, ◌≢◌, ℕ, ◌+◌, ◌<◌, ◌≤◌, ◌^◌, Bool, true, false, ◌&&◌, List, [], ◌∷◌, ◌++◌, length, take, drop, Option, Some, None, refl, sym, ap, subst, ◌∙◌, arith, nat_le}
+use Rattle.std.specs.Int.{w32, from_le_bytes}
+use Rattle.std.proofs.lemmas.Bool.Decides.{nat_tests}
+use Rattle.std.proofs.lemmas.List.{length-take, length-append, length-drop, take-append-le}
+use Rattle.store_types.specs.declared.refusal.Refusal.TheVariants.{BadFrame, TooLong}
+use Rattle.wire_frames.specs.Frames.{Tail, Front, short, too_long, whole, cut, advanced, advanced_by}
+use Rattle.wire_frames.proofs.FramesLemmas.{cut-few, cut-whole, cut-length, cut-is_whole}
+use Rattle.wire_commands.specs.declared.command.Command.{Command}
+use Rattle.wire_commands.specs.declared.command.Command.TheVariants as commands
+use Rattle.wire_commands.specs.declared.reply.Reply.TheVariants.{Refused}
+use Rattle.wire_commands.specs.CommandText.{command_of}
+use Rattle.wire_commands.specs.HasText.{ReplyHasText}
+use Rattle.wire_commands.specs.Inputs.{front, cut_front, body_front}
+use Rattle.wire_commands.specs.RefusalText.{refusal_text}
+use Rattle.wire_commands.specs.ReplyText.{reply_text}
+use Rattle.store_model.specs.Lanes.{Next, plain, bye, broken, front_next, command_next}
+use Rattle.store_history.specs.LaneRun.{may_want}
+use Rattle.lane.specs.declared.commands.Ahead.{Ahead}
+use Rattle.lane.specs.Fronts.{next_in, IsCommandAhead, IsLastAhead, IsAhead, IsFrontSize, ahead_of}
+
+-- ---- replies with a spelling
+
+pub bad_frame_has_text : (offset : ℕ) → offset < 2 ^ 64 → ReplyHasText (Refused (BadFrame offset))
+unfolding reply_text refusal_text
+bad_frame_has_text offset lt = (lt, omega arith)
+
+pub too_long_has_text : (n : ℕ) → n < 2 ^ 32 → ReplyHasText (Refused (TooLong n))
+unfolding reply_text refusal_text
+too_long_has_text n lt = (lt, omega arith)
+
+-- ---- the front
+
+front_is : (bytes : List ℕ) (f : Front) → cut bytes ≡ f → f ≢ short → front bytes ≡ cut_front f
+unfolding front
+front_is [] f is seen = absurd (seen (sym is ∙ cut-few [] (omega arith)))
+front_is (b ∷ bytes) f is seen = ap cut_front is
+
+whole_seen : (body rest : List ℕ) → whole body rest ≢ short
+whole_seen body rest h = cc
+
+long_seen : (n : ℕ) → too_long n ≢ short
+long_seen n h = cc
+
+next_is : (t : Tail) (f : Front) → cut t.bytes ≡ f → f ≢ short → next_in t ≡ front_next t.offset (cut_front f)
+next_is t f is seen = ap (front_next t.offset) (front_is t.bytes f is seen)
+
+pub long_ahead : (t : Tail) (n : ℕ) → cut t.bytes ≡ too_long n → IsLastAhead t (broken (TooLong n))
+unfolding front_next
+long_ahead t n is = record { next = next_is t (too_long n) is (long_seen n); seen = λ h. long_seen n (sym is ∙ h) }
+
+pub broken_ahead : (t : Tail) (body rest : List ℕ) → cut t.bytes ≡ whole body rest → command_of body ≡ None → IsLastAhead t (broken (BadFrame t.offset))
+unfolding front_next
+broken_ahead t body rest is none = record {
+  next = next_is t (whole body rest) is (whole_seen body rest) ∙ ap (λ c. front_next t.offset (body_front c rest)) none;
+  seen = λ h. whole_seen body rest (sym is ∙ h);
+}
+
+advanced_is : (t : Tail) (body rest : List ℕ) → cut t.bytes ≡ whole body rest → advanced t ≡ record { offset = t.offset + (4 + length body); bytes = rest }
+advanced_is t body rest is = ap (advanced_by t) is
+
+pub command_ahead : (t : Tail) (body rest : List ℕ) (c : Command) → cut t.bytes ≡ whole body rest → command_of body ≡ Some c → IsAhead t (ahead_of c)
+unfolding front_next command_next
+command_ahead t body rest c is some = by_command c (next_is t (whole body rest) is (whole_seen body rest) ∙ ap (λ o. front_next t.offset (body_front o rest)) some)
+  where
+    seen : cut t.bytes ≢ short
+    seen h = whole_seen body rest (sym is ∙ h)
+
+    past : advanced t ≡ record { offset = t.offset + (4 + length body); bytes = rest }
+    past = advanced_is t body rest is
+
+    other : (d : Command) → next_in t ≡ plain d rest → d ≢ commands.Bye → IsCommandAhead t d
+    other d next ne = record {
+      next = next ∙ ap (λ (s : Tail). plain d s.bytes) (sym past);
+      other = ne;
+      behind = omega (arith, ap (λ (s : Tail). s.offset) past);
+      rest = omega (arith, ap (λ (s : Tail). s.offset) past, ap (λ (s : Tail). length s.bytes) past, cut-length t.bytes body rest is);
+    }
+
+    by_command : (d : Command) → next_in t ≡ command_next d rest → IsAhead t (ahead_of d)
+    by_command commands.Bye next = record { next = next; seen = seen }
+    by_command (commands.OpenWriter snapshot) next = other (commands.OpenWriter snapshot) next (λ h. cc)
+    by_command (commands.Blob file blob) next = other (commands.Blob file blob) next (λ h. cc)
+    by_command commands.Finish next = other commands.Finish next (λ h. cc)
+    by_command (commands.OpenReader snapshot) next = other (commands.OpenReader snapshot) next (λ h. cc)
+    by_command (commands.Download file offset) next = other (commands.Download file offset) next (λ h. cc)
+
+-- ---- where memory may be wanting
+
+both : (a b : Bool) → a ≡ true → b ≡ true → (a && b) ≡ true
+both a b p q = ap (λ x. x && b) p ∙ q
+
+wants : (bytes : List ℕ) → 4 ≤ length bytes → 2 ≤ from_le_bytes w32 (take 4 bytes) → may_want bytes ≡ true
+unfolding may_want
+wants bytes held two =
+    both (nat_le 4 (length bytes)) (nat_le 2 (from_le_bytes w32 (take 4 bytes))) (grind (arith, nat_tests)) (grind (arith, nat_tests))
+
+pub whole_wants : (bytes body rest : List ℕ) → cut bytes ≡ whole body rest → 2 ≤ length body → may_want bytes ≡ true
+whole_wants bytes body rest is two =
+    let w = cut-whole bytes body rest is in
+    let size : length body ≤ from_le_bytes w32 (take 4 bytes) = omega (arith, ap length ((w.behind).body_is), length-take {A = ℕ}) in
+    wants bytes w.enough (omega arith)
+
+-- ---- past a frame
+
+pub whole_size : (t : Tail) (body rest : List ℕ) → cut t.bytes ≡ whole body rest → IsFrontSize t (4 + length body)
+whole_size t body rest is =
+    let past = advanced_is t body rest is in
+    record {
+      offset = ap (λ (s : Tail). s.offset) past;
+      rest = omega (arith, ap (λ (s : Tail). s.offset) past, ap (λ (s : Tail). length s.bytes) past, cut-length t.bytes body rest is);
+    }
+
+stays : (t : Tail) → advanced t ≡ t → IsFrontSize t 0
+stays t is = record { offset = omega (arith, ap (λ (s : Tail). s.offset) is); rest = ap (λ (s : Tail). s.offset + length s.bytes) is }
+
+pub short_size : (t : Tail) → cut t.bytes ≡ short → IsFrontSize t 0
+short_size t is = stays t (ap (advanced_by t) is)
+
+pub long_size : (t : Tail) (n : ℕ) → cut t.bytes ≡ too_long n → IsFrontSize t 0
+long_size t n is = stays t (ap (advanced_by t) is)
+
+-- ---- behind five bytes of a part of a frame
+
+-- a part of a frame of which five bytes are held has a length of at least two
+part_two : (bytes : List ℕ) → 5 ≤ length bytes → cut bytes ≡ short → 2 ≤ from_le_bytes w32 (take 4 bytes)
+part_two bytes five part = by_size (nat_le 2 (from_le_bytes w32 (take 4 bytes))) refl
+  where
+    by_size : (b : Bool) → nat_le 2 (from_le_bytes w32 (take 4 bytes)) ≡ b → 2 ≤ from_le_bytes w32 (take 4 bytes)
+    by_size true is = grind (arith, nat_tests)
+    by_size false is =
+        let small : from_le_bytes w32 (take 4 bytes) < 2 = grind (arith, nat_tests) in
+        let behind : from_le_bytes w32 (take 4 bytes) ≤ length (drop 4 bytes) = omega (arith, length-drop {A = ℕ}) in
+        absurd (whole_seen (take (from_le_bytes w32 (take 4 bytes)) (drop 4 bytes)) (drop (from_le_bytes w32 (take 4 bytes)) (drop 4 bytes))
+        (sym (cut-is_whole bytes (take 4 bytes) (drop 4 bytes) (from_le_bytes w32 (take 4 bytes)) (omega arith) refl refl refl (omega arith) behind) ∙ part))
+
+pub part_wants : (bytes more : List ℕ) → 5 ≤ length bytes → cut bytes ≡ short → may_want (bytes ++ more) ≡ true
+part_wants bytes more five part =
+    wants (bytes ++ more) (omega (arith, length-append bytes more))
+    (subst (λ xs. 2 ≤ from_le_bytes w32 xs) (sym (take-append-le 4 bytes more (omega arith))) (part_two bytes five part))

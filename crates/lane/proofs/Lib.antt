@@ -1,0 +1,6 @@
+pub mod Fronts
+pub mod Acting
+pub mod Caused
+pub mod Turning
+pub mod Serving
+pub mod Closings

@@ -1,0 +1,46 @@
+-- What stands at the front of what a lane took of its input.
+use Rattle.std.specs.Prelude.{ℕ, ◌≡◌, ◌≢◌, ◌+◌, ◌<◌, true, length}
+use Rattle.store_types.specs.declared.refusal.Refusal.{Refusal}
+use Rattle.wire_frames.specs.Frames.{Tail, short, cut, advanced}
+use Rattle.wire_commands.specs.HasText.{ReplyHasText}
+use Rattle.wire_commands.specs.Inputs.{front}
+use Rattle.wire_commands.specs.declared.command.Command.{Command}
+use Rattle.wire_commands.specs.declared.command.Command.TheVariants as commands
+use Rattle.wire_commands.specs.declared.reply.Reply.TheVariants.{Refused}
+use Rattle.store_model.specs.Lanes.{Next, plain, bye, broken, front_next}
+use Rattle.store_history.specs.LaneRun.{may_want}
+use Rattle.lane.specs.declared.commands.Ahead.{Ahead}
+use Rattle.lane.specs.declared.commands.Ahead.TheVariants as aheads
+
+-- what is next, by the bytes that aren't answered yet
+abbrev pub next_in : Tail → Next
+next_in t = front_next t.offset (front t.bytes)
+
+-- a command other than BYE is next, and more may come behind its frame
+pub record IsCommandAhead (t : Tail) (c : Command) : Type 0 where
+  pub next : next_in t ≡ plain c (advanced t).bytes
+  pub other : c ≢ commands.Bye
+  pub behind : t.offset < (advanced t).offset
+  pub rest : (advanced t).offset + length (advanced t).bytes ≡ t.offset + length t.bytes
+
+-- the last of a lane's input is next, without more of it being needed
+pub record IsLastAhead (t : Tail) (n : Next) : Type 0 where
+  pub next : next_in t ≡ n
+  pub seen : cut t.bytes ≢ short
+
+abbrev pub IsAhead : Tail → Ahead → Type 0
+IsAhead t aheads.Part = cut t.bytes ≡ short
+IsAhead t (aheads.Command c) = IsCommandAhead t c
+IsAhead t aheads.Bye = IsLastAhead t bye
+IsAhead t (aheads.Broken refusal) = IsLastAhead t (broken refusal) × ReplyHasText (Refused refusal)
+IsAhead t aheads.NoMemory = may_want t.bytes ≡ true
+
+-- a command, with BYE told apart
+abbrev pub ahead_of : Command → Ahead
+ahead_of commands.Bye = aheads.Bye
+ahead_of c = aheads.Command c
+
+-- how far the front moves past the frame there
+pub record IsFrontSize (t : Tail) (size : ℕ) : Type 0 where
+  pub offset : (advanced t).offset ≡ t.offset + size
+  pub rest : (advanced t).offset + length (advanced t).bytes ≡ t.offset + length t.bytes

@@ -1,0 +1,9 @@
+pub mod Fronts
+pub mod Taking
+pub mod Causes
+pub mod Acting
+pub mod Ran
+pub mod Progress
+pub mod Closing
+pub mod Turns
+pub mod Loops

@@ -1,0 +1,20 @@
+-- What a lane's loop keeps.
+use Rattle.std.specs.Prelude.{ℕ, ◌≡◌, ◌≤◌, List, [], Option}
+use Rattle.core_state.specs.declared.journal.Journal.{Journal}
+use Rattle.core_state.specs.Entering.{held_by}
+use Rattle.core_state.specs.History.{History}
+use Rattle.lane.specs.declared.input.Input.{Input}
+use Rattle.lane.specs.Progress.{HasServed}
+
+-- from a history without events the lane came to where it is
+abbrev pub HasBegun : (History → Type 0) → (History → Type 0) → ℕ → Option (List ℕ) → Option (List ℕ) → Option (List ℕ) → Option (List ℕ) → Input → ℕ → Type 0
+HasBegun before now k left left' taken taken' input given =
+    (h : History) → before h → h.events ≡ [] → HasServed now (record { history = h; left = left; taken = taken }) k left' taken' input.cutter input.taken given
+
+-- The lane's reserve of entries is whole, no count of faults has fallen, and the remote is as it was.
+pub record Keeps {E : Type 0} (j : Journal) (k source source' sink sink' disk disk' : ℕ) (remote remote' : Option E) : Type 0 where
+  pub whole : 3 ≤ held_by j k
+  pub source_later : source ≤ source'
+  pub sink_later : sink ≤ sink'
+  pub disk_later : disk ≤ disk'
+  pub same : remote' ≡ remote

@@ -1,0 +1,89 @@
+//! What stands next in a lane's input, and the act that it asks for.
+
+ghost use Rattle.std.specs.Prelude.{◌≡◌, ℕ, List};
+ghost use Rattle.wire_frames.specs.Frames.{Tail, cut, too_long, whole};
+ghost use Rattle.store_history.specs.Acts.{check_blob, act_of_command};
+ghost use Rattle.lane.specs.Fronts.{IsAhead, ahead_of};
+
+use blob_codec::decode;
+use core_state::Act;
+use std::alloc::Global;
+use store_types::{Bytes, Refusal};
+use wire_commands::Command;
+use wire_frames::Cutter;
+
+/// What stands at the front of what was taken of an input.
+#[derive(Drop)]
+pub enum Ahead {
+    /// A part of a frame, or nothing.
+    Part,
+    /// A command other than BYE.
+    Command(Command),
+    Bye,
+    /// Something that isn't a command, with its refusal.
+    Broken(Refusal),
+    /// There is no memory for what it is.
+    NoMemory,
+}
+
+/// What stands at the front.
+pub fn read_front(alloc: Global, cutter: &Cutter) -> Ahead
+    ensures { IsAhead cutter.now result }
+{
+    match cutter.next() {
+        Err(long) => too_long(long.length),
+        Ok(None) => Ahead::Part,
+        Ok(Some(frame)) => read_body(alloc, frame.offset, frame.body),
+    }
+}
+
+/// A frame whose length is over the limit.
+fn too_long(length: u32) -> Ahead
+    ensures { (t : Tail) → cut t.bytes ≡ too_long length → IsAhead t result }
+{
+    Ahead::Broken(Refusal::TooLong { length })
+}
+
+/// What the body of a frame at this offset is.
+fn read_body(alloc: Global, offset: u64, body: &[u8]) -> Ahead
+    ensures { (t : Tail) (rest : List ℕ) → t.offset ≡ offset → cut t.bytes ≡ whole body.now rest → IsAhead t result }
+{
+    match Command::read(alloc, body) {
+        Err(_) => Ahead::NoMemory,
+        Ok(Err(_)) => Ahead::Broken(Refusal::BadFrame { offset }),
+        Ok(Ok(command)) => apart(command),
+    }
+}
+
+/// A command, with BYE told apart.
+fn apart(command: Command) -> Ahead
+    ensures { result ≡ ahead_of command }
+{
+    match command {
+        Command::Bye => Ahead::Bye,
+        command => Ahead::Command(command),
+    }
+}
+
+/// The bytes of an upload, where they are a blob, or the refusal of their check.
+fn check(blob: Bytes) -> Result<Bytes, Refusal>
+    ensures { result ≡ check_blob blob }
+{
+    match decode(blob.as_slice()) {
+        Ok(_) => Ok(blob),
+        Err(cause) => Err(Refusal::BadBlob(cause)),
+    }
+}
+
+/// The act for a command. An upload is checked here, and not in the act.
+pub fn act_of(command: Command) -> Act
+    ensures { result ≡ act_of_command command }
+{
+    match command {
+        Command::Blob { file, blob } => Act::Blob {
+            name: file,
+            checked: check(blob),
+        },
+        command => Act::Plain(command),
+    }
+}

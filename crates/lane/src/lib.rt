@@ -1,0 +1,15 @@
+//! A lane: one command session, from the bytes of a source to the bytes of a sink.
+#![tactic(auto)]
+
+mod commands;
+mod ending;
+mod input;
+mod port;
+mod run;
+
+pub use port::{LaneReport, Port};
+pub use run::run_alone;
+
+
+#[cfg(test)]
+mod tests;

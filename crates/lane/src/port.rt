@@ -1,0 +1,18 @@
+//! What a lane reads and writes, and what is told of it in the end.
+
+use store_model::Ending;
+
+/// Where a lane's commands come from, and where its replies go.
+#[derive(Drop)]
+pub struct Port<S, K> {
+    pub source: S,
+    pub sink: K,
+}
+
+/// How a lane was served: how many bytes it took of its source, how many it gave its sink, and how it ended.
+#[derive(Clone, Copy, Debug, PartialEq, Eq)]
+pub struct LaneReport {
+    pub taken: u64,
+    pub given: u64,
+    pub ending: Ending,
+}

@@ -1,0 +1,251 @@
+//! The loop of a lane.
+
+ghost use Rattle.std.specs.Prelude.{◌≡◌, ◌≤◌, ◌<◌, ◌+◌, ◌^◌, ℕ, [], Some, IfSome, IfNone};
+ghost use Rattle.wire_commands.specs.HasText.{ReplyHasText};
+ghost use Rattle.store_history.specs.Acts.{IsWellFormed};
+ghost use Rattle.core_state.specs.Entering.{held_by};
+ghost use Rattle.core_state.specs.History.{History, StandsFor};
+ghost use Rattle.lane.specs.Acting.{IsNoEnd, Answers, AnswersShort, LeavesReserve};
+ghost use Rattle.lane.specs.Causes.{HasCauses};
+ghost use Rattle.lane.specs.Fronts.{IsCommandAhead};
+ghost use Rattle.lane.specs.Ran.{RanAlone};
+ghost use Rattle.lane.specs.Turns.{GoesOn, LeavesHeld, ending_of, HasEnded};
+ghost use Rattle.wire_frames.specs.Frames.{short, cut};
+
+use crate::commands::{Ahead, act_of, read_front};
+use crate::ending::{Last, close};
+use crate::input::{Input, Taken};
+use crate::port::{LaneReport, Port};
+use core_state::{Act, Answer, Core};
+use disk_trait::Disk;
+use port_traits::{Clock, Gate, Sink, Source};
+use shared_store::apply;
+use std::alloc::Global;
+use store_model::Ending;
+use store_types::Refusal;
+use wire_commands::{Command, Reply};
+
+/// What a lane has done so far.
+#[derive(Drop)]
+struct Progress {
+    input: Input,
+    /// How many bytes its sink was given.
+    given: u64,
+    /// How many commands it has done.
+    number: u64,
+}
+
+/// Serves one command session, from its first byte to its end.
+pub fn run_alone<D: Disk, E, C: Clock, S: Source, K: Sink, G: Gate>(
+    core: &mut Core<D, E, C>,
+    alloc: Global,
+    lane: u32,
+    port: &mut Port<S, K>,
+    gate: &G,
+) -> LaneReport
+    requires lane { lane < 64 }
+    requires room { 3 ≤ held_by core.old.journal lane }
+    ensures ran { (h : History) → StandsFor D.honest D.content D.calls C.readings core.old h → h.events ≡ []
+        → RanAlone (StandsFor D.honest D.content D.calls C.readings core.new) h lane (S.left port.old.source) (S.left port.new.source) (K.taken port.old.sink) (K.taken port.new.sink) result }
+    ensures causes { HasCauses (S.faults port.old.source) (S.faults port.new.source) (K.faults port.old.sink) (K.faults port.new.sink) result.taken (Some result.ending) }
+    ensures budget { result.taken ≤ 2 ^ 40 }
+    ensures remote { core.new.remote ≡ core.old.remote }
+    ensures disk { D.faults core.old.parts.disk ≤ D.faults core.new.parts.disk }
+{
+    let mut progress = Progress {
+        input: Input::new(alloc),
+        given: 0,
+        number: 0,
+    };
+    loop {
+        if let Some(last) = turn(core, alloc, lane, port, gate, &mut progress) {
+            let ending = close(core, alloc, lane, &mut port.sink, &mut progress.given, last);
+            return LaneReport {
+                taken: progress.input.taken,
+                given: progress.given,
+                ending,
+            };
+        }
+    }
+}
+
+/// Answers what stands next, or takes more of the input. Some is how the commands came to an end.
+fn turn<D: Disk, E, C: Clock, S: Source, K: Sink, G: Gate>(
+    core: &mut Core<D, E, C>,
+    alloc: Global,
+    lane: u32,
+    port: &mut Port<S, K>,
+    gate: &G,
+    progress: &mut Progress,
+) -> Option<Last>
+    requires lane { lane < 64 }
+    requires room { 3 ≤ held_by core.old.journal lane }
+    ensures goes { GoesOn (StandsFor D.honest D.content D.calls C.readings core.old) (StandsFor D.honest D.content D.calls C.readings core.new) lane
+        (S.left port.old.source) (S.left port.new.source) (K.taken port.old.sink) (K.taken port.new.sink)
+        progress.old.input progress.new.input progress.old.given progress.new.given result }
+    ensures text { IfSome result (λ last. IfSome last.words ReplyHasText) }
+    ensures room { LeavesHeld core.new.journal lane result }
+    ensures causes { HasCauses (S.faults port.old.source) (S.faults port.new.source) (K.faults port.old.sink) (K.faults port.new.sink) progress.new.input.taken (ending_of result) }
+    ensures further { IfNone result (progress.old.input.taken + progress.old.input.front < progress.new.input.taken + progress.new.input.front) }
+    ensures remote { core.new.remote ≡ core.old.remote }
+    ensures disk { D.faults core.old.parts.disk ≤ D.faults core.new.parts.disk }
+{
+    match read_front(alloc, &progress.input.cutter) {
+        Ahead::Part => more(core, alloc, lane, port, progress),
+        Ahead::Command(command) => serve(core, alloc, lane, port, gate, progress, command),
+        Ahead::Bye => Some(Last {
+            ending: Ending::Clean,
+            words: Some(Reply::Done),
+        }),
+        Ahead::Broken(refusal) => Some(broken(progress.input.front, refusal)),
+        Ahead::NoMemory => {
+            let ending = short(core, alloc, lane, &mut port.sink, &mut progress.given);
+            Some(untold(ending))
+        }
+    }
+}
+
+fn untold(ending: Ending) -> Last
+    ensures { result ≡ record { ending = ending; words = None } }
+{
+    Last {
+        ending,
+        words: None,
+    }
+}
+
+fn broken(place: u64, refusal: Refusal) -> Last
+    ensures { result ≡ record { ending = Ending.Broken place; words = Some (Reply.Refused refusal) } }
+{
+    Last {
+        ending: Ending::Broken { place },
+        words: Some(Reply::Refused(refusal)),
+    }
+}
+
+/// What ends a lane whose input has ended.
+fn ended(input: &Input) -> Last
+    ensures ending { HasEnded input.now result }
+    ensures text { IfSome result.words ReplyHasText }
+{
+    if input.front == input.taken {
+        untold(Ending::Clean)
+    } else {
+        let offset = input.front;
+        broken(offset, Refusal::BadFrame { offset })
+    }
+}
+
+/// Takes more of the input.
+fn more<D: Disk, E, C: Clock, S: Source, K: Sink>(
+    core: &mut Core<D, E, C>,
+    alloc: Global,
+    lane: u32,
+    port: &mut Port<S, K>,
+    progress: &mut Progress,
+) -> Option<Last>
+    requires lane { lane < 64 }
+    requires room { 3 ≤ held_by core.old.journal lane }
+    requires part { cut progress.old.input.cutter.bytes ≡ short }
+    ensures goes { GoesOn (StandsFor D.honest D.content D.calls C.readings core.old) (StandsFor D.honest D.content D.calls C.readings core.new) lane
+        (S.left port.old.source) (S.left port.new.source) (K.taken port.old.sink) (K.taken port.new.sink)
+        progress.old.input progress.new.input progress.old.given progress.new.given result }
+    ensures text { IfSome result (λ last. IfSome last.words ReplyHasText) }
+    ensures room { LeavesHeld core.new.journal lane result }
+    ensures causes { HasCauses (S.faults port.old.source) (S.faults port.new.source) (K.faults port.old.sink) (K.faults port.new.sink) progress.new.input.taken (ending_of result) }
+    ensures further { IfNone result (progress.old.input.taken + progress.old.input.front < progress.new.input.taken + progress.new.input.front) }
+    ensures remote { core.new.remote ≡ core.old.remote }
+    ensures disk { D.faults core.old.parts.disk ≤ D.faults core.new.parts.disk }
+{
+    match progress.input.take(&mut port.source) {
+        Taken::More => None,
+        Taken::End => Some(ended(&progress.input)),
+        Taken::Fault => Some(untold(Ending::SourceFault)),
+        Taken::TooLong => Some(untold(Ending::SourceTooLong)),
+        Taken::NoMemory => {
+            let ending = short(core, alloc, lane, &mut port.sink, &mut progress.given);
+            Some(untold(ending))
+        }
+    }
+}
+
+/// Does a command, gives its reply to the sink, and moves past it. Some is how the commands come to an end.
+fn serve<D: Disk, E, C: Clock, S: Source, K: Sink, G: Gate>(
+    core: &mut Core<D, E, C>,
+    alloc: Global,
+    lane: u32,
+    port: &mut Port<S, K>,
+    gate: &G,
+    progress: &mut Progress,
+    command: Command,
+) -> Option<Last>
+    requires lane { lane < 64 }
+    requires room { 3 ≤ held_by core.old.journal lane }
+    requires ahead { IsCommandAhead progress.old.input.cutter command }
+    ensures goes { GoesOn (StandsFor D.honest D.content D.calls C.readings core.old) (StandsFor D.honest D.content D.calls C.readings core.new) lane
+        (S.left port.old.source) (S.left port.new.source) (K.taken port.old.sink) (K.taken port.new.sink)
+        progress.old.input progress.new.input progress.old.given progress.new.given result }
+    ensures text { IfSome result (λ last. IfSome last.words ReplyHasText) }
+    ensures room { LeavesHeld core.new.journal lane result }
+    ensures causes { HasCauses (S.faults port.old.source) (S.faults port.new.source) (K.faults port.old.sink) (K.faults port.new.sink) progress.new.input.taken (ending_of result) }
+    ensures further { IfNone result (progress.old.input.taken + progress.old.input.front < progress.new.input.taken + progress.new.input.front) }
+    ensures remote { core.new.remote ≡ core.old.remote }
+    ensures disk { D.faults core.old.parts.disk ≤ D.faults core.new.parts.disk }
+{
+    let act = act_of(command);
+    gate.before(lane, progress.number);
+    let ending = do_act(core, alloc, lane, &mut port.sink, &mut progress.given, act);
+    gate.after(lane, progress.number);
+    progress.number = progress.number.saturating_add(1);
+    progress.input.advance();
+    Some(untold(ending?))
+}
+
+/// Answers want of memory, which ends the commands.
+fn short<D: Disk, E, C: Clock, K: Sink>(
+    core: &mut Core<D, E, C>,
+    alloc: Global,
+    lane: u32,
+    sink: &mut K,
+    given: &mut u64,
+) -> Ending
+    requires lane { lane < 64 }
+    requires room { 3 ≤ held_by core.old.journal lane }
+    ensures answers { AnswersShort (StandsFor D.honest D.content D.calls C.readings core.old) (StandsFor D.honest D.content D.calls C.readings core.new) lane (K.taken sink.old) (K.taken sink.new) given.old given.new result }
+    ensures room { 2 ≤ held_by core.new.journal lane }
+    ensures causes { (source size : ℕ) → HasCauses source source (K.faults sink.old) (K.faults sink.new) size (Some result) }
+    ensures remote { core.new.remote ≡ core.old.remote }
+    ensures disk { D.faults core.old.parts.disk ≤ D.faults core.new.parts.disk }
+{
+    do_act(core, alloc, lane, sink, given, Act::Short).unwrap_or(Ending::NoMemory)
+}
+
+/// Does an act, and gives its reply to the sink. Some is how the commands come to an end.
+fn do_act<D: Disk, E, C: Clock, K: Sink>(
+    core: &mut Core<D, E, C>,
+    alloc: Global,
+    lane: u32,
+    sink: &mut K,
+    given: &mut u64,
+    act: Act,
+) -> Option<Ending>
+    requires lane { lane < 64 }
+    requires room { 3 ≤ held_by core.old.journal lane }
+    requires formed { IsWellFormed act }
+    requires no_end { IsNoEnd act }
+    ensures answers { Answers (StandsFor D.honest D.content D.calls C.readings core.old) (StandsFor D.honest D.content D.calls C.readings core.new) lane act (K.taken sink.old) (K.taken sink.new) given.old given.new result }
+    ensures room { LeavesReserve core.old.journal core.new.journal lane result }
+    ensures causes { (source size : ℕ) → HasCauses source source (K.faults sink.old) (K.faults sink.new) size result }
+    ensures remote { core.new.remote ≡ core.old.remote }
+    ensures disk { D.faults core.old.parts.disk ≤ D.faults core.new.parts.disk }
+{
+    let Answer { reply, last, .. } = apply(core, alloc, lane, act);
+    let Some(reply) = reply else {
+        unreachable!();
+    };
+    match reply.put_counted(sink, given) {
+        Err(_) => Some(Ending::SinkFault),
+        Ok(()) if last => Some(Ending::NoMemory),
+        Ok(()) => None,
+    }
+}
