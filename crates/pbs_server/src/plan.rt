@@ -29,6 +29,7 @@ pub enum WordFault {
 }
 
 /// A root and a session, as they stand among the words.
+#[derive(Clone, Copy)]
 struct Run<'a> {
     root: &'a str,
     session: &'a str,

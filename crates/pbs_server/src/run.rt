@@ -36,7 +36,7 @@ pub fn not_served<D, E>(alloc: Global, status: Status, disk: D, remote: Option<E
 }
 
 /// What the core was made of, with its order.
-fn handed_back<D, E, C>(
+fn handed_back<D, E, C: Drop>(
     core: Core<D, E, C>,
     lanes: Vec<LaneReport>,
     ending: Ending,
@@ -72,7 +72,7 @@ fn handed_back<D, E, C>(
 }
 
 /// Opens the datastore and serves one session on it.
-pub fn serve_alone<D: Disk, E, C: Clock, S: Source, K: Sink, G: Gate>(
+pub fn serve_alone<D: Disk, E, C: Clock + Drop, S: Source, K: Sink, G: Gate>(
     alloc: Global,
     port: &mut Port<S, K>,
     disk: D,

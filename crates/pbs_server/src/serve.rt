@@ -24,7 +24,7 @@ fn sessions_of(plan: &Plan) -> usize
 
 /// Does what the words ask for: `run ROOT SESSION` serves one session on the disk. A port is a session's source, and the
 /// sink of its replies. The disk and the remote are handed back in every case. Nothing is written to the journal.
-pub fn serve<D: Disk, E: Disk, C: Clock, S: Source, K: Sink, J: Sink, G: Gate>(
+pub fn serve<D: Disk, E: Disk, C: Clock + Drop, S: Source, K: Sink, J: Sink, G: Gate>(
     alloc: Global,
     words: &[String],
     lanes: &mut [Port<S, K>],
