@@ -1,1 +1,3 @@
 pub mod Woven
+pub mod Statuses
+pub mod Leaving

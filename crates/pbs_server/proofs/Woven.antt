@@ -69,7 +69,7 @@ either_false true b e = absurd (true_false e)
     true_false x = cc
 
 not_five : (n : ℕ) → n == 5 ≡ false → n ≡ 5 → ⊥
-not_five n no is = absurd (true_false (sym (subst (λ x. x == 5 ≡ true) (sym is) refl) ∙ no))
+not_five n differs is = absurd (true_false (sym (subst (λ x. x == 5 ≡ true) (sym is) refl) ∙ differs))
   where
     true_false : true ≡ false → ⊥
     true_false x = cc
@@ -119,3 +119,12 @@ is_plain is_honest content calls_of readings core R clock calls left left' taken
         → IfSome c (λ x. Rattle.store_history.specs.Legal.IsTimed x 0 ran.events)
     timed None t = t
     timed (Some c) t = t.0
+
+-- the same of what was handed back
+pub plain_as : (R : Option (List Snapshot)) (clock : Option Readings) (before : ℕ) (left left' taken taken' : Option (List ℕ)) (order order' : List Entry) (calls calls' : List ℕ) (report : LaneReport) (files files' : Files)
+    → order' ≡ order → calls' ≡ calls → files' ≡ files
+    → IsPlain R clock before left left' taken taken' order calls report files → IsPlain R clock before left left' taken taken' order' calls' report files'
+plain_as R clock before left left' taken taken' order order' calls calls' report files files' a b c plain =
+    subst (λ o. IsPlain R clock before left left' taken taken' o calls' report files') (sym a)
+    (subst (λ n. IsPlain R clock before left left' taken taken' order n report files') (sym b)
+    (subst (λ f. IsPlain R clock before left left' taken taken' order calls report f) (sym c) plain))

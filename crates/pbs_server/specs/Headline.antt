@@ -1,5 +1,5 @@
 -- What a run leaves, and that a session is answered as the plain store answers it.
-use Rattle.std.specs.Prelude.{◌≡◌, ◌≤◌, ◌^◌, ◌↔◌, ◌⊎◌, ℕ, Bool, false, true, List, [], ◌∷◌, ◌++◌, map, length, Option, Some, None, IfSome, IsSome, IsTrue, Ok, string_bytes}
+use Rattle.std.specs.Prelude.{◌≡◌, ◌≤◌, ◌^◌, ◌⊎◌, ℕ, false, List, [], ◌∷◌, map, length, Option, Some, IfSome, IsSome, IsTrue, Ok}
 use Rattle.port_traits.specs.Bytes.{WritesCounted}
 use Rattle.port_traits.specs.Readings.{Readings}
 use Rattle.disk_trait.specs.Files.{Files}
@@ -17,7 +17,7 @@ use Rattle.lane.specs.declared.port.LaneReport.{LaneReport}
 use Rattle.lane.specs.declared.port.Port.{Port}
 use Rattle.lane.specs.Acting.{gave_all}
 use Rattle.lane.specs.Causes.{HasCauses}
-use Rattle.lane.specs.Ran.{Took, ReadsOut}
+use Rattle.lane.specs.Ran.{Took, EndsRead}
 use Rattle.pbs_server.specs.declared.served.Served.{Served}
 use Rattle.pbs_server.specs.declared.status.Status.TheVariants as statuses
 use Rattle.pbs_server.specs.Statuses.{has_kind, status_by}
@@ -42,7 +42,7 @@ pub record IsPlain (remote : Option (List Snapshot)) (readings : Option Readings
   pub order_is : order ≡ entries events
   pub calls_are : calls ≡ map (λ e. e.calls) events
   -- a session that ends cleanly, or where no command stands, was read to there
-  pub read_out : (acts : List Event) × (ends : List Event) × (events ≡ acts ++ ends) × ReadsOut report.ending input acts ends left'
+  pub read_out : EndsRead report.ending input events left'
   pub stands : has_kind 5 order ≡ false → StandsFor files store.snapshots
 
 -- One session was served.

@@ -1,5 +1,5 @@
 -- The status of a run.
-use Rattle.std.specs.Prelude.{ℕ, Bool, true, false, List, ◌==◌, if◌then◌else◌}
+use Rattle.std.specs.Prelude.{ℕ, Bool, true, false, List, codes, ◌==◌, if◌then◌else◌}
 use Rattle.std.specs.List.{list_any}
 use Rattle.store_types.specs.declared.order.Entry.{Entry}
 use Rattle.store_model.specs.declared.ending.Ending.{Ending}
@@ -46,3 +46,17 @@ number_of statuses.Unequal = 8
 number_of statuses.SourceTooLong = 9
 number_of statuses.RemoteFault = 10
 number_of statuses.BadOrder = 11
+
+abbrev pub name_of : Status → List ℕ
+name_of statuses.Ok = codes "Ok"
+name_of statuses.BadFrame = codes "BadFrame"
+name_of statuses.Usage = codes "Usage"
+name_of statuses.DiskFault = codes "DiskFault"
+name_of statuses.SourceFault = codes "SourceFault"
+name_of statuses.SinkFault = codes "SinkFault"
+name_of statuses.NoMemory = codes "NoMemory"
+name_of statuses.TooManyLanes = codes "TooManyLanes"
+name_of statuses.Unequal = codes "Unequal"
+name_of statuses.SourceTooLong = codes "SourceTooLong"
+name_of statuses.RemoteFault = codes "RemoteFault"
+name_of statuses.BadOrder = codes "BadOrder"

@@ -38,7 +38,3 @@ abbrev pub IsReadBy : Option Said → Result Plan WordFault → Type 0
 IsReadBy said (Ok plan) = (s : Said) × (said ≡ Some s) × IsPlan s plan
 IsReadBy said (Err NoReading) = said ≡ None
 IsReadBy said (Err NoMemory) = (s : Said) × (said ≡ Some s)
-
--- the sessions that a plan names
-abbrev pub sessions_in : Plan → List (List ℕ)
-sessions_in (Run root remote order sessions) = map string_bytes sessions.items

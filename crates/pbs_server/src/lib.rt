@@ -4,11 +4,11 @@
 mod plan;
 mod run;
 mod served;
-mod serve;
+mod serving;
 mod status;
 
 pub use plan::{Plan, WordFault, plan_words};
-pub use serve::serve;
+pub use serving::serve;
 pub use served::{RunReport, Served, Unequal};
 pub use status::Status;
 

@@ -1,7 +1,7 @@
 //! The words of the command line.
 
 ghost use Rattle.std.specs.Prelude.{◌≡◌, map, string_bytes, option_map, IfOk};
-ghost use Rattle.pbs_server.specs.Words.{IsReadBy, Said, reading, is_value};
+ghost use Rattle.pbs_server.specs.Words.{IsPlan, IsReadBy, reading, is_value};
 
 use std::alloc::{AllocError, Global};
 use thiserror::Error;
@@ -30,9 +30,9 @@ pub enum WordFault {
 
 /// A root and a session, as they stand among the words.
 #[derive(Clone, Copy)]
-struct Run<'a> {
-    root: &'a str,
-    session: &'a str,
+pub struct Run<'a> {
+    pub root: &'a str,
+    pub session: &'a str,
 }
 
 /// The word is no option: it begins with no dash, or is one dash alone.
@@ -42,8 +42,8 @@ fn names_value(word: &str) -> bool
     word == "-" || !word.starts_with('-')
 }
 
-/// Reads `run ROOT SESSION`.
-fn read_run(words: &[String]) -> Option<Run<'_>>
+/// Reads `run ROOT SESSION`. It takes no memory.
+pub fn read_run(words: &[String]) -> Option<Run<'_>>
     ensures { option_map (λ r. record { root = r.root.now; session = r.session.now }) result ≡ reading (map string_bytes words.now) }
 {
     let [command, root, session] = words else {
@@ -59,7 +59,9 @@ fn read_run(words: &[String]) -> Option<Run<'_>>
 }
 
 /// The plan with texts of its own.
-fn owned(alloc: Global, run: &Run<'_>) -> Result<Plan, AllocError> {
+fn owned(alloc: Global, run: &Run<'_>) -> Result<Plan, AllocError>
+    ensures { IfOk result (IsPlan (record { root = run.now.root.now; session = run.now.session.now })) }
+{
     let root = String::from_str(alloc, run.root)?;
     let mut sessions = Vec::with_capacity(alloc, 1)?;
     sessions.push(String::from_str(alloc, run.session)?)?;

@@ -1,6 +1,6 @@
 //! A run of one lane.
 
-ghost use Rattle.std.specs.Prelude.{◌≡◌, ◌∷◌, [], None};
+ghost use Rattle.std.specs.Prelude.{◌≡◌, ◌≢◌, ◌∷◌, [], None};
 ghost use Rattle.pbs_server.specs.Headline.{Leaves};
 ghost use Rattle.pbs_server.specs.Statuses.{status_by};
 
@@ -82,6 +82,7 @@ pub fn serve_alone<D: Disk, E, C: Clock + Drop, S: Source, K: Sink, G: Gate>(
 ) -> Served<D, E>
     ensures leaves { Leaves D.honest D.content D.calls D.faults S.left S.faults K.taken K.faults (C.readings clock) disk remote result
         (port.old ∷ []) (port.new ∷ []) result.report.lanes.items }
+    ensures status { result.status ≢ Status.Usage }
     ensures unequal { result.report.unequal ≡ None }
 {
     let Ok(mut reports) = Vec::with_capacity(alloc, 1) else {

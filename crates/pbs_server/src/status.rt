@@ -1,8 +1,7 @@
 //! What a run is answered.
 
-ghost use Rattle.std.specs.Prelude.{◌≡◌, ◌==◌};
-ghost use Rattle.std.specs.List.{list_any};
-ghost use Rattle.pbs_server.specs.Statuses.{has_kind, status_by, status_of_ending, number_of};
+ghost use Rattle.std.specs.Prelude.{◌≡◌};
+ghost use Rattle.pbs_server.specs.Statuses.{has_kind, status_by, status_of_ending};
 
 use lane::Ending;
 use store_types::Entry;
@@ -38,7 +37,7 @@ pub enum Status {
 
 impl Status {
     ghost use Rattle.std.specs.Prelude.{◌≡◌};
-    ghost use Rattle.pbs_server.specs.Statuses.{number_of};
+    ghost use Rattle.pbs_server.specs.Statuses.{name_of, number_of};
 
     /// The exit status.
     pub fn number(self) -> u8
@@ -61,7 +60,9 @@ impl Status {
     }
 
     /// The name that the program prints.
-    pub fn name(self) -> &'static str {
+    pub fn name(self) -> &'static str
+        ensures { result.now ≡ name_of self }
+    {
         match self {
             Status::Ok => "Ok",
             Status::BadFrame => "BadFrame",

@@ -2,9 +2,8 @@
 
 ghost use Rattle.std.specs.Prelude.{◌≡◌, ◌↔◌, None, map, length, string_bytes};
 ghost use Rattle.pbs_server.specs.Headline.{Leaves, IsAsked};
-ghost use Rattle.pbs_server.specs.Words.{sessions_in};
 
-use crate::plan::{Plan, WordFault, plan_words};
+use crate::plan::read_run;
 use crate::run::{not_served, serve_alone};
 use crate::served::Served;
 use crate::status::Status;
@@ -12,15 +11,6 @@ use disk_trait::Disk;
 use lane::Port;
 use port_traits::{Clock, Gate, Sink, Source};
 use std::alloc::Global;
-
-/// How many sessions the plan asks for.
-fn sessions_of(plan: &Plan) -> usize
-    ensures { result ≡ length (sessions_in plan.now) }
-{
-    match plan {
-        Plan::Run { sessions, .. } => sessions.len(),
-    }
-}
 
 /// Does what the words ask for: `run ROOT SESSION` serves one session on the disk. A port is a session's source, and the
 /// sink of its replies. The disk and the remote are handed back in every case. Nothing is written to the journal.
@@ -40,13 +30,10 @@ pub fn serve<D: Disk, E: Disk, C: Clock + Drop, S: Source, K: Sink, J: Sink, G: 
     ensures unequal { result.report.unequal ≡ None }
     ensures journal { journal.new ≡ journal.old }
 {
-    let plan = match plan_words(alloc, words) {
-        Ok(plan) => plan,
-        Err(WordFault::NoReading) => return not_served(alloc, Status::Usage, disk, remote),
-        Err(WordFault::NoMemory) => return not_served(alloc, Status::NoMemory, disk, remote),
-    };
     match lanes {
-        [port] if sessions_of(&plan) == 1 => serve_alone(alloc, port, disk, remote, clock, gate),
+        [port] if read_run(words).is_some() => {
+            serve_alone(alloc, port, disk, remote, clock, gate)
+        }
         _ => not_served(alloc, Status::Usage, disk, remote),
     }
 }

@@ -1,0 +1,32 @@
+-- Which statuses a run of one lane has.
+use Rattle.std.proofs.Common.{◌≡◌, Bool, true, false, List, if◌then◌else◌}
+use Rattle.store_types.specs.declared.order.Entry.{Entry}
+use Rattle.store_model.specs.declared.ending.Ending.{Ending}
+use Rattle.store_model.specs.declared.ending.Ending.TheVariants as endings
+use Rattle.pbs_server.specs.declared.status.Status.{Status}
+use Rattle.pbs_server.specs.declared.status.Status.TheVariants as statuses
+use Rattle.pbs_server.specs.Statuses.{has_kind, status_by, status_of_ending, is_short}
+
+abbrev IsOther : Status → Type 0
+IsOther s = s ≡ statuses.Usage → ⊥
+
+memory_other : IsOther statuses.NoMemory
+memory_other e = cc
+
+ending_other : (e : Ending) → IsOther (status_of_ending e)
+ending_other endings.Clean is = cc
+ending_other (endings.Broken place) is = cc
+ending_other endings.SourceFault is = cc
+ending_other endings.SinkFault is = cc
+ending_other endings.SourceTooLong is = cc
+ending_other endings.NoMemory is = cc
+
+chosen : (a b c : Bool) (s : Status) → IsOther s → IsOther (if a then statuses.NoMemory else if b then statuses.NoMemory else if c then statuses.DiskFault else s)
+chosen true b c s other is = memory_other is
+chosen false true c s other is = memory_other is
+chosen false false true s other is = cc
+chosen false false false s other is = other is
+
+-- a session that was served is never answered Usage
+pub served_other : (order : List Entry) (e : Ending) → status_by order e ≡ statuses.Usage → ⊥
+served_other order e is = chosen (has_kind 2 order) (is_short e) (has_kind 5 order) (status_of_ending e) (ending_other e) is

@@ -1,0 +1,32 @@
+use Rattle.std.proofs.Common.{◌∷◌, ◌++◌, [], refl, ap, sym, ◌∙◌, arith}
+use Rattle.core_state.specs.History.{began}
+use Rattle.core_state.specs.Opening.{opening_at}
+use Rattle.pbs_server.specs.Statuses.{status_by}
+use Rattle.pbs_server.proofs.Leaving.{leaves_one}
+use Rattle.pbs_server.proofs.Statuses.{served_other}
+use Rattle.pbs_server.proofs.Woven.{is_plain, plain_as}
+use Rattle.pbs_server.proofs.run.serve_alone.Goals as goal
+
+pub returns-in-Ok-open_on-clause-leaves : goal.returns-in-Ok-open_on-clause-leaves
+returns-in-Ok-open_on-clause-leaves g c = let d = g.D.Disk in let s = g.S.Source in let k = g.K.Sink in
+    let report = c.run_alone-report.result in
+    let back = c.handed_back.ensures in
+    let core = c.run_alone-report.new.core in
+    let readings = g.C.Clock.readings c.args.clock in
+    leaves_one d.honest d.content d.calls d.faults s.left s.faults k.taken k.faults readings c.args.disk c.args.remote c.handed_back.result c.args.port.now c.run_alone-report.new.port _ report
+    (ap (λ v. v.items) back.lanes ∙ c.push_reserved.ensures.items ∙ ap (λ xs. xs ++ report ∷ []) c.in-Ok.ensures.items)
+    (record {
+      plain = λ R honest stands.
+          plain_as R readings (d.calls c.args.disk) (s.left c.args.port.now.source) (s.left c.run_alone-report.new.port.source) (k.taken c.args.port.now.sink) (k.taken c.run_alone-report.new.port.sink)
+          _ _ _ _ report _ _ (ap (λ v. v.items) back.order) (ap (λ v. v.items) back.calls) (ap d.content back.disk)
+          (is_plain d.honest d.content d.calls g.C.Clock.readings core R readings (d.calls c.args.disk) _ _ _ _ report
+          (c.run_alone-report.ensures.ran (began (opening_at (d.calls c.args.disk)) R readings) (c.in-Ok-open_on.ensures.opened R honest stands) refl));
+      status = back.status ∙ ap (λ v. status_by v.items report.ending) (sym back.order);
+      causes = c.run_alone-report.ensures.causes;
+      budget = c.run_alone-report.ensures.budget;
+      faults = let a = ap d.faults c.in-Ok-open_on.ensures.disk in let b = ap d.faults back.disk in omega (arith, a, b, c.run_alone-report.ensures.disk);
+      remote_is = back.remote ∙ c.run_alone-report.ensures.remote ∙ c.in-Ok-open_on.ensures.remote;
+    })
+
+pub returns-in-Ok-open_on-clause-status : goal.returns-in-Ok-open_on-clause-status
+returns-in-Ok-open_on-clause-status g c = λ is. served_other (c.run_alone-report.new.core.journal).entries.items c.run_alone-report.result.ending (sym c.handed_back.ensures.status ∙ is)
