@@ -10,6 +10,5 @@ mod run;
 pub use port::{LaneReport, Port};
 pub use run::run_alone;
 
-
 #[cfg(test)]
 mod tests;
