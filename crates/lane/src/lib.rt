@@ -9,6 +9,7 @@ mod run;
 
 pub use port::{LaneReport, Port};
 pub use run::run_alone;
+pub use store_model::Ending;
 
 #[cfg(test)]
 mod tests;
