@@ -1,6 +1,5 @@
 -- What the answer of an act tells.
-use Rattle.std.proofs.Common.{◌≡◌, ◌≤◌, ◌+◌, ℕ, zero, suc, Bool, true, false, List, [], ◌∷◌, ◌++◌, Option, Some, None, IsSome, refl, sym, ap, subst, ◌∙◌, arith, ◌==◌}
-use Rattle.std.proofs.lemmas.Bool.{eq-eqb}
+use Rattle.std.proofs.Common.{◌≡◌, ℕ, zero, suc, Bool, List, [], ◌∷◌, ◌++◌, Option, Some, None, IsSome, refl, sym, ap, subst}
 use Rattle.store_files.specs.Archive.{Snapshot}
 use Rattle.wire_commands.specs.declared.command.Command.{Command}
 use Rattle.wire_commands.specs.declared.command.Command.TheVariants as commands
@@ -9,7 +8,7 @@ use Rattle.store_history.specs.declared.act.Act.{Act}
 use Rattle.store_history.specs.declared.act.Act.TheVariants as acts
 use Rattle.store_history.specs.declared.act.Answer.{Answer}
 use Rattle.store_history.specs.declared.act.Event.{Event}
-use Rattle.store_history.specs.Acts.{act_of_command, Class, wanting, ending, class_of}
+use Rattle.store_history.specs.Acts.{act_of_command, wanting, ending, class_of}
 use Rattle.store_history.specs.History.{World, moved, after, after_all, lane, moment, kind, reply, EntryKind, kind_of, step_kind, short_kind, fault_kind, end_kind, no_kind}
 use Rattle.store_model.specs.Weave.{first_fault}
 use Rattle.store_history.specs.Legal.{Right, IsRight, IsLegal}

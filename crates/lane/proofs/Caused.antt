@@ -1,5 +1,5 @@
 -- Causes of endings, one after another.
-use Rattle.std.proofs.Common.{◌≡◌, ◌≤◌, ◌+◌, ◌-◌, ◌^◌, ℕ, min, Option, Some, None, refl, sym, subst, arith}
+use Rattle.std.proofs.Common.{◌≡◌, ◌≤◌, ℕ, Option, Some, None, sym, subst, arith}
 use Rattle.std.specs.Option.{unwrap_or}
 use Rattle.port_traits.specs.Faults.{Rose}
 use Rattle.store_model.specs.declared.ending.Ending.{Ending}

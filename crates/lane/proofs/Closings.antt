@@ -1,10 +1,8 @@
 -- The last of a lane: its end, and the reply behind it.
-use Rattle.std.proofs.Common.{◌≡◌, ◌≢◌, ℕ, ◌+◌, ◌<◌, ◌≤◌, Bool, true, false, List, [], ◌∷◌, ◌++◌, length, Option, Some, None, refl, sym, ap, subst, ◌∙◌, arith, append-nil, append_assoc, option_to_list, ◌⊎◌, inl, inr}
-use Rattle.std.specs.List.{flat_map}
+use Rattle.std.proofs.Common.{◌≡◌, ◌≢◌, ℕ, true, false, List, [], ◌∷◌, ◌++◌, length, Option, Some, None, refl, sym, ap, subst, ◌∙◌, arith, append-nil, append_assoc, option_to_list, ◌⊎◌, inl, inr}
 use Rattle.std.proofs.lemmas.List.{length-append}
 use Rattle.port_traits.specs.Bytes.{TakesFrom, WritesCounted}
-use Rattle.port_traits.specs.Faults.{Rose}
-use Rattle.port_traits.proofs.BytesLemmas.{WritesCounted-then, WritesCounted-stopped}
+use Rattle.port_traits.proofs.BytesLemmas.{WritesCounted-stopped}
 use Rattle.wire_frames.specs.Frames.{frame}
 use Rattle.wire_commands.specs.declared.reply.Reply.{Reply}
 use Rattle.wire_commands.specs.declared.reply.Reply.TheVariants.{Done, Refused}
@@ -15,18 +13,18 @@ use Rattle.store_model.specs.Lanes.{Next, plain, bye, broken, end}
 use Rattle.store_history.specs.declared.act.Act.TheVariants as acts
 use Rattle.store_history.specs.declared.act.Event.{Event}
 use Rattle.store_history.specs.declared.act.Answer.{Answer}
-use Rattle.store_history.specs.History.{kind, reply, lane, opened}
+use Rattle.store_history.specs.History.{reply, opened}
 use Rattle.store_history.specs.Legal.{IsLegal}
-use Rattle.store_history.specs.LaneRun.{Position, begin, text, next_at, heard_at, last_words, end_faulted, EndsSo, Runs, LaneRan}
+use Rattle.store_history.specs.LaneRun.{Position, text, next_at, heard_at, last_words, end_faulted, EndsSo, Runs}
 use Rattle.store_history.specs.Seats.{AreOf}
 use Rattle.store_history.proofs.Ending.{end_runs, end_again_runs, faulted_same}
 use Rattle.store_history.proofs.Longer.{of_more}
 use Rattle.core_state.specs.History.{History, then_event, event_of}
 use Rattle.core_state.specs.Answers.{EndIsTold}
 use Rattle.lane.specs.Acting.{gave_all}
-use Rattle.lane.specs.Closing.{IsEndOf, AreEndOf, EndsLane}
+use Rattle.lane.specs.Closing.{AreEndOf, EndsLane}
 use Rattle.lane.specs.Progress.{Start, HasStopped, HasWords}
-use Rattle.lane.specs.Ran.{with_events, Took, AreEnds, IsReadOut, ReadsOut, RanAlone}
+use Rattle.lane.specs.Ran.{with_events, Took, AreEnds, ReadsOut, RanAlone}
 use Rattle.lane.proofs.Acting.{second_end}
 use Rattle.lane.proofs.Turning.{gave_more, no_words}
 

@@ -1,5 +1,5 @@
 -- What stands at the front, by the frame there.
-use Rattle.std.proofs.Common.{◌≡◌, ◌≢◌, ℕ, ◌+◌, ◌<◌, ◌≤◌, ◌^◌, Bool, true, false, ◌&&◌, List, [], ◌∷◌, ◌++◌, length, take, drop, Option, Some, None, refl, sym, ap, subst, ◌∙◌, arith, nat_le}
+use Rattle.std.proofs.Common.{◌≡◌, ◌≢◌, ℕ, ◌+◌, ◌<◌, ◌≤◌, ◌^◌, Bool, true, false, ◌&&◌, List, [], ◌∷◌, ◌++◌, length, take, drop, Some, None, refl, sym, ap, subst, ◌∙◌, arith, nat_le}
 use Rattle.std.specs.Int.{w32, from_le_bytes}
 use Rattle.std.proofs.lemmas.Bool.Decides.{nat_tests}
 use Rattle.std.proofs.lemmas.List.{length-take, length-append, length-drop, take-append-le}
@@ -14,9 +14,8 @@ use Rattle.wire_commands.specs.HasText.{ReplyHasText}
 use Rattle.wire_commands.specs.Inputs.{front, cut_front, body_front}
 use Rattle.wire_commands.specs.RefusalText.{refusal_text}
 use Rattle.wire_commands.specs.ReplyText.{reply_text}
-use Rattle.store_model.specs.Lanes.{Next, plain, bye, broken, front_next, command_next}
+use Rattle.store_model.specs.Lanes.{plain, broken, front_next, command_next}
 use Rattle.store_history.specs.LaneRun.{may_want}
-use Rattle.lane.specs.declared.commands.Ahead.{Ahead}
 use Rattle.lane.specs.Fronts.{next_in, IsCommandAhead, IsLastAhead, IsAhead, IsFrontSize, ahead_of}
 
 -- ---- replies with a spelling

@@ -1,35 +1,31 @@
 -- What a lane did so far, after one act more.
-use Rattle.std.proofs.Common.{◌≡◌, ◌≢◌, ℕ, ◌+◌, ◌-◌, ◌<◌, ◌≤◌, Bool, true, false, ◌||◌, List, [], ◌∷◌, ◌++◌, length, take, Option, Some, None, refl, sym, ap, subst, ◌∙◌, arith, ◌==◌, append-nil, append_assoc}
-use Rattle.std.specs.Int.{w32, from_le_bytes}
+use Rattle.std.proofs.Common.{◌≡◌, ℕ, ◌+◌, true, false, ◌||◌, List, [], ◌∷◌, ◌++◌, length, Option, Some, None, refl, sym, ap, subst, ◌∙◌, arith, ◌==◌, append-nil, append_assoc}
 use Rattle.std.proofs.lemmas.Bool.{eq-eqb}
 use Rattle.std.proofs.lemmas.List.{length-append}
 use Rattle.port_traits.specs.Bytes.{TakesFrom, WritesCounted}
-use Rattle.wire_frames.specs.Frames.{Tail, frame, short, cut, advanced}
+use Rattle.wire_frames.specs.Frames.{Tail, short, cut, advanced}
 use Rattle.wire_commands.specs.declared.command.Command.{Command}
 use Rattle.wire_commands.specs.declared.reply.Reply.{Reply}
-use Rattle.wire_commands.specs.ReplyText.{reply_text}
 use Rattle.store_model.specs.declared.ending.Ending.{Ending}
 use Rattle.store_model.specs.declared.ending.Ending.TheVariants as endings
 use Rattle.store_model.specs.Lanes.{Next, plain, bye, broken, end}
 use Rattle.store_history.specs.declared.act.Act.{Act}
-use Rattle.store_history.specs.declared.act.Act.TheVariants as acts
 use Rattle.store_history.specs.declared.act.Answer.{Answer}
 use Rattle.store_history.specs.declared.act.Event.{Event}
 use Rattle.store_history.specs.Acts.{act_of_command}
-use Rattle.store_history.specs.History.{kind, reply, lane, opened}
+use Rattle.store_history.specs.History.{kind, reply, opened}
 use Rattle.store_history.specs.Legal.{IsLegal}
-use Rattle.store_history.specs.LaneRun.{Position, begin, text, next_at, heard, last_words, may_want, EndsSo, Runs}
-use Rattle.store_history.specs.Seats.{AreOf}
+use Rattle.store_history.specs.LaneRun.{Position, begin, text, next_at, heard, may_want, EndsSo, Runs}
 use Rattle.store_history.specs.SoFar.{Leads}
 use Rattle.store_history.proofs.Ending.{heard_plain, heard_broken, leads_command, short_runs}
 use Rattle.store_history.proofs.Growing.{leads_runs}
 use Rattle.store_history.proofs.Longer.{of_more}
 use Rattle.store_history.proofs.Wanting.{Goes, want_goes}
-use Rattle.core_state.specs.History.{History, then_event}
+use Rattle.core_state.specs.History.{History}
 use Rattle.lane.specs.declared.input.Input.{Input}
 use Rattle.lane.specs.declared.ending.Last.{Last}
 use Rattle.lane.specs.Acting.{Answers, AnswersShort, IsEndedBy, went_on, gave_all, short_ending}
-use Rattle.lane.specs.Fronts.{next_in, IsCommandAhead}
+use Rattle.lane.specs.Fronts.{IsCommandAhead}
 use Rattle.lane.specs.Progress.{Start, position, HasServed, HasStopped, HasWords}
 use Rattle.lane.specs.Ran.{with_events, Took, ReadsOut}
 use Rattle.lane.specs.Taking.{TakesInVain}

@@ -1,47 +1,34 @@
 -- What a lane did so far, after one turn more.
-use Rattle.std.proofs.Common.{◌≡◌, ◌≢◌, ℕ, ◌+◌, ◌-◌, ◌<◌, ◌≤◌, ◌^◌, Bool, true, false, ◌||◌, List, [], ◌∷◌, ◌++◌, length, take, min, Option, Some, None, IfSome, refl, sym, ap, subst, ◌∙◌, arith, ◌==◌, append-nil, append_assoc, option_to_list}
-use Rattle.std.specs.Io.KnownBytes.{prepend_known, append_known}
-use Rattle.std.specs.List.{flat_map}
-use Rattle.std.proofs.lemmas.Bool.{eq-eqb}
+use Rattle.std.proofs.Common.{◌≡◌, ◌≢◌, ℕ, ◌+◌, ◌-◌, Bool, true, false, List, [], ◌∷◌, ◌++◌, length, Option, Some, None, IfSome, refl, sym, ap, subst, ◌∙◌, arith, append-nil, append_assoc}
+use Rattle.std.specs.Io.KnownBytes.{prepend_known}
 use Rattle.std.proofs.lemmas.List.{length-append}
 use Rattle.store_types.specs.declared.refusal.Refusal.{Refusal}
 use Rattle.store_types.specs.declared.refusal.Refusal.TheVariants.{BadFrame}
 use Rattle.port_traits.specs.Bytes.{TakesFrom, WritesCounted}
 use Rattle.port_traits.proofs.BytesLemmas.{WritesCounted-then}
-use Rattle.wire_frames.specs.Frames.{Tail, frame, short, cut, advanced}
-use Rattle.wire_commands.specs.declared.command.Command.{Command}
-use Rattle.wire_commands.specs.declared.command.Command.TheVariants as commands
+use Rattle.wire_frames.specs.Frames.{Tail, frame, short, cut}
 use Rattle.wire_commands.specs.declared.reply.Reply.{Reply}
 use Rattle.wire_commands.specs.declared.reply.Reply.TheVariants.{Done, Refused}
 use Rattle.wire_commands.specs.ReplyText.{reply_text}
-use Rattle.wire_commands.specs.Inputs.{front, cut_front, no_command}
+use Rattle.wire_commands.specs.Inputs.{front, cut_front}
 use Rattle.store_model.specs.declared.ending.Ending.{Ending}
 use Rattle.store_model.specs.declared.ending.Ending.TheVariants as endings
 use Rattle.store_model.specs.Lanes.{Next, plain, bye, broken, end, front_next}
 use Rattle.store_model.specs.Weave.{is_replied}
-use Rattle.store_history.specs.declared.act.Act.TheVariants as acts
-use Rattle.store_history.specs.declared.act.Answer.{Answer}
 use Rattle.store_history.specs.declared.act.Event.{Event}
-use Rattle.store_history.specs.Acts.{act_of_command}
-use Rattle.store_history.specs.History.{kind, reply, lane, opened}
-use Rattle.store_history.specs.Legal.{IsLegal}
-use Rattle.store_history.specs.LaneRun.{Position, begin, text, next_at, heard_at, heard, last_words, may_want, EndsSo, Runs}
-use Rattle.store_history.specs.Seats.{AreOf}
+use Rattle.store_history.specs.LaneRun.{Position, begin, text, next_at, last_words, EndsSo}
 use Rattle.store_history.specs.SoFar.{Leads, grown}
-use Rattle.store_history.proofs.Ending.{next_is, next_end, heard_plain, heard_broken, leads_command, short_runs}
+use Rattle.store_history.proofs.Ending.{next_is, next_end}
 use Rattle.store_history.proofs.Growing.{leads_grown, leads_runs}
-use Rattle.store_history.proofs.Longer.{of_more}
-use Rattle.store_history.proofs.Wanting.{Goes, want_goes}
-use Rattle.core_state.specs.History.{History, then_event}
+use Rattle.core_state.specs.History.{History}
 use Rattle.lane.specs.declared.input.Input.{Input}
 use Rattle.lane.specs.declared.ending.Last.{Last}
-use Rattle.lane.specs.Acting.{Answers, IsEndedBy, went_on, gave_all}
-use Rattle.lane.specs.Fronts.{next_in, IsCommandAhead, IsLastAhead}
+use Rattle.lane.specs.Acting.{gave_all}
+use Rattle.lane.specs.Fronts.{next_in, IsLastAhead}
 use Rattle.lane.specs.Progress.{Start, position, HasServed, HasStopped, HasWords}
-use Rattle.lane.specs.Ran.{with_events, Took, ReadsOut, IsReadOut}
-use Rattle.lane.specs.Taking.{TakesMore, TakesInVain, TakesNothing, TakesTooLong, Feeds, Stays}
+use Rattle.lane.specs.Ran.{with_events, Took, ReadsOut}
+use Rattle.lane.specs.Taking.{TakesMore, TakesNothing, TakesTooLong, Stays}
 use Rattle.lane.specs.Turns.{HasEnded, between, within_frame}
-use Rattle.lane.proofs.Acting.{short_kind_is}
 
 -- ---- bytes
 

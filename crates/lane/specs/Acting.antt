@@ -1,5 +1,5 @@
 -- What one act of a lane does, with its reply.
-use Rattle.std.specs.Prelude.{ℕ, ◌≡◌, ◌≤◌, ◌+◌, Bool, true, false, List, Option, Some, None, IsSome}
+use Rattle.std.specs.Prelude.{ℕ, ◌≡◌, ◌≤◌, ◌+◌, Bool, true, false, List, Option, Some, None}
 use Rattle.port_traits.specs.Bytes.{WritesCounted}
 use Rattle.wire_frames.specs.Frames.{frame}
 use Rattle.wire_commands.specs.declared.reply.Reply.{Reply}
@@ -10,7 +10,7 @@ use Rattle.store_history.specs.declared.act.Act.{Act}
 use Rattle.store_history.specs.declared.act.Act.TheVariants as acts
 use Rattle.store_history.specs.declared.act.Answer.{Answer}
 use Rattle.store_history.specs.declared.act.Event.{Event}
-use Rattle.store_history.specs.History.{kind, reply, lane}
+use Rattle.store_history.specs.History.{reply, lane}
 use Rattle.core_state.specs.declared.journal.Journal.{Journal}
 use Rattle.core_state.specs.Entering.{held_by}
 use Rattle.core_state.specs.History.{History, then_event}

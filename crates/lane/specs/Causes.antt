@@ -1,5 +1,5 @@
 -- Why a lane's commands come to an end.
-use Rattle.std.specs.Prelude.{ℕ, ◌≡◌, ◌≤◌, ◌^◌, Option, Some, None}
+use Rattle.std.specs.Prelude.{ℕ, ◌≡◌, ◌≤◌, ◌^◌, Option, Some}
 use Rattle.port_traits.specs.Faults.{Rose}
 use Rattle.store_model.specs.declared.ending.Ending.{Ending}
 use Rattle.store_model.specs.declared.ending.Ending.TheVariants.{SourceFault, SinkFault, SourceTooLong}

@@ -1,6 +1,5 @@
 -- What stands at the front of what a lane took of its input.
 use Rattle.std.specs.Prelude.{ℕ, ◌≡◌, ◌≢◌, ◌+◌, ◌<◌, true, length}
-use Rattle.store_types.specs.declared.refusal.Refusal.{Refusal}
 use Rattle.wire_frames.specs.Frames.{Tail, short, cut, advanced}
 use Rattle.wire_commands.specs.HasText.{ReplyHasText}
 use Rattle.wire_commands.specs.Inputs.{front}

@@ -1,7 +1,7 @@
 -- What a lane did, while it runs and as its commands have come to an end.
-use Rattle.std.specs.Prelude.{ℕ, ◌≡◌, ◌+◌, Bool, true, false, List, [], ◌∷◌, ◌++◌, length, Option, Some, None, IfSome, option_to_list}
+use Rattle.std.specs.Prelude.{ℕ, ◌≡◌, ◌+◌, Bool, true, false, List, [], ◌++◌, length, Option, None, option_to_list}
 use Rattle.port_traits.specs.Bytes.{TakesFrom, WritesCounted}
-use Rattle.wire_frames.specs.Frames.{Tail, short, cut}
+use Rattle.wire_frames.specs.Frames.{Tail}
 use Rattle.wire_commands.specs.declared.reply.Reply.{Reply}
 use Rattle.store_model.specs.declared.ending.Ending.{Ending}
 use Rattle.store_model.specs.declared.ending.Ending.TheVariants as endings

@@ -1,5 +1,5 @@
 -- What a turn of a lane's loop does.
-use Rattle.std.specs.Prelude.{ℕ, ◌≡◌, ◌≤◌, List, [], Option, Some, None}
+use Rattle.std.specs.Prelude.{ℕ, ◌≡◌, ◌≤◌, List, Option, Some, None}
 use Rattle.store_types.specs.declared.refusal.Refusal.TheVariants.{BadFrame}
 use Rattle.wire_commands.specs.declared.reply.Reply.TheVariants.{Refused}
 use Rattle.store_model.specs.declared.ending.Ending.{Ending}

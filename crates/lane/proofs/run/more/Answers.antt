@@ -1,4 +1,4 @@
-use Rattle.std.proofs.Common.{◌≤◌, Some, sym, subst, ap, arith}
+use Rattle.std.proofs.Common.{Some, sym, subst, arith}
 use Rattle.lane.specs.declared.ending.Last.{Last}
 use Rattle.lane.specs.Causes.{HasCauses}
 use Rattle.lane.proofs.Turning.{took_more, ended_stops, source_stops, full_stops}

@@ -1,4 +1,4 @@
-use Rattle.std.proofs.Common.{Some, sym, subst, ap}
+use Rattle.std.proofs.Common.{Some, sym, subst}
 use Rattle.lane.specs.declared.ending.Last.{Last}
 use Rattle.lane.specs.Causes.{HasCauses}
 use Rattle.lane.specs.Turns.{ending_of}
