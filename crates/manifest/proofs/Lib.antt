@@ -1,0 +1,5 @@
+pub mod Digests
+pub mod Groups
+pub mod Entries
+pub mod Files
+pub mod Texts
