@@ -3,3 +3,4 @@ pub mod Groups
 pub mod Entries
 pub mod Files
 pub mod Texts
+pub mod Uploads

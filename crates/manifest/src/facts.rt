@@ -39,3 +39,18 @@ pub struct Manifest {
 pub struct BadManifest {
     pub cause: u8,
 }
+
+/// Where a manifest and a session differ first: the file, where it is one, and the number of what differs.
+///
+/// | field | what differs |
+/// |---|---|
+/// | 1, 2, 3 | the snapshot's type, its id, its time; no file is named |
+/// | 4 | the file is listed and was not uploaded, or is the manifest itself |
+/// | 5 | the file was uploaded and is not listed |
+/// | 6, 7 | the file's size, its checksum |
+#[derive(Debug, PartialEq, Eq, Drop, Error)]
+#[error("the manifest does not fit the session, by field {field}")]
+pub struct Mismatch {
+    pub file: Option<FileName>,
+    pub field: u8,
+}

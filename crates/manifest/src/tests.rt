@@ -1,13 +1,15 @@
-use crate::{BadManifest, read};
+use crate::{BadManifest, FileFact, Manifest, check, read};
 use std::alloc::{AllocError, Global};
 use std::test::Fail;
-use store_types::{Digest32, SnapshotKey};
+use store_types::{Bytes, Digest32, FileName, Kind, Rows, SnapshotKey};
 
 /// The SHA-256 of `abc`.
 const ABC: Digest32 = Digest32([
     0xba, 0x78, 0x16, 0xbf, 0x8f, 0x01, 0xcf, 0xea, 0x41, 0x41, 0x40, 0xde, 0x5d, 0xae, 0x22, 0x23,
     0xb0, 0x03, 0x61, 0xa3, 0x96, 0x17, 0x7a, 0x9c, 0xb4, 0x10, 0xff, 0x61, 0xf2, 0x00, 0x15, 0xad,
 ]);
+
+const ZEROS: Digest32 = Digest32([0; 32]);
 
 /// The text in front of the list of files, and the one behind.
 const FRONT: &str =
@@ -246,6 +248,140 @@ fn what_is_read(rt: HostRuntime) -> Result<(), Fail> {
     assert_eq!(rt; root.csum, ABC);
     assert_eq!(rt; conf.name.as_str(), "a.conf.blob");
     assert_eq!(rt; conf.size, 0);
-    assert_eq!(rt; conf.csum, Digest32([0; 32]));
+    assert_eq!(rt; conf.csum, ZEROS);
+    Ok(())
+}
+
+/// A file's name, size and checksum.
+type Listed = (&'static str, u64, Digest32);
+
+/// Uploads beside a manifest that lists `root.didx` with size 5 and then `a.blob` with size 6, both with `ABC`: the file
+/// and the field that are told; 0 for none.
+static UPLOADS: [(&[Listed], &str, u8); 12] = [
+    (&[("a.blob", 6, ABC), ("root.didx", 5, ABC)], "", 0),
+    (
+        &[
+            ("a.blob", 6, ABC),
+            ("index.json.blob", 1, ZEROS),
+            ("root.didx", 5, ABC),
+        ],
+        "",
+        0,
+    ),
+    (&[], "root.didx", 4),
+    (&[("a.blob", 7, ABC)], "root.didx", 4),
+    (&[("root.didx", 5, ABC)], "a.blob", 4),
+    (&[("a.blob", 6, ABC), ("root.didx", 6, ABC)], "root.didx", 6),
+    (
+        &[("a.blob", 6, ABC), ("root.didx", 5, ZEROS)],
+        "root.didx",
+        7,
+    ),
+    (
+        &[("a.blob", 7, ABC), ("root.didx", 6, ZEROS)],
+        "root.didx",
+        6,
+    ),
+    (
+        &[
+            ("a.blob", 7, ZEROS),
+            ("b.blob", 1, ABC),
+            ("root.didx", 5, ABC),
+        ],
+        "a.blob",
+        6,
+    ),
+    (&[("b.blob", 6, ABC), ("root.didx", 5, ABC)], "a.blob", 4),
+    (
+        &[
+            ("a.blob", 6, ABC),
+            ("b.blob", 1, ABC),
+            ("root.didx", 5, ABC),
+        ],
+        "b.blob",
+        5,
+    ),
+    (
+        &[
+            ("a.blob", 6, ABC),
+            ("b.blob", 1, ABC),
+            ("c.blob", 1, ABC),
+            ("root.didx", 5, ABC),
+        ],
+        "b.blob",
+        5,
+    ),
+];
+
+/// Snapshots, and which of type, id and time is told to differ from `host/a` at 7.
+static KEYS: [(Kind, &[u8], u64, u8); 6] = [
+    (Kind::Host, b"a", 7, 0),
+    (Kind::Vm, b"a", 7, 1),
+    (Kind::Host, b"b", 7, 2),
+    (Kind::Host, b"a", 8, 3),
+    (Kind::Ct, b"b", 8, 1),
+    (Kind::Host, b"b", 8, 2),
+];
+
+fn facts(alloc: Global, files: &[Listed]) -> Result<Vec<FileFact>, Fail> {
+    let mut facts = Vec::new(alloc);
+    for (name, size, csum) in files {
+        let name = FileName::check(alloc, name.as_bytes())??;
+        facts.push(FileFact {
+            name,
+            size: *size,
+            csum: *csum,
+        })?;
+    }
+    Ok(facts)
+}
+
+fn key(alloc: Global, kind: Kind, id: &[u8], time: u64) -> Result<SnapshotKey, AllocError> {
+    let id = Bytes::from_slice(alloc, id)?;
+    Ok(SnapshotKey { kind, id, time })
+}
+
+/// The file that is told, empty for none, and the field, 0 for none.
+fn told(
+    manifest: &Manifest,
+    key: &SnapshotKey,
+    uploads: &[FileFact],
+) -> Result<(Option<FileName>, u8), AllocError> {
+    match check(manifest, key, uploads)? {
+        Ok(()) => Ok((None, 0)),
+        Err(mismatch) => Ok((mismatch.file, mismatch.field)),
+    }
+}
+
+#[test]
+fn first_mismatch(rt: HostRuntime) -> Result<(), Fail> {
+    let alloc = rt.alloc();
+    let mut manifest = Manifest {
+        key: key(alloc, Kind::Host, b"a", 7)?,
+        files: Rows::from_vec(facts(alloc, &[("root.didx", 5, ABC), ("a.blob", 6, ABC)])?),
+    };
+    let session = key(alloc, Kind::Host, b"a", 7)?;
+    for (uploads, name, field) in &UPLOADS {
+        let uploads = facts(alloc, uploads)?;
+        let (file, found) = told(&manifest, &session, &uploads)?;
+        let file = match &file {
+            Some(file) => file.as_str(),
+            None => "",
+        };
+        assert_eq!(rt; (file, found), (*name, *field));
+    }
+    let uploads = facts(alloc, &[("a.blob", 6, ABC), ("root.didx", 5, ABC)])?;
+    for (kind, id, time, field) in &KEYS {
+        let session = key(alloc, *kind, id, *time)?;
+        let (file, found) = told(&manifest, &session, &uploads)?;
+        assert!(rt; file.is_none());
+        assert_eq!(rt; found, *field);
+    }
+    // a manifest that lists itself
+    manifest.files = Rows::from_vec(facts(alloc, &[("index.json.blob", 1, ABC)])?);
+    let uploads = facts(alloc, &[("index.json.blob", 1, ABC)])?;
+    let (file, field) = told(&manifest, &session, &uploads)?;
+    assert_eq!(rt; file, Some(FileName::manifest(alloc)?));
+    assert_eq!(rt; field, 4);
     Ok(())
 }
