@@ -1,11 +1,13 @@
 //! Manifests are compared with a session.
 
-ghost use Rattle.std.specs.Prelude.{◌≡◌, [], None, Some, option_map, map, IfOk, MatchResult};
+ghost use Rattle.std.specs.Prelude.{◌≡◌, [], None, Some, not, ◌&&◌, option_map, map, IfOk, MatchResult};
 ghost use Rattle.std.specs.List.{find, list_any};
 ghost use Rattle.std.specs.Str.{bytes_eq};
+ghost use Rattle.store_types.specs.FileNames.{manifest_name};
 ghost use Rattle.store_files.specs.Manifest.Mismatch.{key_mismatch, upload_mismatch, fact_named, listed_mismatch, unlisted_mismatch};
 ghost use Rattle.manifest.specs.Views.{fact_view, mismatch_view};
 ghost use Rattle.manifest.specs.Checking.{uploaded, first_mismatch, of_file};
+ghost use Rattle.manifest.specs.Least.{lesser as lesser_of};
 
 use crate::facts::{FileFact, Manifest, Mismatch};
 use std::alloc::AllocError;
@@ -76,21 +78,41 @@ fn first_listed<'l>(listed: &'l [FileFact], uploads: &[FileFact]) -> Option<(&'l
     None
 }
 
-/// The first upload beside the manifest that is not listed.
+fn lesser<'n>(first: Option<&'n FileName>, name: &'n FileName) -> Option<&'n FileName>
+    ensures { option_map (λ n. n.now) result ≡ lesser_of (option_map (λ n. n.now) first.entry) (Some name.now) }
+{
+    let Some(first) = first else {
+        return Some(name);
+    };
+    if *name < *first {
+        Some(name)
+    } else {
+        Some(first)
+    }
+}
+
+fn is_unlisted(listed: &[FileFact], name: &FileName) -> bool
+    ensures { result ≡ (not (bytes_eq name.now manifest_name) && not (list_any (λ f. bytes_eq f.name name.now) listed.now)) }
+{
+    !name.is_manifest() && !is_listed(listed, name)
+}
+
+/// The first in byte order of the uploads that are not listed. The manifest is none.
 fn first_unlisted<'u>(listed: &[FileFact], uploads: &'u [FileFact]) -> Option<&'u FileName>
     ensures { option_map (λ n. of_file n.now 5) result ≡ unlisted_mismatch (map fact_view listed.now) (uploaded uploads.now) }
 {
+    let mut first = None;
     for upload in uploads {
-        if !upload.name.is_manifest() && !is_listed(listed, &upload.name) {
-            return Some(&upload.name);
+        if is_unlisted(listed, &upload.name) {
+            first = lesser(first, &upload.name);
         }
     }
-    None
+    first
 }
 
-/// Compares a manifest with a session's snapshot and with what the session uploaded, the manifest itself among it or
-/// not, in byte order of the names. Tells the first that differs. The outer error is want of memory, for the name of
-/// the file.
+/// Compares a manifest with a session's snapshot and with what the session uploaded, in any order, the manifest itself
+/// among it or not. Tells what differs first: type, id and time; then each listed file in turn; then the uploads that
+/// are not listed, in byte order of their names. The outer error is want of memory, for the name of the file.
 pub fn check(
     manifest: &Manifest,
     key: &SnapshotKey,

@@ -257,7 +257,7 @@ type Listed = (&'static str, u64, Digest32);
 
 /// Uploads beside a manifest that lists `root.didx` with size 5 and then `a.blob` with size 6, both with `ABC`: the file
 /// and the field that are told; 0 for none.
-static UPLOADS: [(&[Listed], &str, u8); 12] = [
+static UPLOADS: [(&[Listed], &str, u8); 13] = [
     (&[("a.blob", 6, ABC), ("root.didx", 5, ABC)], "", 0),
     (
         &[
@@ -307,6 +307,16 @@ static UPLOADS: [(&[Listed], &str, u8); 12] = [
             ("b.blob", 1, ABC),
             ("c.blob", 1, ABC),
             ("root.didx", 5, ABC),
+        ],
+        "b.blob",
+        5,
+    ),
+    (
+        &[
+            ("c.blob", 1, ABC),
+            ("root.didx", 5, ABC),
+            ("b.blob", 1, ABC),
+            ("a.blob", 6, ABC),
         ],
         "b.blob",
         5,

@@ -1,30 +1,41 @@
-use Rattle.std.proofs.Common.{◌≡◌, ◌<◌, ◌∷◌, ◌+◌, drop, map, length, sym, ap, ◌∙◌, arith}
-use Rattle.store_files.specs.Manifest.Mismatch.{unlisted_mismatch}
-use Rattle.manifest.specs.Views.{fact_view}
-use Rattle.manifest.specs.Checking.{uploaded}
-use Rattle.manifest.proofs.Uploads.{from_place, unlisted-manifest, unlisted-listed, unlisted-here}
+use Rattle.std.proofs.Common.{◌≡◌, ℕ, ◌<◌, ◌≤◌, ◌+◌, ◌∷◌, Option, List, drop, length, sym, ap, ◌∙◌, arith}
+use Rattle.std.specs.Prelude.{option_map}
+use Rattle.std.proofs.lemmas.List.{drop_all}
+use Rattle.manifest.specs.Checking.{of_file}
+use Rattle.manifest.specs.Least.{lesser}
+use Rattle.manifest.proofs.Ordered.{lesser-none}
+use Rattle.manifest.proofs.Uploads.{from_place, first_name, first-passed, first-told, unlisted-first, viewed-name}
 use Rattle.manifest.proofs.checking.first_unlisted.Goals as goal
-use Rattle.manifest.proofs.checking.first_unlisted.Goals.{else-not-is_manifest-via-then-not-is_manifest+else-not-is_listed, else-not-is_manifest-via-else-not-is_manifest}
-
-pub returns-then-not-is_listed : goal.returns-then-not-is_listed
-returns-then-not-is_listed c =
-    let listed = c.args.listed.now in
-    let uploads = c.args.uploads.now in
-    let lt : c.loop-upload.upload-index < length uploads = omega arith in
-    let at = from_place uploads c.loop-upload.upload-index c.upload-item.result lt c.upload-item.is in
-    sym (sym c.loop-upload.invariant ∙ ap (λ us. unlisted_mismatch (map fact_view listed) (uploaded us)) at
-    ∙ unlisted-here listed c.upload-item.result (drop (c.loop-upload.upload-index + 1) uploads) (sym c.is_manifest.ensures ∙ c.if-not-is_manifest.true) (sym c.is_listed.ensures ∙ c.if-not-is_listed.true))
+use Rattle.manifest.proofs.checking.first_unlisted.Goals.{then-is_unlisted, else-is_unlisted}
 
 pub loop-upload-preserved : goal.loop-upload-preserved
 loop-upload-preserved c =
     let listed = c.args.listed.now in
     let uploads = c.args.uploads.now in
-    let behind = drop (c.loop-upload.upload-index + 1) uploads in
-    let lt : c.loop-upload.upload-index < length uploads = omega arith in
-    let at = from_place uploads c.loop-upload.upload-index c.upload-item.result lt c.upload-item.is in
-    let skipped : unlisted_mismatch (map fact_view listed) (uploaded (c.upload-item.result ∷ behind)) ≡ unlisted_mismatch (map fact_view listed) (uploaded behind) =
-    elim c.else-not-is_manifest.branch [
-      | else-not-is_manifest-via-then-not-is_manifest+else-not-is_listed w ↦ unlisted-listed listed c.upload-item.result behind (sym c.is_manifest.ensures ∙ w.if-not-is_manifest.true) (sym w.is_listed.ensures ∙ w.if-not-is_listed.false)
-      | else-not-is_manifest-via-else-not-is_manifest w ↦ unlisted-manifest listed c.upload-item.result behind (sym c.is_manifest.ensures ∙ w.if-not-is_manifest.false)
+    let i = c.loop-upload.upload-index in
+    let u = c.upload-item.result in
+    let behind = drop (i + 1) uploads in
+    let first : Option (List ℕ) = option_map (λ n. n.now) c.loop-upload.first in
+    let lt : i < length uploads = omega arith in
+    let at = from_place uploads i u lt c.upload-item.is in
+    let next : lesser (option_map (λ n. n.now) c.if-is_unlisted.first) (first_name listed behind) ≡ lesser first (first_name listed (u ∷ behind)) =
+    elim c.if-is_unlisted.branch [
+      | then-is_unlisted w ↦
+          ap (λ f. lesser (option_map (λ n. n.now) f) (first_name listed behind)) w.first-is
+          ∙ ap (λ f. lesser f (first_name listed behind)) w.lesser-first.ensures
+          ∙ first-told listed u behind first (sym c.is_unlisted.ensures ∙ w.if-is_unlisted.true)
+      | else-is_unlisted w ↦
+          ap (λ f. lesser (option_map (λ n. n.now) f) (first_name listed behind)) w.first-is
+          ∙ first-passed listed u behind first (sym c.is_unlisted.ensures ∙ w.if-is_unlisted.false)
     ] in
-    sym skipped ∙ sym (ap (λ us. unlisted_mismatch (map fact_view listed) (uploaded us)) at) ∙ c.loop-upload.invariant
+    next ∙ ap (λ us. lesser first (first_name listed us)) (sym at) ∙ c.loop-upload.invariant
+
+pub returns : goal.returns
+returns c =
+    let listed = c.args.listed.now in
+    let uploads = c.args.uploads.now in
+    let first : Option (List ℕ) = option_map (λ n. n.now) c.loop-upload.first in
+    let past : length uploads ≤ c.loop-upload.upload-index = omega arith in
+    let found : first ≡ first_name listed uploads =
+    sym (ap (λ us. lesser first (first_name listed us)) (drop_all c.loop-upload.upload-index uploads past) ∙ lesser-none first) ∙ c.loop-upload.invariant in
+    viewed-name c.loop-upload.first ∙ ap (option_map (λ n. of_file n 5)) found ∙ sym (unlisted-first listed uploads)
