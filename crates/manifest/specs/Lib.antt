@@ -1,0 +1,5 @@
+pub mod Views
+pub mod Fields
+pub mod Reading
+pub mod Checking
+pub mod Least
