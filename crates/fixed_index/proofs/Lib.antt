@@ -1,0 +1,6 @@
+mod Cutting
+mod Cells
+mod Faults
+mod Joining
+mod TextParts
+mod Spelling

@@ -1,0 +1,36 @@
+-- A fixed index as it is read.
+use Rattle.std.specs.Prelude.{◌≡◌, ℕ, ◌+◌, ◌-◌, ◌*◌, ◌/◌, ◌%◌, ◌≤◌, Bool, not, List, length, take, ◌==◌, IsTrue, nat_lt, min, if◌then◌else◌, Option, Some, None, slice_range}
+use Rattle.std.specs.Str.{bytes_eq}
+use Rattle.store_files.specs.declared.causes.IndexFault.{IndexFault}
+use Rattle.store_files.specs.declared.causes.IndexFault.TheVariants.{Short, Magic, Length, Count, Sizes, Csum}
+use Rattle.store_files.specs.Cells.{header_len, entry_limit}
+use Rattle.store_files.specs.FixedIndex.{FixedIndex, magic, fields_of, has_sizes, csum_of}
+
+-- where a piece begins
+abbrev pub start_of : FixedIndex → ℕ → ℕ
+start_of x i = i * x.chunk_size
+
+-- where it ends
+abbrev pub stop_of : FixedIndex → ℕ → ℕ
+stop_of x i = min (start_of x i + x.chunk_size) x.size
+
+-- the first of these tests that tells a fault: too short, of this magic, whole entries, too many, of these sizes, of this csum
+abbrev pub first_fault : Bool → Bool → Bool → Bool → Bool → Bool → Option IndexFault
+first_fault short magical whole many sized summed =
+    if short then Some Short else (if not magical then Some Magic
+    else (if not whole then Some Length else (if many then Some Count
+    else (if not sized then Some Sizes else (if summed then None else Some Csum)))))
+
+-- the first fault of bytes that are no index
+unfoldable pub fault_of : List ℕ → Option IndexFault
+fault_of bytes =
+    first_fault (nat_lt (length bytes) header_len) (bytes_eq (take 8 bytes) magic) ((length bytes - header_len) % 32 == 0)
+    (nat_lt entry_limit ((length bytes - header_len) / 32)) (has_sizes (fields_of bytes))
+    (bytes_eq (slice_range bytes 32 64) (csum_of (fields_of bytes)))
+
+-- bytes with the form of an index
+pub record HasForm (bytes : List ℕ) : Type 0 where
+  pub long : header_len ≤ length bytes
+  pub whole : (length bytes - header_len) % 32 ≡ 0
+  pub limit : (length bytes - header_len) / 32 ≤ entry_limit
+  pub sizes : IsTrue (has_sizes (fields_of bytes))

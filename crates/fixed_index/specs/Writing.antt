@@ -1,0 +1,40 @@
+-- A fixed index as it is written: its digests come one by one.
+use Rattle.std.specs.Prelude.{◌≡◌, ℕ, ◌*◌, ◌^◌, ◌<◌, ◌≤◌, FitsSigned, All, List, [], ◌∷◌, ◌++◌, length, replicate, min, ℤ, IsTrue}
+use Rattle.std.specs.Int.{w64}
+use Rattle.store_files.specs.Cells.{entry_limit}
+use Rattle.store_files.specs.FixedIndex.{FixedIndex, is_chunk_size, piece_count, piece_len}
+
+-- the rest of the header
+unfoldable pub reserved : List ℕ
+reserved = replicate 4016 0
+
+-- sizes that an index can have
+pub record FitsSizes (size cut : ℕ) : Type 0 where
+  pub chunk_size : IsTrue (is_chunk_size cut)
+  pub limit : piece_count size cut ≤ entry_limit
+
+-- no digest yet
+abbrev pub begun : List ℕ → ℤ → ℕ → ℕ → FixedIndex
+begun uuid ctime size chunk_size =
+    record { uuid = uuid; ctime = ctime; reserved = reserved; size = size; chunk_size = chunk_size; digests = [] }
+
+-- where the pieces so far end
+abbrev pub end_of : FixedIndex → ℕ
+end_of x = min x.size (length x.digests * x.chunk_size)
+
+-- The next piece is as long as the chunk size, or, as the last one, as what is left.
+pub record FitsPiece (x : FixedIndex) (len : ℕ) : Type 0 where
+  pub room : end_of x < x.size
+  pub exact : len ≡ piece_len x.size x.chunk_size (end_of x)
+
+abbrev pub with_digest : FixedIndex → List ℕ → FixedIndex
+with_digest x digest = record x { digests = x.digests ++ digest ∷ [] }
+
+-- what a writer keeps
+pub record IsBegun (uuid : List ℕ) (ctime : ℤ) (size cut : ℕ) (digests : List (List ℕ)) : Type 0 where
+  pub uuid_len : length uuid ≡ 16
+  pub ctime_fits : FitsSigned w64 ctime
+  pub size_fits : size < 2 ^ 64
+  pub sizes : FitsSizes size cut
+  pub count : length digests ≤ piece_count size cut
+  pub digest_len : All (λ d. length d ≡ 32) digests

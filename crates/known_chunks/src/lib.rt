@@ -1,0 +1,75 @@
+//! The chunks that a writer may name, each with its length.
+#![tactic(auto)]
+
+ghost use Rattle.std.specs.Prelude.{◌≡◌, OnOk, OnErr};
+ghost use Rattle.std.specs.FinMap.{empty, get, insert};
+
+use std::alloc::{AllocError, Global};
+use std::collections::BTreeMap;
+use std::marker::Model;
+use store_types::Digest32;
+
+/// The lengths of chunks by their digests, as contracts see it: a finite map.
+#[derive(Drop)]
+pub struct Known {
+    lengths: BTreeMap<Digest32, u32>,
+}
+
+impl Model for Known {
+    ghost use Rattle.known_chunks.specs.Lengths.{Lengths, lengths_of};
+    ghost use Rattle.std.specs.FinMap.{code};
+    ghost use Rattle.std.specs.Coded.{coded_ℕ, coded_list};
+
+    ghost Value = { Lengths };
+
+    ghost coded = { code (coded_list coded_ℕ) coded_ℕ };
+
+    ghost view = { λ k. lengths_of k.lengths.entries };
+}
+
+impl Known {
+    /// No chunk. It takes no memory.
+    pub fn new(alloc: Global) -> Known
+        ensures { result ≡ empty }
+    {
+        Known {
+            lengths: BTreeMap::new(alloc),
+        }
+    }
+
+    /// Notes a chunk's length, in place of one noted before. At want of memory nothing has changed.
+    pub fn add(&mut self, digest: &Digest32, length: u32) -> Result<(), AllocError>
+        ensures ok { OnOk result (self.new ≡ insert self.old digest.now.0 length) }
+        ensures err { OnErr result (self.new ≡ self.old) }
+    {
+        self.lengths.insert(*digest, length)?;
+        Ok(())
+    }
+
+    /// The chunk's length, or `None` exactly where the chunk was never added. It takes no memory.
+    pub fn find(&self, digest: &Digest32) -> Option<u32>
+        ensures { result ≡ get self.now digest.now.0 }
+    {
+        self.lengths.get(digest).copied()
+    }
+}
+
+#[cfg(test)]
+mod tests {
+    use super::*;
+    use std::test::Fail;
+
+    #[test]
+    fn adds_and_finds(rt: HostRuntime) -> Result<(), Fail> {
+        let (first, second, third) = (Digest32([1; 32]), Digest32([2; 32]), Digest32([3; 32]));
+        let mut known = Known::new(rt.alloc());
+        assert_eq!(rt; known.find(&first), None);
+        known.add(&second, 16_777_216)?;
+        known.add(&first, 1)?;
+        known.add(&second, 4096)?;
+        assert_eq!(rt; known.find(&first), Some(1));
+        assert_eq!(rt; known.find(&second), Some(4096));
+        assert_eq!(rt; known.find(&third), None);
+        Ok(())
+    }
+}

@@ -1,0 +1,42 @@
+-- Which lane has which group, and which lanes hold which snapshots.
+use Rattle.std.specs.Prelude.{◌≡◌, ℕ, not, List, [], ◌∷◌, ◌++◌, map, filter, ◌==◌, if◌then◌else◌, Option, Some, None}
+use Rattle.std.specs.Map.{lookup}
+use Rattle.store_types.specs.declared.names.SnapshotKey.{SnapshotKey}
+use Rattle.store_types.specs.declared.names.GroupKey.{GroupKey}
+use Rattle.store_types.specs.Names.{same_key, same_group}
+
+-- the lane that has each group, and the claims to snapshots as they were taken
+pub record Locks : Type 0 where
+  pub groups : List (GroupKey × ℕ)
+  pub shared : List (SnapshotKey × ℕ)
+
+abbrev pub no_locks : Locks
+no_locks = record { groups = []; shared = [] }
+
+-- the lane that has the group
+abbrev pub group_holder : Locks → GroupKey → Option ℕ
+group_holder locks group = lookup (same_group group) locks.groups
+
+-- the lanes that hold the snapshot
+abbrev pub sharers : Locks → SnapshotKey → List ℕ
+sharers locks key = map (λ claim. claim.1) (filter (λ claim. same_key claim.0 key) locks.shared)
+
+-- the holder, unless it is this lane
+abbrev pub other_than : ℕ → Option ℕ → Option ℕ
+other_than lane None = None
+other_than lane (Some holder) = if holder == lane then None else Some holder
+
+-- The lane has the group too, and nothing else has changed.
+pub record TakesGroup (old new : Locks) (lane : ℕ) (group : GroupKey) : Type 0 where
+  pub groups : (g : GroupKey) → group_holder new g ≡ (if same_group group g then Some lane else group_holder old g)
+  pub shared : new.shared ≡ old.shared
+
+-- The lane holds the snapshot too, and nothing else has changed.
+pub record TakesShare (old new : Locks) (lane : ℕ) (key : SnapshotKey) : Type 0 where
+  pub groups : new.groups ≡ old.groups
+  pub shared : (k : SnapshotKey) → sharers new k ≡ sharers old k ++ (if same_key key k then lane ∷ [] else [])
+
+-- The lane holds nothing, and each other lane what it held.
+pub record Releases (old new : Locks) (lane : ℕ) : Type 0 where
+  pub groups : (g : GroupKey) → group_holder new g ≡ other_than lane (group_holder old g)
+  pub shared : (k : SnapshotKey) → sharers new k ≡ filter (λ l. not (l == lane)) (sharers old k)
