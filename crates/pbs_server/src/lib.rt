@@ -8,8 +8,8 @@ mod serving;
 mod status;
 
 pub use plan::{Plan, WordFault, plan_words};
-pub use serving::serve;
 pub use served::{RunReport, Served, Unequal};
+pub use serving::serve;
 pub use status::Status;
 
 #[cfg(test)]

@@ -12,25 +12,31 @@ type Ports = Vec<Port<MemSource, MemSink>>;
 type Run = Served<MemoryDisk, MemoryDisk>;
 
 /// OPEN_WRITER of `host/a/2020-01-15T06:30:03Z`, BLOB of a manifest without files, FINISH.
-const SNAPSHOT: &[u8] = b"\x1d\0\0\0\x0a\x1bhost/a/2020-01-15T06:30:03Zg\0\0\0\x11\x0findex.json.blobB\xab8\x07\xbe\x83p\xa1\xb2\x94\x08E{\"backup-id\":\"a\",\"backup-time\":1579069803,\"backup-type\":\"host\",\"files\":[]}\x01\0\0\0\x12";
+const SNAPSHOT: &[u8] =
+    b"\x1d\0\0\0\x0a\x1bhost/a/2020-01-15T06:30:03Zg\0\0\0\x11\x0findex.json.blobB\xab8\x07\xbe\x83p\xa1\xb2\x94\x08E{\"backup-id\":\"a\",\"backup-time\":1579069803,\"backup-type\":\"host\",\"files\":[]}\x01\0\0\0\x12";
 
 const SNAPSHOT_REPLIES: &[u8] = b"\x02\0\0\0\0\0\x01\0\0\0\0\x01\0\0\0\0";
 
 /// OPEN_READER of it, and DOWNLOAD of the manifest.
-const READING: &[u8] = b"\x1d\0\0\0\x14\x1bhost/a/2020-01-15T06:30:03Z\x19\0\0\0\x15\x0findex.json.blob\0\0\0\0\0\0\0\0";
+const READING: &[u8] =
+    b"\x1d\0\0\0\x14\x1bhost/a/2020-01-15T06:30:03Z\x19\0\0\0\x15\x0findex.json.blob\0\0\0\0\0\0\0\0";
 
-const READING_REPLIES: &[u8] = b"\x01\0\0\0\0_\0\0\0\0V\0\0\0\0\0\0\0B\xab8\x07\xbe\x83p\xa1\xb2\x94\x08E{\"backup-id\":\"a\",\"backup-time\":1579069803,\"backup-type\":\"host\",\"files\":[]}";
+const READING_REPLIES: &[u8] =
+    b"\x01\0\0\0\0_\0\0\0\0V\0\0\0\0\0\0\0B\xab8\x07\xbe\x83p\xa1\xb2\x94\x08E{\"backup-id\":\"a\",\"backup-time\":1579069803,\"backup-type\":\"host\",\"files\":[]}";
 
 /// The same snapshot with `a.conf.blob`, the blob of `123456789`, which is downloaded from 0, 21 and 22.
-const RESTORE: &[u8] = b"\x1d\0\0\0\x0a\x1bhost/a/2020-01-15T06:30:03Z\"\0\0\0\x11\x0ba.conf.blobB\xab8\x07\xbe\x83p\xa1&9\xf4\xcb123456789\xe9\0\0\0\x11\x0findex.json.blobB\xab8\x07\xbe\x83p\xa1\xe34\xfd\xda{\"backup-id\":\"a\",\"backup-time\":1579069803,\"backup-type\":\"host\",\"files\":[{\"crypt-mode\":\"none\",\"csum\":\"69dcb4830c28203c26a1dade2d893d7f1d13cdba5eb39e348b008f3a5a0fb688\",\"filename\":\"a.conf.blob\",\"size\":21}]}\x01\0\0\0\x12\x1d\0\0\0\x14\x1bhost/a/2020-01-15T06:30:03Z\x15\0\0\0\x15\x0ba.conf.blob\0\0\0\0\0\0\0\0\x15\0\0\0\x15\x0ba.conf.blob\x15\0\0\0\0\0\0\0\x15\0\0\0\x15\x0ba.conf.blob\x16\0\0\0\0\0\0\0";
+const RESTORE: &[u8] =
+    b"\x1d\0\0\0\x0a\x1bhost/a/2020-01-15T06:30:03Z\"\0\0\0\x11\x0ba.conf.blobB\xab8\x07\xbe\x83p\xa1&9\xf4\xcb123456789\xe9\0\0\0\x11\x0findex.json.blobB\xab8\x07\xbe\x83p\xa1\xe34\xfd\xda{\"backup-id\":\"a\",\"backup-time\":1579069803,\"backup-type\":\"host\",\"files\":[{\"crypt-mode\":\"none\",\"csum\":\"69dcb4830c28203c26a1dade2d893d7f1d13cdba5eb39e348b008f3a5a0fb688\",\"filename\":\"a.conf.blob\",\"size\":21}]}\x01\0\0\0\x12\x1d\0\0\0\x14\x1bhost/a/2020-01-15T06:30:03Z\x15\0\0\0\x15\x0ba.conf.blob\0\0\0\0\0\0\0\0\x15\0\0\0\x15\x0ba.conf.blob\x15\0\0\0\0\0\0\0\x15\0\0\0\x15\x0ba.conf.blob\x16\0\0\0\0\0\0\0";
 
-const RESTORE_REPLIES: &[u8] = b"\x02\0\0\0\0\0\x01\0\0\0\0\x01\0\0\0\0\x01\0\0\0\0\x01\0\0\0\0\x1e\0\0\0\0\x15\0\0\0\0\0\0\0B\xab8\x07\xbe\x83p\xa1&9\xf4\xcb123456789\x09\0\0\0\0\x15\0\0\0\0\0\0\0\x09\0\0\0\x16\x15\0\0\0\0\0\0\0";
+const RESTORE_REPLIES: &[u8] =
+    b"\x02\0\0\0\0\0\x01\0\0\0\0\x01\0\0\0\0\x01\0\0\0\0\x01\0\0\0\0\x1e\0\0\0\0\x15\0\0\0\0\0\0\0B\xab8\x07\xbe\x83p\xa1&9\xf4\xcb123456789\x09\0\0\0\0\x15\0\0\0\0\0\0\0\x09\0\0\0\x16\x15\0\0\0\0\0\0\0";
 
 /// Uploads: eleven bytes of the empty blob, a wrong CRC, a compressed blob, and the blob of `123456789`.
-const BLOBS: &[u8] = b"\x1d\0\0\0\x0a\x1bhost/a/2020-01-15T06:30:03Z\x13\0\0\0\x11\x06a.blobB\xab8\x07\xbe\x83p\xa1\0\0\0\x1d\0\0\0\x11\x06a.blobB\xab8\x07\xbe\x83p\xa1'9\xf4\xcb123456789\x1d\0\0\0\x11\x06a.blob1\xb9XBo\xb6\xa3\x7f&9\xf4\xcb123456789\x1d\0\0\0\x11\x06a.blobB\xab8\x07\xbe\x83p\xa1&9\xf4\xcb123456789";
+const BLOBS: &[u8] =
+    b"\x1d\0\0\0\x0a\x1bhost/a/2020-01-15T06:30:03Z\x13\0\0\0\x11\x06a.blobB\xab8\x07\xbe\x83p\xa1\0\0\0\x1d\0\0\0\x11\x06a.blobB\xab8\x07\xbe\x83p\xa1'9\xf4\xcb123456789\x1d\0\0\0\x11\x06a.blob1\xb9XBo\xb6\xa3\x7f&9\xf4\xcb123456789\x1d\0\0\0\x11\x06a.blobB\xab8\x07\xbe\x83p\xa1&9\xf4\xcb123456789";
 
-const BLOBS_REPLIES: &[u8] = b"\x02\0\0\0\0\0\x02\0\0\0\x0b\x01\x0a\0\0\0\x0b\x07'9\xf4\xcb&9\xf4\xcb\x02\0\0\0\x0b\x02\x01\0\0\0\0";
-
+const BLOBS_REPLIES: &[u8] =
+    b"\x02\0\0\0\0\0\x02\0\0\0\x0b\x01\x0a\0\0\0\x0b\x07'9\xf4\xcb&9\xf4\xcb\x02\0\0\0\x0b\x02\x01\0\0\0\0";
 
 fn words(alloc: Global) -> Result<Vec<String>, AllocError> {
     let mut words = Vec::new(alloc);
@@ -107,7 +113,13 @@ fn sessions_without_a_snapshot(rt: HostRuntime) -> Result<(), Fail> {
     assert_eq!(rt; served.report.lanes[0].taken, 0);
     let _ = replies(&rt, alloc, b"\x01\0\0\0\x3f", b"\x01\0\0\0\0", Status::Ok)?;
     // FINISH without a session
-    let _ = replies(&rt, alloc, b"\x01\0\0\0\x12", b"\x02\0\0\0\x03\0", Status::Ok)?;
+    let _ = replies(
+        &rt,
+        alloc,
+        b"\x01\0\0\0\x12",
+        b"\x02\0\0\0\x03\0",
+        Status::Ok,
+    )?;
     Ok(())
 }
 
@@ -163,12 +175,14 @@ fn blobs_are_checked(rt: HostRuntime) -> Result<(), Fail> {
 fn words_are_read(rt: HostRuntime) -> Result<(), Fail> {
     let alloc = rt.alloc();
     let mut all = words(alloc)?;
-    let Ok(Plan::Run {
-        root,
-        remote,
-        order,
-        sessions,
-    }) = plan_words(alloc, &all)
+    let Ok(
+        Plan::Run {
+            root,
+            remote,
+            order,
+            sessions,
+        },
+    ) = plan_words(alloc, &all)
     else {
         return Err("no plan".into());
     };

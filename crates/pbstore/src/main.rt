@@ -15,10 +15,19 @@ use std::{env, io};
 /// A session's file, and the file of its replies.
 type FilePort = Port<FileSource<HostRuntime>, FileSink<File>>;
 
+/// The arguments without the program's name.
+fn without_name(alloc: Global, args: env::Args) -> Result<Vec<String>, AllocError> {
+    let mut words = Vec::new(alloc);
+    for word in args.skip(1) {
+        words.push(word)?;
+    }
+    Ok(words)
+}
+
 /// The words after the program's name. Words that cannot be read as text are a faulty command line.
 fn words_of(rt: HostRuntime) -> Result<Vec<String>, Status> {
     match env::args(&rt) {
-        Ok(args) => args.skip(1).try_collect(rt.alloc()).map_err(|_| Status::NoMemory),
+        Ok(args) => without_name(rt.alloc(), args).map_err(|_| Status::NoMemory),
         Err(error) if error.kind() == ErrorKind::OutOfMemory => Err(Status::NoMemory),
         Err(_) => Err(Status::Usage),
     }
@@ -34,7 +43,11 @@ fn port_of(rt: HostRuntime, alloc: Global, session: &str) -> Result<FilePort, Al
     })
 }
 
-fn ports_of(rt: HostRuntime, alloc: Global, sessions: &[String]) -> Result<Vec<FilePort>, AllocError> {
+fn ports_of(
+    rt: HostRuntime,
+    alloc: Global,
+    sessions: &[String],
+) -> Result<Vec<FilePort>, AllocError> {
     let mut ports = Vec::with_capacity(alloc, sessions.len())?;
     for session in sessions {
         ports.push(port_of(rt, alloc, session.as_str())?)?;

@@ -15,7 +15,8 @@ const FIRST: &[u8] = b"host/a/2020-01-15T06:30:03Z";
 const SECOND: &[u8] = b"host/a/2020-01-15T06:30:04Z";
 
 /// The blob of a manifest without files.
-const MANIFEST: &[u8] = b"\x42\xab\x38\x07\xbe\x83\x70\xa1\xb2\x94\x08\x45{\"backup-id\":\"a\",\"backup-time\":1579069803,\"backup-type\":\"host\",\"files\":[]}";
+const MANIFEST: &[u8] =
+    b"\x42\xab\x38\x07\xbe\x83\x70\xa1\xb2\x94\x08\x45{\"backup-id\":\"a\",\"backup-time\":1579069803,\"backup-type\":\"host\",\"files\":[]}";
 
 type TestCore = Core<MemoryDisk, MemoryDisk, SetClock>;
 
@@ -29,11 +30,21 @@ fn reply_to(core: &mut TestCore, alloc: Global, lane: u32, act: Act) -> Result<O
     Ok(apply(core, alloc, lane, act).reply)
 }
 
-fn open_writer(core: &mut TestCore, alloc: Global, lane: u32, key: &[u8]) -> Result<Option<Reply>, Fail>
+fn open_writer(
+    core: &mut TestCore,
+    alloc: Global,
+    lane: u32,
+    key: &[u8],
+) -> Result<Option<Reply>, Fail>
     requires { lane < 64 }
 {
     let snapshot = Bytes::from_slice(alloc, key)?;
-    reply_to(core, alloc, lane, Act::Plain(Command::OpenWriter { snapshot }))
+    reply_to(
+        core,
+        alloc,
+        lane,
+        Act::Plain(Command::OpenWriter { snapshot }),
+    )
 }
 
 fn is_base(reply: &Option<Reply>, text: &[u8]) -> bool {
@@ -70,7 +81,14 @@ fn groups_have_one_writer(rt: HostRuntime) -> Result<(), Fail> {
     assert!(rt; matches!(finished, Some(Reply::Done)));
 
     let old = open_writer(&mut core, alloc, 1, FIRST)?;
-    assert!(rt; matches!(old, Some(Reply::Refused(Refusal::NotNewer { latest: 1_579_069_803 }))));
+    assert!(rt;
+        matches!(
+            old,
+            Some(Reply::Refused(Refusal::NotNewer {
+                latest: 1_579_069_803
+            }))
+        )
+    );
     assert!(rt; is_base(&open_writer(&mut core, alloc, 1, SECOND)?, FIRST));
     // The end frees the group, and has no reply.
     assert!(rt; reply_to(&mut core, alloc, 1, Act::End)?.is_none());
@@ -80,7 +98,10 @@ fn groups_have_one_writer(rt: HostRuntime) -> Result<(), Fail> {
 
     let order = core.parts().order;
     assert_eq!(rt; order.len(), 9);
-    assert_eq!(rt; (order[7].lane, order[7].moment, order[7].kind), (2, 1000, 0));
+    assert_eq!(rt;
+        (order[7].lane, order[7].moment, order[7].kind),
+        (2, 1000, 0)
+    );
     assert_eq!(rt; (order[6].lane, order[6].kind), (1, 6));
     assert_eq!(rt; (order[8].lane, order[8].kind), (5, 2));
     Ok(())
