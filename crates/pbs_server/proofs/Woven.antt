@@ -90,7 +90,10 @@ is_plain is_honest content calls_of readings core R clock calls left left' taken
   input = ran.input;
   events = ran.events;
   store = (world h).store;
+  told = ran.told;
   replies = text ran.told;
+  replies_are = refl;
+  ran = ran.ran;
   woven = subst (λ order. weave [] R order (ran.input ∷ []) (report.ending ∷ []) ≡ Ok (record { store = (world h).store; replies = text ran.told ∷ [] })) (sym s.entries)
       (served_woven (opening_at calls) R ran.events (ran.input ∷ []) (report.ending ∷ []) (ran.told ∷ []) served);
   gave = ran.gave;

@@ -4,6 +4,7 @@ use Rattle.port_traits.specs.Bytes.{WritesCounted}
 use Rattle.port_traits.specs.Readings.{Readings}
 use Rattle.disk_trait.specs.Files.{Files}
 use Rattle.store_types.specs.declared.order.Entry.{Entry}
+use Rattle.wire_commands.specs.declared.reply.Reply.{Reply}
 use Rattle.store_files.specs.Archive.{Snapshot}
 use Rattle.store_files.specs.Order.{keeps_rules}
 use Rattle.store_model.specs.Store.{Store}
@@ -11,6 +12,7 @@ use Rattle.store_model.specs.Stands.{StandsFor}
 use Rattle.store_model.specs.Weave.{weave}
 use Rattle.store_history.specs.declared.act.Event.{Event}
 use Rattle.store_history.specs.History.{opened, entries}
+use Rattle.store_history.specs.LaneRun.{text, LaneRan}
 use Rattle.store_history.specs.Legal.{IsLegal, IsTimed}
 use Rattle.core_state.specs.Opening.{opening_at}
 use Rattle.lane.specs.declared.port.LaneReport.{LaneReport}
@@ -27,13 +29,18 @@ use Rattle.pbs_server.specs.Words.{reading}
 -- the bytes that the sink was given (a front of them where the sink failed) and this last store. The order fits, and its
 -- moments are by the clock's readings. What the disk now holds stands for the last store's snapshots, where the disk did not fail.
 pub record IsPlain (remote : Option (List Snapshot)) (readings : Option Readings) (before : ℕ) (left left' taken taken' : Option (List ℕ)) (order : List Entry) (calls : List ℕ) (report : LaneReport) (files : Files) : Type 0 where
-  -- the bytes that the session's source gave, the acts with their answers, the last store, and the bytes of all replies
+  -- the bytes that the session's source gave, the acts with their answers, the last store, all replies, and their bytes
   pub input : List ℕ
   pub events : List Event
   pub store : Store
+  pub told : List Reply
   pub replies : List ℕ
   pub woven : weave [] remote order (input ∷ []) (report.ending ∷ []) ≡ Ok (record { store = store; replies = replies ∷ [] })
   pub gave : WritesCounted taken taken' 0 report.given replies (gave_all report.ending)
+  pub replies_are : replies ≡ text told
+  -- the acts are a run of the lane's program on this input, to the ending that is reported: Clean only at BYE or at the
+  -- input's end between two frames, Broken only where no command stands, at that place
+  pub ran : LaneRan input report.ending events told
   pub took : Took report.ending left left' input
   pub size_is : length input ≡ report.taken
   pub rules : IsTrue (keeps_rules 1 order)

@@ -4,7 +4,7 @@
 
 use disk_trait::FileDisk;
 use lane::Port;
-use pbs_server::{Plan, Status, plan_words, serve};
+use pbs_server::{Plan, Status, WordFault, plan_words, serve};
 use port_traits::{FileSink, FileSource, FreeGate, WallClock};
 use std::alloc::{AllocError, Global};
 use std::fs::File;
@@ -60,7 +60,8 @@ fn serve_words(rt: HostRuntime, alloc: Global, words: &[String]) -> Result<Statu
     let plan = plan_words(alloc, words);
     let (root, sessions): (&str, &[String]) = match &plan {
         Ok(Plan::Run { root, sessions, .. }) => (root.as_str(), sessions.as_slice()),
-        Err(_) => ("", &[]),
+        Err(WordFault::NoReading) => ("", &[]),
+        Err(WordFault::NoMemory) => return Ok(Status::NoMemory),
     };
     let mut ports = ports_of(rt, alloc, sessions)?;
     let disk = FileDisk::new(rt, alloc, root)?;
