@@ -1,0 +1,182 @@
+//! When each chunk was last touched, and which are old enough to go.
+//!
+//! The book's file is `PBSBOOK1`, the last moment, the number of chunks, and for each chunk in rising order of digests
+//! the digest and its last touch; then the SHA-256 of all bytes before it. Numbers are u64, little-endian.
+#![tactic(auto)]
+
+ghost use Rattle.std.specs.Prelude.{◌≡◌, ◌≤◌, ◌++◌, IsOk, IsSome, IfOk, OnOk, OnErr, codes};
+ghost use Rattle.std.specs.Int.{w64, to_le_bytes};
+ghost use Rattle.std.specs.List.{flat_map};
+ghost use Rattle.store_types.specs.Times.{last_moment};
+ghost use Rattle.store_files.specs.Book.{touch_text, signed_text, book_text, book_of};
+ghost use Rattle.atime_book.specs.Touches.{touches_of, cutoff_of, empty, last_of, is_stale, TouchedAt, SweptAt, NoneAfter};
+
+mod reading;
+#[cfg(test)]
+mod tests;
+
+use sha2::{Digest, Sha256};
+use std::alloc::{AllocError, Global};
+use std::collections::BTreeMap;
+use std::marker::Model;
+use store_types::{Digest32, LAST_MOMENT};
+
+const MAGIC: [u8; 8] = *b"PBSBOOK1";
+
+/// The last touch of each chunk, as contracts see it: what the book's file says.
+#[derive(Drop)]
+pub struct Book {
+    moment: u64,
+    touches: BTreeMap<Digest32, u64>,
+}
+
+impl Model for Book {
+    ghost use Rattle.store_files.specs.Book.{Book as Written};
+    ghost use Rattle.atime_book.specs.Touches.{touches_of};
+
+    ghost Value = { Written };
+
+    ghost view = { λ b. record { moment = b.moment; touches = touches_of b.touches.entries } };
+}
+
+/// Chunks whose last touch is before this moment may go: a day and five minutes before the collector's start, and at
+/// least five minutes before the start of the oldest writer that ran then.
+pub fn cutoff(start: u64, oldest: Option<u64>) -> u64
+    ensures { result ≡ cutoff_of start oldest }
+{
+    let day = start.saturating_sub(86_700);
+    match oldest {
+        Some(oldest) => day.min(oldest.saturating_sub(300)),
+        None => day,
+    }
+}
+
+// Whether there is a last touch, before the cutoff.
+fn is_before(last: Option<u64>, cutoff: u64) -> bool
+    ensures { result ≡ is_stale last cutoff }
+{
+    match last {
+        Some(moment) => moment < cutoff,
+        None => false,
+    }
+}
+
+impl Book {
+    /// No chunk was touched. It takes no memory.
+    pub fn new(alloc: Global) -> Book
+        ensures { result ≡ empty }
+    {
+        Book {
+            moment: 0,
+            touches: BTreeMap::new(alloc),
+        }
+    }
+
+    /// The last moment of the book that was read, or 0.
+    pub fn moment(&self) -> u64
+        ensures { result ≡ self.now.moment }
+    {
+        self.moment
+    }
+
+    /// Sets a chunk's last touch. For a chunk that has one already it takes no memory. At want of memory nothing has
+    /// changed.
+    pub fn touch(&mut self, digest: &Digest32, moment: u64) -> Result<(), AllocError>
+        ensures ok { OnOk result (TouchedAt self.old self.new digest.now.0 moment) }
+        ensures known { IsSome (last_of self.old digest.now.0) → IsOk result }
+        ensures err { OnErr result (self.new ≡ self.old) }
+    {
+        self.touches.insert(*digest, moment)?;
+        Ok(())
+    }
+
+    /// A chunk's last touch. It takes no memory.
+    pub fn last(&self, digest: &Digest32) -> Option<u64>
+        ensures { result ≡ last_of self.now digest.now.0 }
+    {
+        self.touches.get(digest).copied()
+    }
+
+    /// Whether a chunk's last touch is before the cutoff; then it is taken out. It takes no memory.
+    pub fn sweep_one(&mut self, digest: &Digest32, cutoff: u64) -> bool
+        ensures stale { result ≡ is_stale (last_of self.old digest.now.0) cutoff }
+        ensures swept { SweptAt self.old self.new digest.now.0 result }
+    {
+        if !is_before(self.last(digest), cutoff) {
+            return false;
+        }
+        let _ = self.touches.remove(digest);
+        true
+    }
+
+    /// The book's file at a moment that no touch is after.
+    pub fn text(&self, alloc: Global, moment: u64) -> Result<Vec<u8>, AllocError>
+        requires moment { moment ≤ last_moment }
+        requires touches { NoneAfter self.now moment }
+        ensures { IfOk result (λ text. text.items ≡ book_text (record self.now { moment = moment })) }
+    {
+        self.written(alloc, moment)
+    }
+
+    // The file's text, where the book is one at that moment.
+    #[tactic(auto, unfolding(store_files::specs::Book::book_text))]
+    fn written(&self, alloc: Global, moment: u64) -> Result<Vec<u8>, AllocError>
+        ensures { IfOk result (λ text. text.items ≡ book_text (record self.now { moment = moment })) }
+    {
+        let mut text = self.signed(alloc, moment)?;
+        let csum = Sha256::digest(text.as_slice());
+        text.extend_from_slice(&csum)?;
+        Ok(text)
+    }
+
+    // What the checksum is of.
+    fn signed(&self, alloc: Global, moment: u64) -> Result<Vec<u8>, AllocError>
+        ensures { IfOk result (λ text. text.items ≡ signed_text (record self.now { moment = moment })) }
+    {
+        let mut text = head(alloc, moment, self.touches.len() as u64)?;
+        push_touches(&mut text, &self.touches)?;
+        Ok(text)
+    }
+
+    /// The book whose file this is, or `None` where the bytes are none.
+    pub fn read(alloc: Global, bytes: &[u8]) -> Result<Option<Book>, AllocError>
+        ensures { IfOk result (λ book. book ≡ book_of bytes.now) }
+    {
+        if bytes.len() < 56 {
+            return Ok(None);
+        }
+        let moment = reading::moment_of(bytes);
+        let cells = &bytes[24..bytes.len() - 32];
+        let Some(touches) = reading::touches_in(alloc, cells, moment)? else {
+            return Ok(None);
+        };
+        if moment > LAST_MOMENT {
+            return Ok(None);
+        }
+        let book = Book { moment, touches };
+        let text = book.written(alloc, moment)?;
+        if bytes != text.as_slice() {
+            return Ok(None);
+        }
+        Ok(Some(book))
+    }
+}
+
+fn head(alloc: Global, moment: u64, count: u64) -> Result<Vec<u8>, AllocError>
+    ensures { IfOk result (λ text. text.items ≡ codes "PBSBOOK1" ++ to_le_bytes w64 moment ++ to_le_bytes w64 count) }
+{
+    let mut text = Vec::from_slice(alloc, &MAGIC)?;
+    text.extend_from_slice(&moment.to_le_bytes())?;
+    text.extend_from_slice(&count.to_le_bytes())?;
+    Ok(text)
+}
+
+fn push_touches(text: &mut Vec<u8>, touches: &BTreeMap<Digest32, u64>) -> Result<(), AllocError>
+    ensures { OnOk result (text.new.items ≡ text.old.items ++ flat_map touch_text (touches_of touches.now.entries)) }
+{
+    for (digest, touched) in touches {
+        text.extend_from_slice(&digest.0)?;
+        text.extend_from_slice(&touched.to_le_bytes())?;
+    }
+    Ok(())
+}
