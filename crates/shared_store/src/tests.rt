@@ -5,10 +5,21 @@ use super::*;
 use blob_codec::decode;
 use core_state::open_on;
 use disk_trait::MemoryDisk;
-use port_traits::SetClock;
+use port_traits::{MemSink, SetClock};
+use std::alloc::AllocError;
+use std::process::Abort;
 use std::test::Fail;
 use store_types::{Bytes, Refusal};
-use wire_commands::Reply;
+
+/// An act of a lane, as a table has it.
+#[derive(Clone, Copy)]
+enum Step {
+    OpenWriter(&'static [u8]),
+    Manifest,
+    Finish,
+    Short,
+    End,
+}
 
 const FIRST: &[u8] = b"host/a/2020-01-15T06:30:03Z";
 
@@ -18,91 +29,102 @@ const SECOND: &[u8] = b"host/a/2020-01-15T06:30:04Z";
 const MANIFEST: &[u8] =
     b"\x42\xab\x38\x07\xbe\x83\x70\xa1\xb2\x94\x08\x45{\"backup-id\":\"a\",\"backup-time\":1579069803,\"backup-type\":\"host\",\"files\":[]}";
 
-type TestCore = Core<MemoryDisk, MemoryDisk, SetClock>;
+/// Two lanes want writers of one group: each act with the frame of its reply, and the kind of its entry.
+const STEPS: [(u32, Step, &[u8], u8); 9] = [
+    (3, Step::OpenWriter(FIRST), b"\x02\0\0\0\0\0", 0),
+    (1, Step::OpenWriter(SECOND), b"\x05\0\0\0\x05\x03\0\0\0", 0),
+    (3, Step::Manifest, b"\x01\0\0\0\0", 0),
+    (3, Step::Finish, b"\x01\0\0\0\0", 0),
+    (
+        1,
+        Step::OpenWriter(FIRST),
+        b"\x09\0\0\0\x07\x6b\xb1\x1e\x5e\0\0\0\0",
+        0,
+    ),
+    (
+        1,
+        Step::OpenWriter(SECOND),
+        b"\x1d\0\0\0\0\x1bhost/a/2020-01-15T06:30:03Z",
+        0,
+    ),
+    (1, Step::End, b"", 6),
+    (
+        2,
+        Step::OpenWriter(SECOND),
+        b"\x1d\0\0\0\0\x1bhost/a/2020-01-15T06:30:03Z",
+        0,
+    ),
+    (5, Step::Short, b"\x01\0\0\0\x1c", 2),
+];
 
-fn reply_to(core: &mut TestCore, alloc: Global, lane: u32, act: Act) -> Result<Option<Reply>, Fail>
-    requires lane { lane < 64 }
-    requires formed { IsWellFormed act }
-{
-    if !core.journal.room(lane as usize) {
-        return Err("no room".into());
-    }
-    Ok(apply(core, alloc, lane, act).reply)
-}
-
-fn open_writer(
-    core: &mut TestCore,
-    alloc: Global,
-    lane: u32,
-    key: &[u8],
-) -> Result<Option<Reply>, Fail>
-    requires { lane < 64 }
-{
-    let snapshot = Bytes::from_slice(alloc, key)?;
-    reply_to(
-        core,
-        alloc,
-        lane,
-        Act::Plain(Command::OpenWriter { snapshot }),
-    )
-}
-
-fn is_base(reply: &Option<Reply>, text: &[u8]) -> bool {
-    matches!(reply, Some(Reply::Base { snapshot }) if snapshot.as_slice() == text)
-}
-
-/// The check of an upload, outside the act.
-fn upload(alloc: Global, name: &[u8], text: &[u8]) -> Result<Act, Fail>
+/// The upload of the manifest, checked outside the act.
+fn manifest(alloc: Global) -> Result<Act, AllocError>
     ensures { IfOk result IsWellFormed }
 {
-    let name = Bytes::from_slice(alloc, name)?;
-    let bytes = Bytes::from_slice(alloc, text)?;
-    let checked = match decode(text) {
-        Ok(_) => Ok(bytes),
+    let name = Bytes::from_slice(alloc, b"index.json.blob")?;
+    let checked = match decode(MANIFEST) {
+        Ok(_) => Ok(Bytes::from_slice(alloc, MANIFEST)?),
         Err(fault) => Err(Refusal::BadBlob(fault)),
     };
     Ok(Act::Blob { name, checked })
 }
 
-/// Two lanes that want writers of one group.
+fn act_of(alloc: Global, step: Step) -> Result<Act, AllocError>
+    ensures { IfOk result IsWellFormed }
+{
+    match step {
+        Step::OpenWriter(key) => {
+            let snapshot = Bytes::from_slice(alloc, key)?;
+            Ok(Act::Plain(Command::OpenWriter { snapshot }))
+        }
+        Step::Manifest => manifest(alloc),
+        Step::Finish => Ok(Act::Plain(Command::Finish)),
+        Step::Short => Ok(Act::Short),
+        Step::End => Ok(Act::End),
+    }
+}
+
+/// Does a step, and compares its reply.
+fn try_step(
+    rt: &impl Abort,
+    core: &mut Core<MemoryDisk, MemoryDisk, SetClock>,
+    alloc: Global,
+    lane: u32,
+    step: Step,
+    expected: &[u8],
+) -> Result<(), Fail>
+    requires { lane < 64 }
+{
+    if !core.journal.room(lane as usize) {
+        return Err("no room".into());
+    }
+    let act = act_of(alloc, step)?;
+    let mut sink = MemSink::new(alloc, Vec::new(alloc));
+    if let Some(reply) = apply(core, alloc, lane, act).reply {
+        assert!(rt; reply.put(&mut sink).is_ok());
+    }
+    assert_eq!(rt; sink.as_bytes(), expected);
+    Ok(())
+}
+
 #[test]
 fn groups_have_one_writer(rt: HostRuntime) -> Result<(), Fail> {
     let alloc = rt.alloc();
     let clock = SetClock::new(Vec::new(alloc), 1000);
     let opened = open_on(alloc, MemoryDisk::new(alloc), None::<MemoryDisk>, clock);
     let mut core = opened.ok().ok_or("not opened")?;
-
-    assert!(rt; is_base(&open_writer(&mut core, alloc, 3, FIRST)?, b""));
-    let busy = open_writer(&mut core, alloc, 1, SECOND)?;
-    assert!(rt; matches!(busy, Some(Reply::Refused(Refusal::GroupBusy { lane: 3 }))));
-    let act = upload(alloc, b"index.json.blob", MANIFEST)?;
-    assert!(rt; matches!(reply_to(&mut core, alloc, 3, act)?, Some(Reply::Done)));
-    let finished = reply_to(&mut core, alloc, 3, Act::Plain(Command::Finish))?;
-    assert!(rt; matches!(finished, Some(Reply::Done)));
-
-    let old = open_writer(&mut core, alloc, 1, FIRST)?;
-    assert!(rt;
-        matches!(
-            old,
-            Some(Reply::Refused(Refusal::NotNewer {
-                latest: 1_579_069_803
-            }))
-        )
-    );
-    assert!(rt; is_base(&open_writer(&mut core, alloc, 1, SECOND)?, FIRST));
-    // The end frees the group, and has no reply.
-    assert!(rt; reply_to(&mut core, alloc, 1, Act::End)?.is_none());
-    assert!(rt; is_base(&open_writer(&mut core, alloc, 2, SECOND)?, FIRST));
-    let short = reply_to(&mut core, alloc, 5, Act::Short)?;
-    assert!(rt; matches!(short, Some(Reply::Refused(Refusal::NoMemory))));
-
+    for (lane, step, expected, _) in &STEPS {
+        if *lane < 64 {
+            try_step(&rt, &mut core, alloc, *lane, *step, expected)?;
+        }
+    }
     let order = core.parts().order;
-    assert_eq!(rt; order.len(), 9);
-    assert_eq!(rt;
-        (order[7].lane, order[7].moment, order[7].kind),
-        (2, 1000, 0)
-    );
-    assert_eq!(rt; (order[6].lane, order[6].kind), (1, 6));
-    assert_eq!(rt; (order[8].lane, order[8].kind), (5, 2));
+    assert_eq!(rt; order.len(), STEPS.len());
+    for (entry, (lane, _, _, kind)) in order.iter().zip(&STEPS) {
+        assert_eq!(rt;
+            (entry.lane, entry.moment, entry.kind),
+            (*lane, 1000, *kind)
+        );
+    }
     Ok(())
 }
