@@ -6,7 +6,8 @@ use Rattle.store_model.specs.declared.ending.Ending.{Ending}
 use Rattle.store_model.specs.declared.ending.Ending.TheVariants as endings
 use Rattle.lane.specs.Causes.{IsCaused, HasCauses}
 
-rose_later : (a b c : ℕ) → a ≤ b → Rose b c → Rose a c
+-- a count that rose later rose in the whole
+pub rose_later : (a b c : ℕ) → a ≤ b → Rose b c → Rose a c
 rose_later a b c le rose = omega (arith, le, rose)
 
 caused_later : (a b c i j k size : ℕ) (e : Option Ending) → a ≤ b → i ≤ j → IsCaused b c j k size e → IsCaused a c i k size e

@@ -1,6 +1,7 @@
 pub mod Fronts
 pub mod Acting
 pub mod Caused
+pub mod Entries
 pub mod Turning
 pub mod Serving
 pub mod Closings

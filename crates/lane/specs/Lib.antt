@@ -1,6 +1,7 @@
 pub mod Fronts
 pub mod Taking
 pub mod Causes
+pub mod Entries
 pub mod Acting
 pub mod Ran
 pub mod Progress

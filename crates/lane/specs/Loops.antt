@@ -11,10 +11,9 @@ abbrev pub HasBegun : (History → Type 0) → (History → Type 0) → ℕ → 
 HasBegun before now k left left' taken taken' input given =
     (h : History) → before h → h.events ≡ [] → HasServed now (record { history = h; left = left; taken = taken }) k left' taken' input.cutter input.taken given
 
--- The lane's reserve of entries is whole, no count of faults has fallen, and the remote is as it was.
-pub record Keeps {E : Type 0} (j : Journal) (k source source' sink sink' disk disk' : ℕ) (remote remote' : Option E) : Type 0 where
+-- The lane's reserve of entries is whole, no port's count of faults has fallen, and the remote is as it was.
+pub record Keeps {E : Type 0} (j : Journal) (k source source' sink sink' : ℕ) (remote remote' : Option E) : Type 0 where
   pub whole : 3 ≤ held_by j k
   pub source_later : source ≤ source'
   pub sink_later : sink ≤ sink'
-  pub disk_later : disk ≤ disk'
   pub same : remote' ≡ remote

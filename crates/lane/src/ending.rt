@@ -6,6 +6,7 @@ ghost use Rattle.core_state.specs.Entering.{held_by};
 ghost use Rattle.core_state.specs.History.{StandsFor};
 ghost use Rattle.lane.specs.Causes.{HasCauses};
 ghost use Rattle.lane.specs.Closing.{EndsLane, Closes};
+ghost use Rattle.lane.specs.Entries.{HasEntered};
 ghost use Rattle.lane.specs.Progress.{Start};
 
 use core_state::{Act, Core};
@@ -29,7 +30,7 @@ fn end<D: Disk, E, C: Clock>(core: &mut Core<D, E, C>, alloc: Global, lane: u32)
     requires room { 2 ≤ held_by core.old.journal lane }
     ensures ends { EndsLane (StandsFor D.honest D.content D.calls C.readings core.old) (StandsFor D.honest D.content D.calls C.readings core.new) lane }
     ensures remote { core.new.remote ≡ core.old.remote }
-    ensures disk { D.faults core.old.parts.disk ≤ D.faults core.new.parts.disk }
+    ensures entered { HasEntered D.faults core.old core.new lane ⊥ }
 {
     let answer = apply(core, alloc, lane, Act::End);
     if answer.entry.kind == 5 {
@@ -51,9 +52,10 @@ pub fn close<D: Disk, E, C: Clock, K: Sink>(
     requires text { IfSome last.words ReplyHasText }
     ensures closes { Closes (StandsFor D.honest D.content D.calls C.readings core.old) (StandsFor D.honest D.content D.calls C.readings core.new) lane (K.taken sink.old) (K.taken sink.new) given.old given.new last result }
     ensures remote { core.new.remote ≡ core.old.remote }
-    ensures disk { D.faults core.old.parts.disk ≤ D.faults core.new.parts.disk }
+    ensures entered { HasEntered D.faults core.old core.new lane ⊥ }
     ensures causes { (source source' sink_before size : ℕ) → HasCauses source source' sink_before (K.faults sink.old) size (Some last.ending)
         → HasCauses source source' sink_before (K.faults sink.new) size (Some result) }
+    ensures memory { result ≡ Ending.NoMemory → last.ending ≡ Ending.NoMemory }
 {
     end(core, alloc, lane);
     let Last { ending, words } = last;

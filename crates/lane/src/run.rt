@@ -1,12 +1,13 @@
 //! The loop of a lane.
 
-ghost use Rattle.std.specs.Prelude.{◌≡◌, ◌≤◌, ◌<◌, ◌+◌, ◌^◌, ℕ, [], Some, IfSome, IfNone};
+ghost use Rattle.std.specs.Prelude.{◌≡◌, ◌≤◌, ◌<◌, ◌+◌, ◌^◌, ◌⊎◌, ℕ, [], Some, IfSome, IfNone};
 ghost use Rattle.wire_commands.specs.HasText.{ReplyHasText};
 ghost use Rattle.store_history.specs.Acts.{IsWellFormed};
 ghost use Rattle.core_state.specs.Entering.{held_by};
 ghost use Rattle.core_state.specs.History.{History, StandsFor};
 ghost use Rattle.lane.specs.Acting.{IsNoEnd, Answers, AnswersShort, LeavesReserve};
 ghost use Rattle.lane.specs.Causes.{HasCauses};
+ghost use Rattle.lane.specs.Entries.{HasEntered};
 ghost use Rattle.lane.specs.Fronts.{IsCommandAhead};
 ghost use Rattle.lane.specs.Ran.{RanAlone};
 ghost use Rattle.lane.specs.Turns.{GoesOn, LeavesHeld, ending_of, HasEnded};
@@ -50,7 +51,7 @@ pub fn run_alone<D: Disk, E, C: Clock, S: Source, K: Sink, G: Gate>(
     ensures causes { HasCauses (S.faults port.old.source) (S.faults port.new.source) (K.faults port.old.sink) (K.faults port.new.sink) result.taken (Some result.ending) }
     ensures budget { result.taken ≤ 2 ^ 40 }
     ensures remote { core.new.remote ≡ core.old.remote }
-    ensures disk { D.faults core.old.parts.disk ≤ D.faults core.new.parts.disk }
+    ensures entered { HasEntered D.faults core.old core.new lane (result.ending ≡ Ending.NoMemory) }
 {
     let mut progress = Progress {
         input: Input::new(alloc),
@@ -88,7 +89,7 @@ fn turn<D: Disk, E, C: Clock, S: Source, K: Sink, G: Gate>(
     ensures causes { HasCauses (S.faults port.old.source) (S.faults port.new.source) (K.faults port.old.sink) (K.faults port.new.sink) progress.new.input.taken (ending_of result) }
     ensures further { IfNone result (progress.old.input.taken + progress.old.input.front < progress.new.input.taken + progress.new.input.front) }
     ensures remote { core.new.remote ≡ core.old.remote }
-    ensures disk { D.faults core.old.parts.disk ≤ D.faults core.new.parts.disk }
+    ensures entered { HasEntered D.faults core.old core.new lane (ending_of result ≡ Some Ending.NoMemory) }
 {
     match read_front(alloc, &progress.input.cutter) {
         Ahead::Part => more(core, alloc, lane, port, progress),
@@ -155,7 +156,7 @@ fn more<D: Disk, E, C: Clock, S: Source, K: Sink>(
     ensures causes { HasCauses (S.faults port.old.source) (S.faults port.new.source) (K.faults port.old.sink) (K.faults port.new.sink) progress.new.input.taken (ending_of result) }
     ensures further { IfNone result (progress.old.input.taken + progress.old.input.front < progress.new.input.taken + progress.new.input.front) }
     ensures remote { core.new.remote ≡ core.old.remote }
-    ensures disk { D.faults core.old.parts.disk ≤ D.faults core.new.parts.disk }
+    ensures entered { HasEntered D.faults core.old core.new lane (ending_of result ≡ Some Ending.NoMemory) }
 {
     match progress.input.take(&mut port.source) {
         Taken::More => None,
@@ -190,7 +191,7 @@ fn serve<D: Disk, E, C: Clock, S: Source, K: Sink, G: Gate>(
     ensures causes { HasCauses (S.faults port.old.source) (S.faults port.new.source) (K.faults port.old.sink) (K.faults port.new.sink) progress.new.input.taken (ending_of result) }
     ensures further { IfNone result (progress.old.input.taken + progress.old.input.front < progress.new.input.taken + progress.new.input.front) }
     ensures remote { core.new.remote ≡ core.old.remote }
-    ensures disk { D.faults core.old.parts.disk ≤ D.faults core.new.parts.disk }
+    ensures entered { HasEntered D.faults core.old core.new lane (ending_of result ≡ Some Ending.NoMemory) }
 {
     let act = act_of(command);
     gate.before(lane, progress.number);
@@ -215,7 +216,7 @@ fn short<D: Disk, E, C: Clock, K: Sink>(
     ensures room { 2 ≤ held_by core.new.journal lane }
     ensures causes { (source size : ℕ) → HasCauses source source (K.faults sink.old) (K.faults sink.new) size (Some result) }
     ensures remote { core.new.remote ≡ core.old.remote }
-    ensures disk { D.faults core.old.parts.disk ≤ D.faults core.new.parts.disk }
+    ensures entered { HasEntered D.faults core.old core.new lane (result ≡ Ending.NoMemory) }
 {
     do_act(core, alloc, lane, sink, given, Act::Short).unwrap_or(Ending::NoMemory)
 }
@@ -237,7 +238,7 @@ fn do_act<D: Disk, E, C: Clock, K: Sink>(
     ensures room { LeavesReserve core.old.journal core.new.journal lane result }
     ensures causes { (source size : ℕ) → HasCauses source source (K.faults sink.old) (K.faults sink.new) size result }
     ensures remote { core.new.remote ≡ core.old.remote }
-    ensures disk { D.faults core.old.parts.disk ≤ D.faults core.new.parts.disk }
+    ensures entered { HasEntered D.faults core.old core.new lane ((act ≡ Act.Short) ⊎ (result ≡ Some Ending.NoMemory)) }
 {
     let Answer { reply, last, .. } = apply(core, alloc, lane, act);
     let Some(reply) = reply else {

@@ -30,6 +30,7 @@ pub fn apply<D: Disk, E, C: Clock>(
     // on any disk
     ensures answers { IsAnswered D.calls D.faults core.old core.new lane result }
     ensures told { IsTold act result }
+    ensures short { act ≡ Act.Short → result.entry.kind ≡ 2 }
     ensures reserve { Keeps act core.old.journal core.new.journal lane result.last }
     ensures remote { core.new.remote ≡ core.old.remote }
 {

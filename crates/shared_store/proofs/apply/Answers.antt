@@ -13,3 +13,6 @@ returns-in-Short-clause-history g c = let d = g.D.Disk in λ h s.
 
 pub returns-in-Short-clause-answers : goal.returns-in-Short-clause-answers
 returns-in-Short-clause-answers g c = let d = g.D.Disk in short_answered d.calls d.faults g.C.Clock.readings _ _ c.args.lane _ c.short.ensures
+
+pub returns-in-Short-clause-short : goal.returns-in-Short-clause-short
+returns-in-Short-clause-short g c = λ _. ap (λ x. x.kind) ((c.short.ensures).entered).entry

@@ -1,9 +1,11 @@
-use Rattle.std.proofs.Common.{Some, sym, subst, arith}
+use Rattle.std.proofs.Common.{Some, None, sym, subst, arith}
+use Rattle.store_model.specs.declared.ending.Ending.TheVariants as endings
 use Rattle.lane.specs.declared.ending.Last.{Last}
 use Rattle.lane.specs.Causes.{HasCauses}
 use Rattle.lane.proofs.Turning.{took_more, ended_stops, source_stops, full_stops}
 use Rattle.lane.proofs.Serving.{short_piece, as_last}
 use Rattle.lane.proofs.Caused.{causes_later}
+use Rattle.lane.proofs.Entries.{none_entered, no_ending, read_ending, other_ending}
 use Rattle.lane.proofs.run.more.Goals as goal
 
 pub returns-in-More-clause-goes : goal.returns-in-More-clause-goes
@@ -30,3 +32,15 @@ returns-in-NoMemory-clause-causes g c =
     subst (λ (l : Last). HasCauses (g.S.Source.faults c.args.port.now.source) (g.S.Source.faults c.take.new.source) (g.K.Sink.faults c.args.port.now.sink) (g.K.Sink.faults c.short-ending.new.sink) c.take.new.self.taken (Some l.ending))
     (sym c.untold-in-NoMemory.ensures)
     (causes_later _ _ _ _ _ _ _ _ c.in-NoMemory.ensures.cause (omega arith) (c.short-ending.ensures.causes (g.S.Source.faults c.take.new.source) c.take.new.self.taken))
+
+pub returns-in-More-clause-entered : goal.returns-in-More-clause-entered
+returns-in-More-clause-entered g c = none_entered g.D.Disk.faults c.args.core.now c.args.lane _ no_ending
+
+pub returns-in-End-clause-entered : goal.returns-in-End-clause-entered
+returns-in-End-clause-entered g c = none_entered g.D.Disk.faults c.args.core.now c.args.lane _ (read_ending c.take.new.self c.ended.result c.ended.ensures.ending)
+
+pub returns-in-Fault-clause-entered : goal.returns-in-Fault-clause-entered
+returns-in-Fault-clause-entered g c = none_entered g.D.Disk.faults c.args.core.now c.args.lane _ (other_ending c.untold.result endings.SourceFault None c.untold.ensures (λ is. cc))
+
+pub returns-in-TooLong-clause-entered : goal.returns-in-TooLong-clause-entered
+returns-in-TooLong-clause-entered g c = none_entered g.D.Disk.faults c.args.core.now c.args.lane _ (other_ending c.untold-in-TooLong.result endings.SourceTooLong None c.untold-in-TooLong.ensures (λ is. cc))

@@ -1,5 +1,6 @@
 use Rattle.std.proofs.Common.{◌+◌, ◌-◌, ◌^◌}
 use Rattle.core_state.specs.History.{StandsFor}
+use Rattle.lane.specs.Entries.{HasEntered}
 use Rattle.lane.specs.Loops.{HasBegun, Keeps}
 use Rattle.lane.proofs.run.run_alone.Given as goal
 
@@ -9,7 +10,8 @@ invariant-loop-last g l = let d = g.D.Disk in
     l.lane (g.S.Source.left l.fn.port.source) (g.S.Source.left l.port.source) (g.K.Sink.taken l.fn.port.sink) (g.K.Sink.taken l.port.sink)
     l.progress.input l.progress.given
     × Keeps l.core.journal l.lane (g.S.Source.faults l.fn.port.source) (g.S.Source.faults l.port.source) (g.K.Sink.faults l.fn.port.sink) (g.K.Sink.faults l.port.sink)
-    (d.faults l.fn.core.parts.disk) (d.faults l.core.parts.disk) l.fn.core.remote l.core.remote
+    l.fn.core.remote l.core.remote
+    × HasEntered d.faults l.fn.core l.core l.lane ⊥
 
 abbrev pub decreases-loop-last : goal.decreases-loop-last
 decreases-loop-last g l = 2 ^ 41 - (l.progress.input.taken + l.progress.input.front)

@@ -1,9 +1,11 @@
-use Rattle.std.proofs.Common.{Some, sym, subst}
+use Rattle.std.proofs.Common.{◌≡◌, Some, sym, subst}
+use Rattle.store_model.specs.declared.ending.Ending.TheVariants as endings
 use Rattle.lane.specs.declared.ending.Last.{Last}
 use Rattle.lane.specs.Causes.{HasCauses}
 use Rattle.core_state.proofs.Texts.{done_has_text}
 use Rattle.lane.proofs.Turning.{bye_stops, broken_stops}
 use Rattle.lane.proofs.Serving.{short_here, as_last}
+use Rattle.lane.proofs.Entries.{none_entered, other_ending}
 use Rattle.lane.proofs.run.turn.Goals as goal
 
 pub returns-in-Bye-clause-goes : goal.returns-in-Bye-clause-goes
@@ -24,3 +26,12 @@ pub returns-in-NoMemory-clause-causes : goal.returns-in-NoMemory-clause-causes
 returns-in-NoMemory-clause-causes g c =
     subst (λ (l : Last). HasCauses (g.S.Source.faults c.args.port.now.source) (g.S.Source.faults c.args.port.now.source) (g.K.Sink.faults c.args.port.now.sink) (g.K.Sink.faults c.short-ending.new.sink) c.args.progress.now.input.taken (Some l.ending))
     (sym c.untold.ensures) (c.short-ending.ensures.causes (g.S.Source.faults c.args.port.now.source) c.args.progress.now.input.taken)
+
+pub returns-in-Bye-clause-entered : goal.returns-in-Bye-clause-entered
+returns-in-Bye-clause-entered g c = none_entered g.D.Disk.faults c.args.core.now c.args.lane _ clean
+  where
+    clean : Some endings.Clean ≡ Some endings.NoMemory → ⊥
+    clean e = cc
+
+pub returns-in-Broken-clause-entered : goal.returns-in-Broken-clause-entered
+returns-in-Broken-clause-entered g c = none_entered g.D.Disk.faults c.args.core.now c.args.lane _ (other_ending c.broken.result (endings.Broken c.args.progress.now.input.front) _ c.broken.ensures (λ is. cc))
