@@ -1,0 +1,6 @@
+pub mod Shown
+pub mod Contents
+pub mod Sessions
+pub mod Outcomes
+pub mod Writers
+pub mod Readers
