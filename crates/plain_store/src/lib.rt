@@ -7,11 +7,16 @@ mod archive;
 mod blob;
 mod file;
 mod key;
+mod lane;
+mod next;
 mod plain;
 mod reader_steps;
+mod run;
 mod session;
 mod snapshot;
 mod stop;
+mod weave;
 mod writer_steps;
 
 pub use plain::Plain;
+pub use weave::{Misfit, Woven};
