@@ -1,7 +1,7 @@
 -- An order, entry by entry.
-use Rattle.std.proofs.Common.{◌≡◌, ℕ, zero, suc, ◌+◌, ◌-◌, ◌<◌, ◌≤◌, Bool, true, false, ◌&&◌, List, [], ◌∷◌, length, get_or, take, drop, Option, None, Some, Result, Ok, Err, refl, sym, ap, ◌∙◌, arith, drop-cons, add-one}
+use Rattle.std.proofs.Common.{◌≡◌, ℕ, zero, suc, ◌+◌, ◌-◌, ◌<◌, ◌≤◌, Bool, true, ◌&&◌, List, [], ◌∷◌, length, get_or, take, drop, Option, None, Some, Ok, Err, refl, sym, ap, ◌∙◌, arith, drop-cons, add-one}
 use Rattle.std.proofs.Math.Seq.{drop-length}
-use Rattle.std.specs.Prelude.{IsTrue, slice_index_or, nat_lt, nat_le}
+use Rattle.std.specs.Prelude.{IsTrue, nat_lt, nat_le}
 use Rattle.std.specs.List.{list_all, range_with_len}
 use Rattle.std.proofs.lemmas.Bool.{and_parts, ltb-true, leb-true}
 use Rattle.std.proofs.lemmas.List.{take_all, length-drop}
@@ -11,8 +11,8 @@ use Rattle.store_files.specs.Archive.{Snapshot}
 use Rattle.store_files.specs.Order.{fits_entry, moments_rise, of_lane, ends_once, keeps_rules}
 use Rattle.store_model.specs.declared.ending.Ending.{Ending}
 use Rattle.store_model.specs.declared.ending.Ending.TheVariants.{Clean}
-use Rattle.store_model.specs.Lanes.{Run, new_run, lane_at, next_of}
-use Rattle.store_model.specs.Weave.{Endings, Misfit, Woven, entered, misfit, run_from, known, woven_of, woven, weave}
+use Rattle.store_model.specs.Lanes.{Run, new_run, next_of}
+use Rattle.store_model.specs.Weave.{Endings, Misfit, entered, misfit, run_from, known, woven_of, woven, weave}
 
 module _ (E : Endings) (r : Run) (place : ℕ) (e : Entry) (later : List Entry) where
   pub goes_on : (after : Run) → entered E r place e later ≡ Some after → run_from E r place (e ∷ later) ≡ run_from E after (place + 1) later

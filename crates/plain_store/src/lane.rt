@@ -65,12 +65,7 @@ impl<'a> Lane<'a> {
     }
 
     /// One more reply, with this left of the input.
-    pub fn tell(
-        &mut self,
-        alloc: Global,
-        left: &'a [u8],
-        reply: &Reply,
-    ) -> Result<(), AllocError>
+    pub fn tell(&mut self, alloc: Global, left: &'a [u8], reply: &Reply) -> Result<(), AllocError>
         requires { ReplyHasText reply.now }
         ensures { OnOk result (self.new ≡ said reply.now (record self.old { left = left.now })) }
     {

@@ -20,3 +20,6 @@ mod writer_steps;
 
 pub use plain::Plain;
 pub use weave::{Misfit, Woven};
+
+#[cfg(test)]
+mod tests;

@@ -33,10 +33,10 @@ impl<'a> Model for Run<'a> {
     ghost Value = { model.Run };
 
     ghost view = { λ r. record {
-        store = r.store;
-        remote = option_map (λ p. p.now.snapshots) r.remote;
-        lanes = r.lanes.items;
-        fault = r.fault;
+      store = r.store;
+      remote = option_map (λ p. p.now.snapshots) r.remote;
+      lanes = r.lanes.items;
+      fault = r.fault;
     } };
 }
 

@@ -1,8 +1,8 @@
-use Rattle.std.proofs.Common.{◌≡◌, ◌∙◌, ap, sym, subst, ℕ, length, drop, arith, Ok}
+use Rattle.std.proofs.Common.{◌≡◌, ◌∙◌, ap, sym, subst, ℕ, length, arith, Ok}
 use Rattle.std.specs.Prelude.{IsTrue, option_map}
 use Rattle.store_files.specs.Order.{keeps_rules}
 use Rattle.store_model.specs.Lanes.{Run}
-use Rattle.store_model.specs.Weave.{known, run_from, woven_of}
+use Rattle.store_model.specs.Weave.{known, run_from}
 use Rattle.plain_store.proofs.WeaveLemmas.{woven_ok, woven_err, over}
 use Rattle.plain_store.proofs.plain.Plain.weave.Goals as goal
 

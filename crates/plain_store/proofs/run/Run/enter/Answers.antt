@@ -1,7 +1,6 @@
-use Rattle.std.proofs.Common.{◌≡◌, ◌≢◌, ◌∙◌, arith, ap, sym, subst, refl, true, Bool, Option, Some}
-use Rattle.store_model.specs.Lanes as model
-use Rattle.store_model.specs.Lanes.{Run, next_of}
-use Rattle.store_model.specs.Weave.{Endings, stepped, short, ends, faulted, entered}
+use Rattle.std.proofs.Common.{◌≢◌, ◌∙◌, arith, ap, sym, subst, refl, Option, Some}
+use Rattle.store_model.specs.Lanes.{Run}
+use Rattle.store_model.specs.Weave.{Endings, stepped, short, ends, faulted}
 use Rattle.plain_store.specs.Nexts.{shown_next, Enters}
 use Rattle.plain_store.proofs.RunLemmas.{entered_0, entered_2, entered_5, entered_6, not_entered, faulted_as}
 use Rattle.plain_store.proofs.run.Run.enter.Goals as goal

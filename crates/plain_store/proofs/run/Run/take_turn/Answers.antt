@@ -1,4 +1,4 @@
-use Rattle.std.proofs.Common.{◌≡◌, ◌<◌, ◌≤◌, length, get_or, arith, refl, sym, ap, ◌∙◌, Err}
+use Rattle.std.proofs.Common.{length, get_or, arith, sym, ap, ◌∙◌, Err}
 use Rattle.std.proofs.lemmas.List.{get_or_default}
 use Rattle.store_types.specs.declared.order.Entry.{Entry}
 use Rattle.store_model.specs.Weave.{misfit}
