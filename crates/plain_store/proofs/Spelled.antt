@@ -1,0 +1,120 @@
+-- What is answered has a text.
+use Rattle.std.proofs.Common.{◌≡◌, ℕ, zero, suc, ◌<◌, ◌≤◌, ◌^◌, ◌/◌, true, ◌&&◌, length, get_or, List, refl, arith, length-append}
+use Rattle.std.proofs.lemmas.Bool.{leb-true, and_parts}
+use Rattle.std.specs.Prelude.{nat_le}
+use Rattle.std.specs.List.{list_all}
+use Rattle.store_types.specs.declared.names.Kind.{Kind}
+use Rattle.store_types.specs.declared.names.Kind.TheVariants.{Ct, Host, Vm}
+use Rattle.store_types.specs.declared.names.SnapshotKey.{SnapshotKey}
+use Rattle.store_types.specs.declared.refusal.Refusal.{Refusal}
+use Rattle.store_types.specs.declared.refusal.Refusal.TheVariants.{BadFrame, TooLong, WrongState, BadName, GroupBusy, SnapshotBusy, NotNewer, NoSnapshot, NoFile, Exists, BadBlob, WrongDigest, WrongSize, UnknownChunk, BadOffset, BadClose, OpenIndexes, BadManifest, ManifestMismatch, NotAllowed, TooMany, BadRange, Damaged, Unreadable, CollectorBusy, DiskFault, Halted, NoMemory, NoRemote, RemoteFault}
+use Rattle.store_types.specs.declared.refusal.BadBlob.{BadBlob as BlobCause}
+use Rattle.store_types.specs.declared.refusal.BadBlob.TheVariants as blobs
+use Rattle.store_types.specs.declared.refusal.CloseFault.{CloseFault}
+use Rattle.store_types.specs.declared.refusal.CloseFault.TheVariants.{Count, Size, Csum, Rest}
+use Rattle.store_types.specs.declared.refusal.ChunkFault.{ChunkFault}
+use Rattle.store_types.specs.declared.refusal.ChunkFault.TheVariants.{Nothing, NotABlob, Other}
+use Rattle.store_types.specs.FileNames.{is_id, is_word_byte, is_id_byte}
+use Rattle.store_types.specs.Times.{digits, time_text}
+use Rattle.store_types.specs.Names.{IsKey, kind_text, group_text, key_text}
+use Rattle.wire_commands.specs.declared.reply.Reply.TheVariants.{Done, Base, Part, Refused}
+use Rattle.wire_commands.specs.RefusalText.{blob_fault_text, close_fault_text, chunk_fault_text, refusal_text}
+use Rattle.wire_commands.specs.ReplyText.{reply_text}
+use Rattle.wire_commands.specs.HasText.{FitsCloseFault, FitsChunkFault, FitsRefusal, ReplyHasText}
+
+-- ---- the text of a key
+
+length-digits : (n x : ℕ) → length (digits n x) ≡ n
+unfolding digits
+length-digits zero x = refl
+length-digits (suc n) x = let h = length-digits n (x / 10) in simp length-append (omega arith)
+
+length-time_text : (t : ℕ) → length (time_text t) ≡ 20
+unfolding time_text
+length-time_text t = simp (length-append, length-digits) (omega arith)
+
+kind_short : (k : Kind) → length (kind_text k) ≤ 4
+kind_short Ct = omega arith
+kind_short Host = omega arith
+kind_short Vm = omega arith
+
+id_short : (id : List ℕ) → is_id id ≡ true → length id ≤ 64
+id_short id h =
+    let four = and_parts (nat_le 1 (length id) && nat_le (length id) 64 && is_word_byte (get_or id 0 0)) (list_all is_id_byte id) h in
+    let three = and_parts (nat_le 1 (length id) && nat_le (length id) 64) (is_word_byte (get_or id 0 0)) four.0 in
+    leb-true (length id) 64 (and_parts (nat_le 1 (length id)) (nat_le (length id) 64) three.0).1
+
+pub key_short : (k : SnapshotKey) → IsKey k → length (key_text k) < 256
+unfolding key_text group_text
+key_short k h = simp length-append (omega (arith, kind_short k.kind, id_short k.id h.0, length-time_text k.time))
+
+-- ---- replies
+
+pub done_spelled : ReplyHasText Done
+unfolding reply_text
+done_spelled = (tt, omega arith)
+
+pub base_spelled : (text : List ℕ) → length text < 256 → ReplyHasText (Base text)
+unfolding reply_text
+base_spelled text h = (h, omega arith)
+
+pub part_spelled : (total : ℕ) (bytes : List ℕ) → total < 2 ^ 64 → length bytes ≤ 4_194_304 → ReplyHasText (Part total bytes)
+unfolding reply_text
+part_spelled total bytes h few = (h, omega arith)
+
+blob_fault_short : (f : BlobCause) → length (blob_fault_text f) ≤ 9
+blob_fault_short blobs.Short = omega arith
+blob_fault_short blobs.Compressed = omega arith
+blob_fault_short blobs.Encrypted = omega arith
+blob_fault_short blobs.EncryptedCompressed = omega arith
+blob_fault_short blobs.UnknownMagic = omega arith
+blob_fault_short blobs.TooLong = omega arith
+blob_fault_short (blobs.WrongCrc kept found) = omega arith
+
+close_fault_short : (f : CloseFault) → FitsCloseFault f → length (close_fault_text f) ≤ 33
+close_fault_short (Count n) h = omega arith
+close_fault_short (Size n) h = omega arith
+close_fault_short (Csum d) h = omega arith
+close_fault_short (Rest n) h = omega arith
+
+chunk_fault_short : (f : ChunkFault) → FitsChunkFault f → length (chunk_fault_text f) ≤ 33
+chunk_fault_short Nothing h = omega arith
+chunk_fault_short NotABlob h = omega arith
+chunk_fault_short (Other d) h = omega arith
+
+refusal_short : (r : Refusal) → FitsRefusal r → length (refusal_text r) ≤ 300
+unfolding refusal_text
+refusal_short (BadFrame offset) h = omega arith
+refusal_short (TooLong len) h = omega arith
+refusal_short (WrongState state) h = omega arith
+refusal_short BadName h = omega arith
+refusal_short (GroupBusy lane) h = omega arith
+refusal_short (SnapshotBusy lane) h = omega arith
+refusal_short (NotNewer latest) h = omega arith
+refusal_short NoSnapshot h = omega arith
+refusal_short NoFile h = omega arith
+refusal_short Exists h = omega arith
+refusal_short (BadBlob fault) h = omega (arith, blob_fault_short fault)
+refusal_short (WrongDigest found) h = omega arith
+refusal_short (WrongSize place size) h = omega arith
+refusal_short (UnknownChunk place) h = omega arith
+refusal_short (BadOffset place expected) h = omega arith
+refusal_short (BadClose fault) h = omega (arith, close_fault_short fault h)
+refusal_short (OpenIndexes count) h = omega arith
+refusal_short (BadManifest cause) h = omega arith
+refusal_short (ManifestMismatch file field) h = simp length-append (omega (arith, h.0))
+refusal_short NotAllowed h = omega arith
+refusal_short (TooMany limit) h = omega arith
+refusal_short (BadRange size) h = omega arith
+refusal_short (Damaged digest fault) h = simp length-append (omega (arith, h.0, chunk_fault_short fault h.1))
+refusal_short (Unreadable name) h = omega arith
+refusal_short (CollectorBusy lane) h = omega arith
+refusal_short DiskFault h = omega arith
+refusal_short (Halted place) h = omega arith
+refusal_short NoMemory h = omega arith
+refusal_short NoRemote h = omega arith
+refusal_short RemoteFault h = omega arith
+
+pub refusal_spelled : (r : Refusal) → FitsRefusal r → ReplyHasText (Refused r)
+unfolding reply_text
+refusal_spelled r h = (h, omega (arith, refusal_short r h))

@@ -1,0 +1,27 @@
+-- A step that stops before its end.
+use Rattle.std.proofs.Common.{◌≡◌, Result, Err, refl, sym, subst}
+use Rattle.store_types.specs.declared.refusal.Refusal.{Refusal}
+use Rattle.wire_commands.specs.declared.reply.Reply.{Reply}
+use Rattle.wire_commands.specs.HasText.{FitsRefusal}
+use Rattle.store_model.specs.Store.{Store, Outcome}
+use Rattle.plain_store.specs.declared.stop.Stop.{Stop}
+use Rattle.plain_store.specs.declared.stop.Stop.TheVariants.{Refused, NoMemory}
+use Rattle.plain_store.specs.Outcomes.{Does, Gives, IsFitRefusal, IsSpelled}
+
+pub does_refuse : (s : Store) (result : Result Reply Stop) (r : Refusal) (o : Outcome) → result ≡ Err (Refused r) → o ≡ Err r → Does s s result o
+does_refuse s result r o is h = subst (λ (x : Result Reply Stop). Does s s x o) (sym is) (h, refl)
+
+pub refusal_fits : (result : Result Reply Stop) (r : Refusal) → result ≡ Err (Refused r) → FitsRefusal r → IsSpelled result
+refusal_fits result r is h = subst (λ (x : Result Reply Stop). IsSpelled x) (sym is) h
+
+-- a test with a stop of its own
+pub does_stop : {A : Type 0} (s : Store) (result : Result Reply Stop) (stop : Stop) (test : Result A Refusal) (o : Outcome)
+    → result ≡ Err stop → Gives {A = A} (λ x. x) (Err stop) test → ((r : Refusal) → test ≡ Err r → o ≡ Err r) → Does s s result o
+does_stop {A} s result stop test o is gives refused = subst (λ (x : Result Reply Stop). Does s s x o) (sym is) (by_stop stop gives)
+  where
+    by_stop : (stop : Stop) → Gives {A = A} (λ x. x) (Err stop) test → Does s s (Err stop) o
+    by_stop (Refused r) g = (refused r g, refl)
+    by_stop NoMemory g = refl
+
+pub stop_fits : (result : Result Reply Stop) (stop : Stop) → result ≡ Err stop → IsFitRefusal {A = Reply} (Err stop) → IsSpelled result
+stop_fits result stop is h = subst (λ (x : Result Reply Stop). IsSpelled x) (sym is) h

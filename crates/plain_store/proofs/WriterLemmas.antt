@@ -1,0 +1,168 @@
+-- A writer's commands, by how their tests came out.
+use Rattle.std.proofs.Common.{◌≡◌, ℕ, ◌+◌, ◌<◌, ◌≤◌, Bool, true, false, not, set, ◌||◌, add-zero, List, [], length, Option, None, Some, Result, Ok, Err, refl, ap, ◌∙◌}
+use Rattle.std.proofs.lemmas.Bool.{lt-ltb, le-ltb, or_parts}
+use Rattle.std.specs.Prelude.{nat_lt, is_some}
+use Rattle.store_types.specs.declared.names.SnapshotKey.{SnapshotKey}
+use Rattle.store_types.specs.declared.refusal.Refusal.{Refusal}
+use Rattle.store_types.specs.declared.refusal.Refusal.TheVariants.{BadName, GroupBusy, Exists, TooMany, NoFile}
+use Rattle.store_types.specs.Chain.Refusing.{◌>>=◌, unless, if_none}
+use Rattle.store_types.specs.FileNames.{is_file_name, is_index_name, is_blob_name, manifest_name}
+use Rattle.store_types.specs.Names.{key_of, group_of_key}
+use Rattle.store_files.specs.Archive.{File, Snapshot, blob, file_named}
+use Rattle.wire_commands.specs.declared.reply.Reply.{Reply}
+use Rattle.wire_commands.specs.declared.reply.Reply.TheVariants.{Done, Base}
+use Rattle.store_model.specs.Store.{Store, Session, Writer, none, writer, reader, session, with_session, want_writer, want_idle, group_holder, in_group, latest_in, insert_snapshot, insert_file}
+use Rattle.store_model.specs.Uploads.{want_room}
+use Rattle.store_model.specs.WriterSteps.{open_writer, new_writer, base_text, want_newer, want_data, checked_blob, put_blob, goes_on, finish, snapshot_of}
+use Rattle.plain_store.specs.Writers.{base_of, upload_of}
+
+-- ---- tests in a row
+
+err_is : {A : Type 0} (r q : Refusal) → (let e : Result A Refusal = Err r in e ≡ Err q) → r ≡ q
+err_is r q e = cc
+
+ok_is : {A : Type 0} (a b : A) → (let e : Result A Refusal = Ok a in e ≡ Ok b) → a ≡ b
+ok_is a b e = cc
+
+-- two tests, and a third with a value
+module _ {A B C U : Type 0} (f : A → B) (go : A → Result C Refusal) where
+  refused_in_row : (a b : Result U Refusal) (c : Result A Refusal) (r : Refusal)
+      → (a >>= λ _. b >>= λ _. c >>= λ x. (let y : Result B Refusal = Ok (f x) in y)) ≡ Err r → (a >>= λ _. b >>= λ _. c >>= go) ≡ Err r
+  refused_in_row (Err e) b c r h = ap (λ q. Err q) (err_is {A = B} e r h)
+  refused_in_row (Ok t) (Err e) c r h = ap (λ q. Err q) (err_is {A = B} e r h)
+  refused_in_row (Ok t) (Ok u) (Err e) r h = ap (λ q. Err q) (err_is {A = B} e r h)
+  refused_in_row (Ok t) (Ok u) (Ok x) r h = cc
+
+  passed_in_row : (a b : Result U Refusal) (c : Result A Refusal) (z : B)
+      → (a >>= λ _. b >>= λ _. c >>= λ x. (let y : Result B Refusal = Ok (f x) in y)) ≡ Ok z
+      → (x : A) × ((a >>= λ _. b >>= λ _. c >>= go) ≡ go x) × (f x ≡ z)
+  passed_in_row (Err e) b c z h = cc
+  passed_in_row (Ok t) (Err e) c z h = cc
+  passed_in_row (Ok t) (Ok u) (Err e) z h = cc
+  passed_in_row (Ok t) (Ok u) (Ok x) z h = (x, refl, ok_is {A = B} (f x) z h)
+
+-- ---- OPEN_WRITER
+
+abbrev is_free : Store → SnapshotKey → Result (Unit {0}) Refusal
+is_free s key = if_none GroupBusy (group_holder s (group_of_key key))
+
+abbrev is_newer : Store → SnapshotKey → Result (Unit {0}) Refusal
+is_newer s key = want_newer key.time (latest_in (group_of_key key) s.snapshots)
+
+abbrev has_room : Store → SnapshotKey → Result (Unit {0}) Refusal
+has_room s key = unless (TooMany 4096) (nat_lt (length (in_group (group_of_key key) s.snapshots)) 4096)
+
+module _ (s : Store) (lane moment : ℕ) (text : List ℕ) where
+  pub open_not_idle : (r : Refusal) → want_idle (session s lane) ≡ Err r → open_writer s lane moment text ≡ Err r
+  unfolding open_writer
+  open_not_idle r e = rw e refl
+
+  pub open_no_name : want_idle (session s lane) ≡ Ok tt → key_of text ≡ None → open_writer s lane moment text ≡ Err BadName
+  unfolding open_writer
+  open_no_name idle bad = rw (idle, bad) refl
+
+  module _ (key : SnapshotKey) (idle : want_idle (session s lane) ≡ Ok tt) (named : key_of text ≡ Some key) where
+    abbrev latest : Unit {0} → Option SnapshotKey
+    latest _ = latest_in (group_of_key key) s.snapshots
+
+    abbrev begins : Option SnapshotKey → Store × Reply
+    begins base = (with_session s lane (writer (new_writer key moment base)), Base (base_text base))
+
+    abbrev goes : Unit {0} → Result (Store × Reply) Refusal
+    goes _ = Ok (begins (latest_in (group_of_key key) s.snapshots))
+
+    tests_are : open_writer s lane moment text ≡ (is_free s key >>= λ _. is_newer s key >>= λ _. has_room s key >>= goes)
+    unfolding open_writer goes_on
+    tests_are = rw (idle, named) refl
+
+    pub open_refused : (r : Refusal) → base_of s key ≡ Err r → open_writer s lane moment text ≡ Err r
+    open_refused r h = tests_are ∙ refused_in_row latest goes (is_free s key) (is_newer s key) (has_room s key) r h
+
+    pub open_goes : (base copy : Option SnapshotKey) (files : List File) (told : List ℕ) (after : Store) → base_of s key ≡ Ok base
+        → files ≡ [] → copy ≡ base → told ≡ base_text base
+        → after ≡ with_session s lane (writer (record { key = key; start = moment; base = copy; pool = []; begun = []; files = files }))
+        → open_writer s lane moment text ≡ Ok (after, Base told)
+    open_goes base copy files told after h empty same tells is =
+        let p = passed_in_row latest goes (is_free s key) (is_newer s key) (has_room s key) base h in
+        tests_are ∙ p.1 ∙ ap (λ b. Ok (begins b)) p.2 ∙ rw (is, empty, same, tells) refl
+
+-- ---- BLOB
+
+pub is_writer : (x : Session) (w : Writer) → want_writer x ≡ Ok w → x ≡ writer w
+is_writer none w h = cc
+is_writer (writer v) w h = ap (λ u. writer u) (ok_is {A = Writer} v w h)
+is_writer (reader r) w h = cc
+
+module _ (s : Store) (lane : ℕ) (name bytes : List ℕ) where
+  pub put_not_writer : (r : Refusal) → want_writer (session s lane) ≡ Err r → put_blob s lane name bytes ≡ Err r
+  unfolding put_blob checked_blob
+  put_not_writer r e = rw e refl
+
+  module _ (w : Writer) (is : want_writer (session s lane) ≡ Ok w) where
+    abbrev file : List ℕ → File
+    file x = record { name = name; content = blob x }
+
+    abbrev puts : File → Result (Store × Reply) Refusal
+    puts f = Ok (with_session s lane (writer (record w { files = insert_file f w.files })), Done)
+
+    abbrev goes_with : List ℕ → Result (Store × Reply) Refusal
+    goes_with x = puts (file x)
+
+    put_tests : put_blob s lane name bytes ≡ (unless BadName (is_blob_name name) >>= λ _. want_room name w >>= λ _. want_data bytes >>= goes_with)
+    unfolding put_blob checked_blob goes_on
+    put_tests = rw is refl
+
+    pub put_refused : (r : Refusal) → upload_of w name bytes ≡ Err r → put_blob s lane name bytes ≡ Err r
+    put_refused r h = put_tests ∙ refused_in_row file goes_with (unless BadName (is_blob_name name)) (want_room name w) (want_data bytes) r h
+
+    pub put_goes : (f : File) → upload_of w name bytes ≡ Ok f
+        → put_blob s lane name bytes ≡ Ok (with_session s lane (writer (record w { files = insert_file f w.files })), Done)
+    put_goes f h =
+        let p = passed_in_row file goes_with (unless BadName (is_blob_name name)) (want_room name w) (want_data bytes) f h in
+        put_tests ∙ p.1 ∙ ap puts p.2
+
+-- the code's tests of a new file
+pub room_free : (there : Bool) (n : ℕ) → there ≡ false → n < 64 → Ok tt ≡ (unless Exists (not (there || false)) >>= λ _. unless (TooMany 64) (nat_lt (n + 0) 64))
+room_free there n new h = rw (new, add-zero, lt-ltb n 64 h) refl
+
+pub room_full : (there : Bool) (n : ℕ) → there ≡ false → 64 ≤ n → (let e : Result (Unit {0}) Refusal = Err (TooMany 64) in e) ≡ (unless Exists (not (there || false)) >>= λ _. unless (TooMany 64) (nat_lt (n + 0) 64))
+room_full there n new h = rw (new, add-zero, le-ltb n 64 h) refl
+
+-- a name that no file may have
+pub no_name : (w : Writer) (name bytes : List ℕ) → is_file_name name ≡ false → upload_of w name bytes ≡ Err BadName
+no_name w name bytes bad = let no_blob = (or_parts (is_index_name name) (is_blob_name name) bad).1 in rw no_blob refl
+
+-- ---- FINISH
+
+module _ (s : Store) (lane : ℕ) where
+  pub finish_not_writer : (r : Refusal) → want_writer (session s lane) ≡ Err r → finish s lane ≡ Err r
+  unfolding finish
+  finish_not_writer r e = rw e refl
+
+  pub finish_no_manifest : (w : Writer) → want_writer (session s lane) ≡ Ok w → file_named manifest_name w.files ≡ None → finish s lane ≡ Err NoFile
+  unfolding finish
+  finish_no_manifest w e h = rw (e, h) refl
+
+  pub finish_goes : (w : Writer) (f : File) → want_writer (session s lane) ≡ Ok w → file_named manifest_name w.files ≡ Some f
+      → finish s lane ≡ Ok (record (with_session s lane none) { snapshots = insert_snapshot (snapshot_of w) s.snapshots }, Done)
+  unfolding finish
+  finish_goes w f e h = rw (e, h) refl
+
+  -- as the code does it
+  pub finish_as : (w : Writer) (f : File) → want_writer (session s lane) ≡ Ok w → file_named manifest_name w.files ≡ Some f
+      → (snapshots new : List Snapshot) (sessions : List Session) (key : SnapshotKey) (files : List File) (after : Store)
+      → (let store : Store = record { snapshots = snapshots; sessions = sessions } in store ≡ s)
+      → new ≡ insert_snapshot (record { key = key; files = files }) snapshots → key ≡ w.key → files ≡ w.files
+      → after ≡ record { snapshots = new; sessions = set sessions lane none } → finish s lane ≡ Ok (after, Done)
+  finish_as w f e h snapshots new sessions key files after store placed same_key same_files is =
+      let listed : snapshots ≡ s.snapshots = ap (λ (x : Store). x.snapshots) store in
+      let held : sessions ≡ s.sessions = ap (λ (x : Store). x.sessions) store in
+      finish_goes w f e h ∙ rw (is, placed, same_key, same_files, listed, held) refl
+
+pub is_there : {A : Type 0} (o : Option A) → is_some o ≡ true → (x : A) × (o ≡ Some x)
+is_there None h = cc
+is_there (Some x) h = (x, refl)
+
+pub is_absent : {A : Type 0} (o : Option A) → is_some o ≡ false → o ≡ None
+is_absent None h = refl
+is_absent (Some x) h = cc

@@ -1,0 +1,46 @@
+use Rattle.std.proofs.Common.{◌≡◌, ◌∙◌, ap, sym, Ok, Err, rules}
+use Rattle.store_model.specs.Store.{session, with_session, want_writer}
+use Rattle.wire_commands.specs.declared.reply.Reply.TheVariants.{Done}
+use Rattle.plain_store.specs.declared.stop.Stop.TheVariants.{Refused}
+use Rattle.plain_store.specs.Sessions.{shown_writer, uploaded}
+use Rattle.plain_store.specs.Writers.{upload_of}
+use Rattle.plain_store.proofs.Spelled.{done_spelled}
+use Rattle.plain_store.proofs.Stopping.{does_refuse, refusal_fits, does_stop, stop_fits}
+use Rattle.plain_store.proofs.WriterLemmas.{is_writer, put_not_writer, put_refused, put_goes}
+use Rattle.plain_store.proofs.plain.Plain.put_blob.Goals as goal
+
+pub returns-in_err-w-clause-does : goal.returns-in_err-w-clause-does
+returns-in_err-w-clause-does c =
+    let r = c.in_err-w.field-0.0 in
+    let is : c.from_residual.result ≡ Err (Refused r) = search rules in
+    does_refuse _ _ r _ is (put_not_writer c.args.self.now c.args.lane c.args.name.now c.args.blob.now r (ap want_writer (sym c.held.ensures) ∙ c.in_err-w.ensures.test))
+
+pub returns-in_err-w-clause-spelled : goal.returns-in_err-w-clause-spelled
+returns-in_err-w-clause-spelled c =
+    let is : c.from_residual.result ≡ Err (Refused c.in_err-w.field-0.0) = search rules in
+    refusal_fits _ _ is c.in_err-w.ensures.fits
+
+pub returns-in_err-file-clause-does : goal.returns-in_err-file-clause-does
+returns-in_err-file-clause-does c =
+    let w = shown_writer c.in_ok-w.w.now in
+    let is : c.from_residual-in_err-file.result ≡ Err c.in_err-file.field-0.0 = search rules in
+    let writes = ap want_writer (sym c.held.ensures) ∙ c.in_ok-w.ensures.test in
+    does_stop _ _ c.in_err-file.field-0.0 (upload_of w c.args.name.now c.args.blob.now) _ is c.in_err-file.ensures.gives
+    (put_refused c.args.self.now c.args.lane c.args.name.now c.args.blob.now w writes)
+
+pub returns-in_err-file-clause-spelled : goal.returns-in_err-file-clause-spelled
+returns-in_err-file-clause-spelled c =
+    let is : c.from_residual-in_err-file.result ≡ Err c.in_err-file.field-0.0 = search rules in
+    stop_fits _ _ is c.in_err-file.ensures.fits
+
+pub returns-clause-does : goal.returns-clause-does
+returns-clause-does c =
+    let w = shown_writer c.in_ok-w.w.now in
+    let s = c.args.self.now in
+    let writes = ap want_writer (sym c.held.ensures) ∙ c.in_ok-w.ensures.test in
+    put_goes s c.args.lane c.args.name.now c.args.blob.now w writes c.in_ok-file.file c.in_ok-file.ensures.gives
+    ∙ ap (λ x. Ok (with_session s c.args.lane (uploaded c.in_ok-file.file x), Done)) (sym (is_writer (session s c.args.lane) w writes))
+    ∙ ap (λ a. Ok (a, Done)) (sym c.in_ok-put_file.ensures.ok)
+
+pub returns-clause-spelled : goal.returns-clause-spelled
+returns-clause-spelled c = done_spelled

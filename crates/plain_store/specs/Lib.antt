@@ -1,0 +1,8 @@
+pub mod Shown
+pub mod Contents
+pub mod Sessions
+pub mod Outcomes
+pub mod Writers
+pub mod Readers
+pub mod Nexts
+pub mod Turns

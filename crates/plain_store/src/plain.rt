@@ -1,0 +1,118 @@
+//! The plain store, and what a command does to it.
+
+ghost use Rattle.std.specs.Prelude.{◌≡◌, ◌<◌, ◌≤◌, IfOk, OnErr};
+ghost use Rattle.store_types.specs.Times.{last_moment};
+ghost use Rattle.wire_commands.specs.HasText.{ReplyHasText};
+ghost use Rattle.store_model.specs.Store.{session as session_at, with_session};
+ghost use Rattle.store_model.specs.Steps.{step as stepped, ended};
+ghost use Rattle.store_model.specs.Steps.{outcome as outcome_of};
+ghost use Rattle.plain_store.specs.Sessions.{shown_held};
+ghost use Rattle.plain_store.specs.Outcomes.{Does, IsSpelled};
+
+use crate::session::{Held, Session};
+use crate::snapshot::Snapshot;
+use crate::stop::Stop;
+use std::alloc::{AllocError, Global};
+use std::marker::Model;
+use wire_commands::{Command, Reply};
+
+/// The plain store: the finished snapshots with all their bytes, in their order, and the session of
+/// each of the 64 lanes.
+#[derive(Drop)]
+pub struct Plain {
+    pub(crate) snapshots: Vec<Snapshot>,
+    pub(crate) sessions: Vec<Session>,
+}
+
+impl Model for Plain {
+    ghost use Rattle.std.specs.Prelude.{◌≡◌, vec_len};
+    ghost use Rattle.store_model.specs.Store.{Store};
+
+    ghost Value = { Store };
+
+    ghost view = { λ p. record { snapshots = p.snapshots.items; sessions = p.sessions.items } };
+
+    ghost invariant = { λ p. vec_len p.sessions ≡ 64 };
+}
+
+impl Plain {
+    /// What the lane has.
+    pub(crate) fn held(&self, lane: u32) -> &Held
+        requires { lane < 64 }
+        ensures { shown_held result.now ≡ session_at self.now lane }
+    {
+        let session = &self.sessions[lane as usize];
+        &session.held
+    }
+
+    /// The lane has this.
+    pub(crate) fn set_held(&mut self, lane: u32, held: Held)
+        requires { lane < 64 }
+        ensures { self.new ≡ with_session self.old lane (shown_held held) }
+    {
+        self.sessions[lane as usize] = Session { held };
+    }
+
+    /// The lane's session ends.
+    pub(crate) fn end(&mut self, lane: u32)
+        requires { lane < 64 }
+        ensures { self.new ≡ ended self.old lane }
+    {
+        self.set_held(lane, Held::Nothing);
+    }
+
+    /// Does a lane's next command, and gives its reply. BYE ends the session.
+    ///
+    /// The moment is in seconds since 1970, and there are 64 lanes. A command that is refused
+    /// changes nothing, and so does one that memory is wanting for.
+    pub fn step(
+        &mut self,
+        alloc: Global,
+        lane: u32,
+        moment: u64,
+        command: &Command,
+    ) -> Result<Reply, AllocError>
+        requires lane { lane < 64 }
+        requires moment { moment ≤ last_moment }
+        ensures step { IfOk result (λ reply. (self.new, reply) ≡ stepped self.old lane moment command.now) }
+        ensures spelled { IfOk result ReplyHasText }
+        ensures memory { OnErr result (self.new ≡ self.old) }
+    {
+        match self.outcome(alloc, lane, moment, command) {
+            Ok(reply) => Ok(reply),
+            Err(Stop::Refused(refusal)) => Ok(Reply::Refused(refusal)),
+            Err(Stop::NoMemory) => Err(AllocError),
+        }
+    }
+
+    #[tactic(auto, unfolding(store_model::specs::Steps::outcome), using(crate::proofs::Spelled::done_spelled))]
+    fn outcome(
+        &mut self,
+        alloc: Global,
+        lane: u32,
+        moment: u64,
+        command: &Command,
+    ) -> Result<Reply, Stop>
+        requires { lane < 64 }
+        ensures does { Does self.old self.new result (outcome_of self.old lane moment command.now) }
+        ensures spelled { IsSpelled result }
+    {
+        match command {
+            Command::OpenWriter { snapshot } => {
+                self.open_writer(alloc, lane, moment, snapshot.as_slice())
+            }
+            Command::Blob { file, blob } => {
+                self.put_blob(alloc, lane, file.as_slice(), blob.as_slice())
+            }
+            Command::Finish => self.finish(lane),
+            Command::OpenReader { snapshot } => self.open_reader(alloc, lane, snapshot.as_slice()),
+            Command::Download { file, offset } => {
+                self.download(alloc, lane, file.as_slice(), *offset)
+            }
+            Command::Bye => {
+                self.end(lane);
+                Ok(Reply::Done)
+            }
+        }
+    }
+}

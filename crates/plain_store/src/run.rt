@@ -1,0 +1,332 @@
+//! The plain store and the lanes, as an order goes on.
+
+ghost use Rattle.std.specs.Prelude.{◌≡◌, ◌<◌, ◌≤◌, ◌==◌, if◌then◌else◌, length, option_map, IfOk, OnOk};
+ghost use Rattle.std.specs.List.{find};
+ghost use Rattle.store_types.specs.Times.{last_moment};
+ghost use Rattle.wire_commands.specs.HasText.{FitsRefusal, ReplyHasText};
+ghost use Rattle.store_model.specs.Lanes.{next_of};
+ghost use Rattle.store_model.specs.Weave.{tell as told, end_session as without_session, stepped as after_step, short as after_short, told_fault as after_fault, fault_refusal as refusal_of, first_fault, is_end as is_an_end, is_cut_off as cuts_off, is_replied as has_reply, may_leave_unread as may_stop, ended_with as after_end, unread as after_unread, ends as after_ends, entered};
+ghost use Rattle.plain_store.specs.Nexts.{shown_next, IsFitNext, Enters};
+
+use crate::lane::Lane;
+use crate::next::Next;
+use crate::plain::Plain;
+use std::alloc::{AllocError, Global};
+use std::marker::Model;
+use store_model::Ending;
+use store_types::{Entry, Refusal};
+use wire_commands::Reply;
+
+/// The store, the remote where there is one, the lanes, and the place of the first fault.
+#[derive(Drop)]
+pub struct Run<'a> {
+    pub store: Plain,
+    pub remote: Option<&'a Plain>,
+    pub lanes: Vec<Lane<'a>>,
+    pub fault: Option<u64>,
+}
+
+impl<'a> Model for Run<'a> {
+    ghost use Rattle.std.specs.Prelude.{option_map};
+    ghost use Rattle.store_model.specs.Lanes as model;
+
+    ghost Value = { model.Run };
+
+    ghost view = { λ r. record {
+      store = r.store;
+      remote = option_map (λ p. p.now.snapshots) r.remote;
+      lanes = r.lanes.items;
+      fault = r.fault;
+    } };
+}
+
+/// The refusal at a fault of the disk, where the first was at this place.
+fn fault_refusal(first: Option<u64>) -> Refusal
+    ensures refusal { result ≡ refusal_of first }
+    ensures fits { FitsRefusal result }
+{
+    match first {
+        None => Refusal::DiskFault,
+        Some(place) => Refusal::Halted { place },
+    }
+}
+
+fn is_end(entry: Option<&Entry>) -> bool
+    ensures { result ≡ is_an_end (option_map (λ e. e.now) entry.entry) }
+{
+    match entry {
+        None => false,
+        Some(entry) => entry.kind == 6,
+    }
+}
+
+/// The lane's next entry.
+fn next_entry(lane: u32, later: &[Entry]) -> Option<&Entry>
+    ensures { option_map (λ e. e.now) result ≡ find (λ e. e.lane == lane) later.now }
+{
+    later.iter().find(|entry| entry.lane == lane)
+}
+
+/// Want of memory ended the lane, and its end comes next.
+fn is_cut_off(lane: u32, ending: Ending, later: &[Entry]) -> bool
+    ensures { result ≡ cuts_off lane ending later.now }
+{
+    match ending {
+        Ending::NoMemory => is_end(next_entry(lane, later)),
+        _ => false,
+    }
+}
+
+fn is_replied(ending: Ending) -> bool
+    ensures { result ≡ has_reply ending }
+{
+    matches!(
+        ending,
+        Ending::Clean | Ending::Broken { .. } | Ending::SinkFault
+    )
+}
+
+fn may_leave_unread(ending: Ending) -> bool
+    ensures { result ≡ may_stop ending }
+{
+    !matches!(ending, Ending::Clean | Ending::Broken { .. })
+}
+
+impl<'a> Run<'a> {
+    /// What stands next on the lane.
+    fn next_of(&self, alloc: Global, lane: u32) -> Result<Next<'a>, AllocError>
+        requires { lane < length self.now.lanes }
+        ensures next { IfOk result (λ n. shown_next n ≡ next_of self.now lane) }
+        ensures fits { IfOk result IsFitNext }
+    {
+        let lane = &self.lanes[lane as usize];
+        let next = lane.next(alloc)?;
+        Ok(next)
+    }
+
+    /// The lane's reply, with this left of its input.
+    fn tell(
+        &mut self,
+        alloc: Global,
+        lane: u32,
+        left: &'a [u8],
+        reply: &Reply,
+    ) -> Result<(), AllocError>
+        requires lane { lane < length self.old.lanes }
+        requires spelled { ReplyHasText reply.now }
+        ensures told { OnOk result (self.new ≡ told self.old lane left.now reply.now) }
+        ensures lanes { OnOk result (length self.new.lanes ≡ length self.old.lanes) }
+    {
+        let lane = &mut self.lanes[lane as usize];
+        lane.tell(alloc, left, reply)?;
+        Ok(())
+    }
+
+    /// The lane's session ends.
+    fn end_session(&mut self, lane: u32)
+        requires { lane < 64 }
+        ensures ended { self.new ≡ without_session self.old lane }
+        ensures lanes { length self.new.lanes ≡ length self.old.lanes }
+    {
+        self.store.end(lane);
+    }
+
+    /// Kind 0: the next command. Whether there is one.
+    #[tactic(auto, unfolding(store_model::specs::Weave::stepped, store_model::specs::Weave::answer, store_model::specs::Weave::with_store))]
+    fn stepped(
+        &mut self,
+        alloc: Global,
+        lane: u32,
+        moment: u64,
+        next: Next<'a>,
+    ) -> Result<bool, AllocError>
+        requires lane { lane < length self.old.lanes }
+        requires lanes { length self.old.lanes ≤ 64 }
+        requires moment { moment ≤ last_moment }
+        ensures enters { IfOk result (λ fits. Enters self.old self.new fits (after_step self.old lane moment (shown_next next.entry))) }
+        ensures lanes { OnOk result (length self.new.lanes ≡ length self.old.lanes) }
+    {
+        match next {
+            Next::Plain(command, left) => {
+                let reply = self.store.step(alloc, lane, moment, &command)?;
+                self.tell(alloc, lane, left, &reply)?;
+                Ok(true)
+            }
+            _ => Ok(false),
+        }
+    }
+
+    /// Kind 2: memory is wanting for what stands next. Whether something does.
+    #[tactic(auto, unfolding(store_model::specs::Weave::short), using(crate::proofs::Spelled::refusal_spelled))]
+    fn short(&mut self, alloc: Global, lane: u32, next: Next<'a>) -> Result<bool, AllocError>
+        requires { lane < length self.old.lanes }
+        ensures enters { IfOk result (λ fits. Enters self.old self.new fits (after_short self.old lane (shown_next next.entry))) }
+        ensures lanes { OnOk result (length self.new.lanes ≡ length self.old.lanes) }
+    {
+        let reply = Reply::Refused(Refusal::NoMemory);
+        match next {
+            Next::Plain(_, left) => {
+                self.tell(alloc, lane, left, &reply)?;
+                Ok(true)
+            }
+            Next::Broken(_) => {
+                self.tell(alloc, lane, &[], &reply)?;
+                Ok(true)
+            }
+            Next::Bye => Ok(false),
+            Next::End => Ok(false),
+        }
+    }
+
+    /// A fault of the disk is told of a command, and not of a lane's end.
+    #[tactic(auto, unfolding(store_model::specs::Weave::told_fault), using(crate::proofs::Spelled::refusal_spelled))]
+    fn tell_fault(
+        &mut self,
+        alloc: Global,
+        lane: u32,
+        refusal: Refusal,
+        next: Next<'a>,
+    ) -> Result<(), AllocError>
+        requires lane { lane < length self.old.lanes }
+        requires fits { FitsRefusal refusal }
+        ensures told { OnOk result (self.new ≡ after_fault self.old lane refusal (shown_next next.entry)) }
+        ensures lanes { OnOk result (length self.new.lanes ≡ length self.old.lanes) }
+    {
+        match next {
+            Next::Plain(_, left) => {
+                self.tell(alloc, lane, left, &Reply::Refused(refusal))?;
+                Ok(())
+            }
+            _ => Ok(()),
+        }
+    }
+
+    /// Kind 5: a fault of the disk at this place of the order, or one that came after it.
+    fn faulted(
+        &mut self,
+        alloc: Global,
+        lane: u32,
+        place: u64,
+        cut_off: bool,
+        next: Next<'a>,
+    ) -> Result<(), AllocError>
+        requires { lane < length self.old.lanes }
+        ensures told { OnOk result (self.new ≡ record (if cut_off then self.old else after_fault self.old lane (refusal_of self.old.fault) (shown_next next.entry)) { fault = first_fault place self.old.fault }) }
+        ensures lanes { OnOk result (length self.new.lanes ≡ length self.old.lanes) }
+    {
+        let first = self.fault;
+        if !cut_off {
+            self.tell_fault(alloc, lane, fault_refusal(first), next)?;
+        }
+        self.fault = Some(first.unwrap_or(place));
+        Ok(())
+    }
+
+    /// The lane's session ends, with this reply where the lane's ending has one.
+    fn end_with(
+        &mut self,
+        alloc: Global,
+        lane: u32,
+        ending: Ending,
+        reply: &Reply,
+    ) -> Result<(), AllocError>
+        requires lane { lane < length self.old.lanes }
+        requires lanes { length self.old.lanes ≤ 64 }
+        requires spelled { ReplyHasText reply.now }
+        ensures ended { OnOk result (self.new ≡ after_end self.old lane ending reply.now) }
+        ensures lanes { OnOk result (length self.new.lanes ≡ length self.old.lanes) }
+    {
+        self.end_session(lane);
+        if is_replied(ending) {
+            self.tell(alloc, lane, &[], reply)?;
+        }
+        Ok(())
+    }
+
+    /// The lane's session ends with commands unread, where the lane's ending may leave some. Whether
+    /// it may.
+    #[tactic(auto, unfolding(store_model::specs::Weave::unread))]
+    fn end_unread(&mut self, lane: u32, ending: Ending) -> bool
+        requires { lane < 64 }
+        ensures enters { Enters self.old self.new result (after_unread self.old lane ending) }
+        ensures lanes { length self.new.lanes ≡ length self.old.lanes }
+    {
+        let may = may_leave_unread(ending);
+        if may {
+            self.end_session(lane);
+        }
+        may
+    }
+
+    /// Kind 6: the lane's end. Commands may be left unread where the source or the sink failed, the
+    /// input was too long, or memory was wanting. Whether it fits.
+    #[tactic(auto, unfolding(store_model::specs::Weave::ends), using(crate::proofs::Spelled::refusal_spelled))]
+    fn ends(
+        &mut self,
+        alloc: Global,
+        lane: u32,
+        ending: Ending,
+        next: Next<'a>,
+    ) -> Result<bool, AllocError>
+        requires lane { lane < length self.old.lanes }
+        requires lanes { length self.old.lanes ≤ 64 }
+        requires fits { IsFitNext next }
+        ensures enters { IfOk result (λ fits. Enters self.old self.new fits (after_ends self.old lane ending (shown_next next.entry))) }
+        ensures lanes { OnOk result (length self.new.lanes ≡ length self.old.lanes) }
+    {
+        match next {
+            Next::Bye => {
+                self.end_with(alloc, lane, ending, &Reply::Done)?;
+                Ok(true)
+            }
+            Next::Broken(refusal) => {
+                self.end_with(alloc, lane, ending, &Reply::Refused(refusal))?;
+                Ok(true)
+            }
+            Next::End => {
+                self.end_session(lane);
+                Ok(true)
+            }
+            Next::Plain(_, _) => Ok(self.end_unread(lane, ending)),
+        }
+    }
+
+    /// Takes one entry of the order, behind which these come. Whether it fits.
+    pub fn enter(
+        &mut self,
+        alloc: Global,
+        place: u64,
+        entry: &Entry,
+        ending: Ending,
+        later: &[Entry],
+    ) -> Result<bool, AllocError>
+        requires lane { entry.now.lane < length self.old.lanes }
+        requires lanes { length self.old.lanes ≤ 64 }
+        requires moment { entry.now.moment ≤ last_moment }
+        ensures enters { IfOk result (λ fits. Enters self.old self.new fits (entered (λ _ _. ending) self.old place entry.now later.now)) }
+        ensures lanes { OnOk result (length self.new.lanes ≡ length self.old.lanes) }
+    {
+        let lane = entry.lane;
+        let next = self.next_of(alloc, lane)?;
+        match entry.kind {
+            0 => {
+                let fits = self.stepped(alloc, lane, entry.moment, next)?;
+                Ok(fits)
+            }
+            2 => {
+                let fits = self.short(alloc, lane, next)?;
+                Ok(fits)
+            }
+            5 => {
+                let cut_off = is_cut_off(lane, ending, later);
+                self.faulted(alloc, lane, place, cut_off, next)?;
+                Ok(true)
+            }
+            6 => {
+                let fits = self.ends(alloc, lane, ending, next)?;
+                Ok(fits)
+            }
+            _ => Ok(false),
+        }
+    }
+}

@@ -1,0 +1,136 @@
+//! The sessions of lanes.
+
+ghost use Rattle.std.specs.Prelude.{◌≡◌, ◌<◌, length, Ok, Err, MatchResult, IfErr, position};
+ghost use Rattle.store_types.specs.Chain.Refusing.{if_none};
+ghost use Rattle.store_types.specs.Names.{group_of_key};
+ghost use Rattle.store_model.specs.Store.{writes_group as has_group};
+ghost use Rattle.store_types.specs.declared.refusal.Refusal.TheVariants.{GroupBusy};
+ghost use Rattle.wire_commands.specs.HasText.{FitsRefusal};
+
+use crate::file::File;
+use crate::key::PlainKey;
+use std::marker::Model;
+use store_types::{FileName, Refusal, SessionState, SnapshotKey};
+
+/// A writer: its snapshot is not finished.
+#[derive(Drop)]
+pub struct Writer {
+    pub key: PlainKey,
+    /// The moment at which it was opened.
+    pub start: u64,
+    /// The group's latest snapshot at that moment.
+    pub base: Option<PlainKey>,
+    /// Its uploads, in byte order of their names.
+    pub files: Vec<File>,
+}
+
+/// A reader of a finished snapshot.
+#[derive(Drop)]
+pub struct Reader {
+    pub key: PlainKey,
+    /// The names of the archives that it downloaded.
+    pub noted: Vec<FileName>,
+}
+
+/// What a lane has.
+#[derive(Drop)]
+pub enum Held {
+    Nothing,
+    Writing(Writer),
+    Reading(Reader),
+}
+
+/// The session of a lane.
+#[derive(Drop)]
+pub struct Session {
+    pub held: Held,
+}
+
+impl Model for Session {
+    ghost use Rattle.store_model.specs.Store as model;
+
+    ghost Value = { model.Session };
+
+    ghost use Rattle.plain_store.specs.Sessions.{shown_held};
+
+    ghost view = { λ s. shown_held s.held };
+}
+
+impl Held {
+    ghost use Rattle.store_model.specs.Store.{want_idle as needs_idle, want_writer as needs_writer, want_reader as needs_reader};
+    ghost use Rattle.plain_store.specs.Sessions.{shown_held, shown_writer, shown_reader, state_of};
+
+    fn state(&self) -> SessionState
+        ensures { result ≡ state_of self.now }
+    {
+        match self {
+            Held::Nothing => SessionState::Idle,
+            Held::Writing(_) => SessionState::Writer,
+            Held::Reading(_) => SessionState::Reader,
+        }
+    }
+
+    /// There is no session.
+    pub fn want_idle(&self) -> Result<(), Refusal>
+        ensures test { result ≡ needs_idle (shown_held self.now) }
+        ensures fits { IfErr result FitsRefusal }
+    {
+        match self {
+            Held::Nothing => Ok(()),
+            _ => Err(Refusal::WrongState(self.state())),
+        }
+    }
+
+    /// The session is a writer.
+    pub fn want_writer(&self) -> Result<&Writer, Refusal>
+        ensures fits { IfErr result FitsRefusal }
+        ensures test { MatchResult result (λ w. needs_writer (shown_held self.now) ≡ Ok (shown_writer w.now)) (λ r. needs_writer (shown_held self.now) ≡ Err r) }
+    {
+        match self {
+            Held::Writing(w) => Ok(w),
+            _ => Err(Refusal::WrongState(self.state())),
+        }
+    }
+
+    /// The session is a reader.
+    pub fn want_reader(&self) -> Result<&Reader, Refusal>
+        ensures fits { IfErr result FitsRefusal }
+        ensures test { MatchResult result (λ x. needs_reader (shown_held self.now) ≡ Ok (shown_reader x.now)) (λ r. needs_reader (shown_held self.now) ≡ Err r) }
+    {
+        match self {
+            Held::Reading(r) => Ok(r),
+            _ => Err(Refusal::WrongState(self.state())),
+        }
+    }
+
+    /// The session's writer has the snapshot's group.
+    fn writes_group(&self, key: &SnapshotKey) -> bool
+        ensures { result ≡ has_group (group_of_key key.now) (shown_held self.now) }
+    {
+        match self {
+            Held::Writing(w) => key.same_group(w.key.as_key()),
+            _ => false,
+        }
+    }
+}
+
+/// The lane whose writer has the snapshot's group.
+fn group_holder(sessions: &[Session], key: &SnapshotKey) -> Option<usize>
+    ensures { result ≡ position (has_group (group_of_key key.now)) sessions.now }
+{
+    sessions
+        .iter()
+        .position(|session| session.held.writes_group(key))
+}
+
+/// No writer has the snapshot's group.
+pub fn want_free(sessions: &[Session], key: &SnapshotKey) -> Result<(), Refusal>
+    requires { length sessions.now ≡ 64 }
+    ensures fits { IfErr result FitsRefusal }
+    ensures test { result ≡ if_none GroupBusy (position (has_group (group_of_key key.now)) sessions.now) }
+{
+    match group_holder(sessions, key) {
+        None => Ok(()),
+        Some(lane) => Err(Refusal::GroupBusy { lane: lane as u32 }),
+    }
+}

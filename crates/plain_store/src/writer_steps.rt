@@ -1,0 +1,222 @@
+//! The commands of a writer.
+
+ghost use Rattle.std.specs.Prelude.{◌≡◌, ◌<◌, length, nat_lt, option_map, Ok, Err, MatchResult, IfOk, IfErr, OnOk, OnErr};
+ghost use Rattle.std.specs.List.{list_any};
+ghost use Rattle.std.specs.Str.{bytes_eq};
+ghost use Rattle.store_types.specs.Chain.Refusing.{unless};
+ghost use Rattle.store_types.specs.Names.{group_of_key};
+ghost use Rattle.store_types.specs.declared.refusal.Refusal.TheVariants.{TooMany};
+ghost use Rattle.store_model.specs.Store.{in_group, session as session_at, with_session};
+ghost use Rattle.store_model.specs.Uploads.{want_room as needs_room};
+ghost use Rattle.store_model.specs.WriterSteps.{base_text as text_of_base, want_newer as needs_newer, open_writer as opened, put_blob as put, finish as finished};
+ghost use Rattle.plain_store.specs.Sessions.{shown_held, shown_writer, uploaded};
+ghost use Rattle.plain_store.specs.Outcomes.{Does, Gives, IsFitRefusal, IsSpelled};
+ghost use Rattle.wire_commands.specs.HasText.{FitsRefusal};
+ghost use Rattle.plain_store.specs.Writers.{base_of as tested_base, upload_of as tested_upload};
+
+use crate::blob::BlobData;
+use crate::file::{Content, File, file_named, insert_file};
+use crate::key::PlainKey;
+use crate::plain::Plain;
+use crate::session::{Held, Writer, want_free};
+use crate::snapshot::{Snapshot, count_in, insert_snapshot, latest_in};
+use crate::stop::Stop;
+use std::alloc::{AllocError, Global};
+use store_types::{Bytes, FileName, Refusal, SnapshotKey};
+use wire_commands::Reply;
+
+/// The snapshot is later than the latest of its group.
+fn want_newer(key: &SnapshotKey, latest: Option<&PlainKey>) -> Result<(), Refusal>
+    ensures fits { IfErr result FitsRefusal }
+    ensures test { result ≡ needs_newer key.now.time (option_map (λ latest. latest.now) latest.entry) }
+{
+    let Some(latest) = latest else {
+        return Ok(());
+    };
+    let latest = latest.as_key().time;
+    if latest < key.time {
+        Ok(())
+    } else {
+        Err(Refusal::NotNewer { latest })
+    }
+}
+
+/// The snapshot's group has room for one more.
+fn want_group_room(key: &SnapshotKey, snapshots: &[Snapshot]) -> Result<(), Refusal>
+    ensures fits { IfErr result FitsRefusal }
+    ensures test { result ≡ unless (TooMany 4096) (nat_lt (length (in_group (group_of_key key.now) snapshots.now)) 4096) }
+{
+    if count_in(key, snapshots) < 4096 {
+        Ok(())
+    } else {
+        Err(Refusal::TooMany { limit: 4096 })
+    }
+}
+
+/// The base's text, empty where there is none.
+fn base_text(alloc: Global, base: Option<&PlainKey>) -> Result<Bytes, AllocError>
+    ensures text { IfOk result (λ text. text ≡ text_of_base (option_map (λ k. k.now) base.entry)) }
+    ensures short { IfOk result (λ text. length text < 256) }
+{
+    match base {
+        None => Ok(Bytes::new(alloc)),
+        Some(key) => key.text(alloc),
+    }
+}
+
+fn copied(base: Option<&PlainKey>) -> Result<Option<PlainKey>, AllocError>
+    ensures { IfOk result (λ copy. copy ≡ option_map (λ k. k.now) base.entry) }
+{
+    match base {
+        None => Ok(None),
+        Some(key) => Ok(Some(key.clone()?)),
+    }
+}
+
+/// The writer has a file of that name.
+fn has_file(w: &Writer, name: &FileName) -> bool
+    ensures { result ≡ list_any (λ f. bytes_eq f.name name.now) w.now.files.items }
+{
+    w.files.iter().any(|file| file.name == *name)
+}
+
+/// The writer has no file of that name, and has room for one more.
+fn want_room(w: &Writer, name: &FileName) -> Result<(), Refusal>
+    ensures fits { IfErr result FitsRefusal }
+    ensures test { result ≡ needs_room name.now (shown_writer w.now) }
+{
+    if has_file(w, name) {
+        return Err(Refusal::Exists);
+    }
+    if w.files.len() < 64 {
+        Ok(())
+    } else {
+        Err(Refusal::TooMany { limit: 64 })
+    }
+}
+
+/// The file that a writer uploads.
+fn upload(alloc: Global, w: &Writer, name: &[u8], blob: &[u8]) -> Result<File, Stop>
+    ensures fits { IsFitRefusal result }
+    ensures gives { Gives (λ f. f) result (tested_upload (shown_writer w.now) name.now blob.now) }
+{
+    let Ok(name) = FileName::check(alloc, name)? else {
+        return Err(Stop::Refused(Refusal::BadName));
+    };
+    if !name.is_blob() {
+        return Err(Stop::Refused(Refusal::BadName));
+    }
+    want_room(w, &name)?;
+    match BlobData::decoded(alloc, blob)? {
+        Ok(contents) => Ok(File {
+            name,
+            content: Content::Blob(contents),
+        }),
+        Err(cause) => Err(Stop::Refused(Refusal::BadBlob(cause))),
+    }
+}
+
+/// The file comes to the files of the writer. At want of memory nothing has changed.
+fn take_upload(held: &mut Held, file: File) -> Result<(), AllocError>
+    ensures ok { OnOk result (shown_held held.new ≡ uploaded file (shown_held held.old)) }
+    ensures err { OnErr result (shown_held held.new ≡ shown_held held.old) }
+{
+    match held {
+        Held::Writing(w) => insert_file(&mut w.files, file),
+        _ => Ok(()),
+    }
+}
+
+impl Plain {
+    /// The latest snapshot of the group, where a writer of the snapshot may begin.
+    fn base_of(&self, key: &SnapshotKey) -> Result<Option<&PlainKey>, Refusal>
+        ensures fits { IfErr result FitsRefusal }
+        ensures test { MatchResult result (λ base. tested_base self.now key.now ≡ Ok (option_map (λ k. k.now) base)) (λ r. tested_base self.now key.now ≡ Err r) }
+    {
+        want_free(&self.sessions, key)?;
+        let latest = latest_in(key, &self.snapshots);
+        want_newer(key, latest)?;
+        want_group_room(key, &self.snapshots)?;
+        Ok(latest)
+    }
+
+    /// OPEN_WRITER: the lane gets a writer of the snapshot, and is told the text of the base, the
+    /// group's latest snapshot.
+    pub(crate) fn open_writer(
+        &mut self,
+        alloc: Global,
+        lane: u32,
+        moment: u64,
+        snapshot: &[u8],
+    ) -> Result<Reply, Stop>
+        requires { lane < 64 }
+        ensures does { Does self.old self.new result (opened self.old lane moment snapshot.now) }
+        ensures spelled { IsSpelled result }
+    {
+        self.held(lane).want_idle()?;
+        let Ok(key) = PlainKey::parse(alloc, snapshot)? else {
+            return Err(Stop::Refused(Refusal::BadName));
+        };
+        let base = self.base_of(key.as_key())?;
+        let text = base_text(alloc, base)?;
+        let base = copied(base)?;
+        let files = Vec::new(alloc);
+        self.set_held(
+            lane,
+            Held::Writing(Writer {
+                key,
+                start: moment,
+                base,
+                files,
+            }),
+        );
+        Ok(Reply::Base { snapshot: text })
+    }
+
+    /// The file comes to the files of the lane's writer. At want of memory nothing has changed.
+    fn put_file(&mut self, lane: u32, file: File) -> Result<(), AllocError>
+        requires { lane < 64 }
+        ensures ok { OnOk result (self.new ≡ with_session self.old lane (uploaded file (session_at self.old lane))) }
+        ensures err { OnErr result (self.new ≡ self.old) }
+    {
+        let session = &mut self.sessions[lane as usize];
+        take_upload(&mut session.held, file)
+    }
+
+    /// BLOB: the lane's writer gets a file of the blob's data.
+    pub(crate) fn put_blob(
+        &mut self,
+        alloc: Global,
+        lane: u32,
+        name: &[u8],
+        blob: &[u8],
+    ) -> Result<Reply, Stop>
+        requires { lane < 64 }
+        ensures does { Does self.old self.new result (put self.old lane name.now blob.now) }
+        ensures spelled { IsSpelled result }
+    {
+        let w = self.held(lane).want_writer()?;
+        let file = upload(alloc, w, name, blob)?;
+        self.put_file(lane, file)?;
+        Ok(Reply::Done)
+    }
+
+    /// FINISH: the files of the lane's writer become a finished snapshot.
+    pub(crate) fn finish(&mut self, lane: u32) -> Result<Reply, Stop>
+        requires { lane < 64 }
+        ensures does { Does self.old self.new result (finished self.old lane) }
+        ensures spelled { IsSpelled result }
+    {
+        let w = self.held(lane).want_writer()?;
+        if file_named(b"index.json.blob", &w.files).is_none() {
+            return Err(Stop::Refused(Refusal::NoFile));
+        }
+        let snapshot = Snapshot {
+            key: w.key.clone()?,
+            files: w.files.clone()?,
+        };
+        insert_snapshot(&mut self.snapshots, snapshot)?;
+        self.set_held(lane, Held::Nothing);
+        Ok(Reply::Done)
+    }
+}
