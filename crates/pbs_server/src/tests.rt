@@ -1,6 +1,6 @@
 use super::*;
 use disk_trait::MemoryDisk;
-use lane::{Ending, Port};
+use lane::{Ending, LaneReport, Port};
 use port_traits::{FreeGate, MemSink, MemSource, SetClock};
 use std::alloc::{AllocError, Global};
 use std::process::Abort;
@@ -72,6 +72,14 @@ fn run_on(alloc: Global, ports: &mut Ports, disk: MemoryDisk) -> Result<Run, All
     ))
 }
 
+/// How the one lane was served.
+fn report_of(served: &Run) -> Result<LaneReport, Fail> {
+    match served.report.lanes.as_slice() {
+        [report] => Ok(*report),
+        _ => Err("not one lane".into()),
+    }
+}
+
 /// Serves a session on an empty disk, and compares its replies. Memory is ample, and no bytes are lost.
 fn replies(
     rt: &impl Abort,
@@ -82,10 +90,10 @@ fn replies(
 ) -> Result<Run, Fail> {
     let mut ports = port(alloc, input)?;
     let served = run_on(alloc, &mut ports, MemoryDisk::new(alloc))?;
-    assert_eq!(rt; ports[0].sink.as_bytes(), expected);
+    let port = ports.first().ok_or("no port")?;
+    assert_eq!(rt; port.sink.as_bytes(), expected);
     assert_eq!(rt; served.status, status);
-    assert_eq!(rt; served.report.lanes.len(), 1);
-    assert_eq!(rt; served.report.lanes[0].given, expected.len() as u64);
+    assert_eq!(rt; report_of(&served)?.given, expected.len() as u64);
     assert_eq!(rt; served.report.calls.len(), served.order.len());
     Ok(served)
 }
@@ -109,8 +117,8 @@ fn sessions_without_a_snapshot(rt: HostRuntime) -> Result<(), Fail> {
         kind: 6,
     };
     assert_eq!(rt; served.order.as_slice(), [end].as_slice());
-    assert_eq!(rt; served.report.lanes[0].ending, Ending::Clean);
-    assert_eq!(rt; served.report.lanes[0].taken, 0);
+    assert_eq!(rt; report_of(&served)?.ending, Ending::Clean);
+    assert_eq!(rt; report_of(&served)?.taken, 0);
     let _ = replies(&rt, alloc, b"\x01\0\0\0\x3f", b"\x01\0\0\0\0", Status::Ok)?;
     // FINISH without a session
     let _ = replies(
@@ -129,13 +137,13 @@ fn frames_that_are_no_commands(rt: HostRuntime) -> Result<(), Fail> {
     let bad = b"\x09\0\0\0\x01\0\0\0\0\0\0\0\0";
     for input in [b"\x01\0\0\0\x63".as_slice(), b"\0\0\0\0", b"\x05\0\0\0\x0a"] {
         let served = replies(&rt, alloc, input, bad, Status::BadFrame)?;
-        assert_eq!(rt; served.report.lanes[0].ending, Ending::Broken { place: 0 });
+        assert_eq!(rt; report_of(&served)?.ending, Ending::Broken { place: 0 });
     }
     // behind a command, and with more behind it, which is not read as a command
     let input = b"\x01\0\0\0\x12\x01\0\0\0\x63\x01\0\0\0\x12";
     let expected = b"\x02\0\0\0\x03\0\x09\0\0\0\x01\x05\0\0\0\0\0\0\0";
     let served = replies(&rt, alloc, input, expected, Status::BadFrame)?;
-    assert_eq!(rt; served.report.lanes[0].taken, 10);
+    assert_eq!(rt; report_of(&served)?.taken, 10);
     let long = b"\x05\0\0\0\x02\x01\x04\0\x01";
     let _ = replies(&rt, alloc, b"\x01\x04\0\x01", long, Status::BadFrame)?;
     Ok(())
