@@ -1,3 +1,4 @@
 pub mod Woven
 pub mod Statuses
+pub mod Causes
 pub mod Leaving

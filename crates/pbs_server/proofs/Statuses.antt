@@ -5,7 +5,8 @@ use Rattle.store_model.specs.declared.ending.Ending.{Ending}
 use Rattle.store_model.specs.declared.ending.Ending.TheVariants as endings
 use Rattle.pbs_server.specs.declared.status.Status.{Status}
 use Rattle.pbs_server.specs.declared.status.Status.TheVariants as statuses
-use Rattle.pbs_server.specs.Statuses.{has_kind, status_by, status_of_ending, is_short}
+use Rattle.lane.specs.Entries.{has_kind}
+use Rattle.pbs_server.specs.Statuses.{status_by, status_of_ending, is_short}
 
 abbrev IsOther : Status → Type 0
 IsOther s = s ≡ statuses.Usage → ⊥

@@ -17,8 +17,8 @@ use Rattle.core_state.specs.declared.state.Core.{Core}
 use Rattle.core_state.specs.History.{History, StandsFor, began, world}
 use Rattle.core_state.specs.Opening.{opening_at}
 use Rattle.lane.specs.declared.port.LaneReport.{LaneReport}
+use Rattle.lane.specs.Entries.{has_kind}
 use Rattle.lane.specs.Ran.{RanAlone, with_events}
-use Rattle.pbs_server.specs.Statuses.{has_kind}
 use Rattle.pbs_server.specs.Headline.{IsPlain}
 
 -- only a fault's entry leaves a fault

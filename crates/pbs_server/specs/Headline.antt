@@ -19,10 +19,12 @@ use Rattle.lane.specs.declared.port.LaneReport.{LaneReport}
 use Rattle.lane.specs.declared.port.Port.{Port}
 use Rattle.lane.specs.Acting.{gave_all}
 use Rattle.lane.specs.Causes.{HasCauses}
+use Rattle.lane.specs.Entries.{has_kind}
 use Rattle.lane.specs.Ran.{Took, EndsRead}
 use Rattle.pbs_server.specs.declared.served.Served.{Served}
 use Rattle.pbs_server.specs.declared.status.Status.TheVariants as statuses
-use Rattle.pbs_server.specs.Statuses.{has_kind, status_by}
+use Rattle.pbs_server.specs.Causes.{IsOrder, HasCause}
+use Rattle.pbs_server.specs.Statuses.{status_by}
 use Rattle.pbs_server.specs.Words.{reading}
 
 -- The plain store of whole archives, opened without snapshots and asked by the session's commands in the returned order, gives
@@ -61,6 +63,8 @@ pub record HasServed {D E S K : Type 0} (honest : D → Type 0) (content : D →
   -- on any disk
   pub status : result.status ≡ status_by (result.order).items report.ending
   pub causes : HasCauses (source_faults old.source) (source_faults new.source) (sink_faults old.sink) (sink_faults new.sink) report.taken (Some report.ending)
+  pub why : HasCause result.status (result.order).items report (faults_of disk) (faults_of result.disk) (source_faults old.source) (source_faults new.source) (sink_faults old.sink) (sink_faults new.sink)
+  pub order : IsOrder (result.order).items ((result.report).calls).items (faults_of disk) (faults_of result.disk)
   pub budget : report.taken ≤ 2 ^ 40
   pub faults : faults_of disk ≤ faults_of result.disk
   pub remote_is : result.remote ≡ remote

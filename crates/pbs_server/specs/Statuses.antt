@@ -1,15 +1,11 @@
 -- The status of a run.
-use Rattle.std.specs.Prelude.{ℕ, Bool, true, false, List, codes, ◌==◌, if◌then◌else◌}
-use Rattle.std.specs.List.{list_any}
+use Rattle.std.specs.Prelude.{ℕ, Bool, true, false, List, codes, if◌then◌else◌}
 use Rattle.store_types.specs.declared.order.Entry.{Entry}
 use Rattle.store_model.specs.declared.ending.Ending.{Ending}
 use Rattle.store_model.specs.declared.ending.Ending.TheVariants as endings
+use Rattle.lane.specs.Entries.{has_kind}
 use Rattle.pbs_server.specs.declared.status.Status.{Status}
 use Rattle.pbs_server.specs.declared.status.Status.TheVariants as statuses
-
--- an entry of the order is of this kind
-abbrev pub has_kind : ℕ → List Entry → Bool
-has_kind kind order = list_any (λ e. e.kind == kind) order
 
 -- by the lane's ending alone
 abbrev pub status_of_ending : Ending → Status

@@ -1,7 +1,8 @@
 //! What a run is answered.
 
 ghost use Rattle.std.specs.Prelude.{◌≡◌};
-ghost use Rattle.pbs_server.specs.Statuses.{has_kind, status_by, status_of_ending};
+ghost use Rattle.lane.specs.Entries.{has_kind};
+ghost use Rattle.pbs_server.specs.Statuses.{status_by, status_of_ending};
 
 use lane::Ending;
 use store_types::Entry;

@@ -1,5 +1,5 @@
 use super::*;
-use disk_trait::MemoryDisk;
+use disk_trait::{Disk, FailingDisk, MemoryDisk};
 use lane::{Ending, LaneReport, Port};
 use port_traits::{FreeGate, MemSink, MemSource, SetClock};
 use std::alloc::{AllocError, Global};
@@ -10,6 +10,9 @@ use store_types::Entry;
 type Ports = Vec<Port<MemSource, MemSink>>;
 
 type Run = Served<MemoryDisk, MemoryDisk>;
+
+/// A run on a disk that fails.
+type FaultyRun = Served<FailingDisk<MemoryDisk>, MemoryDisk>;
 
 /// OPEN_WRITER of `host/a/2020-01-15T06:30:03Z`, BLOB of a manifest without files, FINISH.
 const SNAPSHOT: &[u8] =
@@ -46,17 +49,23 @@ fn words(alloc: Global) -> Result<Vec<String>, AllocError> {
     Ok(words)
 }
 
-fn port(alloc: Global, input: &[u8]) -> Result<Ports, AllocError> {
+fn port_of(alloc: Global, source: MemSource, sink: MemSink) -> Result<Ports, AllocError> {
     let mut ports = Vec::with_capacity(alloc, 1)?;
-    ports.push(Port {
-        source: MemSource::new(input.to_vec(alloc)?, Vec::new(alloc)),
-        sink: MemSink::new(alloc, Vec::new(alloc)),
-    })?;
+    ports.push(Port { source, sink })?;
     Ok(ports)
 }
 
+fn port(alloc: Global, input: &[u8]) -> Result<Ports, AllocError> {
+    let source = MemSource::new(input.to_vec(alloc)?, Vec::new(alloc));
+    port_of(alloc, source, MemSink::new(alloc, Vec::new(alloc)))
+}
+
 /// Serves a session on a disk by a clock that stands at 1,600,000,000.
-fn run_on(alloc: Global, ports: &mut Ports, disk: MemoryDisk) -> Result<Run, AllocError> {
+fn run_on<D: Disk + Drop>(
+    alloc: Global,
+    ports: &mut Ports,
+    disk: D,
+) -> Result<Served<D, MemoryDisk>, AllocError> {
     let clock = SetClock::new(Vec::new(alloc), 1_600_000_000);
     let mut journal = MemSink::new(alloc, Vec::new(alloc));
     let words = words(alloc)?;
@@ -73,10 +82,18 @@ fn run_on(alloc: Global, ports: &mut Ports, disk: MemoryDisk) -> Result<Run, All
 }
 
 /// How the one lane was served.
-fn report_of(served: &Run) -> Result<LaneReport, Fail> {
+fn report_of<D, E>(served: &Served<D, E>) -> Result<LaneReport, Fail> {
     match served.report.lanes.as_slice() {
         [report] => Ok(*report),
         _ => Err("not one lane".into()),
+    }
+}
+
+/// What the one port's sink was given.
+fn told_to(ports: &Ports) -> Result<&[u8], Fail> {
+    match ports.as_slice() {
+        [port] => Ok(port.sink.as_bytes()),
+        _ => Err("not one port".into()),
     }
 }
 
@@ -90,8 +107,7 @@ fn replies(
 ) -> Result<Run, Fail> {
     let mut ports = port(alloc, input)?;
     let served = run_on(alloc, &mut ports, MemoryDisk::new(alloc))?;
-    let port = ports.first().ok_or("no port")?;
-    assert_eq!(rt; port.sink.as_bytes(), expected);
+    assert_eq!(rt; told_to(&ports)?, expected);
     assert_eq!(rt; served.status, status);
     assert_eq!(rt; report_of(&served)?.given, expected.len() as u64);
     assert_eq!(rt; served.report.calls.len(), served.order.len());
@@ -212,5 +228,129 @@ fn words_are_read(rt: HostRuntime) -> Result<(), Fail> {
     let served = run_on(alloc, &mut ports, MemoryDisk::new(alloc))?;
     assert_eq!(rt; (served.status, served.status.number()), (Status::Usage, 2));
     assert!(rt; served.order.is_empty() && served.report.lanes.is_empty());
+    Ok(())
+}
+
+/// The order has entries of these kinds, all of lane 0, and as many counts of calls.
+fn assert_kinds<D>(rt: &impl Abort, served: &Served<D, MemoryDisk>, kinds: &[u8]) {
+    assert_eq!(rt; served.order.len(), kinds.len());
+    assert_eq!(rt; served.report.calls.len(), kinds.len());
+    for (entry, kind) in served.order.iter().zip(kinds) {
+        assert_eq!(rt; (entry.lane, entry.kind), (0, *kind));
+    }
+}
+
+/// Serves a session on an empty disk that fails its call of this number, from 0.
+fn run_failing(alloc: Global, ports: &mut Ports, call: u64) -> Result<FaultyRun, AllocError> {
+    let disk = FailingDisk::at_calls(MemoryDisk::new(alloc), [call].to_vec(alloc)?);
+    run_on(alloc, ports, disk)
+}
+
+#[test]
+fn disk_faults_halt_the_store(rt: HostRuntime) -> Result<(), Fail> {
+    let alloc = rt.alloc();
+    // how many bytes of replies stand before those of each of the eight commands
+    let told = [0, 6, 11, 16, 21, 26, 60, 73];
+    // which command makes each of the disk's calls: an upload puts its file, FINISH puts the manifest and syncs, and a
+    // DOWNLOAD asks for the size, and reads unless its offset is past it
+    let makers = [1, 3, 3, 5, 5, 6, 6, 7];
+    for (call, maker) in makers.iter().enumerate() {
+        let mut ports = port(alloc, RESTORE)?;
+        let served = run_failing(alloc, &mut ports, call as u64)?;
+        let mut expected = RESTORE_REPLIES[..told[*maker]].to_vec(alloc)?;
+        expected.extend_from_slice(b"\x01\0\0\0\x1a")?;
+        let mut kinds = [0, 0, 0, 0, 0, 0, 0, 0, 6];
+        kinds[*maker] = 5;
+        for later in *maker + 1..8 {
+            expected.extend_from_slice(b"\x09\0\0\0\x1b")?;
+            expected.extend_from_slice(&(*maker as u64).to_le_bytes())?;
+            kinds[later] = 5;
+        }
+        assert_eq!(rt; told_to(&ports)?, expected.as_slice());
+        assert_eq!(rt; served.status, Status::DiskFault);
+        assert_kinds(&rt, &served, &kinds);
+    }
+    // no call is left to fail
+    let mut ports = port(alloc, RESTORE)?;
+    let served = run_failing(alloc, &mut ports, makers.len() as u64)?;
+    assert_eq!(rt; told_to(&ports)?, RESTORE_REPLIES);
+    assert_eq!(rt; served.status, Status::Ok);
+    Ok(())
+}
+
+#[test]
+fn a_fault_of_an_end_is_not_told(rt: HostRuntime) -> Result<(), Fail> {
+    let alloc = rt.alloc();
+    // OPEN_WRITER and the upload of a.conf.blob, which the end removes
+    let input = &RESTORE[..71];
+    let told = &RESTORE_REPLIES[..11];
+    let mut ports = port(alloc, input)?;
+    let served = run_failing(alloc, &mut ports, 1)?;
+    assert_eq!(rt; told_to(&ports)?, told);
+    assert_eq!(rt; served.status, Status::DiskFault);
+    assert_eq!(rt; report_of(&served)?.ending, Ending::Clean);
+    assert_kinds(&rt, &served, &[0, 0, 5, 6]);
+    Ok(())
+}
+
+/// Serves the upload of a snapshot from a source and to a sink that may fail.
+fn run_between(alloc: Global, source: MemSource, sink: MemSink) -> Result<(Ports, Run), Fail> {
+    let mut ports = port_of(alloc, source, sink)?;
+    let served = run_on(alloc, &mut ports, MemoryDisk::new(alloc))?;
+    Ok((ports, served))
+}
+
+#[test]
+fn sources_fail(rt: HostRuntime) -> Result<(), Fail> {
+    let alloc = rt.alloc();
+    // the call that fails, how many bytes are taken then, and told: a first read asks for five bytes, and the next takes all
+    let whole = [(0, 0, 0), (1, 5, 0), (2, 145, 16)];
+    for (failing, taken, told) in whole {
+        let source = MemSource::new(SNAPSHOT.to_vec(alloc)?, [failing].to_vec(alloc)?);
+        let sink = MemSink::new(alloc, Vec::new(alloc));
+        let (ports, served) = run_between(alloc, source, sink)?;
+        assert_eq!(rt; told_to(&ports)?, &SNAPSHOT_REPLIES[..told]);
+        assert_eq!(rt; served.status, Status::SourceFault);
+        assert_eq!(rt; report_of(&served)?.ending, Ending::SourceFault);
+        assert_eq!(rt; report_of(&served)?.taken, taken);
+        let kinds = if told == 0 { &[6][..] } else { &[0, 0, 0, 6] };
+        assert_kinds(&rt, &served, kinds);
+    }
+    // two bytes at a time
+    let source = MemSource::new(SNAPSHOT.to_vec(alloc)?, [1].to_vec(alloc)?);
+    let sink = MemSink::new(alloc, Vec::new(alloc));
+    let (ports, served) = run_between(alloc, source.at_most(2), sink)?;
+    assert!(rt; told_to(&ports)?.is_empty());
+    assert_eq!(rt;
+        (served.status, served.status.number()),
+        (Status::SourceFault, 4)
+    );
+    assert_eq!(rt; report_of(&served)?.taken, 2);
+    assert_kinds(&rt, &served, &[6]);
+    Ok(())
+}
+
+#[test]
+fn sinks_fail(rt: HostRuntime) -> Result<(), Fail> {
+    let alloc = rt.alloc();
+    // one byte per call: the replies have 6, 5 and 5
+    for failing in 0..16 {
+        let source = MemSource::new(SNAPSHOT.to_vec(alloc)?, Vec::new(alloc));
+        let sink = MemSink::new(alloc, [failing].to_vec(alloc)?);
+        let (ports, served) = run_between(alloc, source, sink.at_most(1))?;
+        assert_eq!(rt; told_to(&ports)?, &SNAPSHOT_REPLIES[..failing as usize]);
+        assert_eq!(rt;
+            (served.status, served.status.number()),
+            (Status::SinkFault, 5)
+        );
+        assert_eq!(rt; report_of(&served)?.ending, Ending::SinkFault);
+        assert_eq!(rt; report_of(&served)?.given, failing);
+        let kinds = match failing {
+            0..6 => &[0, 6][..],
+            6..11 => &[0, 0, 6],
+            _ => &[0, 0, 0, 6],
+        };
+        assert_kinds(&rt, &served, kinds);
+    }
     Ok(())
 }

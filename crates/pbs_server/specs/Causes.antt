@@ -1,0 +1,38 @@
+-- Why a session is answered so, on any disk.
+use Rattle.std.specs.Prelude.{◌≡◌, ◌^◌, ◌↔◌, ℕ, true, false, List, length}
+use Rattle.std.specs.List.{All}
+use Rattle.port_traits.specs.Faults.{Rose}
+use Rattle.store_types.specs.declared.order.Entry.{Entry}
+use Rattle.store_model.specs.declared.ending.Ending.{Ending}
+use Rattle.store_model.specs.declared.ending.Ending.TheVariants as endings
+use Rattle.lane.specs.declared.port.LaneReport.{LaneReport}
+use Rattle.lane.specs.Entries.{has_kind}
+use Rattle.pbs_server.specs.declared.status.Status.{Status}
+use Rattle.pbs_server.specs.declared.status.Status.TheVariants as statuses
+
+-- The order of one session: each entry is of lane 0, and has one count of the disk's calls beside it. An entry of kind 5 comes
+-- only where the disk's count of faults rose.
+pub record IsOrder (order : List Entry) (calls : List ℕ) (disk disk' : ℕ) : Type 0 where
+  pub lanes : All (λ e. e.lane ≡ 0) order
+  pub beside : length calls ≡ length order
+  pub faults : has_kind 5 order ≡ true → Rose disk disk'
+
+-- neither memory was wanting nor did the disk fail
+pub record IsCalm (order : List Entry) : Type 0 where
+  pub memory : has_kind 2 order ≡ false
+  pub disk : has_kind 5 order ≡ false
+
+-- a place without a command was reached
+abbrev pub IsBroken : Ending → Type 0
+IsBroken (endings.Broken place) = Unit {0}
+IsBroken e = ⊥
+
+-- The causes of the statuses of a session that was served. A fault comes only where the count of that object rose.
+pub record HasCause (status : Status) (order : List Entry) (report : LaneReport) (disk disk' source source' sink sink' : ℕ) : Type 0 where
+  pub ok : (status ≡ statuses.Ok) ↔ ((report.ending ≡ endings.Clean) × IsCalm order)
+  pub bad_frame : (status ≡ statuses.BadFrame) ↔ (IsBroken report.ending × IsCalm order)
+  pub disk_fault : status ≡ statuses.DiskFault → Rose disk disk'
+  pub source_fault : status ≡ statuses.SourceFault → Rose source source'
+  pub sink_fault : status ≡ statuses.SinkFault → Rose sink sink'
+  pub no_memory : (status ≡ statuses.NoMemory) ↔ (has_kind 2 order ≡ true)
+  pub too_long : status ≡ statuses.SourceTooLong → report.taken ≡ 2 ^ 40
