@@ -1,0 +1,6 @@
+mod Greatest
+mod Ranges
+mod Turning
+mod First
+mod Taking
+mod SlotLemmas
