@@ -1,7 +1,21 @@
 -- The newest in the greatest period, sought place by place.
-use Rattle.std.proofs.Common.{◌≡◌, ℕ, ◌+◌, ◌<◌, ◌≤◌, inl, inr, Bool, true, false, Option, Some, None, sym, ap, subst, ◌∙◌, arith}
-use Rattle.std.proofs.lemmas.Bool.{cases_eq, or_cases, or_parts, and_parts, and_cases, ltb-true, ltb-false, eqb-true, eqb-false, true≢false, both_ways}
+use Rattle.std.proofs.Common.{◌&&◌, leb, ◌≡◌, ℕ, ◌+◌, ◌<◌, ◌≤◌, inl, inr, Bool, true, false, Option, Some, None, sym, ap, subst, ◌∙◌, arith}
+use Rattle.std.proofs.lemmas.Bool.{le-leb, cases_eq, or_cases, or_parts, and_parts, and_cases, ltb-true, ltb-false, eqb-true, eqb-false, true≢false, both_ways}
 use Rattle.prune_rules.specs.Slots.{IsFirst, FirstOf, goes_before}
+
+all_from_zero : (passes : ℕ → Bool) (k : ℕ) → (leb 0 k && passes k) ≡ passes k
+all_from_zero passes k = ap (λ b. b && passes k) (le-leb 0 k (omega arith))
+
+pub from_zero : (passes : ℕ → Bool) (number time : ℕ → ℕ) (n : ℕ) (found : Option ℕ) → FirstOf (λ k. leb 0 k && passes k) number time n found →
+    FirstOf passes number time n found
+from_zero passes number time n None is = λ k h. sym (all_from_zero passes k) ∙ is k h
+from_zero passes number time n (Some i) is = record {
+  within = is.within;
+  passed = sym (all_from_zero passes i) ∙ is.passed;
+  greatest = λ k h e. is.greatest k h (all_from_zero passes k ∙ e);
+  newest = λ k h e. is.newest k h (all_from_zero passes k ∙ e);
+  earliest = λ k h e. is.earliest k h (all_from_zero passes k ∙ e);
+}
 
 module _ (passes : ℕ → Bool) (number time : ℕ → ℕ) where
   fails_here : (i : ℕ) (best : Option ℕ) → passes i ≡ false → FirstOf passes number time i best → FirstOf passes number time (i + 1) best

@@ -4,3 +4,4 @@ mod Turning
 mod First
 mod Taking
 mod SlotLemmas
+mod Rising

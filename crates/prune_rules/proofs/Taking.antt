@@ -123,7 +123,7 @@ module _ (c : Choice) (n : ℕ) (F : ℕ → Slot) where
   abbrev pub open_at : (ℕ → Bool) → Option ℕ → ℕ → Bool
   open_at covered bound k = (F k).finished && not (covered k) && is_below bound (period k)
 
-  parts_of : (k : ℕ) → candidate k ≡ true → ((F k).finished ≡ true) × ((F k).covered ≡ false) × (serves k ≡ false)
+  pub parts_of : (k : ℕ) → candidate k ≡ true → ((F k).finished ≡ true) × ((F k).covered ≡ false) × (serves k ≡ false)
   parts_of k e =
       let parts = and_parts _ _ e in
       let front = and_parts _ _ parts.0 in
@@ -142,7 +142,7 @@ module _ (c : Choice) (n : ℕ) (F : ℕ → Slot) (kept covered : ℕ → Bool)
   abbrev candid : ℕ → Bool
   candid = candidate c n F
 
-  unseen : (k : ℕ) → k < n → is_below bound (number k) ≡ true → (kept k ≡ (F k).kept) × (covered k ≡ (F k).covered)
+  pub unseen : (k : ℕ) → k < n → is_below bound (number k) ≡ true → (kept k ≡ (F k).kept) × (covered k ≡ (F k).covered)
   unseen k h below =
       let e : takes_at c n F bound k ≡ false = and_right (candid k) (not (is_below bound (number k))) (not_from_true _ below) in (
         is.kept_is k h ∙ ap (λ t. cond t (is_newest c (candidates c n F) (F k)) (F k).kept) e,
@@ -175,6 +175,24 @@ module _ (c : Choice) (n : ℕ) (F : ℕ → Slot) (kept covered : ℕ → Bool)
       map (slot_at c n F kept covered) (range_with_len 0 n) ≡ after_choice (slots c n F) c
   reached_zero places e = all_taken c n F bound kept covered places is.kept_is is.covered_is
       (takes_zero c.count (periods c n F) bound (subst (Takes c.count (periods c n F) bound) e is.takes))
+
+  -- the next bound leaves the same candidates
+  pub reached_pass : (next : Option ℕ) → ((k : ℕ) → k < n → candid k ≡ true → is_below bound (number k) ≡ is_below next (number k)) →
+      Reached c n F kept covered next left
+  reached_pass next same =
+      let test : (k : ℕ) → k < n → takes_at c n F bound k ≡ takes_at c n F next k
+      = λ k h. elim (cases_Bool (candid k)) [
+        | inl e ↦ ap (λ b. candid k && not b) (same k h e)
+        | inr e ↦ and_left _ _ e ∙ sym (and_left _ _ e)
+      ] in
+      record {
+        kept_is = λ k h. is.kept_is k h ∙ ap (λ t. cond t (is_newest c (candidates c n F) (F k)) (F k).kept) (test k h);
+        covered_is = λ k h. is.covered_is k h ∙ ap (λ t. cond t true (F k).covered) (test k h);
+        takes = takes_skip c.count (periods c n F) bound next left is.takes
+            (λ q e.
+            let found = among_found c n F q e in
+            subst (λ p. is_below bound p ≡ is_below next p) found.3 (same found.0 found.1 found.2));
+      }
 
 module _ (c : Choice) (n : ℕ) (F : ℕ → Slot) (kept covered : ℕ → Bool) (bound : Option ℕ) (left : ℕ) (is : Reached c n F kept covered bound left)
     (i : ℕ) (first : IsFirst (open_at c n F covered bound) (period c n F) (λ k. (F k).time) n i) where
@@ -239,14 +257,7 @@ module _ (c : Choice) (n : ℕ) (F : ℕ → Slot) (kept covered : ℕ → Bool)
   reached_skip served =
       let apart : (k : ℕ) → candidate c n F k ≡ true → period c n F k ≡ period c n F i → ⊥
       = λ k e same. both_ways _ (parts_of c n F k e).2 (serves_same c n F k i same ∙ sym serves_is ∙ served) in
-      record {
-        kept_is = λ k h. same_kept k h (apart k);
-        covered_is = λ k h. same_covered k h (apart k);
-        takes = takes_skip c.count (periods c n F) bound (Some (period c n F i)) left is.takes
-            (λ q e.
-            let found = among_found c n F q e in
-            subst (λ p. is_below bound p ≡ ltb p (period c n F i)) found.3 (same_bound found.0 found.1 found.2 (apart found.0 found.2)));
-      }
+      reached_pass c n F kept covered bound left is (Some (period c n F i)) (λ k h e. same_bound k h e (apart k e))
 
   -- ---- the period is not served
 

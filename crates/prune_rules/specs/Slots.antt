@@ -1,5 +1,5 @@
 -- Slots by the work space and the marks of a running prune, and what one look over them finds.
-use Rattle.std.specs.Prelude.{◌≡◌, ℕ, ◌<◌, ◌≤◌, Bool, true, false, not, ◌&&◌, ◌||◌, List, map, length, slice_index_or, ◌==◌, nat_lt, Option, Some, None}
+use Rattle.std.specs.Prelude.{◌≡◌, ℕ, ◌<◌, ◌≤◌, Bool, true, false, not, ◌&&◌, ◌||◌, List, map, length, slice_index_or, ◌==◌, nat_lt, nat_le, Option, Some, None}
 use Rattle.std.specs.List.{range_with_len, list_any}
 use Rattle.prune_rules.specs.declared.Item.{Item}
 use Rattle.prune_rules.specs.declared.Mark.{Mark}
@@ -54,6 +54,24 @@ is_below (Some bound) number = nat_lt number bound
 abbrev pub is_open : Period → List Item → List Bool → Option ℕ → ℕ → Bool
 is_open period items covered bound k =
     (item_at items k).finished && not (slice_index_or covered k false) && is_below bound (number_at period items k)
+
+-- the same, from a place on
+abbrev pub is_open_from : Period → List Item → List Bool → Option ℕ → ℕ → ℕ → Bool
+is_open_from period items covered bound from k = nat_le from k && is_open period items covered bound k
+
+-- each place has at least the number of those before it
+abbrev pub Rises : (ℕ → ℕ) → ℕ → Type 0
+Rises number n = (j k : ℕ) → j ≤ k → k < n → number j ≤ number k
+
+-- up to the end all have one number, and those before have less
+pub record StartsRun (number : ℕ → ℕ) (start end : ℕ) : Type 0 where
+  pub some : start < end
+  pub same : (k : ℕ) → start ≤ k → k < end → number k ≡ number start
+  pub less : (k : ℕ) → k < start → number k < number start
+
+-- what has the number stands from one place up to another
+abbrev pub Spans : (ℕ → ℕ) → ℕ → ℕ → ℕ → ℕ → Type 0
+Spans number n own from to = (k : ℕ) → k < n → number k ≡ own → (from ≤ k) × (k < to)
 
 -- Of the first n places the newest in the greatest period, among those that pass.
 pub record IsFirst (passes : ℕ → Bool) (number time : ℕ → ℕ) (n i : ℕ) : Type 0 where

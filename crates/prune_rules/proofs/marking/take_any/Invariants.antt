@@ -1,7 +1,7 @@
 use Rattle.std.proofs.Common.{ℕ, ◌^◌, length, Option, Some, None}
 use Rattle.prune_rules.specs.Slots.{choice, slot_in}
 use Rattle.prune_rules.proofs.Taking.{Reached}
-use Rattle.prune_rules.proofs.marking.take_periods.Given as goal
+use Rattle.prune_rules.proofs.marking.take_any.Given as goal
 
 abbrev pub invariant-loop-left : goal.invariant-loop-left
 invariant-loop-left l =
