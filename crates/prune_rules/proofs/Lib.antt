@@ -5,3 +5,4 @@ mod First
 mod Taking
 mod SlotLemmas
 mod Rising
+mod Newest

@@ -86,6 +86,14 @@ abbrev pub FirstOf : (ℕ → Bool) → (ℕ → ℕ) → (ℕ → ℕ) → ℕ 
 FirstOf passes number time n None = (k : ℕ) → k < n → passes k ≡ false
 FirstOf passes number time n (Some i) = IsFirst passes number time n i
 
+-- none of the first n items is newer, or there is none
+abbrev pub NewestOf : List Item → ℕ → Option ℕ → Type 0
+NewestOf items n found = FirstOf (λ k. true) (λ k. 0) (time_at items) n found
+
+abbrev pub stands_at : Option ℕ → ℕ → Bool
+stands_at None k = false
+stands_at (Some place) k = place == k
+
 -- whether one place comes before another: by a greater number, or by the same and a later time
 abbrev pub goes_before : (ℕ → ℕ) → (ℕ → ℕ) → ℕ → Option ℕ → Bool
 goes_before number time i None = true

@@ -53,7 +53,8 @@ pub fn marks(alloc: Global, items: &[Item], keep: &Keep) -> Result<Vec<Mark>, Al
 
 /// The same marks, left in `into`. What both slices held doesn't matter; `covered` is work space. It takes no memory.
 ///
-/// The time grows with the number of items times the number of periods that are looked at, so with its square at most.
+/// Where the items go from the oldest to the newest, as a group lists them, the time grows with their number; else with
+/// its square at most.
 pub fn marks_into(items: &[Item], keep: &Keep, covered: &mut [bool], into: &mut [Mark])
     requires times { All (λ item. item.time ≤ last_moment) items.now }
     requires covered { length covered.old ≡ length items.now }

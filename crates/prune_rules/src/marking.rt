@@ -4,7 +4,7 @@ ghost use Rattle.std.specs.Prelude.{◌≡◌, ℕ, ◌<◌, ◌≤◌, ◌||◌
 ghost use Rattle.std.specs.Bool.{OnTrue};
 ghost use Rattle.store_types.specs.Times.{last_moment};
 ghost use Rattle.prune_rules.specs.Prune.{after_choice};
-ghost use Rattle.prune_rules.specs.Slots.{choice, is_kept, is_below as below_of, is_open as open_of, is_open_from as open_from, Rises, StartsRun, Spans, time_at, number_at as number_of_item, FirstOf, goes_before as before_of, holds_kept as kept_in, keeps_at, is_finished_in as ends_in, runs_at, newer_at, has_newer as newer_of, slots_in};
+ghost use Rattle.prune_rules.specs.Slots.{choice, is_kept, is_below as below_of, is_open as open_of, is_open_from as open_from, Rises, StartsRun, Spans, time_at, number_at as number_of_item, FirstOf, goes_before as before_of, holds_kept as kept_in, keeps_at, is_finished_in as ends_in, runs_at, stands_at, NewestOf, slots_in};
 
 use crate::periods::Period;
 use crate::{Item, Mark};
@@ -236,53 +236,58 @@ fn is_finished_in(items: &[Item], period: Period, number: u64, i: usize) -> bool
     items[i].finished && number_at(items, period, i) == number
 }
 
-// Whether an item is unfinished, and none is newer.
-fn runs(items: &[Item], i: usize) -> bool
-    requires { i < length items.now }
-    ensures { result ≡ runs_at items.now i }
-{
-    !items[i].finished && !has_newer(items, i)
-}
-
 /// Keeps what no option speaks of: everything where there is none, and an unfinished item that none is newer than.
 pub fn keep_others(items: &[Item], all: bool, into: &mut [Mark])
     requires { length into.old ≡ length items.now }
     ensures { (k : ℕ) → k < length items.now → is_kept (slice_index_or into.new k Mark.Removed)
         ≡ (is_kept (slice_index_or into.old k Mark.Removed) || (all || runs_at items.now k)) }
 {
+    let newest = newest_of(items);
     for i in 0..items.len() {
-        if is_other(items, all, i) {
+        if all || runs(items, newest, i) {
             into[i] = Mark::Kept;
         }
     }
 }
 
-fn is_other(items: &[Item], all: bool, i: usize) -> bool
-    requires { i < length items.now }
-    ensures { result ≡ (all || runs_at items.now i) }
+// Whether an item is unfinished and the newest.
+fn runs(items: &[Item], newest: Option<usize>, i: usize) -> bool
+    requires within { i < length items.now }
+    requires newest { NewestOf items.now (length items.now) newest }
+    ensures { result ≡ runs_at items.now i }
 {
-    all || runs(items, i)
+    !items[i].finished && is_at(newest, i)
 }
 
-// Whether some item is newer.
-fn has_newer(items: &[Item], i: usize) -> bool
-    requires { i < length items.now }
-    ensures { result ≡ newer_of items.now i }
+fn is_at(place: Option<usize>, i: usize) -> bool
+    ensures { result ≡ stands_at place i }
 {
-    for k in 0..items.len() {
-        if is_newer(items, i, k) {
-            return true;
+    match place {
+        Some(place) => place == i,
+        None => false,
+    }
+}
+
+// The newest item. Of two of one time the earlier in the list counts as the newer.
+fn newest_of(items: &[Item]) -> Option<usize>
+    ensures { NewestOf items.now (length items.now) result }
+{
+    let mut newest = None;
+    for i in 0..items.len() {
+        if is_later(items, i, newest) {
+            newest = Some(i);
         }
     }
-    false
+    newest
 }
 
-// Whether the item at `k` is newer than the one at `i`. Of two of one time the earlier in the list counts as the newer.
-fn is_newer(items: &[Item], i: usize, k: usize) -> bool
-    requires least { i < length items.now }
-    requires other { k < length items.now }
-    ensures { result ≡ newer_at items.now i k }
+fn is_later(items: &[Item], i: usize, other: Option<usize>) -> bool
+    requires within { i < length items.now }
+    requires other { IfSome other (λ k. k < length items.now) }
+    ensures { result ≡ before_of (λ k. 0) (time_at items.now) i other }
 {
-    let (least, time) = (items[i].time, items[k].time);
-    least < time || time == least && k < i
+    match other {
+        Some(k) => items[k].time < items[i].time,
+        None => true,
+    }
 }
