@@ -45,7 +45,7 @@ time_at items k = (item_at items k).time
 abbrev pub number_at : Period → List Item → ℕ → ℕ
 number_at period items k = number_of period (item_at items k).time
 
--- whether there is a bound that the number does not stay below
+-- below the bound, or there is none
 abbrev pub is_below : Option ℕ → ℕ → Bool
 is_below None number = true
 is_below (Some bound) number = nat_lt number bound
