@@ -1,0 +1,2 @@
+pub mod Prune
+pub mod Slots

@@ -1,0 +1,136 @@
+//! Dates with their weeks by ISO 8601, and prunes that were done by hand.
+
+use crate::periods::Period;
+use crate::{Item, Keep, Mark, marks};
+use std::alloc::Global;
+use std::test::Fail;
+
+const DATES: [(&str, u32, u16, u8); 26] = [
+    ("2020-02-28", 1582848000, 2020, 9),
+    ("2020-02-29", 1582934400, 2020, 9),
+    ("2020-03-01", 1583020800, 2020, 9),
+    ("2020-12-27", 1609027200, 2020, 52),
+    ("2020-12-28", 1609113600, 2020, 53),
+    ("2020-12-31", 1609372800, 2020, 53),
+    ("2021-01-01", 1609459200, 2020, 53),
+    ("2021-01-03", 1609632000, 2020, 53),
+    ("2021-01-04", 1609718400, 2021, 1),
+    ("2024-02-29", 1709164800, 2024, 9),
+    ("2024-12-29", 1735430400, 2024, 52),
+    ("2024-12-30", 1735516800, 2025, 1),
+    ("2025-12-28", 1766880000, 2025, 52),
+    ("2025-12-29", 1766966400, 2026, 1),
+    ("2026-01-04", 1767484800, 2026, 1),
+    ("2026-01-05", 1767571200, 2026, 2),
+    ("2026-12-31", 1798675200, 2026, 53),
+    ("2027-01-03", 1798934400, 2026, 53),
+    ("2031-12-28", 1956182400, 2031, 52),
+    ("2031-12-29", 1956268800, 2032, 1),
+    ("2032-01-04", 1956787200, 2032, 1),
+    ("2032-02-29", 1961625600, 2032, 9),
+    ("2032-12-26", 1987632000, 2032, 52),
+    ("2032-12-31", 1988064000, 2032, 53),
+    ("2033-01-02", 1988236800, 2032, 53),
+    ("2033-01-03", 1988323200, 2033, 1),
+];
+
+#[test]
+fn weeks_are_those_of_the_standard(rt: HostRuntime) {
+    for (date, time, year, week) in DATES {
+        for (other, later, other_year, other_week) in DATES {
+            let same = year == other_year && week == other_week;
+            let of = (
+                Period::Week.of(u64::from(time) + 86_399),
+                Period::Week.of(u64::from(later)),
+            );
+            assert_eq!(rt; of.0 == of.1, same, "{date} and {other}");
+        }
+    }
+}
+
+#[test]
+fn months_and_years(rt: HostRuntime) {
+    // 2020-02-29, 2020-03-01, 2020-12-31, 2021-01-01
+    let (leap, march, last, first) = (1_582_934_400, 1_583_020_800, 1_609_372_800, 1_609_459_200);
+    assert_eq!(rt; Period::Month.of(leap), 24_242);
+    assert_eq!(rt; Period::Month.of(leap + 86_399), 24_242);
+    assert_eq!(rt; Period::Month.of(march), 24_243);
+    assert_eq!(rt; Period::Month.of(last), 24_252);
+    assert_eq!(rt; Period::Month.of(first), 24_253);
+    assert_eq!(rt; Period::Year.of(last), 2020);
+    assert_eq!(rt; Period::Year.of(first), 2021);
+}
+
+const NONE: Keep = Keep {
+    last: 0,
+    hourly: 0,
+    daily: 0,
+    weekly: 0,
+    monthly: 0,
+    yearly: 0,
+};
+
+/// Which of the times are kept, as `k` and `-`.
+fn kept(alloc: Global, times: &[(u32, bool)], keep: Keep) -> Result<String, Fail> {
+    let mut items = Vec::new(alloc);
+    for (time, finished) in times {
+        items.push(Item {
+            time: u64::from(*time),
+            finished: *finished,
+        })?;
+    }
+    let mut text = String::new(alloc);
+    for mark in &marks(alloc, &items, &keep)? {
+        text.push_str(if *mark == Mark::Kept { "k" } else { "-" })?;
+    }
+    Ok(text)
+}
+
+#[test]
+fn prunes_by_hand(rt: HostRuntime) -> Result<(), Fail> {
+    // noon of 2020-12-31 (a Thursday), 2021-01-03 (a Sunday) and 2021-01-04
+    let turn = [
+        (1_609_416_000, true),
+        (1_609_675_200, true),
+        (1_609_761_600, true),
+    ];
+    let weekly = Keep { weekly: 2, ..NONE };
+    assert_eq!(rt; kept(rt.alloc(), &turn, weekly)?.as_str(), "-kk");
+
+    // the end of 2020-01-14, and two of the 15th: the day of the last is served already
+    let days = [
+        (1_579_046_399, true),
+        (1_579_046_400, true),
+        (1_579_069_803, true),
+    ];
+    let daily = Keep {
+        last: 1,
+        daily: 1,
+        ..NONE
+    };
+    assert_eq!(rt; kept(rt.alloc(), &days, daily)?.as_str(), "k-k");
+    let only_daily = Keep { daily: 1, ..NONE };
+    assert_eq!(rt; kept(rt.alloc(), &days, only_daily)?.as_str(), "--k");
+    let hourly = Keep { hourly: 2, ..NONE };
+    assert_eq!(rt; kept(rt.alloc(), &days, hourly)?.as_str(), "-kk");
+
+    // in any order, and with two of one time, of which the earlier in the list is kept
+    let mixed = [
+        (1_579_069_803, true),
+        (1_579_046_399, true),
+        (1_579_069_803, true),
+        (1_579_046_400, true),
+    ];
+    assert_eq!(rt; kept(rt.alloc(), &mixed, daily)?.as_str(), "kk--");
+
+    // with no option all is kept, and so is one that still runs
+    assert_eq!(rt; kept(rt.alloc(), &days, NONE)?.as_str(), "kkk");
+    let running = [
+        (1_579_046_399, false),
+        (1_579_046_400, true),
+        (1_579_069_803, false),
+    ];
+    assert_eq!(rt; kept(rt.alloc(), &running, only_daily)?.as_str(), "-kk");
+    assert_eq!(rt; kept(rt.alloc(), &[], only_daily)?.as_str(), "");
+    Ok(())
+}
