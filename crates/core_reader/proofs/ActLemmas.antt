@@ -1,6 +1,6 @@
 -- The acts of readers are well-formed commands.
 use Rattle.std.proofs.Common.{◌≡◌, refl}
-use Rattle.wire_commands.specs.declared.command.Command.TheVariants.{OpenWriter, Blob as BlobCommand, Finish, OpenReader, Download, Bye}
+use Rattle.wire_commands.specs.declared.command.Command.TheVariants.{OpenWriter, Blob as BlobCommand, Finish, Abort, OpenReader, Download, CloseReader, Bye}
 use Rattle.store_history.specs.declared.act.Act.{Act}
 use Rattle.store_history.specs.declared.act.Act.TheVariants.{Plain, Blob, Short, End}
 use Rattle.store_history.specs.Acts.{IsWellFormed, class_of, stepping}
@@ -9,8 +9,10 @@ use Rattle.core_reader.specs.ReaderActs.{IsReaders}
 pub readers_formed : (a : Act) → IsReaders a → IsWellFormed a
 readers_formed (Plain (OpenReader snapshot)) h = tt
 readers_formed (Plain (Download file offset)) h = tt
+readers_formed (Plain CloseReader) h = tt
 readers_formed (Plain (OpenWriter snapshot)) h = absurd h
 readers_formed (Plain Finish) h = absurd h
+readers_formed (Plain Abort) h = absurd h
 readers_formed (Plain (BlobCommand file blob)) h = absurd h
 readers_formed (Plain Bye) h = absurd h
 readers_formed (Blob name checked) h = absurd h

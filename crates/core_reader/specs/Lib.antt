@@ -1,2 +1,3 @@
 pub mod ReaderActs
 pub mod Asked
+pub mod Unreadables

@@ -1,16 +1,24 @@
 //! A reader's act.
 
-ghost use Rattle.std.specs.Prelude.{◌≡◌, ◌<◌, ◌≤◌, ◌⊎◌, ℕ, List, Option, IfOk, IsSome, IsErrOf, slice_index};
+ghost use Rattle.std.specs.Prelude.{◌≡◌, ◌<◌, ◌≤◌, ◌⊎◌, ℕ, true, List, Option, Some, IfOk, IsSome, IsErrOf, IsTrue, slice_index, slice_index_or, IfSome};
 ghost use Rattle.disk_trait.specs.Disk.{Serves};
 ghost use Rattle.store_files.specs.Archive.{Snapshot};
 ghost use Rattle.wire_commands.specs.HasText.{ReplyHasText};
 ghost use Rattle.store_history.specs.History.{World, act_outcome};
-ghost use Rattle.core_state.specs.Answers.{IsAnswered};
-ghost use Rattle.core_state.specs.Entering.{KeepsReserve};
+ghost use Rattle.core_state.specs.Answers.{IsAnswered, HasCause};
+ghost use Rattle.core_state.specs.Closing.{HasClosed, closes, is_closing};
+ghost use Rattle.core_state.specs.Reserved.{KeepsReserve};
 ghost use Rattle.core_state.specs.History.{History, StandsFor, then_event, event_of};
 ghost use Rattle.core_state.specs.Holds.{Acts};
+ghost use Rattle.core_state.specs.Replies.{may_answer};
+ghost use Rattle.core_state.specs.Settles.{kind_by, reply_by};
+ghost use Rattle.core_state.specs.Unchanged.{SameContent, Unchanged};
+ghost use Rattle.core_state.specs.declared.kept.Session.TheVariants.{Idle};
+ghost use Rattle.core_reader.specs.Asked.{asked_path};
+ghost use Rattle.core_reader.specs.Unreadables.{TellsUnreadable};
 ghost use Rattle.core_reader.specs.ReaderActs.{IsReaders};
 
+use crate::closing::close_reader;
 use crate::opening::open_reader;
 use crate::parts::download;
 use core_state::{Act, Answer, Begun, Core, Parts, begin, settle};
@@ -31,6 +39,11 @@ fn perform<D: Disk>(
     ensures serves { Serves D.honest D.faults parts.old.disk parts.new.disk (IsErrOf result DiskError.Failed) }
     ensures calls { D.calls parts.old.disk ≤ D.calls parts.new.disk }
     ensures text { IfOk result ReplyHasText }
+    ensures answers { IfOk result (λ reply. IsTrue (may_answer act reply)) }
+    ensures unchanged { Unchanged D.honest D.content parts.old parts.new (reply_by result) }
+    ensures content { SameContent D.honest D.content parts.old.disk parts.new.disk }
+    ensures closed { closes act (slice_index_or parts.old.sessions.items lane Idle) ≡ true → HasClosed parts.new lane result }
+    ensures unreadable { TellsUnreadable D.honest D.content parts.old.disk (asked_path act (slice_index_or parts.old.sessions.items lane Idle) parts.old.catalogue.items) (kind_by result) (Some (reply_by result)) }
     ensures act { (remote : Option (List Snapshot)) (w : World) (moment : ℕ) → Acts D.honest D.content parts.old parts.new (λ s. act_outcome remote (record w { store = s }) lane moment act) result }
 {
     match act {
@@ -40,6 +53,7 @@ fn perform<D: Disk>(
         Act::Plain(Command::Download { file, offset }) => {
             download(parts, alloc, lane, file.as_slice(), offset)
         }
+        Act::Plain(Command::CloseReader) => close_reader(parts, lane),
         _ => unreachable!(),
     }
 }
@@ -58,10 +72,21 @@ pub fn reader_act<D: Disk, E, C: Clock>(
         → StandsFor D.honest D.content D.calls C.readings core.new (then_event h (event_of act result (D.calls core.new.parts.disk))) }
     ensures answers { IsAnswered D.calls D.faults core.old core.new lane result }
     ensures told { IsSome result.reply }
+    // why it is answered so, on any disk
+    ensures cause { HasCause D.faults core.old core.new act result }
+    ensures unreadable { TellsUnreadable D.honest D.content core.old.parts.disk (asked_path act (slice_index_or core.old.parts.sessions.items lane Idle) core.old.parts.catalogue.items) result.entry.kind result.reply }
+    // a refused act leaves catalogue and sessions as before, and the disk too unless it failed
+    ensures unchanged { IfSome result.reply (Unchanged D.honest D.content core.old.parts core.new.parts) }
+    // an honest disk reads as before in any case
+    ensures content { SameContent D.honest D.content core.old.parts.disk core.new.parts.disk }
+    // after the disk failed no call of it is made
+    ensures halted { IfSome core.old.fault (λ _. core.new.parts.disk ≡ core.old.parts.disk) }
     ensures remote { core.new.remote ≡ core.old.remote }
-    ensures reserve { KeepsReserve core.old.journal core.new.journal lane result.last }
+    // a CLOSE_READER that ends a reader takes no memory
+    ensures memory { is_closing core.old lane act ≡ true → result.entry.kind ≡ 2 → ⊥ }
+    ensures reserve { KeepsReserve core.old core.new lane (is_closing core.old lane act) result }
 {
-    match begin(core, alloc, lane) {
+    match begin(core, alloc, lane, &act) {
         Begun::Answered(answer) => answer,
         Begun::At(moment) => {
             let outcome = perform(&mut core.parts, alloc, lane, act);

@@ -2,11 +2,13 @@
 #![tactic(auto)]
 
 mod act;
+mod closing;
 mod files;
 mod opening;
 mod parts;
 
 pub use act::reader_act;
+pub use closing::close_reader;
 pub use opening::open_reader;
 pub use parts::download;
 

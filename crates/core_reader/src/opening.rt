@@ -1,11 +1,14 @@
 //! OPEN_READER.
 
-ghost use Rattle.std.specs.Prelude.{◌<◌, ◌≤◌, ℕ, IfOk, IsErrOf};
+ghost use Rattle.std.specs.Prelude.{◌<◌, ◌≤◌, ℕ, IfOk, IsErrOf, IsTrue};
 ghost use Rattle.disk_trait.specs.Disk.{Serves};
 ghost use Rattle.wire_commands.specs.HasText.{ReplyHasText};
 ghost use Rattle.wire_commands.specs.declared.command.Command.TheVariants as commands;
 ghost use Rattle.store_model.specs.Steps.{outcome};
 ghost use Rattle.core_state.specs.Holds.{Acts};
+ghost use Rattle.core_state.specs.Replies.{answers_reader};
+ghost use Rattle.core_state.specs.Settles.{reply_by};
+ghost use Rattle.core_state.specs.Unchanged.{SameContent, Unchanged};
 
 use crate::files::snapshot_named;
 use core_state::{Parts, Reading, Session};
@@ -28,6 +31,9 @@ pub fn open_reader<D: Disk>(
     ensures serves { Serves D.honest D.faults parts.old.disk parts.new.disk (IsErrOf result DiskError.Failed) }
     ensures calls { D.calls parts.old.disk ≤ D.calls parts.new.disk }
     ensures text { IfOk result ReplyHasText }
+    ensures answers { IfOk result (λ reply. IsTrue (answers_reader reply)) }
+    ensures unchanged { Unchanged D.honest D.content parts.old parts.new (reply_by result) }
+    ensures content { SameContent D.honest D.content parts.old.disk parts.new.disk }
     ensures act { (moment : ℕ) → Acts D.honest D.content parts.old parts.new (λ s. outcome s lane moment (commands.OpenReader snapshot.now)) result }
 {
     let lane = lane as usize;

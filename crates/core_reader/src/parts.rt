@@ -1,14 +1,20 @@
 //! DOWNLOAD.
 
-ghost use Rattle.std.specs.Prelude.{◌≡◌, ◌<◌, ◌≤◌, ℕ, List, IfOk, IsErrOf, OnOk, OnErr, Some, option_map, length};
+ghost use Rattle.std.specs.Prelude.{◌≡◌, ◌<◌, ◌≤◌, ℕ, List, IfOk, IsErrOf, OnOk, OnErr, IsTrue, Some, None, Err, option_map, length, slice_index_or};
 ghost use Rattle.std.specs.FinMap.{get};
 ghost use Rattle.disk_trait.specs.Disk.{Serves};
+ghost use Rattle.store_types.specs.declared.refusal.Refusal.TheVariants.{Unreadable as UnreadableAt};
 ghost use Rattle.wire_commands.specs.HasText.{ReplyHasText};
 ghost use Rattle.wire_commands.specs.declared.reply.Reply.TheVariants.{Refused};
 ghost use Rattle.wire_commands.specs.declared.command.Command.TheVariants as commands;
 ghost use Rattle.store_model.specs.Steps.{outcome};
 ghost use Rattle.core_state.specs.Holds.{Acts};
-ghost use Rattle.core_reader.specs.Asked.{GivesText, noting, part_from, path_in};
+ghost use Rattle.core_state.specs.Replies.{answers_download};
+ghost use Rattle.core_state.specs.Settles.{kind_by, reply_by};
+ghost use Rattle.core_state.specs.Unchanged.{SameContent, Unchanged};
+ghost use Rattle.core_state.specs.declared.kept.Session.TheVariants.{Idle};
+ghost use Rattle.core_reader.specs.Asked.{GivesText, IsPartOf, downloaded, noting, part_from, path_in};
+ghost use Rattle.core_reader.specs.Unreadables.{TellsUnreadable};
 
 use crate::files::{is_noted, path_named, snapshot_named};
 use core_state::{Listed, Parts, Path, Session};
@@ -22,7 +28,8 @@ const PART_LIMIT: u64 = 4_194_304;
 
 /// The file of that name, which was there, isn't as it was put.
 fn unreadable(alloc: Global, path: &Path) -> Result<Refusal, AllocError>
-    ensures { IfOk result (λ refusal. ReplyHasText (Refused refusal)) }
+    ensures value { IfOk result (λ refusal. refusal ≡ UnreadableAt path.now) }
+    ensures text { IfOk result (λ refusal. ReplyHasText (Refused refusal)) }
 {
     let name = Bytes::from_slice(alloc, path.as_str().as_bytes())?;
     Ok(Refusal::Unreadable { name })
@@ -48,6 +55,8 @@ fn read_part<D: Disk>(
     ensures calls { D.calls disk.old ≤ D.calls disk.new }
     ensures same { D.honest disk.old → D.content disk.new ≡ D.content disk.old }
     ensures part { (text : List ℕ) → D.honest disk.old → get (D.content disk.old) path.now ≡ Some text → IfOk result (λ part. part ≡ part_from text offset) }
+    ensures missing { D.honest disk.old → get (D.content disk.old) path.now ≡ None → IfOk result (λ part. part ≡ Err (UnreadableAt path.now)) }
+    ensures kind { IfOk result (IsPartOf path.now) }
     ensures text { IfOk result GivesText }
 {
     let Some(total) = disk.size(path.as_str())? else {
@@ -110,6 +119,11 @@ pub fn download<D: Disk>(
     ensures serves { Serves D.honest D.faults parts.old.disk parts.new.disk (IsErrOf result DiskError.Failed) }
     ensures calls { D.calls parts.old.disk ≤ D.calls parts.new.disk }
     ensures text { IfOk result ReplyHasText }
+    ensures answers { IfOk result (λ reply. IsTrue (answers_download reply)) }
+    ensures unchanged { Unchanged D.honest D.content parts.old parts.new (reply_by result) }
+    ensures content { SameContent D.honest D.content parts.old.disk parts.new.disk }
+    // it is unreadable exactly where nothing stands there, as far as the disk tells
+    ensures unreadable { TellsUnreadable D.honest D.content parts.old.disk (downloaded file.now (slice_index_or parts.old.sessions.items lane Idle) parts.old.catalogue.items) (kind_by result) (Some (reply_by result)) }
     ensures act { (moment : ℕ) → Acts D.honest D.content parts.old parts.new (λ s. outcome s lane moment (commands.Download file.now offset)) result }
 {
     let lane = lane as usize;

@@ -4,7 +4,7 @@ ghost use Rattle.store_history.specs.Acts.{IsChecked};
 use super::*;
 use blob_codec::decode;
 use core_state::{Act, Parts, open_on};
-use core_writer::{blob, finish, open_writer};
+use core_writer::{abort, blob, finish, open_writer};
 use disk_trait::{Disk, MemoryDisk};
 use port_traits::SetClock;
 use std::alloc::Global;
@@ -136,5 +136,29 @@ fn readers_acts_are_entered(rt: HostRuntime) -> Result<(), Fail> {
         (second.entry.moment, second.entry.kind, second.place),
         (100, 0, 1)
     );
+    Ok(())
+}
+
+fn is_wrong_state(reply: &Reply, state: SessionState) -> bool {
+    matches!(reply, Reply::Refused(Refusal::WrongState(found)) if *found == state)
+}
+
+/// A reader is closed, and no other session is.
+#[test]
+fn readers_are_closed(rt: HostRuntime) -> Result<(), Fail> {
+    let alloc = rt.alloc();
+    let clock = SetClock::new(Vec::new(alloc), 0);
+    let opened = open_on(alloc, MemoryDisk::new(alloc), None::<MemoryDisk>, clock);
+    let mut parts = opened.ok().ok_or("not opened")?.parts;
+    write_snapshot(&mut parts, alloc)?;
+
+    assert!(rt; is_wrong_state(&close_reader(&mut parts, 5)?, SessionState::Idle));
+    let _ = open_writer(&mut parts, alloc, 3, 1000, b"host/b/2020-01-15T06:30:03Z")?;
+    assert!(rt; is_wrong_state(&close_reader(&mut parts, 3)?, SessionState::Writer));
+    assert!(rt; matches!(open(&mut parts, alloc, SNAPSHOT)?, Reply::Done));
+    assert!(rt; is_wrong_state(&abort(&mut parts, 5)?, SessionState::Reader));
+    assert!(rt; matches!(close_reader(&mut parts, 5)?, Reply::Done));
+    assert!(rt; is_wrong_state(&manifest_from(&mut parts, alloc, 0)?, SessionState::Idle));
+    assert!(rt; is_wrong_state(&close_reader(&mut parts, 5)?, SessionState::Idle));
     Ok(())
 }

@@ -1,5 +1,5 @@
 -- What an act's answer is on any disk.
-use Rattle.std.proofs.Common.{◌≡◌, ◌<◌, ◌≤◌, ◌+◌, ◌^◌, ℕ, Bool, true, false, ◌&&◌, ◌==◌, [], ◌∷◌, ◌++◌, length, Option, Some, None, Result, Ok, Err, IfSome, IsSome, is_some, IfOk, IsErrOf, inl, inr, refl, sym, ap, subst, ◌∙◌, arith}
+use Rattle.std.proofs.Common.{◌≡◌, ◌≤◌, ℕ, Bool, true, false, ◌&&◌, ◌==◌, [], ◌∷◌, ◌++◌, length, Option, Some, None, Result, Ok, Err, IfSome, IsSome, is_some, IfOk, IsErrOf, inl, inr, refl, sym, ap, subst, ◌∙◌, arith}
 use Rattle.port_traits.specs.Readings.{Readings}
 use Rattle.disk_trait.specs.Disk.{Rose, Serves}
 use Rattle.disk_trait.specs.declared.disk.DiskError.{DiskError}
@@ -10,13 +10,12 @@ use Rattle.store_model.specs.Weave.{first_fault}
 use Rattle.store_history.specs.declared.act.Answer.{Answer}
 use Rattle.core_state.specs.declared.state.Core.{Core}
 use Rattle.core_state.specs.declared.entering.Begun.TheVariants.{Answered}
-use Rattle.core_state.specs.Settles.{IsEntered, Settles, kind_by, reply_by, fault_by}
-use Rattle.core_state.specs.Begins.{IsBegun, IsShort, IsHalted, Refuses, short, halted, IsReady, BegunHasText}
-use Rattle.core_state.specs.Entering.{Enters}
-use Rattle.core_state.specs.Answers.{IsAnswered, EndIsTold, EndKeeps, fault_after}
+use Rattle.core_state.specs.Settles.{IsEntered, Settles}
+use Rattle.core_state.specs.Begins.{IsBegun, IsShort, Refuses, short, halted, IsReady, BegunHasText}
+use Rattle.core_state.specs.Answers.{IsAnswered, EndIsTold, fault_after}
 use Rattle.core_state.proofs.Texts.{no_memory_has_text, disk_fault_has_text}
 
-and_second : (a : Bool) (n : ℕ) → a && (n == 2) ≡ true → n ≡ 2
+pub and_second : (a : Bool) (n : ℕ) → a && (n == 2) ≡ true → n ≡ 2
 and_second true n e = search arith
 and_second false n e = absurd (false_true e)
   where
@@ -163,10 +162,17 @@ pub end_failed_told : {D E C : Type 0} (calls_of : D → ℕ) (mid acted new : C
     → acted.fault ≡ mid.fault → Settles calls_of acted new lane moment (Err DiskFailed) answer → EndIsTold answer
 end_failed_told calls_of mid acted new lane moment answer same e = inr (ap (λ x. x.kind) e.entry, some_told answer.reply _ e.reply_is)
 
-pub entry_keeps : {D E C : Type 0} (calls_of : D → ℕ) (old new : Core D E C) (lane moment kind : ℕ) (reply : Option Reply) (answer : Answer)
-    → IsEntered calls_of old new lane moment kind reply answer → EndKeeps old.journal new.journal lane
-entry_keeps calls_of old new lane moment kind reply answer e = by_use e.is_held e.room
-  where
-    by_use : (b : Bool) → Enters old.journal new.journal lane b → EndKeeps old.journal new.journal lane
-    by_use true r = record { one = let same = (r.uses).1 in omega (arith, same); others = r.others }
-    by_use false r = record { one = let same = (r.uses).1 in omega (arith, same); others = r.others }
+-- ---- the disk after it failed
+
+pub where_some : (o : Option ℕ) (P : Type 0) → P → IfSome o (λ _. P)
+where_some None P p = tt
+where_some (Some n) P p = p
+
+pub where_none : (o : Option ℕ) (P : Type 0) → o ≡ None → IfSome o (λ _. P)
+where_none o P is = subst (λ x. IfSome x (λ _. P)) (sym is) tt
+
+-- an act that is refused before it is done makes no disk call
+pub refused_same : {D E C : Type 0} (calls_of : D → ℕ) (readings : C → Option Readings) (old new : Core D E C) (lane : ℕ) (answer : Answer)
+    → Refuses calls_of readings old new lane answer → (new.parts).disk ≡ (old.parts).disk
+refused_same calls_of readings old new lane answer (short is) = ap (λ p. p.disk) ((is.entered).parts ∙ (is.begun).parts)
+refused_same calls_of readings old new lane answer (halted is) = ap (λ p. p.disk) ((is.entered).parts ∙ (is.begun).parts)

@@ -4,7 +4,7 @@ use Rattle.std.specs.Option.{option_map}
 use Rattle.port_traits.specs.Readings.{Readings, reading_at, readings_after}
 use Rattle.store_types.specs.Times.{last_moment}
 use Rattle.core_state.specs.declared.state.Core.{Core}
-use Rattle.core_state.specs.Entering.{SameEntries, OthersHold, NoneLost, held_by}
+use Rattle.core_state.specs.Entering.{SameEntries, OthersHold, NoneLost, FillsFirst, held_by}
 use Rattle.core_state.specs.Begins.{ReadsClock, IsBegun}
 
 pub reads_clock : {C : Type 0} (readings : C → Option Readings) (old new : C) (last reading moment : ℕ)
@@ -24,9 +24,9 @@ pub is_begun : {D E C : Type 0} (readings : C → Option Readings) (old new : Co
     → IfSome (readings old.clock) (λ r. reading ≡ reading_at r 0) → readings new.clock ≡ option_map (readings_after 1) (readings old.clock)
     → moment ≡ min (max reading old.last) last_moment → old.last ≤ last_moment
     → new.parts ≡ old.parts → new.remote ≡ old.remote → new.fault ≡ old.fault → new.last ≡ old.last
-    → SameEntries old.journal new.journal → held_by old.journal lane ≤ held_by new.journal lane → NoneLost old.journal new.journal lane → OthersHold old.journal new.journal lane
+    → SameEntries old.journal new.journal → held_by old.journal lane ≤ held_by new.journal lane → NoneLost old.journal new.journal lane → FillsFirst old.journal new.journal lane → OthersHold old.journal new.journal lane
     → IsBegun readings old new lane moment
-is_begun readings old new lane reading moment value after is le parts remote fault last entries more none_lost others = record {
+is_begun readings old new lane reading moment value after is le parts remote fault last entries more none_lost filled others = record {
   clock = reads_clock readings old.clock new.clock old.last reading moment value after is le;
   parts = parts;
   remote = remote;
@@ -35,5 +35,6 @@ is_begun readings old new lane reading moment value after is le parts remote fau
   entries = entries;
   more = more;
   none_lost = none_lost;
+  filled = filled;
   others = others;
 }

@@ -5,7 +5,7 @@ use Rattle.port_traits.specs.Readings.{Readings}
 use Rattle.disk_trait.specs.Files.{Files}
 use Rattle.store_types.specs.declared.refusal.Refusal.TheVariants.{DiskFault}
 use Rattle.wire_commands.specs.declared.reply.Reply.TheVariants.{Refused}
-use Rattle.store_model.specs.Steps.{ended}
+use Rattle.store_model.specs.Store.{ended}
 use Rattle.store_model.specs.Weave.{fault_refusal, first_fault}
 use Rattle.store_history.specs.declared.act.Act.TheVariants.{End}
 use Rattle.store_history.specs.declared.act.Answer.{Answer}

@@ -12,3 +12,5 @@ pub mod Soundness
 pub mod OnDisk
 pub mod Texts
 pub mod Answering
+pub mod Unchanging
+pub mod Caused

@@ -1,5 +1,5 @@
 -- Which names of the disk matter for a writer, and for the snapshots beside it.
-use Rattle.std.proofs.Common.{◌≡◌, ◌≢◌, ℕ, ◌<◌, ◌≤◌, Bool, true, false, length, get_or, map, List, [], ◌∷◌, refl, sym, ap, subst, ◌∙◌, arith}
+use Rattle.std.proofs.Common.{◌≡◌, ◌≢◌, ℕ, ◌<◌, true, get_or, List, refl, ap, ◌∙◌, arith}
 use Rattle.std.specs.Bool.{IsTrue}
 use Rattle.std.specs.FinMap.{get}
 use Rattle.std.specs.List.{All}
@@ -9,14 +9,14 @@ use Rattle.store_types.specs.FileNames.{manifest_name}
 use Rattle.store_types.specs.KeyOrder.{same_group_equiv}
 use Rattle.store_types.specs.Names.{IsKey, same_group, group_of_key}
 use Rattle.store_types.proofs.KeyTexts.{no_slash}
-use Rattle.store_files.specs.Archive.{File, Snapshot}
+use Rattle.store_files.specs.Archive.{Snapshot}
 use Rattle.store_model.specs.Store.{Store, Writer, writer, session}
 use Rattle.store_model.specs.Uploads.{file_path}
 use Rattle.store_model.specs.WriterSteps.{snapshot_of}
 use Rattle.store_model.specs.Stands.{chunk_name}
-use Rattle.store_model.proofs.Paths.{same_path, content_plain, chunk_apart}
+use Rattle.store_model.proofs.Paths.{same_path, content_plain}
 use Rattle.store_model.proofs.StandsLemmas.{Apart, apart_file, pieces_agree}
-use Rattle.core_state.specs.Holds.{IsSound, IsWriter, IsPut, HasUploads}
+use Rattle.core_state.specs.Holds.{IsSound, IsWriter, HasUploads}
 
 -- ---- keys
 

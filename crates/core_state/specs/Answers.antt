@@ -1,14 +1,16 @@
 -- What an act's answer is on any disk, and what stands in the order and in the counts after it.
-use Rattle.std.specs.Prelude.{◌≡◌, ◌≤◌, ◌+◌, ℕ, Bool, true, ◌==◌, ◌⊎◌, [], ◌∷◌, ◌++◌, length, if◌then◌else◌, Option, Some, None, IfSome, IsSome}
+use Rattle.std.specs.Prelude.{◌≡◌, ◌≤◌, ℕ, true, ◌==◌, ◌⊎◌, [], ◌∷◌, ◌++◌, length, if◌then◌else◌, Option, Some, None, IfSome, IsSome, IsTrue}
 use Rattle.disk_trait.specs.Disk.{Rose}
+use Rattle.store_types.specs.declared.refusal.Refusal.TheVariants.{NoMemory, DiskFault, Halted}
+use Rattle.wire_commands.specs.declared.reply.Reply.{Reply}
+use Rattle.wire_commands.specs.declared.reply.Reply.TheVariants.{Refused}
 use Rattle.wire_commands.specs.HasText.{ReplyHasText}
 use Rattle.store_model.specs.Weave.{first_fault}
 use Rattle.store_history.specs.declared.act.Act.{Act}
 use Rattle.store_history.specs.declared.act.Answer.{Answer}
-use Rattle.store_history.specs.Acts.{Class, stepping, wanting, ending, class_of}
+use Rattle.store_history.specs.Acts.{Class, ending, class_of}
 use Rattle.core_state.specs.declared.state.Core.{Core}
-use Rattle.core_state.specs.Entering.{held_by, KeepsReserve, OthersHold}
-use Rattle.core_state.specs.declared.journal.Journal.{Journal}
+use Rattle.core_state.specs.Replies.{may_answer}
 
 -- the place of the disk's fault, after an entry of this kind at this place
 abbrev pub fault_after : ℕ → ℕ → Option ℕ → Option ℕ
@@ -27,6 +29,32 @@ pub record IsAnswered {D E C : Type 0} (calls_of faults_of : D → ℕ) (old new
   pub count : faults_of (old.parts).disk ≤ faults_of (new.parts).disk
   pub cause : (answer.entry).kind ≡ 5 → old.fault ≡ None → Rose (faults_of (old.parts).disk) (faults_of (new.parts).disk)
 
+-- Why an act that is no lane's end was answered so, on any disk: each answer has one of four causes.
+pub data HasCause {D E C : Type 0} (faults_of : D → ℕ) (old new : Core D E C) (act : Act) (answer : Answer) : Type 0 where
+  -- the disk hasn't failed so far: by the tests of the command
+  done : old.fault ≡ None → (answer.entry).kind ≡ 0 → (reply : Reply) → answer.reply ≡ Some reply → IsTrue (may_answer act reply) → HasCause faults_of old new act answer
+  -- want of memory
+  short : (answer.entry).kind ≡ 2 → answer.reply ≡ Some (Refused NoMemory) → HasCause faults_of old new act answer
+  -- the disk failed in this act, which is kept as the first fault
+  failed : old.fault ≡ None → (answer.entry).kind ≡ 5 → answer.reply ≡ Some (Refused DiskFault)
+      → new.fault ≡ Some answer.place → Rose (faults_of (old.parts).disk) (faults_of (new.parts).disk) → HasCause faults_of old new act answer
+  -- the disk failed before, in the act whose entry stands at this place
+  halted : (place : ℕ) → old.fault ≡ Some place → (answer.entry).kind ≡ 5 → answer.reply ≡ Some (Refused (Halted place)) → HasCause faults_of old new act answer
+
+-- A lane's end is refused exactly where the disk fails in it, which is kept as the first fault. After a fault it is done.
+pub data EndHasCause {D E C : Type 0} (faults_of : D → ℕ) (old new : Core D E C) (answer : Answer) : Type 0 where
+  ended : (answer.entry).kind ≡ 6 → answer.reply ≡ None → EndHasCause faults_of old new answer
+  end_failed : old.fault ≡ None → (answer.entry).kind ≡ 5 → answer.reply ≡ Some (Refused DiskFault)
+      → new.fault ≡ Some answer.place → Rose (faults_of (old.parts).disk) (faults_of (new.parts).disk) → EndHasCause faults_of old new answer
+
+abbrev pub ClassHasCause : {D E C : Type 0} → Class → (D → ℕ) → Core D E C → Core D E C → Act → Answer → Type 0
+ClassHasCause ending faults_of old new act answer = EndHasCause faults_of old new answer
+ClassHasCause _ faults_of old new act answer = HasCause faults_of old new act answer
+
+-- why any act was answered so
+abbrev pub IsCaused : {D E C : Type 0} → (D → ℕ) → Core D E C → Core D E C → Act → Answer → Type 0
+IsCaused faults_of old new act answer = ClassHasCause (class_of act) faults_of old new act answer
+
 -- a lane's end is not told, but where the disk failed
 abbrev pub EndIsTold : Answer → Type 0
 EndIsTold answer = (((answer.entry).kind ≡ 6) × (answer.reply ≡ None)) ⊎ (((answer.entry).kind ≡ 5) × IsSome answer.reply)
@@ -38,16 +66,3 @@ ClassIsTold _ answer = IsSome answer.reply
 -- every other act has a reply
 abbrev pub IsTold : Act → Answer → Type 0
 IsTold act answer = ClassIsTold (class_of act) answer
-
--- A lane's end uses one entry of its reserve at most, and none of another lane's.
-pub record EndKeeps (old new : Journal) (lane : ℕ) : Type 0 where
-  pub one : held_by old lane ≤ held_by new lane + 1
-  pub others : OthersHold old new lane
-
--- what an act leaves of the reserve
-abbrev pub ClassKeeps : Class → Journal → Journal → ℕ → Bool → Type 0
-ClassKeeps ending old new lane last = EndKeeps old new lane
-ClassKeeps _ old new lane last = KeepsReserve old new lane last
-
-abbrev pub Keeps : Act → Journal → Journal → ℕ → Bool → Type 0
-Keeps act old new lane last = ClassKeeps (class_of act) old new lane last

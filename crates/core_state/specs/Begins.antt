@@ -1,5 +1,5 @@
 -- What comes before an act.
-use Rattle.std.specs.Prelude.{◌≡◌, ◌≤◌, ◌<◌, ℕ, Option, Some, None, IfSome}
+use Rattle.std.specs.Prelude.{◌≡◌, ◌≤◌, ◌<◌, ◌⊎◌, ℕ, Option, Some, None, IfSome}
 use Rattle.port_traits.specs.Readings.{Readings}
 use Rattle.store_types.specs.Times.{last_moment}
 use Rattle.store_types.specs.declared.refusal.Refusal.TheVariants.{NoMemory, Halted}
@@ -7,10 +7,11 @@ use Rattle.wire_commands.specs.declared.reply.Reply.TheVariants.{Refused}
 use Rattle.wire_commands.specs.HasText.{ReplyHasText}
 use Rattle.store_history.specs.declared.act.Answer.{Answer}
 use Rattle.store_history.specs.Legal.{moment_at, later}
+use Rattle.core_state.specs.declared.journal.Journal.{Journal}
 use Rattle.core_state.specs.declared.state.Core.{Core}
 use Rattle.core_state.specs.declared.entering.Begun.{Begun}
 use Rattle.core_state.specs.declared.entering.Begun.TheVariants.{At, Answered}
-use Rattle.core_state.specs.Entering.{SameEntries, OthersHold, NoneLost, held_by}
+use Rattle.core_state.specs.Entering.{SameEntries, OthersHold, NoneLost, FillsFirst, held_by}
 use Rattle.core_state.specs.Settles.{IsEntered}
 
 -- The clock was read once: by its reading, where that is told, the moment is the rule's.
@@ -29,6 +30,7 @@ pub record IsBegun {D E C : Type 0} (readings : C → Option Readings) (old new 
   pub entries : SameEntries old.journal new.journal
   pub more : held_by old.journal lane ≤ held_by new.journal lane
   pub none_lost : NoneLost old.journal new.journal lane
+  pub filled : FillsFirst old.journal new.journal lane
   pub others : OthersHold old.journal new.journal lane
 
 -- want of memory
@@ -45,6 +47,7 @@ pub record IsHalted {D E C : Type 0} (calls_of : D → ℕ) (readings : C → Op
   pub between : Core D E C
   pub begun : IsBegun readings old between lane moment
   pub fault : old.fault ≡ Some first
+  pub whole : 3 ≤ held_by between.journal lane
   pub spare : 0 < (between.journal).spare
   pub entered : IsEntered calls_of between new lane moment 5 (Some (Refused (Halted first))) answer
 
@@ -52,16 +55,25 @@ pub data Refuses {D E C : Type 0} (calls_of : D → ℕ) (readings : C → Optio
   short : IsShort calls_of readings old new lane answer → Refuses calls_of readings old new lane answer
   halted : IsHalted calls_of readings old new lane answer → Refuses calls_of readings old new lane answer
 
--- the act may be done: the lane's reserve is whole, and there is a spare entry
+-- the act may be done: an entry is to be had
 pub record IsReady {D E C : Type 0} (readings : C → Option Readings) (old new : Core D E C) (lane moment : ℕ) : Type 0 where
   pub begun : IsBegun readings old new lane moment
-  pub whole : 3 ≤ held_by new.journal lane
-  pub spare : 0 < (new.journal).spare
+  pub room : (0 < (new.journal).spare) ⊎ (0 < held_by new.journal lane)
   pub no_fault : old.fault ≡ None
 
 abbrev pub Begins : {D E C : Type 0} → (D → ℕ) → (C → Option Readings) → Core D E C → Core D E C → ℕ → Begun → Type 0
 Begins calls_of readings old new lane (At moment) = IsReady readings old new lane moment
 Begins calls_of readings old new lane (Answered answer) = Refuses calls_of readings old new lane answer
+
+-- where the act may be done, the lane's reserve is whole and there is a spare entry
+abbrev pub IsFilled : Journal → ℕ → Begun → Type 0
+IsFilled j lane (At moment) = (3 ≤ held_by j lane) × (0 < j.spare)
+IsFilled j lane (Answered answer) = ((answer.entry).kind ≡ 2 → ⊥) → 3 ≤ held_by j lane
+
+-- it is not answered by want of memory
+abbrev pub IsNotShort : Begun → Type 0
+IsNotShort (At moment) = Unit {0}
+IsNotShort (Answered answer) = (answer.entry).kind ≡ 2 → ⊥
 
 -- what is answered has a spelling
 abbrev pub BegunHasText : Begun → Type 0

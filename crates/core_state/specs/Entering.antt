@@ -1,5 +1,5 @@
 -- What is made of the entries in reserve.
-use Rattle.std.specs.Prelude.{◌≡◌, ◌≤◌, ◌<◌, ◌+◌, ℕ, Bool, true, false, slice_index}
+use Rattle.std.specs.Prelude.{◌≡◌, ◌≤◌, ◌<◌, ◌+◌, ◌⊎◌, ℕ, Bool, true, false, slice_index}
 use Rattle.core_state.specs.declared.journal.Journal.{Journal}
 
 -- how many entries a lane holds
@@ -22,6 +22,10 @@ OthersHold old new lane = (other : ℕ) → (other ≡ lane → ⊥) → held_by
 abbrev pub NoneLost : Journal → Journal → ℕ → Type 0
 NoneLost old new lane = old.spare + held_by old lane ≤ new.spare + held_by new lane
 
+-- The lane holds what it held, or there is a spare entry besides: no entry is first put into the reserve and then taken from it.
+abbrev pub FillsFirst : Journal → Journal → ℕ → Type 0
+FillsFirst old new lane = (held_by new lane ≡ held_by old lane) ⊎ (0 < new.spare)
+
 -- the lane's reserve is whole, and there is a spare entry
 pub record Fills (old new : Journal) (lane : ℕ) : Type 0 where
   pub whole : 3 ≤ held_by new lane
@@ -36,11 +40,4 @@ Uses old new lane false = (new.spare + 1 ≡ old.spare) × (held_by new lane ≡
 
 pub record Enters (old new : Journal) (lane : ℕ) (is_held : Bool) : Type 0 where
   pub uses : Uses old new lane is_held
-  pub others : OthersHold old new lane
-
--- An act that is no lane's end uses one entry of the lane's reserve at most, and none of another lane's. It leaves a whole
--- reserve whole, unless its entry was the last.
-pub record KeepsReserve (old new : Journal) (lane : ℕ) (last : Bool) : Type 0 where
-  pub one : held_by old lane ≤ held_by new lane + 1
-  pub whole : last ≡ false → 3 ≤ held_by old lane → 3 ≤ held_by new lane
   pub others : OthersHold old new lane

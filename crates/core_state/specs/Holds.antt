@@ -11,10 +11,10 @@ use Rattle.disk_trait.specs.Files.{Files}
 use Rattle.disk_trait.specs.declared.disk.DiskError.{DiskError}
 use Rattle.disk_trait.specs.declared.disk.DiskError.TheVariants.{NoMemory, Failed as DiskFailed}
 use Rattle.disk_trait.specs.declared.disk.Failed.{Failed}
-use Rattle.store_model.specs.Store.{Store, Writer, Reader, writer, reader, session, in_group, snapshot_named, Outcome}
+use Rattle.store_model.specs.Store.{Store, Writer, Reader, writer, reader, session, in_group, snapshot_named, Outcome, ended}
 use Rattle.store_model.specs.Uploads.{file_path}
 use Rattle.store_model.specs.WriterSteps.{snapshot_of}
-use Rattle.store_model.specs.Steps.{answered, ended}
+use Rattle.store_model.specs.Steps.{answered}
 use Rattle.store_model.specs.Stands.{StandsFor, HoldsPieces, IsSnapshot, names_content, names_rise, keys_rise, FitsContent, file_limit, group_limit}
 use Rattle.core_state.specs.declared.parts.Parts.{Parts}
 use Rattle.core_state.specs.Shown.{shown_snapshot, shown_session}

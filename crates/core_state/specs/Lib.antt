@@ -7,4 +7,8 @@ pub mod Settles
 pub mod Begins
 pub mod Opening
 pub mod States
+pub mod Replies
+pub mod Unchanged
 pub mod Answers
+pub mod Closing
+pub mod Reserved

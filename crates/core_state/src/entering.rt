@@ -1,18 +1,19 @@
 //! How an act is begun, and how its entry is made.
 
-ghost use Rattle.std.specs.Prelude.{◌≡◌, ℕ, ◌≤◌, ◌<◌, ◌+◌, ◌⊎◌, min, max, length, slice_index, Some, Option};
+ghost use Rattle.std.specs.Prelude.{◌≡◌, ℕ, ◌≤◌, ◌<◌, ◌+◌, ◌⊎◌, true, false, min, max, length, slice_index, Some, Option};
 ghost use Rattle.store_types.specs.Times.{last_moment};
 ghost use Rattle.store_types.specs.declared.refusal.Refusal.TheVariants.{Halted};
 ghost use Rattle.wire_commands.specs.declared.reply.Reply.TheVariants.{Refused};
 ghost use Rattle.wire_commands.specs.HasText.{ReplyHasText};
-ghost use Rattle.core_state.specs.Begins.{Begins, BegunHasText, IsBegun, IsShort};
+ghost use Rattle.core_state.specs.Begins.{Begins, BegunHasText, IsBegun, IsFilled, IsNotShort, IsShort};
+ghost use Rattle.core_state.specs.Closing.{is_closing};
 ghost use Rattle.core_state.specs.Settles.{IsEntered, Settles};
 
 use crate::state::Core;
 use disk_trait::{Disk, DiskError};
 use port_traits::Clock;
 use std::alloc::Global;
-use store_history::Answer;
+use store_history::{Act, Answer};
 use store_types::{Entry, Refusal};
 use wire_commands::Reply;
 
@@ -70,14 +71,25 @@ fn halted(place: u64) -> Reply
     Reply::Refused(Refusal::Halted { place })
 }
 
-/// Reads the clock, fills up the lane's reserve, and refuses the act where memory is wanting or the disk failed before.
-pub fn begin<D: Disk, E, C: Clock>(core: &mut Core<D, E, C>, alloc: Global, lane: u32) -> Begun
+/// Reads the clock, fills up the lane's reserve, and refuses the act where memory is wanting or the disk failed before. An
+/// act that ends a session fills up nothing: it takes no memory, and its entry may be one of the reserve.
+pub fn begin<D: Disk, E, C: Clock>(
+    core: &mut Core<D, E, C>,
+    alloc: Global,
+    lane: u32,
+    act: &Act,
+) -> Begun
     requires lane { lane < 64 }
     requires room { 0 < core.old.journal.spare ⊎ 0 < slice_index core.old.journal.held lane }
     ensures begun { Begins D.calls C.readings core.old core.new lane result }
     ensures text { BegunHasText result }
+    ensures filled { is_closing core.old lane act.now ≡ false → IsFilled core.new.journal lane result }
+    ensures memory { is_closing core.old lane act.now ≡ true → IsNotShort result }
 {
     let moment = moment_by(core.clock.now(), core.last);
+    if core.is_closing(lane, act) {
+        return Begun::At(moment);
+    }
     if core.journal.fill(lane as usize).is_err() {
         let reply = Reply::Refused(Refusal::NoMemory);
         return Begun::Answered(enter(core, lane, moment, 2, Some(reply)));

@@ -28,7 +28,7 @@ pub struct Journal {
 }
 
 impl Journal {
-    ghost use Rattle.core_state.specs.Entering.{Fills, Enters, SameEntries, OthersHold, NoneLost, AllHeld, held_by};
+    ghost use Rattle.core_state.specs.Entering.{Fills, Enters, SameEntries, OthersHold, NoneLost, FillsFirst, AllHeld, held_by};
 
     /// An empty order, with the reserve of every lane.
     pub fn new(alloc: Global) -> Result<Journal, AllocError>
@@ -79,6 +79,8 @@ impl Journal {
         ensures more { held_by self.old lane ≤ held_by self.new lane }
         ensures none_lost { NoneLost self.old self.new lane }
         ensures others { OthersHold self.old self.new lane }
+        // what the lane holds is as before, or a spare entry is there
+        ensures filled { FillsFirst self.old self.new lane }
     {
         let missing = HELD.saturating_sub(self.held[lane]);
         if self.spare <= missing as usize {

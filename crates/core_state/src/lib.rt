@@ -1,6 +1,7 @@
 //! The core of the store: its state, the order of its acts, and when it stands for a history.
 #![tactic(auto)]
 
+mod closing;
 mod entering;
 mod journal;
 mod kept;
@@ -9,6 +10,7 @@ mod parts;
 mod path;
 mod state;
 
+pub use closing::closes;
 pub use entering::{Begun, begin, begin_end, enter, settle, short};
 pub use journal::{HELD, Journal, LANES};
 pub use kept::{Kept, Listed, Reading, Session, StoredFile, Writing};

@@ -1,18 +1,30 @@
 -- The acts of writers are well-formed commands.
 use Rattle.std.specs.Option.{is_some}
-use Rattle.std.proofs.Common.{◌≡◌, ℕ, true, false, Option, Some, None, refl}
-use Rattle.wire_commands.specs.declared.command.Command.TheVariants.{OpenWriter, Blob as BlobCommand, Finish, OpenReader, Download, Bye}
+use Rattle.std.proofs.Common.{◌≡◌, ◌∙◌, ℕ, true, false, Option, Some, None, Result, Err, refl, sym, ap}
+use Rattle.std.specs.Prelude.{IsOk, is_ok}
+use Rattle.disk_trait.specs.declared.disk.Failed.{Failed}
+use Rattle.port_traits.specs.Readings.{Readings}
+use Rattle.store_types.specs.declared.refusal.Refusal.TheVariants.{NoMemory, Halted}
+use Rattle.wire_commands.specs.declared.command.Command.TheVariants.{OpenWriter, Blob as BlobCommand, Finish, Abort, OpenReader, Download, CloseReader, Bye}
+use Rattle.wire_commands.specs.declared.reply.Reply.{Reply}
+use Rattle.wire_commands.specs.declared.reply.Reply.TheVariants.{Done, Refused}
 use Rattle.store_history.specs.declared.act.Act.{Act}
 use Rattle.store_history.specs.declared.act.Act.TheVariants.{Plain, Blob, Short, End}
+use Rattle.store_history.specs.declared.act.Answer.{Answer}
 use Rattle.store_history.specs.Acts.{IsWellFormed, class_of, stepping}
+use Rattle.core_state.specs.Begins.{Refuses, short, halted}
+use Rattle.core_state.specs.declared.state.Core.{Core}
+use Rattle.core_writer.specs.Ended.{HasEnded}
 use Rattle.core_writer.specs.WriterActs.{IsWriters}
 
 pub writers_formed : (a : Act) → IsWriters a → IsWellFormed a
 writers_formed (Plain (OpenWriter snapshot)) h = tt
 writers_formed (Plain Finish) h = tt
+writers_formed (Plain Abort) h = tt
 writers_formed (Plain (BlobCommand file blob)) h = absurd h
 writers_formed (Plain (OpenReader snapshot)) h = absurd h
 writers_formed (Plain (Download file offset)) h = absurd h
+writers_formed (Plain CloseReader) h = absurd h
 writers_formed (Plain Bye) h = absurd h
 writers_formed (Blob name checked) h = h
 writers_formed Short h = absurd h
@@ -37,3 +49,44 @@ none_is (Some n) h = absurd (no_false h)
   where
     no_false : true ≡ false → ⊥
     no_false e = cc
+
+-- an act that is answered as it was asked is an ABORT
+pub ended_is : (a : Act) (x : Answer) → IsWriters a → HasEnded a x → (a ≡ Plain Abort) × (x.reply ≡ Some Done)
+ended_is (Plain Abort) x h ended = (refl, ended)
+ended_is (Plain (OpenWriter snapshot)) x h ended = absurd ended
+ended_is (Plain Finish) x h ended = absurd ended
+ended_is (Plain (BlobCommand file blob)) x h ended = absurd ended
+ended_is (Plain (OpenReader snapshot)) x h ended = absurd ended
+ended_is (Plain (Download file offset)) x h ended = absurd ended
+ended_is (Plain CloseReader) x h ended = absurd ended
+ended_is (Plain Bye) x h ended = absurd ended
+ended_is (Blob name checked) x h ended = absurd ended
+ended_is Short x h ended = absurd ended
+ended_is End x h ended = absurd h
+
+-- an act that was refused ended nothing
+pub refused_ends : {D E C : Type 0} (calls_of : D → ℕ) (readings : C → Option Readings) (old new : Core D E C) (lane : ℕ) (a : Act) (x : Answer)
+    → Refuses calls_of readings old new lane x → IsWriters a → HasEnded a x → ⊥
+refused_ends calls_of readings old new lane a x (short is) h ended = no_done (sym (is.entered).reply_is ∙ (ended_is a x h ended).1)
+  where
+    no_done : Some (Refused NoMemory) ≡ Some Done → ⊥
+    no_done e = cc
+refused_ends calls_of readings old new lane a x (halted is) h ended = no_done is.first (sym (is.entered).reply_is ∙ (ended_is a x h ended).1)
+  where
+    no_done : (n : ℕ) → Some (Refused (Halted n)) ≡ Some Done → ⊥
+    no_done n e = cc
+
+pub some_same : (r s : Reply) → Some r ≡ Some s → r ≡ s
+some_same r s e = cc
+
+pub not_none : (o : Option ℕ) → is_some o ≡ true → o ≡ None → ⊥
+not_none o some none = no_true (sym (ap is_some none) ∙ some)
+  where
+    no_true : false ≡ true → ⊥
+    no_true e = cc
+
+pub not_ok : (r : Result (Unit {0}) Failed) → (e : Failed) → r ≡ Err e → IsOk r → ⊥
+not_ok r e is ok = no_true (sym (ap is_ok is) ∙ ok)
+  where
+    no_true : false ≡ true → ⊥
+    no_true e = cc

@@ -25,7 +25,7 @@ use Rattle.core_state.specs.Holds.{IsSound, IsOnDisk, HasUploads, Holds}
 use Rattle.core_state.proofs.Sessions.{at_lane, changed, no_writer_none}
 use Rattle.core_state.proofs.Soundness.{sound_idle, disk_idle, shows_changed}
 use Rattle.core_state.proofs.OnDisk.{IsOff, apart_upload, names_plain, keys_apart, off_other, uploads_off}
-use Rattle.core_writer.specs.Ended.{is_removed, removed_by, stored_files}
+use Rattle.core_writer.specs.Ended.{FilesGone, is_removed, removed_by, stored_files}
 
 -- what one file less leaves at a name
 abbrev pub without : List ℕ → StoredFile → Option (List ℕ) → Option (List ℕ)
@@ -138,3 +138,8 @@ module _ {D : Type 0} (honest : D → Type 0) (content : D → Files) where
         files = ended_on_disk (content old.disk) (content new.disk) s lane (session s lane) lt sound refl
             (λ q. removed h.honest q ∙ ap (λ x. removed_by (stored_files x) (content old.disk) q) is) h.files;
       }
+
+  -- nothing has changed before or since
+  pub gone_between : (old mid : Parts D) (acted new : D) (lane : ℕ) → mid ≡ old → new ≡ acted → FilesGone honest content mid acted lane → FilesGone honest content old new lane
+  gone_between old mid acted new lane before since gone =
+      subst (λ p. FilesGone honest content p new lane) before (subst (λ x. FilesGone honest content mid x lane) (sym since) gone)

@@ -40,7 +40,7 @@ use Rattle.core_state.specs.Holds.{IsSound, IsWriter, IsReader, IsOlder, HasUplo
 use Rattle.core_state.proofs.Sessions.{changed, shown_set, no_writer_none, no_reader_none}
 use Rattle.core_state.proofs.Soundness.{sound_idle}
 use Rattle.core_state.proofs.OnDisk.{IsOff, fresh, off_other, keys_apart, uploads_off}
-use Rattle.core_writer.specs.Opened.{state_of}
+use Rattle.core_state.specs.States.{state_of}
 use Rattle.core_writer.specs.Closed.{manifest_by, kept_manifest, insert_listed, listed_of, closed}
 
 -- ---- the manifest

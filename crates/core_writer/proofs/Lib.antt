@@ -8,3 +8,5 @@ pub mod BlobStep
 pub mod BlobLemmas
 pub mod FinishLemmas
 pub mod ActLemmas
+pub mod OtherNames
+pub mod AbortLemmas

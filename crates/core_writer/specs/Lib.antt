@@ -3,3 +3,4 @@ pub mod Closed
 pub mod Uploaded
 pub mod Ended
 pub mod WriterActs
+pub mod Others

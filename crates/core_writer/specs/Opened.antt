@@ -3,7 +3,6 @@ use Rattle.std.specs.Prelude.{ℕ, Bool, false, List, [], map, filter, length, n
 use Rattle.std.specs.List.{last_or}
 use Rattle.store_types.specs.declared.names.SnapshotKey.{SnapshotKey}
 use Rattle.store_types.specs.declared.names.GroupKey.{GroupKey}
-use Rattle.store_types.specs.declared.refusal.SessionState.{SessionState}
 use Rattle.store_types.specs.declared.refusal.SessionState.TheVariants as states
 use Rattle.store_types.specs.declared.refusal.Refusal.{Refusal}
 use Rattle.store_types.specs.declared.refusal.Refusal.TheVariants.{WrongState, BadName, GroupBusy, TooMany}
@@ -14,11 +13,6 @@ use Rattle.core_state.specs.declared.kept.Kept.{Kept}
 use Rattle.core_state.specs.declared.kept.Writing.{Writing}
 use Rattle.core_state.specs.declared.kept.Session.{Session}
 use Rattle.core_state.specs.declared.kept.Session.TheVariants.{Idle, Writer, Reader}
-
-abbrev pub state_of : Session → SessionState
-state_of Idle = states.Idle
-state_of (Writer w) = states.Writer
-state_of (Reader r) = states.Reader
 
 abbrev pub want_idle : Session → Result (Unit {0}) Refusal
 want_idle Idle = Ok tt

@@ -13,7 +13,7 @@ use Rattle.core_state.specs.declared.kept.StoredFile.{StoredFile}
 use Rattle.core_state.specs.declared.kept.Writing.{Writing}
 use Rattle.core_state.specs.declared.kept.Session.{Session}
 use Rattle.core_state.specs.declared.kept.Session.TheVariants.{Idle, Writer, Reader}
-use Rattle.core_writer.specs.Opened.{state_of}
+use Rattle.core_state.specs.States.{state_of}
 
 abbrev pub want_writer : Session → Result Writing Refusal
 want_writer Idle = Err (WrongState (state_of Idle))

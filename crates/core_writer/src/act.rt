@@ -1,18 +1,26 @@
 //! A writer's act, and a lane's end.
 
-ghost use Rattle.std.specs.Prelude.{◌≡◌, ◌<◌, ◌≤◌, ◌⊎◌, List, Option, slice_index, IfOk, IsSome, IsErrOf};
+ghost use Rattle.std.specs.Prelude.{◌≡◌, ◌<◌, ◌≤◌, ◌⊎◌, true, List, Option, Some, slice_index, slice_index_or, IfOk, IsSome, IsErrOf, IsTrue, IfSome};
 ghost use Rattle.disk_trait.specs.Disk.{Serves};
 ghost use Rattle.store_files.specs.Archive.{Snapshot};
 ghost use Rattle.wire_commands.specs.HasText.{ReplyHasText};
+ghost use Rattle.wire_commands.specs.declared.command.Command.TheVariants as commands;
 ghost use Rattle.store_history.specs.History.{World, act_outcome};
 ghost use Rattle.store_history.specs.declared.act.Act.TheVariants.{End};
-ghost use Rattle.core_state.specs.Answers.{IsAnswered, EndIsTold, EndKeeps};
-ghost use Rattle.core_state.specs.Entering.{KeepsReserve};
+ghost use Rattle.core_state.specs.Answers.{IsAnswered, HasCause, EndHasCause, EndIsTold};
+ghost use Rattle.core_state.specs.Closing.{HasClosed, closes, is_closing};
+ghost use Rattle.core_state.specs.Reserved.{KeepsReserve, EndKeeps};
+ghost use Rattle.core_state.specs.declared.kept.Session.TheVariants.{Idle};
 ghost use Rattle.core_state.specs.History.{History, StandsFor, then_event, event_of};
 ghost use Rattle.core_state.specs.Holds.{Acts};
+ghost use Rattle.core_state.specs.Replies.{may_answer};
+ghost use Rattle.core_state.specs.Settles.{reply_by};
+ghost use Rattle.core_state.specs.Unchanged.{Unchanged};
+ghost use Rattle.core_writer.specs.Ended.{FilesGone, Removes};
+ghost use Rattle.core_writer.specs.Others.{OthersStay};
 ghost use Rattle.core_writer.specs.WriterActs.{IsWriters};
 
-use crate::ending::{end, forget_session};
+use crate::ending::{abort, end, forget_session};
 use crate::finishing::finish;
 use crate::opening::open_writer;
 use crate::uploads::blob;
@@ -36,6 +44,11 @@ fn perform<D: Disk>(
     ensures serves { Serves D.honest D.faults parts.old.disk parts.new.disk (IsErrOf result DiskError.Failed) }
     ensures calls { D.calls parts.old.disk ≤ D.calls parts.new.disk }
     ensures text { IfOk result ReplyHasText }
+    ensures answers { IfOk result (λ reply. IsTrue (may_answer act reply)) }
+    ensures unchanged { Unchanged D.honest D.content parts.old parts.new (reply_by result) }
+    ensures others { OthersStay D.honest D.content parts.old parts.new lane (Some (reply_by result)) }
+    ensures closed { closes act (slice_index_or parts.old.sessions.items lane Idle) ≡ true → HasClosed parts.new lane result }
+    ensures removed { act ≡ Act.Plain commands.Abort → reply_by result ≡ Reply.Done → FilesGone D.honest D.content parts.old parts.new.disk lane }
     ensures act { (remote : Option (List Snapshot)) (w : World) → Acts D.honest D.content parts.old parts.new (λ s. act_outcome remote (record w { store = s }) lane moment act) result }
 {
     match act {
@@ -43,6 +56,7 @@ fn perform<D: Disk>(
             open_writer(parts, alloc, lane, moment, snapshot.as_slice())
         }
         Act::Plain(Command::Finish) => finish(parts, alloc, lane, number),
+        Act::Plain(Command::Abort) => abort(parts, lane),
         Act::Blob { name, checked } => blob(parts, alloc, lane, name.as_slice(), checked),
         _ => unreachable!(),
     }
@@ -62,10 +76,22 @@ pub fn writer_act<D: Disk, E, C: Clock>(
         → StandsFor D.honest D.content D.calls C.readings core.new (then_event h (event_of act result (D.calls core.new.parts.disk))) }
     ensures answers { IsAnswered D.calls D.faults core.old core.new lane result }
     ensures told { IsSome result.reply }
+    // why it is answered so, on any disk
+    ensures cause { HasCause D.faults core.old core.new act result }
+    // a refused act leaves catalogue and sessions as before, and the disk too unless it failed
+    ensures unchanged { IfSome result.reply (Unchanged D.honest D.content core.old.parts core.new.parts) }
+    // under names that are no file's of the lane's writer all stays
+    ensures others { OthersStay D.honest D.content core.old.parts core.new.parts lane result.reply }
+    // after the disk failed no call of it is made
+    ensures halted { IfSome core.old.fault (λ _. core.new.parts.disk ≡ core.old.parts.disk) }
     ensures remote { core.new.remote ≡ core.old.remote }
-    ensures reserve { KeepsReserve core.old.journal core.new.journal lane result.last }
+    // the files of a writer that was aborted are gone
+    ensures removed { Removes D.honest D.content core.old core.new lane act result }
+    // an ABORT that ends a writer takes no memory
+    ensures memory { is_closing core.old lane act ≡ true → result.entry.kind ≡ 2 → ⊥ }
+    ensures reserve { KeepsReserve core.old core.new lane (is_closing core.old lane act) result }
 {
-    match begin(core, alloc, lane) {
+    match begin(core, alloc, lane, &act) {
         Begun::Answered(answer) => answer,
         Begun::At(moment) => {
             let number = core.journal.entries.len() as u64;
@@ -84,8 +110,18 @@ pub fn end_act<D: Disk, E, C: Clock>(core: &mut Core<D, E, C>, lane: u32) -> Ans
         → StandsFor D.honest D.content D.calls C.readings core.new (then_event h (event_of End result (D.calls core.new.parts.disk))) }
     ensures answers { IsAnswered D.calls D.faults core.old core.new lane result }
     ensures told { EndIsTold result }
+    // why it is answered so, on any disk
+    ensures cause { EndHasCause D.faults core.old core.new result }
+    // a refused act leaves catalogue and sessions as before, and the disk too unless it failed
+    ensures unchanged { IfSome result.reply (Unchanged D.honest D.content core.old.parts core.new.parts) }
+    // under names that are no file's of the lane's writer all stays
+    ensures others { OthersStay D.honest D.content core.old.parts core.new.parts lane result.reply }
+    // after the disk failed no call of it is made
+    ensures halted { IfSome core.old.fault (λ _. core.new.parts.disk ≡ core.old.parts.disk) }
     ensures remote { core.new.remote ≡ core.old.remote }
-    ensures reserve { EndKeeps core.old.journal core.new.journal lane }
+    // the files of the lane's writer are gone
+    ensures removed { Removes D.honest D.content core.old core.new lane End result }
+    ensures reserve { EndKeeps core.old core.new lane result }
 {
     let moment = begin_end(core);
     if core.fault.is_some() {

@@ -1,11 +1,12 @@
 //! What the catalogue is asked, and how a snapshot comes into it.
 
-ghost use Rattle.std.specs.Prelude.{◌≡◌, ◌<◌, ◌≤◌, map, filter, length, nat_lt, option_map, position, vec_len, vec_capacity, IfErr};
+ghost use Rattle.std.specs.Prelude.{◌≡◌, ◌<◌, ◌≤◌, map, filter, length, nat_lt, option_map, position, vec_len, vec_capacity, IfErr, IsTrue};
 ghost use Rattle.store_types.specs.Chain.Refusing.{unless};
 ghost use Rattle.store_types.specs.Names.{same_group, group_of_key, key_lt};
 ghost use Rattle.store_types.specs.declared.refusal.Refusal.TheVariants.{NotNewer, TooMany};
 ghost use Rattle.wire_commands.specs.declared.reply.Reply.TheVariants.{Refused};
 ghost use Rattle.wire_commands.specs.HasText.{ReplyHasText};
+ghost use Rattle.core_state.specs.Replies.{refuses_writer};
 ghost use Rattle.store_model.specs.WriterSteps.{want_newer as needs_newer};
 ghost use Rattle.core_writer.specs.Opened.{kept_in, latest_kept};
 ghost use Rattle.core_writer.specs.Closed.{insert_listed};
@@ -48,6 +49,7 @@ fn not_newer(latest: u64) -> Refusal
 /// The snapshot is later than the latest of its group.
 pub fn want_newer(key: &SnapshotKey, latest: Option<&SnapshotKey>) -> Result<(), Refusal>
     ensures text { IfErr result (λ refusal. ReplyHasText (Refused refusal)) }
+    ensures kind { IfErr result (λ refusal. IsTrue (refuses_writer refusal)) }
     ensures value { result ≡ needs_newer key.now.time (option_map (λ latest. latest.now) latest.entry) }
 {
     match latest {
@@ -60,6 +62,7 @@ pub fn want_newer(key: &SnapshotKey, latest: Option<&SnapshotKey>) -> Result<(),
 #[tactic(auto, using(core_state::proofs::Texts::too_many_has_text))]
 pub fn want_room(catalogue: &[Listed], key: &SnapshotKey) -> Result<(), Refusal>
     ensures text { IfErr result (λ refusal. ReplyHasText (Refused refusal)) }
+    ensures kind { IfErr result (λ refusal. IsTrue (refuses_writer refusal)) }
     ensures value { result ≡ unless (TooMany 4096) (nat_lt (length (kept_in (group_of_key key.now) (map (λ x. x.kept) catalogue.now))) 4096) }
 {
     if count_in(catalogue, key) < 4096 {

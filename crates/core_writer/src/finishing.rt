@@ -1,6 +1,6 @@
 //! FINISH.
 
-ghost use Rattle.std.specs.Prelude.{◌≡◌, ◌<◌, ◌≤◌, ℕ, Some, option_map, IfOk, OnOk, IsErrOf, vec_len, vec_capacity};
+ghost use Rattle.std.specs.Prelude.{◌≡◌, ◌<◌, ◌≤◌, ℕ, Some, option_map, IfOk, OnOk, IsErrOf, IsTrue, vec_len, vec_capacity};
 ghost use Rattle.std.specs.List.{find};
 ghost use Rattle.std.specs.Str.{bytes_eq};
 ghost use Rattle.store_types.specs.FileNames.{manifest_name};
@@ -11,7 +11,11 @@ ghost use Rattle.wire_commands.specs.declared.command.Command.TheVariants as com
 ghost use Rattle.store_model.specs.Steps.{outcome};
 ghost use Rattle.core_state.specs.Holds.{Acts};
 ghost use Rattle.core_state.specs.declared.kept.Session.TheVariants.{Idle};
+ghost use Rattle.core_state.specs.Replies.{answers_finish};
+ghost use Rattle.core_state.specs.Settles.{reply_by};
+ghost use Rattle.core_state.specs.Unchanged.{Unchanged};
 ghost use Rattle.core_writer.specs.Closed.{closed, kept_manifest};
+ghost use Rattle.core_writer.specs.Others.{OthersStay};
 
 use crate::catalogue::insert;
 use crate::sessions::wrong_state;
@@ -81,6 +85,9 @@ pub fn finish<D: Disk>(
     ensures serves { Serves D.honest D.faults parts.old.disk parts.new.disk (IsErrOf result DiskError.Failed) }
     ensures calls { D.calls parts.old.disk ≤ D.calls parts.new.disk }
     ensures text { IfOk result ReplyHasText }
+    ensures answers { IfOk result (λ reply. IsTrue (answers_finish reply)) }
+    ensures unchanged { Unchanged D.honest D.content parts.old parts.new (reply_by result) }
+    ensures others { OthersStay D.honest D.content parts.old parts.new lane (Some (reply_by result)) }
     ensures act { (moment : ℕ) → Acts D.honest D.content parts.old parts.new (λ s. outcome s lane moment commands.Finish) result }
 {
     let lane = lane as usize;

@@ -10,7 +10,7 @@ mod sessions;
 mod uploads;
 
 pub use act::{end_act, writer_act};
-pub use ending::end;
+pub use ending::{abort, end};
 pub use finishing::finish;
 pub use opening::open_writer;
 pub use uploads::blob;

@@ -1,6 +1,6 @@
 //! OPEN_WRITER.
 
-ghost use Rattle.std.specs.Prelude.{◌≡◌, ◌<◌, ◌≤◌, map, length, option_map, Ok, Err, MatchResult, IfOk, IfErr, IsErrOf};
+ghost use Rattle.std.specs.Prelude.{◌≡◌, ◌<◌, ◌≤◌, map, length, option_map, Some, Ok, Err, MatchResult, IfOk, IfErr, IsErrOf, IsTrue};
 ghost use Rattle.std.specs.Option.{ForSome};
 ghost use Rattle.disk_trait.specs.Disk.{Serves};
 ghost use Rattle.store_types.specs.Names.{IsKey};
@@ -10,7 +10,11 @@ ghost use Rattle.wire_commands.specs.declared.command.Command.TheVariants as com
 ghost use Rattle.store_model.specs.Steps.{outcome};
 ghost use Rattle.store_model.specs.WriterSteps.{base_text as text_of_base};
 ghost use Rattle.core_state.specs.Holds.{Acts};
+ghost use Rattle.core_state.specs.Replies.{answers_writer, refuses_writer};
+ghost use Rattle.core_state.specs.Settles.{reply_by};
+ghost use Rattle.core_state.specs.Unchanged.{Unchanged};
 ghost use Rattle.core_writer.specs.Opened.{base_kept};
+ghost use Rattle.core_writer.specs.Others.{OthersStay};
 
 use crate::catalogue::{latest_in, want_newer, want_room};
 use crate::sessions::{want_free, want_idle};
@@ -29,6 +33,7 @@ fn base_of<'a>(
 ) -> Result<Option<&'a SnapshotKey>, Refusal>
     requires { length sessions.now ≡ 64 }
     ensures text { IfErr result (λ refusal. ReplyHasText (Refused refusal)) }
+    ensures kind { IfErr result (λ refusal. IsTrue (refuses_writer refusal)) }
     ensures value { MatchResult result (λ base. base_kept (map (λ x. x.kept) catalogue.now) sessions.now key.now ≡ Ok (option_map (λ k. k.now) base))
         (λ refusal. base_kept (map (λ x. x.kept) catalogue.now) sessions.now key.now ≡ Err refusal) }
 {
@@ -76,6 +81,9 @@ pub fn open_writer<D: Disk>(
     ensures serves { Serves D.honest D.faults parts.old.disk parts.new.disk (IsErrOf result DiskError.Failed) }
     ensures calls { D.calls parts.old.disk ≤ D.calls parts.new.disk }
     ensures text { IfOk result ReplyHasText }
+    ensures answers { IfOk result (λ reply. IsTrue (answers_writer reply)) }
+    ensures unchanged { Unchanged D.honest D.content parts.old parts.new (reply_by result) }
+    ensures others { OthersStay D.honest D.content parts.old parts.new lane (Some (reply_by result)) }
     ensures act { Acts D.honest D.content parts.old parts.new (λ s. outcome s lane moment (commands.OpenWriter snapshot.now)) result }
 {
     let lane = lane as usize;

@@ -1,26 +1,18 @@
 //! What the sessions are asked.
 
-ghost use Rattle.std.specs.Prelude.{◌≡◌, ◌<◌, length, IfErr, position};
+ghost use Rattle.std.specs.Prelude.{◌≡◌, ◌<◌, length, IfErr, IsTrue, position};
 ghost use Rattle.store_types.specs.Names.{group_of_key};
 ghost use Rattle.wire_commands.specs.declared.reply.Reply.TheVariants.{Refused};
 ghost use Rattle.wire_commands.specs.HasText.{ReplyHasText};
 ghost use Rattle.store_types.specs.declared.refusal.Refusal.TheVariants.{WrongState};
 ghost use Rattle.store_types.specs.Chain.Refusing.{if_none};
 ghost use Rattle.store_types.specs.declared.refusal.Refusal.TheVariants.{GroupBusy};
-ghost use Rattle.core_writer.specs.Opened.{state_of, writes, want_idle as needs_idle};
+ghost use Rattle.core_state.specs.States.{state_of};
+ghost use Rattle.core_state.specs.Replies.{refuses_writer};
+ghost use Rattle.core_writer.specs.Opened.{writes, want_idle as needs_idle};
 
 use core_state::Session;
-use store_types::{Refusal, SessionState, SnapshotKey};
-
-fn state(session: &Session) -> SessionState
-    ensures { result ≡ state_of session.now }
-{
-    match session {
-        Session::Idle => SessionState::Idle,
-        Session::Writer(_) => SessionState::Writer,
-        Session::Reader(_) => SessionState::Reader,
-    }
-}
+use store_types::{Refusal, SnapshotKey};
 
 /// The refusal of a command that needs another session.
 #[tactic(auto, using(core_state::proofs::Texts::wrong_state_has_text))]
@@ -28,11 +20,12 @@ pub fn wrong_state(session: &Session) -> Refusal
     ensures value { result ≡ WrongState (state_of session.now) }
     ensures text { ReplyHasText (Refused result) }
 {
-    Refusal::WrongState(state(session))
+    Refusal::WrongState(session.state())
 }
 
 pub fn want_idle(session: &Session) -> Result<(), Refusal>
     ensures value { result ≡ needs_idle session.now }
+    ensures kind { IfErr result (λ refusal. IsTrue (refuses_writer refusal)) }
     ensures text { IfErr result (λ refusal. ReplyHasText (Refused refusal)) }
 {
     match session {
@@ -64,6 +57,7 @@ fn group_holder(sessions: &[Session], key: &SnapshotKey) -> Option<usize>
 pub fn want_free(sessions: &[Session], key: &SnapshotKey) -> Result<(), Refusal>
     requires { length sessions.now ≡ 64 }
     ensures text { IfErr result (λ refusal. ReplyHasText (Refused refusal)) }
+    ensures kind { IfErr result (λ refusal. IsTrue (refuses_writer refusal)) }
     ensures value { result ≡ if_none GroupBusy (position (writes (group_of_key key.now)) sessions.now) }
 {
     match group_holder(sessions, key) {

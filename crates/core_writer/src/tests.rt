@@ -8,7 +8,7 @@ use disk_trait::{Disk, MemoryDisk};
 use port_traits::SetClock;
 use std::alloc::Global;
 use std::test::Fail;
-use store_types::{Bytes, Refusal};
+use store_types::{Bytes, Refusal, SessionState};
 use wire_commands::Reply;
 
 const FIRST: &[u8] = b"host/a/2020-01-15T06:30:03Z";
@@ -108,6 +108,57 @@ fn snapshots_are_written(rt: HostRuntime) -> Result<(), Fail> {
             .disk
             .read(alloc, "host/a/2020-01-15T06:30:04Z/b.blob")?
             .is_none()
+    );
+    assert!(rt; is_base(&open_writer(&mut parts, alloc, 5, 1000, SECOND)?, FIRST));
+    Ok(())
+}
+
+fn stands(parts: &mut Parts<MemoryDisk>, alloc: Global, path: &str) -> Result<bool, Fail> {
+    Ok(parts.disk.read(alloc, path)?.is_some())
+}
+
+/// What an ABORT takes away, and what it leaves.
+#[test]
+fn writers_are_aborted(rt: HostRuntime) -> Result<(), Fail> {
+    let alloc = rt.alloc();
+    let clock = SetClock::new(Vec::new(alloc), 0);
+    let opened = open_on(alloc, MemoryDisk::new(alloc), None::<MemoryDisk>, clock);
+    let mut parts = opened.ok().ok_or("not opened")?.parts;
+
+    let none = abort(&mut parts, 3)?;
+    assert!(rt;
+        matches!(
+            none,
+            Reply::Refused(Refusal::WrongState(SessionState::Idle))
+        )
+    );
+    let _ = open_writer(&mut parts, alloc, 3, 1000, FIRST)?;
+    let _ = upload(&mut parts, alloc, 3, b"a.conf.blob", DIGITS)?;
+    let _ = upload(&mut parts, alloc, 3, b"index.json.blob", NOTHING)?;
+    assert!(rt; matches!(finish(&mut parts, alloc, 3, 4)?, Reply::Done));
+
+    assert!(rt; is_base(&open_writer(&mut parts, alloc, 4, 1000, SECOND)?, FIRST));
+    let _ = upload(&mut parts, alloc, 4, b"b.blob", NOTHING)?;
+    let _ = upload(&mut parts, alloc, 4, b"index.json.blob", NOTHING)?;
+    let path = "host/a/2020-01-15T06:30:04Z/b.blob";
+    assert!(rt; stands(&mut parts, alloc, path)?);
+    assert!(rt; matches!(abort(&mut parts, 4)?, Reply::Done));
+    assert!(rt; !stands(&mut parts, alloc, path)?);
+    assert!(rt; stands(&mut parts, alloc, "host/a/2020-01-15T06:30:03Z/a.conf.blob")?);
+    assert!(rt;
+        stands(
+            &mut parts,
+            alloc,
+            "host/a/2020-01-15T06:30:03Z/index.json.blob"
+        )?
+    );
+
+    let again = abort(&mut parts, 4)?;
+    assert!(rt;
+        matches!(
+            again,
+            Reply::Refused(Refusal::WrongState(SessionState::Idle))
+        )
     );
     assert!(rt; is_base(&open_writer(&mut parts, alloc, 5, 1000, SECOND)?, FIRST));
     Ok(())

@@ -14,7 +14,11 @@ ghost use Rattle.store_history.specs.History.{data_in};
 ghost use Rattle.store_model.specs.WriterSteps.{checked_blob};
 ghost use Rattle.core_state.specs.Holds.{Acts};
 ghost use Rattle.core_state.specs.Named.{is_named};
+ghost use Rattle.core_state.specs.Replies.{answers_blob, refuses_blob};
+ghost use Rattle.core_state.specs.Settles.{reply_by};
+ghost use Rattle.core_state.specs.Unchanged.{Unchanged};
 ghost use Rattle.core_writer.specs.Uploaded.{has_stored, upload_of as upload_from, insert_stored, with_upload, with_put};
+ghost use Rattle.core_writer.specs.Others.{OthersStay};
 
 use crate::sessions::wrong_state;
 use core_state::{Parts, Session, StoredFile, path_of};
@@ -38,6 +42,7 @@ fn upload_of(
 ) -> Result<Result<StoredFile, Refusal>, AllocError>
     requires { IsTrue (is_named session.now) }
     ensures text { IfOk result (λ upload. IfErr upload (λ refusal. ReplyHasText (Refused refusal))) }
+    ensures kind { IfOk result (λ upload. IfErr upload (λ refusal. IsTrue (refuses_blob refusal))) }
     ensures value { IfOk result (λ upload. upload ≡ upload_from session.now name.now) }
 {
     let Session::Writer(w) = session else {
@@ -153,6 +158,7 @@ fn bad_blob(cause: BadBlob) -> Reply
 fn refused(refusal: Refusal) -> Reply
     requires { IsChecked (Err refusal) }
     ensures value { result ≡ Refused refusal }
+    ensures kind { IsTrue (answers_blob result) }
     ensures text { ReplyHasText result }
 {
     match refusal {
@@ -178,6 +184,9 @@ pub fn blob<D: Disk>(
     ensures serves { Serves D.honest D.faults parts.old.disk parts.new.disk (IsErrOf result DiskError.Failed) }
     ensures calls { D.calls parts.old.disk ≤ D.calls parts.new.disk }
     ensures text { IfOk result ReplyHasText }
+    ensures answers { IfOk result (λ reply. IsTrue (answers_blob reply)) }
+    ensures unchanged { Unchanged D.honest D.content parts.old parts.new (reply_by result) }
+    ensures others { OthersStay D.honest D.content parts.old parts.new lane (Some (reply_by result)) }
     ensures act { Acts D.honest D.content parts.old parts.new (λ s. checked_blob s lane name.now (data_in checked)) result }
 {
     let lane = lane as usize;

@@ -6,7 +6,7 @@ use Rattle.store_files.specs.declared.causes.IndexFault.{IndexFault}
 use Rattle.store_files.specs.declared.causes.IndexFault.TheVariants.{Short, Magic, Length, Count, Sizes, Csum}
 use Rattle.store_files.specs.FixedIndex.{FixedIndex, fixed_of, fields_of, csum_of}
 use Rattle.store_files.specs.FixedIndex.{magic as magic_bytes}
-use Rattle.fixed_index.specs.Viewing.{first_fault, fault_of, HasForm}
+use Rattle.fixed_index.specs.Viewing.{first_fault, fault_of, IsIndex}
 
 abbrev pub outcome : FixedIndex → Option IndexFault → Result FixedIndex IndexFault
 outcome x None = Ok x
@@ -52,18 +52,15 @@ pub same_fault : {s s' m m' w w' n n' z z' u u' : Bool} → s ≡ s' → m ≡ m
     first_fault s' m' w' n' z' u' ≡ first_fault s m w n z u
 same_fault s m w n z u = sym (λ i. first_fault (s i) (m i) (w i) (n i) (z i) (u i))
 
--- what holds of an index's bytes
-pub record IsIndex (bytes : List ℕ) : Type 0 where
-  pub form : HasForm bytes
-  pub magic : take 8 bytes ≡ magic_bytes
-  pub csum : slice_range bytes 32 64 ≡ csum_of (fields_of bytes)
-
 pub is_index : (bytes : List ℕ) → fault_of bytes ≡ None → IsIndex bytes
 unfolding fault_of
 is_index bytes none =
     let all = passes _ _ _ _ _ _ none in
     record {
-      form = record { long = ltb-false _ _ all.long; whole = eqb-true _ _ all.entries; limit = ltb-false _ _ all.few; sizes = all.sizes };
+      long = ltb-false _ _ all.long;
+      whole = eqb-true _ _ all.entries;
+      limit = ltb-false _ _ all.few;
+      sizes = all.sizes;
       magic = (bytes_eq-Decides _ _).0 all.magic;
       csum = (bytes_eq-Decides _ _).0 all.csum;
     }

@@ -13,11 +13,11 @@ use Rattle.std.proofs.lemmas.Slice.Eq.{bytes_eq-Decides}
 use Rattle.sha2.proofs.Facts256.{length-sha256}
 use Rattle.store_files.specs.Cells.{first_cells, cells, entry_limit}
 use Rattle.store_files.specs.FixedIndex.{FixedIndex, FitsFixed, magic, has_sizes, csum_of, fields_of, fixed_text, fixed_of}
-use Rattle.fixed_index.specs.Viewing.{fault_of}
+use Rattle.fixed_index.specs.Viewing.{fault_of, IsIndex}
 use Rattle.fixed_index.specs.Writing.{reserved, IsBegun}
 use Rattle.fixed_index.proofs.Cutting.{chunk_size_bounds, all_there}
 use Rattle.fixed_index.proofs.Cells.{concat-first_cells}
-use Rattle.fixed_index.proofs.Faults.{outcome, same_fault, fixed_of-fault, IsIndex}
+use Rattle.fixed_index.proofs.Faults.{outcome, same_fault, fixed_of-fault}
 use Rattle.fixed_index.proofs.TextParts.{laid, HasLengths, HasLayout, laid_out, parts_joined, small_part, front, seam}
 
 abbrev AreDigests : List (List ℕ) → Type 0
@@ -103,7 +103,7 @@ eight_long text at long = length-take-le 8 (drop at text) (omega (arith, length-
 pub fixed_text-fields : (text : List ℕ) → ((i : ℕ) → get_or text i 0 < 256) → IsIndex text → text ≡ fixed_text (fields_of text)
 fixed_text-fields text small is =
     let x = fields_of text in
-    let long = is.form.long in
+    let long = is.long in
     let times = small_part text 24 32 small in
     let ctime : take 8 (drop 24 text) ≡ to_le_bytes w64 (cast_unsigned w64 x.ctime) =
     sym (le_bytes_8 (take 8 (drop 24 text)) (cast_unsigned w64 x.ctime) (eight_long text 24 (omega (arith, long))) times
@@ -114,7 +114,7 @@ fixed_text-fields text small is =
     sym (le_bytes_8 (take 8 (drop 72 text)) x.chunk_size (eight_long text 72 (omega (arith, long))) (small_part text 72 80 small) refl) in
     let rest = length-drop 4096 text in
     let digests : drop 4096 text ≡ concat x.digests =
-    sym (concat-first_cells 32 (length (drop 4096 text) / 32) (drop 4096 text) (omega (arith, rest, is.form.whole))) in
+    sym (concat-first_cells 32 (length (drop 4096 text) / 32) (drop 4096 text) (omega (arith, rest, is.whole))) in
     parts_joined text
     ∙ (λ i. laid (is.magic i) x.uuid (ctime i) (is.csum i) (size i) (chunk_size i) x.reserved (digests i))
     ∙ sym (text_is x)

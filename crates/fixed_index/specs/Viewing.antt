@@ -4,7 +4,8 @@ use Rattle.std.specs.Str.{bytes_eq}
 use Rattle.store_files.specs.declared.causes.IndexFault.{IndexFault}
 use Rattle.store_files.specs.declared.causes.IndexFault.TheVariants.{Short, Magic, Length, Count, Sizes, Csum}
 use Rattle.store_files.specs.Cells.{header_len, entry_limit}
-use Rattle.store_files.specs.FixedIndex.{FixedIndex, magic, fields_of, has_sizes, csum_of}
+use Rattle.store_files.specs.FixedIndex.{FixedIndex, fields_of, has_sizes, csum_of}
+use Rattle.store_files.specs.FixedIndex.{magic as magic_bytes}
 
 -- where a piece begins
 abbrev pub start_of : FixedIndex → ℕ → ℕ
@@ -24,13 +25,15 @@ first_fault short magical whole many sized summed =
 -- the first fault of bytes that are no index
 unfoldable pub fault_of : List ℕ → Option IndexFault
 fault_of bytes =
-    first_fault (nat_lt (length bytes) header_len) (bytes_eq (take 8 bytes) magic) ((length bytes - header_len) % 32 == 0)
+    first_fault (nat_lt (length bytes) header_len) (bytes_eq (take 8 bytes) magic_bytes) ((length bytes - header_len) % 32 == 0)
     (nat_lt entry_limit ((length bytes - header_len) / 32)) (has_sizes (fields_of bytes))
     (bytes_eq (slice_range bytes 32 64) (csum_of (fields_of bytes)))
 
--- bytes with the form of an index
-pub record HasForm (bytes : List ℕ) : Type 0 where
+-- bytes that are an index
+pub record IsIndex (bytes : List ℕ) : Type 0 where
   pub long : header_len ≤ length bytes
+  pub magic : take 8 bytes ≡ magic_bytes
   pub whole : (length bytes - header_len) % 32 ≡ 0
   pub limit : (length bytes - header_len) / 32 ≤ entry_limit
   pub sizes : IsTrue (has_sizes (fields_of bytes))
+  pub csum : slice_range bytes 32 64 ≡ csum_of (fields_of bytes)

@@ -45,6 +45,8 @@ fn a_short_last_piece(rt: HostRuntime) -> Result<(), Fail> {
     assert_eq!(rt; view.digest(1), Digest32([9; 32]));
     assert_eq!(rt; view.span(0), (0, 4096));
     assert_eq!(rt; view.span(1), (4096, 4097));
+    assert_eq!(rt; (view.size(), view.chunk_size()), (4097, 4096));
+    assert_eq!(rt; view.csum(), Digest32(CSUM));
     Ok(())
 }
 

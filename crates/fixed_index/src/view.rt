@@ -29,13 +29,13 @@ pub struct FixedView<'a> {
 
 impl<'a> Model for FixedView<'a> {
     ghost use Rattle.store_files.specs.FixedIndex.{FixedIndex, fields_of};
-    ghost use Rattle.fixed_index.specs.Viewing.{HasForm};
+    ghost use Rattle.fixed_index.specs.Viewing.{IsIndex};
 
     ghost Value = { FixedIndex };
 
     ghost view = { λ v. fields_of v.bytes.now };
 
-    ghost invariant = { λ v. HasForm v.bytes.now };
+    ghost invariant = { λ v. IsIndex v.bytes.now };
 }
 
 impl<'a> FixedView<'a> {
@@ -64,10 +64,7 @@ impl<'a> FixedView<'a> {
         requires { i < length self.now.digests }
         ensures { result.0 ≡ slice_index_or self.now.digests i [] }
     {
-        let start = HEADER_SIZE + 32 * i as usize;
-        let mut digest = [0; 32];
-        digest.copy_from_slice(&self.bytes[start..start + 32]);
-        Digest32(digest)
+        Digest32(digest_at(self.bytes, HEADER_SIZE + 32 * i as usize))
     }
 
     /// Where the piece at a place begins and ends in the archive.
@@ -76,10 +73,30 @@ impl<'a> FixedView<'a> {
         ensures start { result.0 ≡ start_of self.now i }
         ensures end { result.1 ≡ stop_of self.now i }
     {
-        let size = u64_at(self.bytes, 64);
         let chunk_size = u64_at(self.bytes, 72);
         let start = i as u64 * chunk_size;
-        (start, (start + chunk_size).min(size))
+        (start, (start + chunk_size).min(self.size()))
+    }
+
+    /// The archive's size in bytes.
+    pub fn size(&self) -> u64
+        ensures { result ≡ self.now.size }
+    {
+        u64_at(self.bytes, 64)
+    }
+
+    /// The bytes of each piece but the last.
+    pub fn chunk_size(&self) -> u64
+        ensures { result ≡ self.now.chunk_size }
+    {
+        u64_at(self.bytes, 72)
+    }
+
+    /// The SHA-256 of the digests one after another.
+    pub fn csum(&self) -> Digest32
+        ensures { result.0 ≡ csum_of self.now }
+    {
+        Digest32(digest_at(self.bytes, 32))
     }
 }
 
@@ -142,6 +159,15 @@ fn is_chunk_size(n: u64) -> bool
     ensures { result ≡ is_allowed n }
 {
     4096 <= n && n <= 16_777_216 && n & (n - 1) == 0
+}
+
+fn digest_at(bytes: &[u8], at: usize) -> [u8; 32]
+    requires { at + 32 ≤ length bytes.now }
+    ensures { result ≡ slice_range bytes.now at (at + 32) }
+{
+    let mut digest = [0; 32];
+    digest.copy_from_slice(&bytes[at..at + 32]);
+    digest
 }
 
 fn u64_at(bytes: &[u8], at: usize) -> u64

@@ -1,5 +1,5 @@
 -- What the answer of an act tells.
-use Rattle.std.proofs.Common.{◌≡◌, ℕ, zero, suc, Bool, List, [], ◌∷◌, ◌++◌, Option, Some, None, IsSome, refl, sym, ap, subst}
+use Rattle.std.proofs.Common.{◌≡◌, ℕ, zero, suc, false, List, [], ◌∷◌, ◌++◌, Option, Some, None, IsSome, refl, sym, ap, subst}
 use Rattle.store_files.specs.Archive.{Snapshot}
 use Rattle.wire_commands.specs.declared.command.Command.{Command}
 use Rattle.wire_commands.specs.declared.command.Command.TheVariants as commands
@@ -12,10 +12,12 @@ use Rattle.store_history.specs.Acts.{act_of_command, wanting, ending, class_of}
 use Rattle.store_history.specs.History.{World, moved, after, after_all, lane, moment, kind, reply, EntryKind, kind_of, step_kind, short_kind, fault_kind, end_kind, no_kind}
 use Rattle.store_model.specs.Weave.{first_fault}
 use Rattle.store_history.specs.Legal.{Right, IsRight, IsLegal}
-use Rattle.core_state.specs.declared.journal.Journal.{Journal}
-use Rattle.core_state.specs.Entering.{KeepsReserve}
-use Rattle.core_state.specs.Answers.{IsTold, Keeps}
-use Rattle.lane.specs.Acting.{IsNoEnd}
+use Rattle.store_model.specs.declared.ending.Ending.{Ending}
+use Rattle.core_state.specs.declared.state.Core.{Core}
+use Rattle.core_state.specs.Answers.{IsTold}
+use Rattle.core_state.specs.Closing.{is_closing}
+use Rattle.core_state.specs.Reserved.{Keeps, KeepsReserve}
+use Rattle.lane.specs.Acting.{IsNoEnd, LeavesReserve}
 
 -- ---- acts other than a lane's end
 
@@ -29,11 +31,20 @@ is_told (acts.Blob name checked) x h told = told
 is_told acts.Short x h told = told
 is_told acts.End x h told = absurd h
 
-pub keeps : (a : Act) (old new : Journal) (k : ℕ) (last : Bool) → IsNoEnd a → Keeps a old new k last → KeepsReserve old new k last
-keeps (acts.Plain c) old new k last h kept = kept
-keeps (acts.Blob name checked) old new k last h kept = kept
-keeps acts.Short old new k last h kept = kept
-keeps acts.End old new k last h kept = absurd h
+pub keeps : {D E C : Type 0} (a : Act) (old new : Core D E C) (k : ℕ) (x : Answer) → IsNoEnd a → Keeps a old new k x → KeepsReserve old new k (is_closing old k a) x
+keeps (acts.Plain c) old new k x h kept = kept
+keeps (acts.Blob name checked) old new k x h kept = kept
+keeps acts.Short old new k x h kept = kept
+keeps acts.End old new k x h kept = absurd h
+
+pub leaves_ended : {D E C : Type 0} (a : Act) (old new : Core D E C) (k : ℕ) (x : Answer) (e : Ending) → IsNoEnd a → Keeps a old new k x → LeavesReserve old new k (Some e)
+leaves_ended a old new k x e h kept = record { left = (keeps a old new k x h kept).left; kept = λ none. absurd (some_none none) }
+  where
+    some_none : Some e ≡ None → ⊥
+    some_none is = cc
+
+pub leaves_going : {D E C : Type 0} (a : Act) (old new : Core D E C) (k : ℕ) (x : Answer) → IsNoEnd a → Keeps a old new k x → x.last ≡ false → LeavesReserve old new k None
+leaves_going a old new k x h kept going = let r = keeps a old new k x h kept in record { left = r.left; kept = λ _. r.kept going }
 
 pub none_some : (o : Option Reply) → o ≡ None → IsSome o → ⊥
 none_some None is some = cc

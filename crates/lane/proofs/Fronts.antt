@@ -81,8 +81,10 @@ command_ahead t body rest c is some = by_command c (next_is t (whole body rest) 
     by_command (commands.OpenWriter snapshot) next = other (commands.OpenWriter snapshot) next (λ h. cc)
     by_command (commands.Blob file blob) next = other (commands.Blob file blob) next (λ h. cc)
     by_command commands.Finish next = other commands.Finish next (λ h. cc)
+    by_command commands.Abort next = other commands.Abort next (λ h. cc)
     by_command (commands.OpenReader snapshot) next = other (commands.OpenReader snapshot) next (λ h. cc)
     by_command (commands.Download file offset) next = other (commands.Download file offset) next (λ h. cc)
+    by_command commands.CloseReader next = other commands.CloseReader next (λ h. cc)
 
 -- ---- where memory may be wanting
 

@@ -1,5 +1,5 @@
 -- What one act of a lane does, with its reply.
-use Rattle.std.specs.Prelude.{ℕ, ◌≡◌, ◌≤◌, ◌+◌, Bool, true, false, List, Option, Some, None}
+use Rattle.std.specs.Prelude.{ℕ, ◌≡◌, Bool, true, false, List, Option, Some, None}
 use Rattle.port_traits.specs.Bytes.{WritesCounted}
 use Rattle.wire_frames.specs.Frames.{frame}
 use Rattle.wire_commands.specs.declared.reply.Reply.{Reply}
@@ -11,8 +11,8 @@ use Rattle.store_history.specs.declared.act.Act.TheVariants as acts
 use Rattle.store_history.specs.declared.act.Answer.{Answer}
 use Rattle.store_history.specs.declared.act.Event.{Event}
 use Rattle.store_history.specs.History.{reply, lane}
-use Rattle.core_state.specs.declared.journal.Journal.{Journal}
-use Rattle.core_state.specs.Entering.{held_by}
+use Rattle.core_state.specs.declared.state.Core.{Core}
+use Rattle.core_state.specs.Reserved.{CanEnd, Reserved}
 use Rattle.core_state.specs.History.{History, then_event}
 
 abbrev pub IsNoEnd : Act → Type 0
@@ -47,9 +47,9 @@ pub record Answers (before after : History → Type 0) (k : ℕ) (act : Act) (ta
   pub ended : IsEndedBy event.answer ending
 
 -- what the lane's reserve of entries is then
-pub record LeavesReserve (old new : Journal) (k : ℕ) (ending : Option Ending) : Type 0 where
-  pub one : held_by old k ≤ held_by new k + 1
-  pub whole : ending ≡ None → 3 ≤ held_by old k → 3 ≤ held_by new k
+pub record LeavesReserve {D E C : Type 0} (old new : Core D E C) (k : ℕ) (ending : Option Ending) : Type 0 where
+  pub left : Reserved old k → CanEnd new k
+  pub kept : ending ≡ None → Reserved old k → Reserved new k
 
 -- want of memory ends the lane, where the sink took its reply
 abbrev pub short_ending : Option Ending → Ending

@@ -1,7 +1,7 @@
 -- What a lane's loop keeps.
 use Rattle.std.specs.Prelude.{ℕ, ◌≡◌, ◌≤◌, List, [], Option}
-use Rattle.core_state.specs.declared.journal.Journal.{Journal}
-use Rattle.core_state.specs.Entering.{held_by}
+use Rattle.core_state.specs.declared.state.Core.{Core}
+use Rattle.core_state.specs.Reserved.{Reserved}
 use Rattle.core_state.specs.History.{History}
 use Rattle.lane.specs.declared.input.Input.{Input}
 use Rattle.lane.specs.Progress.{HasServed}
@@ -11,9 +11,9 @@ abbrev pub HasBegun : (History → Type 0) → (History → Type 0) → ℕ → 
 HasBegun before now k left left' taken taken' input given =
     (h : History) → before h → h.events ≡ [] → HasServed now (record { history = h; left = left; taken = taken }) k left' taken' input.cutter input.taken given
 
--- The lane's reserve of entries is whole, no port's count of faults has fallen, and the remote is as it was.
-pub record Keeps {E : Type 0} (j : Journal) (k source source' sink sink' : ℕ) (remote remote' : Option E) : Type 0 where
-  pub whole : 3 ≤ held_by j k
+-- The lane has what it must have in reserve, no port's count of faults has fallen, and the remote is as it was.
+pub record Keeps {D E C : Type 0} (core : Core D E C) (k source source' sink sink' : ℕ) (remote remote' : Option E) : Type 0 where
+  pub reserved : Reserved core k
   pub source_later : source ≤ source'
   pub sink_later : sink ≤ sink'
   pub same : remote' ≡ remote

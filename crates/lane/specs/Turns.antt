@@ -1,11 +1,11 @@
 -- What a turn of a lane's loop does.
-use Rattle.std.specs.Prelude.{ℕ, ◌≡◌, ◌≤◌, List, Option, Some, None}
+use Rattle.std.specs.Prelude.{ℕ, ◌≡◌, List, Option, Some, None}
 use Rattle.store_types.specs.declared.refusal.Refusal.TheVariants.{BadFrame}
 use Rattle.wire_commands.specs.declared.reply.Reply.TheVariants.{Refused}
 use Rattle.store_model.specs.declared.ending.Ending.{Ending}
 use Rattle.store_model.specs.declared.ending.Ending.TheVariants as endings
-use Rattle.core_state.specs.declared.journal.Journal.{Journal}
-use Rattle.core_state.specs.Entering.{held_by}
+use Rattle.core_state.specs.declared.state.Core.{Core}
+use Rattle.core_state.specs.Reserved.{CanEnd, Reserved}
 use Rattle.core_state.specs.History.{History}
 use Rattle.lane.specs.declared.ending.Last.{Last}
 use Rattle.lane.specs.declared.input.Input.{Input}
@@ -25,10 +25,10 @@ abbrev pub GoesOn : (History → Type 0) → (History → Type 0) → ℕ → Op
 GoesOn before after k left left' taken taken' old new given given' outcome =
     (start : Start) → HasServed before start k left taken old.cutter old.taken given → HasDone after start k left' taken' new given' outcome
 
--- the lane's reserve is whole while it goes on; then one entry of it may have been used
-abbrev pub LeavesHeld : Journal → ℕ → Option Last → Type 0
-LeavesHeld j k None = 3 ≤ held_by j k
-LeavesHeld j k (Some last) = 2 ≤ held_by j k
+-- the lane has what it must have in reserve while it goes on, and then what its end must have
+abbrev pub LeavesHeld : {D E C : Type 0} → Core D E C → ℕ → Option Last → Type 0
+LeavesHeld core k None = Reserved core k
+LeavesHeld core k (Some last) = CanEnd core k
 
 -- The end of an input: between two frames it is clean, else the last frame is cut.
 pub data HasEnded (input : Input) (last : Last) : Type 0 where

@@ -1,9 +1,9 @@
 //! How a lane ends.
 
-ghost use Rattle.std.specs.Prelude.{◌≡◌, ◌≤◌, ◌<◌, ℕ, List, Option, Some, IfSome};
+ghost use Rattle.std.specs.Prelude.{◌≡◌, ◌<◌, ℕ, List, Option, Some, IfSome};
 ghost use Rattle.wire_commands.specs.HasText.{ReplyHasText};
-ghost use Rattle.core_state.specs.Entering.{held_by};
 ghost use Rattle.core_state.specs.History.{StandsFor};
+ghost use Rattle.core_state.specs.Reserved.{CanEnd};
 ghost use Rattle.lane.specs.Causes.{HasCauses};
 ghost use Rattle.lane.specs.Closing.{EndsLane, Closes};
 ghost use Rattle.lane.specs.Entries.{HasEntered};
@@ -27,7 +27,7 @@ pub struct Last {
 /// Ends the lane's session. An end that met a fault of the disk comes again.
 fn end<D: Disk, E, C: Clock>(core: &mut Core<D, E, C>, alloc: Global, lane: u32)
     requires lane { lane < 64 }
-    requires room { 2 ≤ held_by core.old.journal lane }
+    requires room { CanEnd core.old lane }
     ensures ends { EndsLane (StandsFor D.honest D.content D.calls C.readings core.old) (StandsFor D.honest D.content D.calls C.readings core.new) lane }
     ensures remote { core.new.remote ≡ core.old.remote }
     ensures entered { HasEntered D.faults core.old core.new lane ⊥ }
@@ -48,7 +48,7 @@ pub fn close<D: Disk, E, C: Clock, K: Sink>(
     last: Last,
 ) -> Ending
     requires lane { lane < 64 }
-    requires room { 2 ≤ held_by core.old.journal lane }
+    requires room { CanEnd core.old lane }
     requires text { IfSome last.words ReplyHasText }
     ensures closes { Closes (StandsFor D.honest D.content D.calls C.readings core.old) (StandsFor D.honest D.content D.calls C.readings core.new) lane (K.taken sink.old) (K.taken sink.new) given.old given.new last result }
     ensures remote { core.new.remote ≡ core.old.remote }

@@ -5,6 +5,7 @@ ghost use Rattle.wire_commands.specs.HasText.{ReplyHasText};
 ghost use Rattle.store_history.specs.Acts.{IsWellFormed};
 ghost use Rattle.core_state.specs.Entering.{held_by};
 ghost use Rattle.core_state.specs.History.{History, StandsFor};
+ghost use Rattle.core_state.specs.Reserved.{CanEnd, Reserved};
 ghost use Rattle.lane.specs.Acting.{IsNoEnd, Answers, AnswersShort, LeavesReserve};
 ghost use Rattle.lane.specs.Causes.{HasCauses};
 ghost use Rattle.lane.specs.Entries.{HasEntered};
@@ -80,12 +81,12 @@ fn turn<D: Disk, E, C: Clock, S: Source, K: Sink, G: Gate>(
     progress: &mut Progress,
 ) -> Option<Last>
     requires lane { lane < 64 }
-    requires room { 3 ≤ held_by core.old.journal lane }
+    requires room { Reserved core.old lane }
     ensures goes { GoesOn (StandsFor D.honest D.content D.calls C.readings core.old) (StandsFor D.honest D.content D.calls C.readings core.new) lane
         (S.left port.old.source) (S.left port.new.source) (K.taken port.old.sink) (K.taken port.new.sink)
         progress.old.input progress.new.input progress.old.given progress.new.given result }
     ensures text { IfSome result (λ last. IfSome last.words ReplyHasText) }
-    ensures room { LeavesHeld core.new.journal lane result }
+    ensures room { LeavesHeld core.new lane result }
     ensures causes { HasCauses (S.faults port.old.source) (S.faults port.new.source) (K.faults port.old.sink) (K.faults port.new.sink) progress.new.input.taken (ending_of result) }
     ensures further { IfNone result (progress.old.input.taken + progress.old.input.front < progress.new.input.taken + progress.new.input.front) }
     ensures remote { core.new.remote ≡ core.old.remote }
@@ -146,13 +147,13 @@ fn more<D: Disk, E, C: Clock, S: Source, K: Sink>(
     progress: &mut Progress,
 ) -> Option<Last>
     requires lane { lane < 64 }
-    requires room { 3 ≤ held_by core.old.journal lane }
+    requires room { Reserved core.old lane }
     requires part { cut progress.old.input.cutter.bytes ≡ short }
     ensures goes { GoesOn (StandsFor D.honest D.content D.calls C.readings core.old) (StandsFor D.honest D.content D.calls C.readings core.new) lane
         (S.left port.old.source) (S.left port.new.source) (K.taken port.old.sink) (K.taken port.new.sink)
         progress.old.input progress.new.input progress.old.given progress.new.given result }
     ensures text { IfSome result (λ last. IfSome last.words ReplyHasText) }
-    ensures room { LeavesHeld core.new.journal lane result }
+    ensures room { LeavesHeld core.new lane result }
     ensures causes { HasCauses (S.faults port.old.source) (S.faults port.new.source) (K.faults port.old.sink) (K.faults port.new.sink) progress.new.input.taken (ending_of result) }
     ensures further { IfNone result (progress.old.input.taken + progress.old.input.front < progress.new.input.taken + progress.new.input.front) }
     ensures remote { core.new.remote ≡ core.old.remote }
@@ -181,13 +182,13 @@ fn serve<D: Disk, E, C: Clock, S: Source, K: Sink, G: Gate>(
     command: Command,
 ) -> Option<Last>
     requires lane { lane < 64 }
-    requires room { 3 ≤ held_by core.old.journal lane }
+    requires room { Reserved core.old lane }
     requires ahead { IsCommandAhead progress.old.input.cutter command }
     ensures goes { GoesOn (StandsFor D.honest D.content D.calls C.readings core.old) (StandsFor D.honest D.content D.calls C.readings core.new) lane
         (S.left port.old.source) (S.left port.new.source) (K.taken port.old.sink) (K.taken port.new.sink)
         progress.old.input progress.new.input progress.old.given progress.new.given result }
     ensures text { IfSome result (λ last. IfSome last.words ReplyHasText) }
-    ensures room { LeavesHeld core.new.journal lane result }
+    ensures room { LeavesHeld core.new lane result }
     ensures causes { HasCauses (S.faults port.old.source) (S.faults port.new.source) (K.faults port.old.sink) (K.faults port.new.sink) progress.new.input.taken (ending_of result) }
     ensures further { IfNone result (progress.old.input.taken + progress.old.input.front < progress.new.input.taken + progress.new.input.front) }
     ensures remote { core.new.remote ≡ core.old.remote }
@@ -211,9 +212,9 @@ fn short<D: Disk, E, C: Clock, K: Sink>(
     given: &mut u64,
 ) -> Ending
     requires lane { lane < 64 }
-    requires room { 3 ≤ held_by core.old.journal lane }
+    requires room { Reserved core.old lane }
     ensures answers { AnswersShort (StandsFor D.honest D.content D.calls C.readings core.old) (StandsFor D.honest D.content D.calls C.readings core.new) lane (K.taken sink.old) (K.taken sink.new) given.old given.new result }
-    ensures room { 2 ≤ held_by core.new.journal lane }
+    ensures room { CanEnd core.new lane }
     ensures causes { (source size : ℕ) → HasCauses source source (K.faults sink.old) (K.faults sink.new) size (Some result) }
     ensures remote { core.new.remote ≡ core.old.remote }
     ensures entered { HasEntered D.faults core.old core.new lane (result ≡ Ending.NoMemory) }
@@ -231,11 +232,11 @@ fn do_act<D: Disk, E, C: Clock, K: Sink>(
     act: Act,
 ) -> Option<Ending>
     requires lane { lane < 64 }
-    requires room { 3 ≤ held_by core.old.journal lane }
+    requires room { Reserved core.old lane }
     requires formed { IsWellFormed act }
     requires no_end { IsNoEnd act }
     ensures answers { Answers (StandsFor D.honest D.content D.calls C.readings core.old) (StandsFor D.honest D.content D.calls C.readings core.new) lane act (K.taken sink.old) (K.taken sink.new) given.old given.new result }
-    ensures room { LeavesReserve core.old.journal core.new.journal lane result }
+    ensures room { LeavesReserve core.old core.new lane result }
     ensures causes { (source size : ℕ) → HasCauses source source (K.faults sink.old) (K.faults sink.new) size result }
     ensures remote { core.new.remote ≡ core.old.remote }
     ensures entered { HasEntered D.faults core.old core.new lane ((act ≡ Act.Short) ⊎ (result ≡ Some Ending.NoMemory)) }

@@ -5,3 +5,5 @@ pub mod Files
 pub mod Texts
 pub mod Ordered
 pub mod Uploads
+pub mod Keys
+pub mod Snapshots

@@ -2,6 +2,7 @@
 
 ghost use Rattle.std.specs.Prelude.{◌≡◌, List, ℕ, [], ◌∷◌, Ok, Err, IfOk, MatchResult, map};
 ghost use Rattle.serde_json.specs.View.{view, items_view};
+ghost use Rattle.store_types.specs.Names.{IsKey};
 ghost use Rattle.store_files.specs.Manifest.{files_in as files_of, manifest_of};
 ghost use Rattle.manifest.specs.Views.{fact_view, manifest_view};
 ghost use Rattle.manifest.specs.Reading.{HasNames, entry_in as entry_of, manifest_in as manifest_from};
@@ -96,9 +97,10 @@ fn manifest_in(alloc: Global, json: &Value) -> Result<Result<Manifest, BadManife
 /// of a file is the text `none`, or absent. Other keys are accepted and not looked at; of two equal keys the last
 /// counts; a number with a fraction, an exponent or a sign is no whole number.
 pub fn read(alloc: Global, bytes: &[u8]) -> Result<Result<Manifest, BadManifest>, AllocError>
-    ensures { IfOk result (λ read. MatchResult read
+    ensures exact { IfOk result (λ read. MatchResult read
         (λ manifest. manifest_of bytes.now ≡ Ok (manifest_view manifest))
         (λ e. manifest_of bytes.now ≡ Err e.cause)) }
+    ensures key { IfOk result (λ read. IfOk read (λ manifest. IsKey manifest.key)) }
 {
     match Value::from_slice(alloc, bytes) {
         Ok(json) => manifest_in(alloc, &json),

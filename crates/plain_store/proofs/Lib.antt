@@ -1,6 +1,3 @@
-pub mod Places
-pub mod Order
-pub mod Entries
 pub mod Spelled
 pub mod Stopping
 pub mod WriterLemmas

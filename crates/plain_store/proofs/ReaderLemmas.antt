@@ -12,9 +12,9 @@ use Rattle.store_types.specs.Names.{key_of}
 use Rattle.store_files.specs.Archive.{File, Snapshot, file_text, file_named}
 use Rattle.wire_commands.specs.declared.reply.Reply.{Reply}
 use Rattle.wire_commands.specs.declared.reply.Reply.TheVariants.{Done, Part}
-use Rattle.store_model.specs.Store.{Store, Reader, reader, session, with_session, want_reader, want_idle, snapshot_named}
+use Rattle.store_model.specs.Store.{Store, Reader, reader, session, with_session, want_reader, want_idle, snapshot_named, ended}
 use Rattle.store_model.specs.WriterSteps.{part_of}
-use Rattle.store_model.specs.ReaderSteps.{open_reader, reader_files, note, download}
+use Rattle.store_model.specs.ReaderSteps.{open_reader, reader_files, note, download, close_reader}
 use Rattle.plain_store.specs.Readers.{part_from}
 
 -- the files of the reader's snapshot
@@ -105,3 +105,14 @@ pub part_short : (text bytes : List ℕ) (offset n : ℕ) → n ≡ min (length 
     → bytes ≡ take n (take (length text - offset) (drop offset text)) → length bytes ≤ 4_194_304
 part_short text bytes offset n e is =
     omega (arith, ap length (is ∙ taken text offset n e), length-take 4_194_304 (drop offset text))
+
+-- ---- CLOSE_READER
+
+module _ (s : Store) (lane : ℕ) where
+  pub close_not_reader : (r : Refusal) → want_reader (session s lane) ≡ Err r → close_reader s lane ≡ Err r
+  unfolding close_reader
+  close_not_reader r e = rw e refl
+
+  pub close_goes : (x : Reader) (after : Store) → want_reader (session s lane) ≡ Ok x → after ≡ ended s lane → close_reader s lane ≡ Ok (after, Done)
+  unfolding close_reader
+  close_goes x after e is = rw (e, is) refl

@@ -11,9 +11,9 @@ use Rattle.store_types.specs.Names.{key_of, group_of_key}
 use Rattle.store_files.specs.Archive.{File, Snapshot, blob, file_named}
 use Rattle.wire_commands.specs.declared.reply.Reply.{Reply}
 use Rattle.wire_commands.specs.declared.reply.Reply.TheVariants.{Done, Base}
-use Rattle.store_model.specs.Store.{Store, Session, Writer, none, writer, reader, session, with_session, want_writer, want_idle, group_holder, in_group, latest_in, insert_snapshot, insert_file}
+use Rattle.store_model.specs.Store.{Store, Session, Writer, none, writer, reader, session, with_session, want_writer, want_idle, group_holder, in_group, latest_in, insert_snapshot, insert_file, ended}
 use Rattle.store_model.specs.Uploads.{want_room}
-use Rattle.store_model.specs.WriterSteps.{open_writer, new_writer, base_text, want_newer, want_data, checked_blob, put_blob, goes_on, finish, snapshot_of}
+use Rattle.store_model.specs.WriterSteps.{open_writer, new_writer, base_text, want_newer, want_data, checked_blob, put_blob, goes_on, finish, snapshot_of, abort}
 use Rattle.plain_store.specs.Writers.{base_of, upload_of}
 
 -- ---- tests in a row
@@ -166,3 +166,14 @@ is_there (Some x) h = (x, refl)
 pub is_absent : {A : Type 0} (o : Option A) → is_some o ≡ false → o ≡ None
 is_absent None h = refl
 is_absent (Some x) h = cc
+
+-- ---- ABORT
+
+module _ (s : Store) (lane : ℕ) where
+  pub abort_not_writer : (r : Refusal) → want_writer (session s lane) ≡ Err r → abort s lane ≡ Err r
+  unfolding abort
+  abort_not_writer r e = rw e refl
+
+  pub abort_goes : (w : Writer) (after : Store) → want_writer (session s lane) ≡ Ok w → after ≡ ended s lane → abort s lane ≡ Ok (after, Done)
+  unfolding abort
+  abort_goes w after e is = rw (e, is) refl

@@ -1,5 +1,3 @@
-pub mod Shown
-pub mod Contents
 pub mod Sessions
 pub mod Outcomes
 pub mod Writers

@@ -1,19 +1,15 @@
 //! The plain store as running code: each call does what the definitions of the plain store say, by
-//! their words and in their order. It is slow, and shares no code with the store that it is
-//! compared with.
+//! their words and in their order. It is slow, and uses nothing of the core that it is compared
+//! with: they share the formats, names, frames and commands, and the definitions.
 #![tactic(auto)]
 
-mod archive;
-mod blob;
-mod file;
-mod key;
 mod lane;
+mod loading;
 mod next;
 mod plain;
 mod reader_steps;
 mod run;
 mod session;
-mod snapshot;
 mod stop;
 mod weave;
 mod writer_steps;

@@ -3,15 +3,15 @@
 ghost use Rattle.std.specs.Prelude.{◌≡◌, ◌<◌, ◌≤◌, IfOk, OnErr};
 ghost use Rattle.store_types.specs.Times.{last_moment};
 ghost use Rattle.wire_commands.specs.HasText.{ReplyHasText};
-ghost use Rattle.store_model.specs.Store.{session as session_at, with_session};
-ghost use Rattle.store_model.specs.Steps.{step as stepped, ended};
+ghost use Rattle.store_model.specs.Store.{session as session_at, with_session, ended};
+ghost use Rattle.store_model.specs.Steps.{step as stepped};
 ghost use Rattle.store_model.specs.Steps.{outcome as outcome_of};
 ghost use Rattle.plain_store.specs.Sessions.{shown_held};
 ghost use Rattle.plain_store.specs.Outcomes.{Does, IsSpelled};
 
 use crate::session::{Held, Session};
-use crate::snapshot::Snapshot;
 use crate::stop::Stop;
+use plain_snapshots::Snapshot;
 use std::alloc::{AllocError, Global};
 use std::marker::Model;
 use wire_commands::{Command, Reply};
@@ -105,10 +105,12 @@ impl Plain {
                 self.put_blob(alloc, lane, file.as_slice(), blob.as_slice())
             }
             Command::Finish => self.finish(lane),
+            Command::Abort => self.abort(lane),
             Command::OpenReader { snapshot } => self.open_reader(alloc, lane, snapshot.as_slice()),
             Command::Download { file, offset } => {
                 self.download(alloc, lane, file.as_slice(), *offset)
             }
+            Command::CloseReader => self.close_reader(lane),
             Command::Bye => {
                 self.end(lane);
                 Ok(Reply::Done)

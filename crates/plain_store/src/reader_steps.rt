@@ -1,18 +1,16 @@
 //! The commands of a reader.
 
 ghost use Rattle.std.specs.Prelude.{◌≡◌, ◌<◌, IfOk};
-ghost use Rattle.store_model.specs.ReaderSteps.{reader_files, is_noted as has_noted, note as noted, open_reader as opened, download as downloaded};
-ghost use Rattle.plain_store.specs.Contents.{shown_content};
+ghost use Rattle.store_model.specs.ReaderSteps.{reader_files, is_noted as has_noted, note as noted, open_reader as opened, download as downloaded, close_reader as closed};
+ghost use Rattle.plain_snapshots.specs.Contents.{shown_content};
 ghost use Rattle.plain_store.specs.Sessions.{shown_reader};
 ghost use Rattle.plain_store.specs.Outcomes.{Does, Gives, IsSpelled};
 ghost use Rattle.plain_store.specs.Readers.{part_from};
 
-use crate::file::{Content, File, file_named};
-use crate::key::PlainKey;
 use crate::plain::Plain;
 use crate::session::{Held, Reader};
-use crate::snapshot::snapshot_named;
 use crate::stop::Stop;
+use plain_snapshots::{Content, File, PlainKey, file_named, snapshot_named};
 use std::alloc::{AllocError, Global};
 use store_types::{Bytes, FileName, Refusal};
 use wire_commands::Reply;
@@ -112,5 +110,16 @@ impl Plain {
         let after = note(r, name, &file.content)?;
         self.set_held(lane, Held::Reading(after));
         Ok(part)
+    }
+
+    /// CLOSE_READER: the reader ends.
+    pub(crate) fn close_reader(&mut self, lane: u32) -> Result<Reply, Stop>
+        requires { lane < 64 }
+        ensures does { Does self.old self.new result (closed self.old lane) }
+        ensures spelled { IsSpelled result }
+    {
+        self.held(lane).want_reader()?;
+        self.end(lane);
+        Ok(Reply::Done)
     }
 }

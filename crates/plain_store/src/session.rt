@@ -7,8 +7,7 @@ ghost use Rattle.store_model.specs.Store.{writes_group as has_group};
 ghost use Rattle.store_types.specs.declared.refusal.Refusal.TheVariants.{GroupBusy};
 ghost use Rattle.wire_commands.specs.HasText.{FitsRefusal};
 
-use crate::file::File;
-use crate::key::PlainKey;
+use plain_snapshots::{File, PlainKey};
 use std::marker::Model;
 use store_types::{FileName, Refusal, SessionState, SnapshotKey};
 

@@ -1,10 +1,14 @@
+ghost use Rattle.std.specs.Prelude.{◌<◌};
+
 use super::*;
+use disk_trait::{Disk, MemoryDisk};
+use port_traits::MemSink;
 use std::alloc::{AllocError, Global};
 use std::process::Abort;
 use std::test::Fail;
 use store_model::Ending;
-use store_types::{Bytes, Entry, Refusal};
-use wire_commands::{Command, Reply};
+use store_types::{Bytes, Entry};
+use wire_commands::Command;
 
 const SNAPSHOT: &[u8] = b"host/a/2020-01-15T06:30:03Z";
 
@@ -18,71 +22,119 @@ fn text(alloc: Global, bytes: &[u8]) -> Result<Bytes, AllocError> {
     Bytes::from_slice(alloc, bytes)
 }
 
-fn is_base(reply: &Reply, text: &[u8]) -> bool {
-    matches!(reply, Reply::Base { snapshot } if snapshot.as_slice() == text)
+/// A command, as a table has it.
+#[derive(Clone, Copy)]
+enum Step {
+    OpenWriter,
+    Manifest,
+    Finish,
+    OpenReader,
+    Download(u64),
+    Abort,
+    CloseReader,
+    Bye,
 }
 
-fn is_part(reply: &Reply, size: u64, part: &[u8]) -> bool {
-    matches!(reply, Reply::Part { total, bytes } if *total == size && bytes.as_slice() == part)
+/// A snapshot is written and read: the lane, the command, and the frame of its reply.
+const STEPS: [(u32, Step, &[u8]); 18] = [
+    (4, Step::Abort, b"\x02\0\0\0\x03\0"),
+    (4, Step::OpenWriter, b"\x02\0\0\0\0\0"),
+    (4, Step::CloseReader, b"\x02\0\0\0\x03\x01"),
+    (4, Step::Abort, b"\x01\0\0\0\0"),
+    (3, Step::OpenWriter, b"\x02\0\0\0\0\0"),
+    (4, Step::OpenWriter, b"\x05\0\0\0\x05\x03\0\0\0"),
+    (3, Step::Finish, b"\x01\0\0\0\x09"),
+    (3, Step::Manifest, b"\x01\0\0\0\0"),
+    (3, Step::Manifest, b"\x01\0\0\0\x0a"),
+    (3, Step::Finish, b"\x01\0\0\0\0"),
+    (
+        3,
+        Step::OpenWriter,
+        b"\x09\0\0\0\x07\x6b\xb1\x1e\x5e\0\0\0\0",
+    ),
+    (63, Step::OpenReader, b"\x01\0\0\0\0"),
+    (
+        63,
+        Step::Download(0),
+        b"\x5f\0\0\0\0\x56\0\0\0\0\0\0\0\x42\xab\x38\x07\xbe\x83\x70\xa1\xb2\x94\x08\x45{\"backup-id\":\"a\",\"backup-time\":1579069803,\"backup-type\":\"host\",\"files\":[]}",
+    ),
+    (63, Step::Download(87), b"\x09\0\0\0\x16\x56\0\0\0\0\0\0\0"),
+    (63, Step::Abort, b"\x02\0\0\0\x03\x02"),
+    (63, Step::CloseReader, b"\x01\0\0\0\0"),
+    (63, Step::Download(0), b"\x02\0\0\0\x03\0"),
+    (63, Step::Bye, b"\x01\0\0\0\0"),
+];
+
+fn command_of(alloc: Global, step: Step) -> Result<Command, AllocError> {
+    Ok(match step {
+        Step::OpenWriter => Command::OpenWriter {
+            snapshot: text(alloc, SNAPSHOT)?,
+        },
+        Step::Manifest => Command::Blob {
+            file: text(alloc, MANIFEST)?,
+            blob: text(alloc, BLOB)?,
+        },
+        Step::Finish => Command::Finish,
+        Step::OpenReader => Command::OpenReader {
+            snapshot: text(alloc, SNAPSHOT)?,
+        },
+        Step::Download(offset) => Command::Download {
+            file: text(alloc, MANIFEST)?,
+            offset,
+        },
+        Step::Abort => Command::Abort,
+        Step::CloseReader => Command::CloseReader,
+        Step::Bye => Command::Bye,
+    })
 }
 
-/// A snapshot is written and read, and each refusal leaves the store as it was.
+/// Does a step, and compares its reply.
+fn try_step(
+    rt: &impl Abort,
+    alloc: Global,
+    store: &mut Plain,
+    lane: u32,
+    step: Step,
+    expected: &[u8],
+) -> Result<(), Fail>
+    requires { lane < 64 }
+{
+    let command = command_of(alloc, step)?;
+    let mut sink = MemSink::new(alloc, Vec::new(alloc));
+    assert!(rt;
+        store
+            .step(alloc, lane, 1000, &command)?
+            .put(&mut sink)
+            .is_ok()
+    );
+    assert_eq!(rt; sink.as_bytes(), expected);
+    Ok(())
+}
+
 #[test]
 fn one_session(rt: HostRuntime) -> Result<(), Fail> {
     let alloc = rt.alloc();
     let mut store = Plain::of(alloc, Vec::new(alloc))?;
-    let open = Command::OpenWriter {
-        snapshot: text(alloc, SNAPSHOT)?,
-    };
-    let opened = store.step(alloc, 3, 1000, &open)?;
-    assert!(rt; is_base(&opened, b""));
-    let again = store.step(alloc, 4, 1000, &open)?;
-    assert!(rt; matches!(again, Reply::Refused(Refusal::GroupBusy { lane: 3 })));
-    let early = store.step(alloc, 3, 1000, &Command::Finish)?;
-    assert!(rt; matches!(early, Reply::Refused(Refusal::NoFile)));
-    let upload = Command::Blob {
-        file: text(alloc, MANIFEST)?,
-        blob: text(alloc, BLOB)?,
-    };
-    let put = store.step(alloc, 3, 1001, &upload)?;
-    assert!(rt; matches!(put, Reply::Done));
-    let twice = store.step(alloc, 3, 1001, &upload)?;
-    assert!(rt; matches!(twice, Reply::Refused(Refusal::Exists)));
-    let finished = store.step(alloc, 3, 1002, &Command::Finish)?;
-    assert!(rt; matches!(finished, Reply::Done));
-    let newer = store.step(alloc, 3, 1003, &open)?;
-    assert!(rt;
-        matches!(
-            newer,
-            Reply::Refused(Refusal::NotNewer { latest: 1579069803 })
-        )
-    );
-    let reader = Command::OpenReader {
-        snapshot: text(alloc, SNAPSHOT)?,
-    };
-    let reads = store.step(alloc, 63, 1004, &reader)?;
-    assert!(rt; matches!(reads, Reply::Done));
-    is_read(&rt, alloc, &mut store)
+    for (lane, step, expected) in &STEPS {
+        if *lane < 64 {
+            try_step(&rt, alloc, &mut store, *lane, *step, expected)?;
+        }
+    }
+    Ok(())
 }
 
-/// Lane 63 reads the manifest's file.
-fn is_read(rt: &impl Abort, alloc: Global, store: &mut Plain) -> Result<(), Fail> {
-    let whole = Command::Download {
-        file: text(alloc, MANIFEST)?,
-        offset: 0,
-    };
-    let part = store.step(alloc, 63, 1005, &whole)?;
-    assert!(rt; is_part(&part, 86, BLOB));
-    let beyond = Command::Download {
-        file: text(alloc, MANIFEST)?,
-        offset: 87,
-    };
-    let refused = store.step(alloc, 63, 1006, &beyond)?;
-    assert!(rt; matches!(refused, Reply::Refused(Refusal::BadRange { size: 86 })));
-    let ended = store.step(alloc, 63, 1007, &Command::Bye)?;
-    assert!(rt; matches!(ended, Reply::Done));
-    let idle = store.step(alloc, 63, 1008, &whole)?;
-    assert!(rt; matches!(idle, Reply::Refused(Refusal::WrongState(_))));
+/// A datastore with that snapshot is loaded, and the reader gets the same.
+#[test]
+fn a_loaded_snapshot(rt: HostRuntime) -> Result<(), Fail> {
+    let alloc = rt.alloc();
+    let mut disk = MemoryDisk::new(alloc);
+    disk.put(alloc, "host/a/2020-01-15T06:30:03Z/index.json.blob", BLOB)?;
+    let mut store = Plain::load(alloc, &mut disk)?;
+    for (lane, step, expected) in &STEPS {
+        if *lane == 63 {
+            try_step(&rt, alloc, &mut store, *lane, *step, expected)?;
+        }
+    }
     Ok(())
 }
 

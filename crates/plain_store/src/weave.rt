@@ -12,7 +12,7 @@ use crate::lane::Lane;
 use crate::plain::Plain;
 use crate::run::Run;
 use crate::session::{Held, Session};
-use crate::snapshot::Snapshot;
+use plain_snapshots::Snapshot;
 use std::alloc::{AllocError, Global};
 use std::marker::Model;
 use store_model::Ending;

@@ -8,19 +8,19 @@ ghost use Rattle.store_types.specs.Names.{group_of_key};
 ghost use Rattle.store_types.specs.declared.refusal.Refusal.TheVariants.{TooMany};
 ghost use Rattle.store_model.specs.Store.{in_group, session as session_at, with_session};
 ghost use Rattle.store_model.specs.Uploads.{want_room as needs_room};
-ghost use Rattle.store_model.specs.WriterSteps.{base_text as text_of_base, want_newer as needs_newer, open_writer as opened, put_blob as put, finish as finished};
+ghost use Rattle.store_model.specs.WriterSteps.{base_text as text_of_base, want_newer as needs_newer, open_writer as opened, put_blob as put, finish as finished, abort as aborted};
 ghost use Rattle.plain_store.specs.Sessions.{shown_held, shown_writer, uploaded};
 ghost use Rattle.plain_store.specs.Outcomes.{Does, Gives, IsFitRefusal, IsSpelled};
 ghost use Rattle.wire_commands.specs.HasText.{FitsRefusal};
 ghost use Rattle.plain_store.specs.Writers.{base_of as tested_base, upload_of as tested_upload};
 
-use crate::blob::BlobData;
-use crate::file::{Content, File, file_named, insert_file};
-use crate::key::PlainKey;
 use crate::plain::Plain;
 use crate::session::{Held, Writer, want_free};
-use crate::snapshot::{Snapshot, count_in, insert_snapshot, latest_in};
 use crate::stop::Stop;
+use plain_snapshots::{
+    BlobData, Content, File, PlainKey, Snapshot, count_in, file_named, insert_file,
+    insert_snapshot, latest_in,
+};
 use std::alloc::{AllocError, Global};
 use store_types::{Bytes, FileName, Refusal, SnapshotKey};
 use wire_commands::Reply;
@@ -217,6 +217,17 @@ impl Plain {
         };
         insert_snapshot(&mut self.snapshots, snapshot)?;
         self.set_held(lane, Held::Nothing);
+        Ok(Reply::Done)
+    }
+
+    /// ABORT: the writer ends without a snapshot.
+    pub(crate) fn abort(&mut self, lane: u32) -> Result<Reply, Stop>
+        requires { lane < 64 }
+        ensures does { Does self.old self.new result (aborted self.old lane) }
+        ensures spelled { IsSpelled result }
+    {
+        self.held(lane).want_writer()?;
+        self.end(lane);
         Ok(Reply::Done)
     }
 }

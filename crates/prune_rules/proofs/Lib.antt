@@ -2,6 +2,7 @@ mod Greatest
 mod Ranges
 mod Turning
 mod First
+mod Ordering
 mod Taking
 mod SlotLemmas
 mod Rising

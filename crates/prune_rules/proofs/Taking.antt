@@ -4,7 +4,8 @@ use Rattle.std.proofs.Math.Bool.{or-false, and-true}
 use Rattle.std.specs.List.{list_any, range_with_len}
 use Rattle.std.proofs.lemmas.Bool.{cases_eq, cases_Bool, or_left, or_right, or_from, and_parts, and_from, and_left, and_right, not-true, not_from_true, not_from_false, lt-ltb, le-ltb, eqb-true, eq-eqb, ne_eqb, both_ways}
 use Rattle.prune_rules.specs.Prune.{Slot, Choice, is_newer, same_period, is_candidate, is_newest, take_slot, after_choice, greatest}
-use Rattle.prune_rules.specs.Slots.{is_below, IsFirst}
+use Rattle.prune_rules.specs.Slots.{is_below}
+use Rattle.prune_rules.proofs.First.{Leads}
 use Rattle.prune_rules.proofs.Ranges.{any, any_at, any_none, any_found, any_same, map_same, map_map, any_map, any_filter}
 use Rattle.prune_rules.proofs.Greatest.{among, Takes, takes_begin, takes_skip, takes_more, takes_zero, takes_end, lower}
 
@@ -195,7 +196,7 @@ module _ (c : Choice) (n : ℕ) (F : ℕ → Slot) (kept covered : ℕ → Bool)
       }
 
 module _ (c : Choice) (n : ℕ) (F : ℕ → Slot) (kept covered : ℕ → Bool) (bound : Option ℕ) (left : ℕ) (is : Reached c n F kept covered bound left)
-    (i : ℕ) (first : IsFirst (open_at c n F covered bound) (period c n F) (λ k. (F k).time) n i) where
+    (i : ℕ) (first : Leads (open_at c n F covered bound) (period c n F) (λ k. (F k).time) n i) where
   top_below : is_below bound (period c n F i) ≡ true
   top_below = (and_parts _ _ first.passed).1
 

@@ -1,45 +1,89 @@
--- A loop that turns to true what a test passes, one place after another.
-use Rattle.std.proofs.Common.{◌≡◌, ℕ, ◌+◌, ◌<◌, ◌≤◌, inl, inr, Bool, true, false, ◌||◌, List, length, get_or, set, refl, sym, ap, subst, ◌∙◌, arith}
+-- A loop that turns to true what a test passes, one place after another along an order.
+use Rattle.std.proofs.Common.{◌≡◌, ℕ, ◌+◌, ◌<◌, ◌≤◌, ◌⊎◌, inl, inr, Bool, true, false, ◌||◌, List, length, get_or, set, refl, sym, ap, subst, ◌∙◌, arith}
 use Rattle.std.proofs.Math.Bool.{or-false}
 use Rattle.std.proofs.lemmas.List.{get_or-set_same, get_or-set_other}
-use Rattle.std.proofs.lemmas.Bool.{cases_lt, cases_eq, or_right}
+use Rattle.std.proofs.lemmas.Bool.{cases_Bool, cases_eq, or_right}
+use Rattle.prune_rules.specs.Slots.{place_of}
 
--- the first i places are done, the others as they were
-pub record Turned {X : Type 0} (g : X → Bool) (d : X) (f : ℕ → Bool) (old new : List X) (i : ℕ) : Type 0 where
-  pub done : (k : ℕ) → k < i → g (get_or new k d) ≡ (g (get_or old k d) || f k)
-  pub rest : (k : ℕ) → i ≤ k → g (get_or new k d) ≡ g (get_or old k d)
+-- What came before step i is done. Each place is as it was, or done.
+pub record Turned {X : Type 0} (g : X → Bool) (d : X) (f : ℕ → Bool) (old new : List X) (order : List ℕ) (from i : ℕ) : Type 0 where
+  pub done : (k : ℕ) → from ≤ k → k < i → g (get_or new (place_of order k) d) ≡ (g (get_or old (place_of order k) d) || f (place_of order k))
+  pub each : (j : ℕ) → (g (get_or new j d) ≡ g (get_or old j d)) ⊎ (g (get_or new j d) ≡ (g (get_or old j d) || f j))
 
-pub turned_begin : {X : Type 0} (g : X → Bool) (d : X) (f : ℕ → Bool) (old : List X) (i : ℕ) → ((k : ℕ) → k < i → f k ≡ false) → Turned g d f old old i
-turned_begin g d f old i fails = record {
-  done = λ k h. sym (ap (λ b. g (get_or old k d) || b) (fails k h) ∙ or-false (g (get_or old k d)));
-  rest = λ k h. refl;
+pub turned_begin : {X : Type 0} (g : X → Bool) (d : X) (f : ℕ → Bool) (old : List X) (order : List ℕ) (from : ℕ) → Turned g d f old old order from from
+turned_begin g d f old order from = record {
+  done = λ k low h. absurd (omega arith);
+  each = λ j. inl refl;
 }
 
-pub turned_all : {X : Type 0} (g : X → Bool) (d : X) (f : ℕ → Bool) (old new : List X) (i n : ℕ) → ((k : ℕ) → i ≤ k → k < n → f k ≡ false) →
-    Turned g d f old new i → (k : ℕ) → k < n → g (get_or new k d) ≡ (g (get_or old k d) || f k)
-turned_all g d f old new i n fails is k h = elim (cases_lt k i) [
-  | inl early ↦ is.done k early
-  | inr late ↦ is.rest k late ∙ sym (ap (λ b. g (get_or old k d) || b) (fails k late h) ∙ or-false (g (get_or old k d)))
+same_as_done : (a b x : Bool) → x ≡ false → a ≡ b → a ≡ (b || x)
+same_as_done a b x fails e = e ∙ sym (ap (λ y. b || y) fails ∙ or-false b)
+
+-- the order reaches each place that passes
+pub turned_all : {X : Type 0} (g : X → Bool) (d : X) (f : ℕ → Bool) (old new : List X) (order : List ℕ) (from i n : ℕ) →
+    ((j : ℕ) → j < n → f j ≡ true → (k : ℕ) × (from ≤ k) × (k < i) × (place_of order k ≡ j)) →
+    Turned g d f old new order from i → (j : ℕ) → j < n → g (get_or new j d) ≡ (g (get_or old j d) || f j)
+turned_all g d f old new order from i n reach is j h = elim (cases_Bool (f j)) [
+  | inl passes ↦
+      let at = reach j h passes in
+      subst (λ p. g (get_or new p d) ≡ (g (get_or old p d) || f p)) at.3 (is.done at.0 at.1 at.2)
+  | inr fails ↦ elim (is.each j) [
+    | inl same ↦ same_as_done _ _ (f j) fails same
+    | inr done ↦ done
+  ]
 ]
 
-pub turned_set : {X : Type 0} (g : X → Bool) (d : X) (f : ℕ → Bool) (old new : List X) (i : ℕ) (v : X) →
-    i < length new → g v ≡ true → f i ≡ true → Turned g d f old new i → Turned g d f old (set new i v) (i + 1)
-turned_set g d f old new i v within turns passes is = record {
-  done = λ k h. elim (cases_eq k i) [
-    | inl same ↦ subst (λ j. g (get_or (set new i v) j d) ≡ (g (get_or old j d) || f j)) (sym same)
-        (ap g (get_or-set_same new i v d within) ∙ turns ∙ sym (or_right (g (get_or old i d)) (f i) passes))
-    | inr other ↦ ap g (get_or-set_other new i k v d other) ∙ is.done k (omega arith)
-  ];
-  rest = λ k h. ap g (get_or-set_other new i k v d (λ e. omega arith)) ∙ is.rest k (omega arith);
-}
+set_here : {X : Type 0} (g : X → Bool) (d : X) (f : ℕ → Bool) (old new : List X) (order : List ℕ) (from i : ℕ) (v : X) →
+    place_of order i < length new → g v ≡ true → f (place_of order i) ≡ true → Turned g d f old new order from i →
+    Turned g d f old (set new (place_of order i) v) order from (i + 1)
+set_here g d f old new order from i v within turns passes is =
+    let at = place_of order i in
+    let here : g (get_or (set new at v) at d) ≡ (g (get_or old at d) || f at) =
+    ap g (get_or-set_same new at v d within) ∙ turns ∙ sym (or_right (g (get_or old at d)) (f at) passes) in
+    record {
+      done = λ k low h. elim (cases_eq (place_of order k) at) [
+        | inl same ↦ subst (λ j. g (get_or (set new at v) j d) ≡ (g (get_or old j d) || f j)) (sym same) here
+        | inr other ↦
+            let early : k < i = elim (cases_eq k i) [
+              | inl level ↦ absurd (other (ap (place_of order) level))
+              | inr before ↦ omega arith
+            ] in
+            ap g (get_or-set_other new at (place_of order k) v d other) ∙ is.done k low early
+      ];
+      each = λ j. elim (cases_eq j at) [
+        | inl same ↦ inr (subst (λ p. g (get_or (set new at v) p d) ≡ (g (get_or old p d) || f p)) (sym same) here)
+        | inr other ↦
+            let kept = ap g (get_or-set_other new at j v d other) in
+            elim (is.each j) [
+              | inl was ↦ inl (kept ∙ was)
+              | inr was ↦ inr (kept ∙ was)
+            ]
+      ];
+    }
 
-pub turned_skip : {X : Type 0} (g : X → Bool) (d : X) (f : ℕ → Bool) (old new : List X) (i : ℕ) →
-    f i ≡ false → Turned g d f old new i → Turned g d f old new (i + 1)
-turned_skip g d f old new i fails is = record {
-  done = λ k h. elim (cases_eq k i) [
-    | inl same ↦ subst (λ j. g (get_or new j d) ≡ (g (get_or old j d) || f j)) (sym same)
-        (is.rest i (omega arith) ∙ sym (ap (λ b. g (get_or old i d) || b) fails ∙ or-false (g (get_or old i d))))
-    | inr other ↦ is.done k (omega arith)
-  ];
-  rest = λ k h. is.rest k (omega arith);
-}
+pub turned_set : {X : Type 0} (g : X → Bool) (d : X) (f : ℕ → Bool) (old new : List X) (order : List ℕ) (from i j : ℕ) (v : X) →
+    j ≡ place_of order i → j < length new → g v ≡ true → f j ≡ true → Turned g d f old new order from i →
+    Turned g d f old (set new j v) order from (i + 1)
+turned_set g d f old new order from i j v same within turns passes is =
+    subst (λ p. Turned g d f old (set new p v) order from (i + 1)) (sym same)
+    (set_here g d f old new order from i v (subst (λ p. p < length new) same within) turns (subst (λ p. f p ≡ true) same passes) is)
+
+skip_here : {X : Type 0} (g : X → Bool) (d : X) (f : ℕ → Bool) (old new : List X) (order : List ℕ) (from i : ℕ) →
+    f (place_of order i) ≡ false → Turned g d f old new order from i → Turned g d f old new order from (i + 1)
+skip_here g d f old new order from i fails is =
+    let at = place_of order i in
+    let here : g (get_or new at d) ≡ (g (get_or old at d) || f at) = elim (is.each at) [
+      | inl same ↦ same_as_done _ _ (f at) fails same
+      | inr done ↦ done
+    ] in
+    record {
+      done = λ k low h. elim (cases_eq k i) [
+        | inl same ↦ subst (λ j. g (get_or new (place_of order j) d) ≡ (g (get_or old (place_of order j) d) || f (place_of order j))) (sym same) here
+        | inr other ↦ is.done k low (omega arith)
+      ];
+      each = is.each;
+    }
+
+pub turned_skip : {X : Type 0} (g : X → Bool) (d : X) (f : ℕ → Bool) (old new : List X) (order : List ℕ) (from i j : ℕ) →
+    j ≡ place_of order i → f j ≡ false → Turned g d f old new order from i → Turned g d f old new order from (i + 1)
+turned_skip g d f old new order from i j same fails is = skip_here g d f old new order from i (subst (λ p. f p ≡ false) same fails) is

@@ -1,6 +1,7 @@
 -- Slots by the work space and the marks of a running prune, and what one look over them finds.
-use Rattle.std.specs.Prelude.{◌≡◌, ℕ, ◌<◌, ◌≤◌, Bool, true, false, not, ◌&&◌, ◌||◌, List, map, length, slice_index_or, ◌==◌, nat_lt, nat_le, Option, Some, None}
+use Rattle.std.specs.Prelude.{◌≡◌, ℕ, ◌<◌, ◌≤◌, Bool, true, false, not, ◌&&◌, ◌||◌, List, [], map, length, slice_index_or, ◌==◌, nat_lt, Option, Some, None}
 use Rattle.std.specs.List.{range_with_len, list_any}
+use Rattle.std.specs.List.Sorted.{IsPermutation}
 use Rattle.prune_rules.specs.declared.Item.{Item}
 use Rattle.prune_rules.specs.declared.Mark.{Mark}
 use Rattle.prune_rules.specs.declared.Mark.TheVariants.{Kept, Removed}
@@ -55,11 +56,21 @@ abbrev pub is_open : Period → List Item → List Bool → Option ℕ → ℕ �
 is_open period items covered bound k =
     (item_at items k).finished && not (slice_index_or covered k false) && is_below bound (number_at period items k)
 
--- the same, from a place on
-abbrev pub is_open_from : Period → List Item → List Bool → Option ℕ → ℕ → ℕ → Bool
-is_open_from period items covered bound from k = nat_le from k && is_open period items covered bound k
+-- ---- the order in which one goes over the items
 
--- each place has at least the number of those before it
+-- the places of n items, each once, or nothing
+abbrev pub Orders : ℕ → List ℕ → Type 0
+Orders n order = 0 < length order → IsPermutation (range_with_len 0 n) order
+
+-- which place comes next after k others; without an order it is the list's own
+abbrev pub place_of : List ℕ → ℕ → ℕ
+place_of order k = slice_index_or order k k
+
+-- the period of what comes after k others
+abbrev pub number_in : Period → List Item → List ℕ → ℕ → ℕ
+number_in period items order k = number_at period items (place_of order k)
+
+-- each has at least the number of those before it
 abbrev pub Rises : (ℕ → ℕ) → ℕ → Type 0
 Rises number n = (j k : ℕ) → j ≤ k → k < n → number j ≤ number k
 
@@ -69,36 +80,42 @@ pub record StartsRun (number : ℕ → ℕ) (start end : ℕ) : Type 0 where
   pub same : (k : ℕ) → start ≤ k → k < end → number k ≡ number start
   pub less : (k : ℕ) → k < start → number k < number start
 
--- what has the number stands from one place up to another
-abbrev pub Spans : (ℕ → ℕ) → ℕ → ℕ → ℕ → ℕ → Type 0
-Spans number n own from to = (k : ℕ) → k < n → number k ≡ own → (from ≤ k) × (k < to)
+-- what has the number comes from one step of the order up to another
+abbrev pub Spans : (ℕ → ℕ) → ℕ → ℕ → List ℕ → ℕ → ℕ → Type 0
+Spans number n own order from to =
+    (i : ℕ) → i < n → number i ≡ own → (k : ℕ) × (from ≤ k) × (k < to) × (place_of order k ≡ i)
 
--- Of the first n places the newest in the greatest period, among those that pass.
-pub record IsFirst (passes : ℕ → Bool) (number time : ℕ → ℕ) (n i : ℕ) : Type 0 where
-  pub within : i < n
+-- Of the places from one step of the order up to another the newest in the greatest period, among those that pass.
+pub record IsFirst (passes : ℕ → Bool) (number time : ℕ → ℕ) (order : List ℕ) (from to i : ℕ) : Type 0 where
+  pub found : (k : ℕ) × (from ≤ k) × (k < to) × (place_of order k ≡ i)
   pub passed : passes i ≡ true
-  pub greatest : (k : ℕ) → k < n → passes k ≡ true → number k ≤ number i
-  pub newest : (k : ℕ) → k < n → passes k ≡ true → number k ≡ number i → time k ≤ time i
-  pub earliest : (k : ℕ) → k < n → passes k ≡ true → number k ≡ number i → time k ≡ time i → i ≤ k
+  pub greatest : (k : ℕ) → from ≤ k → k < to → passes (place_of order k) ≡ true → number (place_of order k) ≤ number i
+  pub newest : (k : ℕ) → from ≤ k → k < to → passes (place_of order k) ≡ true → number (place_of order k) ≡ number i
+      → time (place_of order k) ≤ time i
+  pub earliest : (k : ℕ) → from ≤ k → k < to → passes (place_of order k) ≡ true → number (place_of order k) ≡ number i
+      → time (place_of order k) ≡ time i → i ≤ place_of order k
 
--- none of the first n places passes, or this is the newest in the greatest period
-abbrev pub FirstOf : (ℕ → Bool) → (ℕ → ℕ) → (ℕ → ℕ) → ℕ → Option ℕ → Type 0
-FirstOf passes number time n None = (k : ℕ) → k < n → passes k ≡ false
-FirstOf passes number time n (Some i) = IsFirst passes number time n i
+-- none of these places passes, or this is the newest in the greatest period
+abbrev pub FirstOf : (ℕ → Bool) → (ℕ → ℕ) → (ℕ → ℕ) → List ℕ → ℕ → ℕ → Option ℕ → Type 0
+FirstOf passes number time order from to None = (k : ℕ) → from ≤ k → k < to → passes (place_of order k) ≡ false
+FirstOf passes number time order from to (Some i) = IsFirst passes number time order from to i
 
 -- none of the first n items is newer, or there is none
 abbrev pub NewestOf : List Item → ℕ → Option ℕ → Type 0
-NewestOf items n found = FirstOf (λ k. true) (λ k. 0) (time_at items) n found
+NewestOf items n found = FirstOf (λ k. true) (λ k. 0) (time_at items) [] 0 n found
 
 abbrev pub stands_at : Option ℕ → ℕ → Bool
 stands_at None k = false
 stands_at (Some place) k = place == k
 
--- whether one place comes before another: by a greater number, or by the same and a later time
+-- by a later time, or by the same and an earlier place
+abbrev pub is_newer : (ℕ → ℕ) → ℕ → ℕ → Bool
+is_newer time i k = nat_lt (time k) (time i) || ((time i == time k) && nat_lt i k)
+
+-- whether one place comes before another: by a greater number, or by the same as the newer
 abbrev pub goes_before : (ℕ → ℕ) → (ℕ → ℕ) → ℕ → Option ℕ → Bool
 goes_before number time i None = true
-goes_before number time i (Some k) =
-    nat_lt (number k) (number i) || ((number i == number k) && nat_lt (time k) (time i))
+goes_before number time i (Some k) = nat_lt (number k) (number i) || ((number i == number k) && is_newer time i k)
 
 abbrev pub keeps_at : Period → List Item → List Mark → ℕ → ℕ → Bool
 keeps_at period items into number k = is_kept (slice_index_or into k Removed) && (number_at period items k == number)
@@ -111,14 +128,8 @@ holds_kept period items into number = list_any (keeps_at period items into numbe
 abbrev pub is_finished_in : Period → List Item → ℕ → ℕ → Bool
 is_finished_in period items number k = (item_at items k).finished && (number_at period items k == number)
 
--- whether the item at the second place is newer than the one at the first
-abbrev pub newer_at : List Item → ℕ → ℕ → Bool
-newer_at items i k =
-    nat_lt (item_at items i).time (item_at items k).time
-    || (((item_at items k).time == (item_at items i).time) && nat_lt k i)
-
 abbrev pub has_newer : List Item → ℕ → Bool
-has_newer items i = list_any (newer_at items i) (range_with_len 0 (length items))
+has_newer items i = list_any (λ k. is_newer (time_at items) k i) (range_with_len 0 (length items))
 
 -- unfinished, and no item is newer
 abbrev pub runs_at : List Item → ℕ → Bool

@@ -10,18 +10,20 @@
 //! two items of one time the earlier in the list counts as the newer.
 #![tactic(auto)]
 
-ghost use Rattle.std.specs.Prelude.{◌≡◌, ◌≤◌, All, IfOk, length};
+ghost use Rattle.std.specs.Prelude.{◌≡◌, ◌<◌, ◌≤◌, All, IfOk, length};
 ghost use Rattle.std.specs.List.{fold};
 ghost use Rattle.prune_rules.specs.Prune.{marks as marks_of, choices, after_choice, has_no_option as is_without};
-ghost use Rattle.prune_rules.specs.Slots.{slots_in};
+ghost use Rattle.prune_rules.specs.Slots.{Orders, slots_in};
 ghost use Rattle.store_types.specs.Times.{last_moment};
 
 mod marking;
+mod order;
 mod periods;
 #[cfg(test)]
 mod tests;
 
 use marking::{keep_others, take_periods};
+use order::number_places;
 use periods::Period;
 use std::alloc::{AllocError, Global};
 pub use store_types::Keep;
@@ -40,46 +42,86 @@ pub enum Mark {
     Removed,
 }
 
+/// So many items are sorted by a table of their places that takes no memory.
+const TABLE_LEN: usize = 4096;
+
 /// A mark for each item, in the items' order.
+///
+/// An option costs what sorting the items does: of n items some n log n steps, in whatever order of times they are.
 pub fn marks(alloc: Global, items: &[Item], keep: &Keep) -> Result<Vec<Mark>, AllocError>
     requires { All (λ item. item.time ≤ last_moment) items.now }
     ensures { IfOk result (λ marks. marks.items ≡ marks_of items.now keep.now) }
 {
+    let mut order = vec![in alloc; 0; items.len()]?;
     let mut covered = vec![in alloc; false; items.len()]?;
     let mut marks = vec![in alloc; Mark::Removed; items.len()]?;
-    marks_into(items, keep, &mut covered, &mut marks);
+    mark_in_order(items, keep, &mut order, &mut covered, &mut marks);
     Ok(marks)
 }
 
 /// The same marks, left in `into`. What both slices held doesn't matter; `covered` is work space. It takes no memory.
 ///
-/// Where the items go from the oldest to the newest, as a group lists them, the time grows with their number; else with
-/// its square at most.
+/// Up to 4,096 items cost what they cost in `marks`. Of more, an option may cost the square of their number.
 pub fn marks_into(items: &[Item], keep: &Keep, covered: &mut [bool], into: &mut [Mark])
     requires times { All (λ item. item.time ≤ last_moment) items.now }
     requires covered { length covered.old ≡ length items.now }
     requires into { length into.old ≡ length items.now }
     ensures { into.new ≡ marks_of items.now keep.now }
 {
+    let mut table = [0; TABLE_LEN];
+    let used = table_part(items.len());
+    mark_in_order(items, keep, &mut table[..used], covered, into);
+}
+
+// How much of the table is used: a place for each item, or nothing.
+fn table_part(count: usize) -> usize
+    ensures within { result ≤ 4096 }
+    ensures all { 0 < result → result ≡ count }
+{
+    if count <= TABLE_LEN { count } else { 0 }
+}
+
+// `order` is work space for the places of the items. It may be empty.
+fn mark_in_order(
+    items: &[Item],
+    keep: &Keep,
+    order: &mut [usize],
+    covered: &mut [bool],
+    into: &mut [Mark],
+)
+    requires times { All (λ item. item.time ≤ last_moment) items.now }
+    requires order { 0 < length order.old → length order.old ≡ length items.now }
+    requires covered { length covered.old ≡ length items.now }
+    requires into { length into.old ≡ length items.now }
+    ensures { into.new ≡ marks_of items.now keep.now }
+{
     covered.fill(false);
     into.fill(Mark::Removed);
-    take_options(items, keep, covered, into);
+    number_places(order);
+    take_options(items, keep, order, covered, into);
     keep_others(items, has_no_option(keep), into);
 }
 
 // Takes the options in their order.
-fn take_options(items: &[Item], keep: &Keep, covered: &mut [bool], into: &mut [Mark])
+fn take_options(
+    items: &[Item],
+    keep: &Keep,
+    order: &mut [usize],
+    covered: &mut [bool],
+    into: &mut [Mark],
+)
     requires times { All (λ item. item.time ≤ last_moment) items.now }
+    requires order { Orders (length items.now) order.old }
     requires covered { length covered.old ≡ length items.now }
     requires into { length into.old ≡ length items.now }
     ensures { slots_in items.now covered.new into.new ≡ fold after_choice (slots_in items.now covered.old into.old) (choices keep.now) }
 {
-    take_periods(items, Period::Second, keep.last, covered, into);
-    take_periods(items, Period::Hour, keep.hourly, covered, into);
-    take_periods(items, Period::Day, keep.daily, covered, into);
-    take_periods(items, Period::Week, keep.weekly, covered, into);
-    take_periods(items, Period::Month, keep.monthly, covered, into);
-    take_periods(items, Period::Year, keep.yearly, covered, into);
+    take_periods(items, Period::Second, keep.last, order, covered, into);
+    take_periods(items, Period::Hour, keep.hourly, order, covered, into);
+    take_periods(items, Period::Day, keep.daily, order, covered, into);
+    take_periods(items, Period::Week, keep.weekly, order, covered, into);
+    take_periods(items, Period::Month, keep.monthly, order, covered, into);
+    take_periods(items, Period::Year, keep.yearly, order, covered, into);
 }
 
 fn has_no_option(keep: &Keep) -> bool

@@ -1,40 +1,57 @@
 //! One option at a time, over the items and the two flags of each.
 
 ghost use Rattle.std.specs.Prelude.{◌≡◌, ℕ, ◌<◌, ◌≤◌, ◌||◌, All, IfSome, length, slice_index_or, false};
-ghost use Rattle.std.specs.Bool.{OnTrue};
 ghost use Rattle.store_types.specs.Times.{last_moment};
 ghost use Rattle.prune_rules.specs.Prune.{after_choice};
-ghost use Rattle.prune_rules.specs.Slots.{choice, is_kept, is_below as below_of, is_open as open_of, is_open_from as open_from, Rises, StartsRun, Spans, time_at, number_at as number_of_item, FirstOf, goes_before as before_of, holds_kept as kept_in, keeps_at, is_finished_in as ends_in, runs_at, stands_at, NewestOf, slots_in};
+ghost use Rattle.prune_rules.specs.Slots.{choice, is_kept, is_below as below_of, is_open as open_of, is_newer as newer_of, Orders, Rises, StartsRun, Spans, time_at, number_at as number_of_item, number_in, FirstOf, goes_before as before_of, holds_kept as kept_in, keeps_at, is_finished_in as ends_in, runs_at, stands_at, NewestOf, slots_in};
 
+use crate::order::{number_at, place_at, sort_by_period};
 use crate::periods::Period;
 use crate::{Item, Mark};
 
 /// Keeps the newest candidate of each of the `count` newest periods that have one, and covers all candidates there.
+///
+/// With an order the work grows as that of sorting; without one it may grow with the square of the items' number.
 pub fn take_periods(
     items: &[Item],
+    period: Period,
+    count: u16,
+    order: &mut [usize],
+    covered: &mut [bool],
+    into: &mut [Mark],
+)
+    requires times { All (λ item. item.time ≤ last_moment) items.now }
+    requires order { Orders (length items.now) order.old }
+    requires covered { length covered.old ≡ length items.now }
+    requires into { length into.old ≡ length items.now }
+    ensures order { Orders (length items.now) order.new }
+    ensures slots { slots_in items.now covered.new into.new ≡ after_choice (slots_in items.now covered.old into.old) (choice period count) }
+{
+    if count == 0 {
+        return;
+    }
+    if order.is_empty() {
+        take_any(items, period, count, covered, into);
+    } else {
+        sort_by_period(items, period, order);
+        take_sorted(items, order, period, count, covered, into);
+    }
+}
+
+// Goes from the newest period to the oldest, over the places of each, which stand together.
+fn take_sorted(
+    items: &[Item],
+    order: &[usize],
     period: Period,
     count: u16,
     covered: &mut [bool],
     into: &mut [Mark],
 )
     requires times { All (λ item. item.time ≤ last_moment) items.now }
+    requires order { Orders (length items.now) order.now }
+    requires rises { Rises (number_in period items.now order.now) (length items.now) }
     requires covered { length covered.old ≡ length items.now }
     requires into { length into.old ≡ length items.now }
-    ensures { slots_in items.now covered.new into.new ≡ after_choice (slots_in items.now covered.old into.old) (choice period count) }
-{
-    if rises(items, period) {
-        take_rising(items, period, count, covered, into);
-    } else {
-        take_any(items, period, count, covered, into);
-    }
-}
-
-// Goes from the newest period to the oldest, over the items of each.
-fn take_rising(items: &[Item], period: Period, count: u16, covered: &mut [bool], into: &mut [Mark])
-    requires times { All (λ item. item.time ≤ last_moment) items.now }
-    requires covered { length covered.old ≡ length items.now }
-    requires into { length into.old ≡ length items.now }
-    requires rises { Rises (number_of_item period items.now) (length items.now) }
     ensures { slots_in items.now covered.new into.new ≡ after_choice (slots_in items.now covered.old into.old) (choice period count) }
 {
     let mut left = count;
@@ -43,12 +60,12 @@ fn take_rising(items: &[Item], period: Period, count: u16, covered: &mut [bool],
         if left == 0 {
             return;
         }
-        let start = run_start(items, period, end);
-        if let Some(newest) = newest_open(items, period, None, covered, start, end) {
+        let start = run_start(items, order, period, end);
+        if let Some(newest) = newest_open(items, order, period, None, covered, start, end) {
             let number = number_at(items, period, newest);
-            if !holds_kept(items, period, number, into, start, end) {
+            if !holds_kept(items, order, period, number, into, start, end) {
                 into[newest] = Mark::Kept;
-                cover(items, period, number, covered, start, end);
+                cover(items, order, period, number, covered, start, end);
                 left -= 1;
             }
         }
@@ -66,58 +83,37 @@ fn take_any(items: &[Item], period: Period, count: u16, covered: &mut [bool], in
     let mut bound = None;
     let mut left = count;
     while left > 0 {
-        let Some(newest) = newest_open(items, period, bound, covered, 0, items.len()) else {
+        let Some(newest) = newest_open(items, &[], period, bound, covered, 0, items.len()) else {
             return;
         };
         let number = number_at(items, period, newest);
-        if !holds_kept(items, period, number, into, 0, items.len()) {
+        if !holds_kept(items, &[], period, number, into, 0, items.len()) {
             into[newest] = Mark::Kept;
-            cover(items, period, number, covered, 0, items.len());
+            cover(items, &[], period, number, covered, 0, items.len());
             left -= 1;
         }
         bound = Some(number);
     }
 }
 
-// Whether no item's period is before that of an earlier item.
-fn rises(items: &[Item], period: Period) -> bool
-    requires { All (λ item. item.time ≤ last_moment) items.now }
-    ensures { OnTrue result (Rises (number_of_item period items.now) (length items.now)) }
-{
-    for i in 1..items.len() {
-        if number_at(items, period, i) < number_at(items, period, i - 1) {
-            return false;
-        }
-    }
-    true
-}
-
-// The first of the items of one period that end at a place.
-fn run_start(items: &[Item], period: Period, end: usize) -> usize
+// Where those of one period begin that go up to an end.
+fn run_start(items: &[Item], order: &[usize], period: Period, end: usize) -> usize
     requires times { All (λ item. item.time ≤ last_moment) items.now }
-    requires rises { Rises (number_of_item period items.now) (length items.now) }
+    requires order { Orders (length items.now) order.now }
+    requires rises { Rises (number_in period items.now order.now) (length items.now) }
     requires some { 0 < end }
     requires within { end ≤ length items.now }
-    ensures { StartsRun (number_of_item period items.now) result end }
+    ensures { StartsRun (number_in period items.now order.now) result end }
 {
     let mut start = end - 1;
-    let number = number_at(items, period, start);
+    let number = number_at(items, period, place_at(items, order, start));
     while start > 0 {
-        if number_at(items, period, start - 1) != number {
+        if number_at(items, period, place_at(items, order, start - 1)) != number {
             return start;
         }
         start -= 1;
     }
     start
-}
-
-// The number of the period of an item.
-fn number_at(items: &[Item], period: Period, i: usize) -> u64
-    requires times { All (λ item. item.time ≤ last_moment) items.now }
-    requires within { i < length items.now }
-    ensures { result ≡ number_of_item period items.now i }
-{
-    period.of(items[i].time)
 }
 
 fn is_below(bound: Option<u64>, number: u64) -> bool
@@ -139,7 +135,17 @@ fn is_open(items: &[Item], period: Period, bound: Option<u64>, covered: &[bool],
     items[i].finished && !covered[i] && is_below(bound, number_at(items, period, i))
 }
 
-// Whether an item is in a greater period than another one, or in the same and later.
+// Whether an item is later than another one. Of two of one time the earlier in the list counts as the newer.
+fn is_newer(items: &[Item], i: usize, k: usize) -> bool
+    requires within { i < length items.now }
+    requires other { k < length items.now }
+    ensures { result ≡ newer_of (time_at items.now) i k }
+{
+    let (time, other) = (items[i].time, items[k].time);
+    other < time || time == other && i < k
+}
+
+// Whether an item is in a greater period than another one, or in the same and newer.
 fn goes_before(items: &[Item], period: Period, i: usize, other: Option<usize>) -> bool
     requires times { All (λ item. item.time ≤ last_moment) items.now }
     requires within { i < length items.now }
@@ -150,12 +156,13 @@ fn goes_before(items: &[Item], period: Period, i: usize, other: Option<usize>) -
         return true;
     };
     let (number, least) = (number_at(items, period, i), number_at(items, period, k));
-    least < number || number == least && items[k].time < items[i].time
+    least < number || number == least && is_newer(items, i, k)
 }
 
-// The newest item in the greatest period among those from `from` up to `to` that are open.
+// The newest item in the greatest period among those that are open and come from `from` up to `to`.
 fn newest_open(
     items: &[Item],
+    order: &[usize],
     period: Period,
     bound: Option<u64>,
     covered: &[bool],
@@ -163,13 +170,16 @@ fn newest_open(
     to: usize,
 ) -> Option<usize>
     requires times { All (λ item. item.time ≤ last_moment) items.now }
+    requires order { Orders (length items.now) order.now }
     requires covered { length covered.now ≡ length items.now }
     requires range { from ≤ to }
     requires within { to ≤ length items.now }
-    ensures { FirstOf (open_from period items.now covered.now bound from) (number_of_item period items.now) (time_at items.now) to result }
+    ensures first { FirstOf (open_of period items.now covered.now bound) (number_of_item period items.now) (time_at items.now) order.now from to result }
+    ensures within { IfSome result (λ i. i < length items.now) }
 {
     let mut newest = None;
-    for i in from..to {
+    for k in from..to {
+        let i = place_at(items, order, k);
         if is_open(items, period, bound, covered, i) && goes_before(items, period, i, newest) {
             newest = Some(i);
         }
@@ -177,9 +187,10 @@ fn newest_open(
     newest
 }
 
-// Whether something of the period is kept, where its items stand from `from` up to `to`.
+// Whether something of the period is kept, where its items come from `from` up to `to`.
 fn holds_kept(
     items: &[Item],
+    order: &[usize],
     period: Period,
     number: u64,
     into: &[Mark],
@@ -187,14 +198,15 @@ fn holds_kept(
     to: usize,
 ) -> bool
     requires times { All (λ item. item.time ≤ last_moment) items.now }
+    requires order { Orders (length items.now) order.now }
     requires into { length into.now ≡ length items.now }
     requires range { from ≤ to }
     requires within { to ≤ length items.now }
-    requires all { Spans (number_of_item period items.now) (length items.now) number from to }
+    requires all { Spans (number_of_item period items.now) (length items.now) number order.now from to }
     ensures { result ≡ kept_in period items.now into.now number }
 {
-    for i in from..to {
-        if keeps(items, period, number, into, i) {
+    for k in from..to {
+        if keeps(items, period, number, into, place_at(items, order, k)) {
             return true;
         }
     }
@@ -211,17 +223,27 @@ fn keeps(items: &[Item], period: Period, number: u64, into: &[Mark], i: usize) -
     into[i] == Mark::Kept && number_at(items, period, i) == number
 }
 
-// Covers the finished items of the period, which stand from `from` up to `to`.
-fn cover(items: &[Item], period: Period, number: u64, covered: &mut [bool], from: usize, to: usize)
+// Covers the finished items of the period, which come from `from` up to `to`.
+fn cover(
+    items: &[Item],
+    order: &[usize],
+    period: Period,
+    number: u64,
+    covered: &mut [bool],
+    from: usize,
+    to: usize,
+)
     requires times { All (λ item. item.time ≤ last_moment) items.now }
+    requires order { Orders (length items.now) order.now }
     requires covered { length covered.old ≡ length items.now }
     requires range { from ≤ to }
     requires within { to ≤ length items.now }
-    requires all { Spans (number_of_item period items.now) (length items.now) number from to }
-    ensures { (k : ℕ) → k < length items.now → slice_index_or covered.new k false
-        ≡ (slice_index_or covered.old k false || ends_in period items.now number k) }
+    requires all { Spans (number_of_item period items.now) (length items.now) number order.now from to }
+    ensures { (i : ℕ) → i < length items.now → slice_index_or covered.new i false
+        ≡ (slice_index_or covered.old i false || ends_in period items.now number i) }
 {
-    for i in from..to {
+    for k in from..to {
+        let i = place_at(items, order, k);
         if is_finished_in(items, period, number, i) {
             covered[i] = true;
         }
@@ -268,7 +290,7 @@ fn is_at(place: Option<usize>, i: usize) -> bool
     }
 }
 
-// The newest item. Of two of one time the earlier in the list counts as the newer.
+// The newest item.
 fn newest_of(items: &[Item]) -> Option<usize>
     ensures { NewestOf items.now (length items.now) result }
 {
@@ -287,7 +309,7 @@ fn is_later(items: &[Item], i: usize, other: Option<usize>) -> bool
     ensures { result ≡ before_of (λ k. 0) (time_at items.now) i other }
 {
     match other {
-        Some(k) => items[k].time < items[i].time,
+        Some(k) => is_newer(items, i, k),
         None => true,
     }
 }

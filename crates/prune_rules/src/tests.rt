@@ -1,8 +1,11 @@
 //! Dates with their weeks by ISO 8601, and prunes that were done by hand.
 
+ghost use Rattle.std.specs.Prelude.{◌≤◌, All, IfOk};
+ghost use Rattle.store_types.specs.Times.{last_moment};
+
 use crate::periods::Period;
-use crate::{Item, Keep, Mark, marks};
-use std::alloc::Global;
+use crate::{Item, Keep, Mark, marks, marks_into};
+use std::alloc::{AllocError, Global};
 use std::test::Fail;
 
 const DATES: [(&str, u32, u16, u8); 26] = [
@@ -70,7 +73,25 @@ const NONE: Keep = Keep {
     yearly: 0,
 };
 
-/// Which of the times are kept, as `k` and `-`.
+fn text_of(alloc: Global, marks: &[Mark]) -> Result<String, Fail> {
+    let mut text = String::new(alloc);
+    for mark in marks {
+        text.push_str(if *mark == Mark::Kept { "k" } else { "-" })?;
+    }
+    Ok(text)
+}
+
+/// The same marks, from slices that held others.
+fn marked_in_place(alloc: Global, items: &[Item], keep: &Keep) -> Result<Vec<Mark>, AllocError>
+    requires { All (λ item. item.time ≤ last_moment) items.now }
+{
+    let mut covered = vec![in alloc; true; items.len()]?;
+    let mut into = vec![in alloc; Mark::Kept; items.len()]?;
+    marks_into(items, keep, &mut covered, &mut into);
+    Ok(into)
+}
+
+/// Which of the times are kept, as `k` and `-`; nothing where the two calls differ.
 fn kept(alloc: Global, times: &[(u32, bool)], keep: Keep) -> Result<String, Fail> {
     let mut items = Vec::new(alloc);
     for (time, finished) in times {
@@ -79,11 +100,11 @@ fn kept(alloc: Global, times: &[(u32, bool)], keep: Keep) -> Result<String, Fail
             finished: *finished,
         })?;
     }
-    let mut text = String::new(alloc);
-    for mark in &marks(alloc, &items, &keep)? {
-        text.push_str(if *mark == Mark::Kept { "k" } else { "-" })?;
+    let marks = marks(alloc, &items, &keep)?;
+    if marked_in_place(alloc, &items, &keep)? != marks {
+        return Ok(String::new(alloc));
     }
-    Ok(text)
+    text_of(alloc, &marks)
 }
 
 #[test]
@@ -132,5 +153,51 @@ fn prunes_by_hand(rt: HostRuntime) -> Result<(), Fail> {
     ];
     assert_eq!(rt; kept(rt.alloc(), &running, only_daily)?.as_str(), "-kk");
     assert_eq!(rt; kept(rt.alloc(), &[], only_daily)?.as_str(), "");
+    Ok(())
+}
+
+/// So many of the first 8,192 minutes of 1970, in no order.
+fn minutes(alloc: Global, count: u16) -> Result<Vec<Item>, AllocError>
+    ensures { IfOk result (λ items. All (λ item. item.time ≤ last_moment) items.items) }
+{
+    let mut items = Vec::new(alloc);
+    for i in 0..count {
+        items.push(Item {
+            time: u64::from(i) * 7919 % 8192 * 60,
+            finished: true,
+        })?;
+    }
+    Ok(items)
+}
+
+/// The kept minutes, from the first.
+fn kept_minutes(alloc: Global, items: &[Item], marks: &[Mark]) -> Result<Vec<u64>, AllocError> {
+    let mut kept = Vec::new(alloc);
+    for (item, mark) in items.iter().zip(marks) {
+        if *mark == Mark::Kept {
+            kept.push(item.time / 60)?;
+        }
+    }
+    kept.sort_unstable();
+    Ok(kept)
+}
+
+#[test]
+fn as_many_items_as_the_table_holds_and_more(rt: HostRuntime) -> Result<(), Fail> {
+    let keep = Keep {
+        last: 1,
+        daily: 2,
+        ..NONE
+    };
+    for count in [4096, 4097] {
+        let items = minutes(rt.alloc(), count)?;
+        let marks = marked_in_place(rt.alloc(), &items, &keep)?;
+        let kept = kept_minutes(rt.alloc(), &items, &marks)?;
+        assert_eq!(rt;
+            kept.as_slice(),
+            [5759, 7198, 8191].as_slice(),
+            "{count} items"
+        );
+    }
     Ok(())
 }

@@ -1,10 +1,18 @@
 //! The dispatch of acts.
 #![tactic(auto)]
 
-ghost use Rattle.std.specs.Prelude.{◌≡◌, ◌<◌, ◌⊎◌, slice_index};
+ghost use Rattle.std.specs.Prelude.{◌≡◌, ◌<◌, ◌⊎◌, true, slice_index, slice_index_or, IfSome};
 ghost use Rattle.store_history.specs.Acts.{IsWellFormed};
-ghost use Rattle.core_state.specs.Answers.{IsAnswered, IsTold, Keeps};
+ghost use Rattle.core_state.specs.Answers.{IsAnswered, IsCaused, IsTold};
+ghost use Rattle.core_state.specs.Closing.{is_closing};
 ghost use Rattle.core_state.specs.History.{History, StandsFor, then_event, event_of};
+ghost use Rattle.core_state.specs.Reserved.{Keeps};
+ghost use Rattle.core_state.specs.Unchanged.{Unchanged};
+ghost use Rattle.core_state.specs.declared.kept.Session.TheVariants.{Idle};
+ghost use Rattle.core_writer.specs.Ended.{Removes};
+ghost use Rattle.core_writer.specs.Others.{OthersStay};
+ghost use Rattle.core_reader.specs.Asked.{asked_path};
+ghost use Rattle.core_reader.specs.Unreadables.{TellsUnreadable};
 
 use core_reader::reader_act;
 use core_state::{Act, Answer, Core, short};
@@ -30,14 +38,26 @@ pub fn apply<D: Disk, E, C: Clock>(
     // on any disk
     ensures answers { IsAnswered D.calls D.faults core.old core.new lane result }
     ensures told { IsTold act result }
+    // why it is answered so
+    ensures cause { IsCaused D.faults core.old core.new act result }
+    ensures unreadable { TellsUnreadable D.honest D.content core.old.parts.disk (asked_path act (slice_index_or core.old.parts.sessions.items lane Idle) core.old.parts.catalogue.items) result.entry.kind result.reply }
+    // a refused act leaves catalogue and sessions as before, and the disk too unless it failed
+    ensures unchanged { IfSome result.reply (Unchanged D.honest D.content core.old.parts core.new.parts) }
+    // under names that are no file's of the lane's writer all stays
+    ensures others { OthersStay D.honest D.content core.old.parts core.new.parts lane result.reply }
     ensures short { act ≡ Act.Short → result.entry.kind ≡ 2 }
-    ensures reserve { Keeps act core.old.journal core.new.journal lane result.last }
+    // the files of a writer that has ended are gone
+    ensures removed { Removes D.honest D.content core.old core.new lane act result }
+    // an ABORT or a CLOSE_READER that ends a session takes no memory
+    ensures memory { is_closing core.old lane act ≡ true → result.entry.kind ≡ 2 → ⊥ }
+    ensures reserve { Keeps act core.old core.new lane result }
+    // after the disk failed no call of it is made
+    ensures halted { IfSome core.old.fault (λ _. core.new.parts.disk ≡ core.old.parts.disk) }
     ensures remote { core.new.remote ≡ core.old.remote }
 {
     match act {
-        Act::Plain(Command::OpenReader { .. } | Command::Download { .. }) => {
-            reader_act(core, alloc, lane, act)
-        }
+        Act::Plain(Command::OpenReader { .. } | Command::Download { .. } | Command::CloseReader) =>
+            reader_act(core, alloc, lane, act),
         Act::Plain(_) | Act::Blob { .. } => writer_act(core, alloc, lane, act),
         Act::Short => short(core, alloc, lane),
         Act::End => end_act(core, lane),

@@ -3,7 +3,7 @@ ghost use Rattle.store_history.specs.Acts.{IsWellFormed};
 
 use super::*;
 use blob_codec::decode;
-use core_state::open_on;
+use core_state::{enter, open_on};
 use disk_trait::MemoryDisk;
 use port_traits::{MemSink, SetClock};
 use std::alloc::AllocError;
@@ -17,6 +17,9 @@ enum Step {
     OpenWriter(&'static [u8]),
     Manifest,
     Finish,
+    Abort,
+    OpenReader(&'static [u8]),
+    CloseReader,
     Short,
     End,
 }
@@ -57,6 +60,23 @@ const STEPS: [(u32, Step, &[u8], u8); 9] = [
     (5, Step::Short, b"\x01\0\0\0\x1c", 2),
 ];
 
+/// Lanes whose sessions are closed, or are not theirs to close: each act with the frame of its reply, and how many entries
+/// the lane then has in reserve. What ends a session fills up nothing, and takes an entry of the reserve where no spare one is.
+const CLOSINGS: [(u32, Step, &[u8], u8); 12] = [
+    (3, Step::Abort, b"\x02\0\0\0\x03\0", 3),
+    (3, Step::OpenWriter(FIRST), b"\x02\0\0\0\0\0", 3),
+    (3, Step::CloseReader, b"\x02\0\0\0\x03\x01", 3),
+    (3, Step::Abort, b"\x01\0\0\0\0", 2),
+    (1, Step::OpenWriter(FIRST), b"\x02\0\0\0\0\0", 3),
+    (1, Step::Manifest, b"\x01\0\0\0\0", 3),
+    (1, Step::Finish, b"\x01\0\0\0\0", 3),
+    (2, Step::OpenReader(FIRST), b"\x01\0\0\0\0", 3),
+    (2, Step::Abort, b"\x02\0\0\0\x03\x02", 3),
+    (2, Step::CloseReader, b"\x01\0\0\0\0", 2),
+    (2, Step::CloseReader, b"\x02\0\0\0\x03\0", 3),
+    (3, Step::End, b"", 1),
+];
+
 /// The upload of the manifest, checked outside the act.
 fn manifest(alloc: Global) -> Result<Act, AllocError>
     ensures { IfOk result IsWellFormed }
@@ -79,6 +99,12 @@ fn act_of(alloc: Global, step: Step) -> Result<Act, AllocError>
         }
         Step::Manifest => manifest(alloc),
         Step::Finish => Ok(Act::Plain(Command::Finish)),
+        Step::Abort => Ok(Act::Plain(Command::Abort)),
+        Step::OpenReader(key) => {
+            let snapshot = Bytes::from_slice(alloc, key)?;
+            Ok(Act::Plain(Command::OpenReader { snapshot }))
+        }
+        Step::CloseReader => Ok(Act::Plain(Command::CloseReader)),
         Step::Short => Ok(Act::Short),
         Step::End => Ok(Act::End),
     }
@@ -95,10 +121,10 @@ fn try_step(
 ) -> Result<(), Fail>
     requires { lane < 64 }
 {
-    if !core.journal.room(lane as usize) {
+    let act = act_of(alloc, step)?;
+    if !core.room(lane, &act) {
         return Err("no room".into());
     }
-    let act = act_of(alloc, step)?;
     let mut sink = MemSink::new(alloc, Vec::new(alloc));
     if let Some(reply) = apply(core, alloc, lane, act).reply {
         assert!(rt; reply.put(&mut sink).is_ok());
@@ -127,4 +153,60 @@ fn groups_have_one_writer(rt: HostRuntime) -> Result<(), Fail> {
         );
     }
     Ok(())
+}
+
+/// How many entries the lane has in reserve.
+fn held(core: &Core<MemoryDisk, MemoryDisk, SetClock>, lane: u32) -> u8 {
+    core.journal.held.get(lane as usize).map_or(0, |held| *held)
+}
+
+#[test]
+fn sessions_are_closed_by_the_reserve(rt: HostRuntime) -> Result<(), Fail> {
+    let alloc = rt.alloc();
+    let clock = SetClock::new(Vec::new(alloc), 1000);
+    let opened = open_on(alloc, MemoryDisk::new(alloc), None::<MemoryDisk>, clock);
+    let mut core = opened.ok().ok_or("not opened")?;
+    for (lane, step, expected, left) in &CLOSINGS {
+        if *lane < 64 {
+            try_step(&rt, &mut core, alloc, *lane, *step, expected)?;
+            assert_eq!(rt; core.journal.spare, 0);
+            assert_eq!(rt; held(&core, *lane), *left);
+            assert!(rt; core.room(*lane, &Act::Short));
+        }
+    }
+    core.reserve(2)?;
+    assert_eq!(rt; core.journal.spare, 2);
+    Ok(())
+}
+
+/// A want of memory on lane 3 that takes an entry of the lane's reserve, since none is spare.
+fn use_reserve(rt: &impl Abort, core: &mut Core<MemoryDisk, MemoryDisk, SetClock>) {
+    assert!(rt; core.journal.room(3));
+    assert!(rt; enter(core, 3, 1000, 2, None).last);
+}
+
+/// How many entries and counts of calls the order has memory for.
+fn capacities(core: &Core<MemoryDisk, MemoryDisk, SetClock>) -> (usize, usize) {
+    (
+        core.journal.entries.capacity(),
+        core.journal.calls.capacity(),
+    )
+}
+
+/// The end of a writer's lane by the last entry of its reserve. It takes no memory, and frees the group.
+#[test]
+fn lanes_end_without_memory(rt: HostRuntime) -> Result<(), Fail> {
+    let alloc = rt.alloc();
+    let clock = SetClock::new(Vec::new(alloc), 1000);
+    let opened = open_on(alloc, MemoryDisk::new(alloc), None::<MemoryDisk>, clock);
+    let mut core = opened.ok().ok_or("not opened")?;
+    let no_base = b"\x02\0\0\0\0\0";
+    try_step(&rt, &mut core, alloc, 3, Step::OpenWriter(FIRST), no_base)?;
+    use_reserve(&rt, &mut core);
+    use_reserve(&rt, &mut core);
+    let before = capacities(&core);
+    try_step(&rt, &mut core, alloc, 3, Step::End, b"")?;
+    assert_eq!(rt; capacities(&core), before);
+    assert!(rt; !core.journal.room(3));
+    try_step(&rt, &mut core, alloc, 4, Step::OpenWriter(FIRST), no_base)
 }

@@ -85,8 +85,10 @@ is_formed (commands.Blob file blob) ne = is_checked blob
 is_formed commands.Bye ne = absurd (ne refl)
 is_formed (commands.OpenWriter snapshot) ne = tt
 is_formed commands.Finish ne = tt
+is_formed commands.Abort ne = tt
 is_formed (commands.OpenReader snapshot) ne = tt
 is_formed (commands.Download file offset) ne = tt
+is_formed commands.CloseReader ne = tt
 
 -- ---- one more command
 

@@ -11,7 +11,8 @@ use Rattle.wire_commands.specs.declared.reply.Reply.TheVariants.{Done, Refused}
 use Rattle.store_model.specs.declared.ending.Ending.{Ending}
 use Rattle.store_model.specs.declared.ending.Ending.TheVariants as endings
 use Rattle.store_model.specs.WriterSteps.{put_blob, checked_blob, want_data}
-use Rattle.store_model.specs.Steps.{outcome, answered, ended, step}
+use Rattle.store_model.specs.Store.{ended}
+use Rattle.store_model.specs.Steps.{outcome, answered, step}
 use Rattle.store_model.specs.Lanes.{Run, Next, plain, bye, broken, end, next_of}
 use Rattle.store_model.specs.Weave.{with_store, tell, answer, stepped, short, told_fault, fault_refusal, first_fault, faulted, is_cut_off, ends, ended_with, end_session, unread, is_replied, may_leave_unread, entered, known}
 use Rattle.store_history.specs.declared.act.Act.{Act}

@@ -11,10 +11,10 @@ use Rattle.wire_commands.specs.declared.command.Command.{Command}
 use Rattle.wire_commands.specs.declared.command.Command.TheVariants as commands
 use Rattle.wire_commands.specs.declared.reply.Reply.{Reply}
 use Rattle.wire_commands.specs.declared.reply.Reply.TheVariants.{Done, Refused}
-use Rattle.store_model.specs.Store.{Writer, none, writer, with_session, Store, Outcome, session, want_writer, want_reader, want_idle, group_holder, in_group, latest_in, snapshot_named, insert_snapshot}
+use Rattle.store_model.specs.Store.{Writer, none, writer, with_session, Store, Outcome, session, want_writer, want_reader, want_idle, group_holder, in_group, latest_in, snapshot_named, insert_snapshot, ended}
 use Rattle.store_model.specs.Uploads.{want_room}
-use Rattle.store_model.specs.WriterSteps.{goes_on, open_writer, want_newer, want_data, checked_blob, put_blob, snapshot_of, finish}
-use Rattle.store_model.specs.ReaderSteps.{open_reader, reader_files, download}
+use Rattle.store_model.specs.WriterSteps.{goes_on, open_writer, want_newer, want_data, checked_blob, put_blob, snapshot_of, finish, abort}
+use Rattle.store_model.specs.ReaderSteps.{open_reader, reader_files, download, close_reader}
 use Rattle.store_model.specs.Steps.{outcome, answered}
 use Rattle.store_model.specs.Weave.{fault_refusal}
 use Rattle.store_history.specs.declared.act.Act.{Act}
@@ -75,7 +75,7 @@ blob_keeps key s k name checked =
     bound key s (want_writer (session s k)) _ (λ w. bound key s (unless BadName (is_blob_name name)) _ (λ u. bound key s (want_room name w) _ (λ v. bound key s checked _ (λ contents. λ h. h))))
 
 command_keeps : (key : SnapshotKey) (s : Store) (k m : ℕ) (c : Command) → Keeps key s (outcome s k m c)
-unfolding Keeps outcome open_writer goes_on put_blob finish open_reader download
+unfolding Keeps outcome open_writer goes_on put_blob finish abort open_reader download close_reader
 command_keeps key s k m (commands.OpenWriter snapshot) =
     bound key s (want_idle (session s k)) _ (λ a. bound key s (or_else BadName (key_of snapshot)) _ (λ b. bound key s (if_none GroupBusy (group_holder s (group_of_key b))) _
     (λ c. bound key s (want_newer b.time (latest_in (group_of_key b) s.snapshots)) _
@@ -84,11 +84,13 @@ command_keeps key s k m (commands.Blob file blob) = blob_keeps key s k file (wan
 command_keeps key s k m commands.Finish =
     bound key s (want_writer (session s k)) _ (λ w. bound key s (or_else NoFile (file_named manifest_name w.files)) _
     (λ f. λ h. insert_keeps key (snapshot_of w) s.snapshots h))
+command_keeps key s k m commands.Abort = bound key s (want_writer (session s k)) _ (λ w. λ h. h)
 command_keeps key s k m (commands.OpenReader snapshot) =
     bound key s (want_idle (session s k)) _ (λ a. bound key s (or_else BadName (key_of snapshot)) _ (λ b. bound key s (or_else NoSnapshot (snapshot_named b s.snapshots)) _ (λ c. λ h. h)))
 command_keeps key s k m (commands.Download file offset) =
     bound key s (want_reader (session s k)) _ (λ r. bound key s (unless BadName (is_file_name file)) _ (λ a. bound key s (or_else NoFile (file_named file (reader_files s r))) _
     (λ f. bound key s (unless (BadRange (length (file_text f.content))) (nat_le offset (length (file_text f.content)))) _ (λ b. λ h. h))))
+command_keeps key s k m commands.CloseReader = bound key s (want_reader (session s k)) _ (λ r. λ h. h)
 command_keeps key s k m commands.Bye = λ h. h
 
 act_keeps : (R : Option (List Snapshot)) (key : SnapshotKey) (w : World) (k m : ℕ) (a : Act) → Keeps key w.store (act_outcome R w k m a)

@@ -36,11 +36,13 @@ fields_not_bye code bytes more =
     either (code == 10) (one_text commands.OpenWriter bytes) _ (bound (fields.whole (text_at bytes)) (λ t. Some (commands.OpenWriter t)) (λ t. tt))
     (either (code == 17) (blob bytes) _ (bound (text_at bytes) (λ t. Some (commands.Blob t.0 t.1)) (λ t. tt))
     (either (code == 18) (nothing_more commands.Finish bytes) _ (either (length bytes == 0) (Some commands.Finish) None tt tt)
+    (either (code == 19) (nothing_more commands.Abort bytes) _ (either (length bytes == 0) (Some commands.Abort) None tt tt)
     (either (code == 20) (one_text commands.OpenReader bytes) _ (bound (fields.whole (text_at bytes)) (λ t. Some (commands.OpenReader t)) (λ t. tt))
     (either (code == 21) (text_and_offset commands.Download bytes) _
     (bound (text_at bytes) (λ t. fields.whole (number_at w64 t.1) >>= λ n. Some (commands.Download t.0 n))
     (λ t. bound (fields.whole (number_at w64 t.1)) (λ n. Some (commands.Download t.0 n)) (λ n. tt)))
-    (either (code == 63) (nothing_more commands.Bye bytes) None (last (length bytes == 0) refl) tt)))))
+    (either (code == 24) (nothing_more commands.CloseReader bytes) _ (either (length bytes == 0) (Some commands.CloseReader) None tt tt)
+    (either (code == 63) (nothing_more commands.Bye bytes) None (last (length bytes == 0) refl) tt)))))))
   where
     last : (b : Bool) → (length bytes == 0) ≡ b → IsNotBye (if b then Some commands.Bye else None)
     last true is = let none : length bytes ≡ 0 = eqb-true (length bytes) 0 is in absurd (omega arith)

@@ -6,9 +6,9 @@ use Rattle.store_types.specs.declared.refusal.Refusal.TheVariants.{NoMemory}
 use Rattle.store_files.specs.Archive.{Snapshot}
 use Rattle.wire_commands.specs.declared.reply.Reply.{Reply}
 use Rattle.wire_commands.specs.declared.reply.Reply.TheVariants.{Done}
-use Rattle.store_model.specs.Store.{Store, store_of, Outcome}
+use Rattle.store_model.specs.Store.{Store, store_of, Outcome, ended}
 use Rattle.store_model.specs.WriterSteps.{checked_blob, want_data}
-use Rattle.store_model.specs.Steps.{outcome, ended, answered}
+use Rattle.store_model.specs.Steps.{outcome, answered}
 use Rattle.store_model.specs.Weave.{first_fault}
 use Rattle.store_history.specs.declared.act.Act.{Act}
 use Rattle.store_history.specs.declared.act.Act.TheVariants as acts

@@ -152,3 +152,18 @@ unfinished : replies_in (entry 0 0 ∷ entry 0 0 ∷ entry 0 6 ∷ entry 1 0 ∷
     ≡ hex (codes "02000000 0000 01000000 00") ∷ hex (codes "02000000 0000") ∷ []
 unfolding store_model_on_literals
 unfinished = refl
+
+-- ---- ABORT frees the group and leaves nothing, CLOSE_READER ends a reader, and each is refused in another session
+
+abbrev abort : List ℕ
+abort = hex (codes "01000000 13")
+
+abbrev close_reader : List ℕ
+close_reader = hex (codes "01000000 18")
+
+closed : alone (abort ++ open_writer ++ put_manifest ++ close_reader ++ abort ++ put
+    ++ hex (codes "1d000000 14 1b") ++ k ++ abort ++ close_reader ++ close_reader) 12
+    ≡ (hex (codes "02000000 03 00 02000000 0000 01000000 00 02000000 03 01 01000000 00") ++ put_replies
+    ++ hex (codes "01000000 00 02000000 03 02 01000000 00 02000000 03 00")) ∷ []
+unfolding store_model_on_literals
+closed = refl

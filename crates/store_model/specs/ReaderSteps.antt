@@ -8,7 +8,7 @@ use Rattle.store_types.specs.FileNames.{is_file_name}
 use Rattle.store_types.specs.Names.{key_of}
 use Rattle.store_files.specs.Archive.{Content, archive, blob, File, file_text, file_named}
 use Rattle.wire_commands.specs.declared.reply.Reply.TheVariants.{Done}
-use Rattle.store_model.specs.Store.{Reader, reader, Store, Outcome, session, with_session, want_reader, want_idle, snapshot_named}
+use Rattle.store_model.specs.Store.{Reader, reader, Store, Outcome, session, with_session, want_reader, want_idle, ended, snapshot_named}
 use Rattle.store_model.specs.WriterSteps.{part_of}
 
 unfoldable pub open_reader : Store → ℕ → List ℕ → Outcome
@@ -37,3 +37,8 @@ download s lane name offset = do
   file ← or_else NoFile (file_named name (reader_files s r))
   _ ← unless (BadRange (length (file_text file.content))) (nat_le offset (length (file_text file.content)))
   Ok (with_session s lane (reader (note name file.content r)), part_of (file_text file.content) offset)
+
+unfoldable pub close_reader : Store → ℕ → Outcome
+close_reader s lane = do
+  _ ← want_reader (session s lane)
+  Ok (ended s lane, Done)

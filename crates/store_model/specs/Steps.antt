@@ -1,23 +1,21 @@
 -- What a command does to the plain store, and what is replied.
 use Rattle.std.specs.Prelude.{ℕ, Ok, Err}
 use Rattle.wire_commands.specs.declared.command.Command.{Command}
-use Rattle.wire_commands.specs.declared.command.Command.TheVariants.{OpenWriter, Blob, Finish, OpenReader, Download, Bye}
+use Rattle.wire_commands.specs.declared.command.Command.TheVariants.{OpenWriter, Blob, Finish, Abort, OpenReader, Download, CloseReader, Bye}
 use Rattle.wire_commands.specs.declared.reply.Reply.{Reply}
 use Rattle.wire_commands.specs.declared.reply.Reply.TheVariants.{Done, Refused}
-use Rattle.store_model.specs.Store.{Store, none, Outcome, with_session}
-use Rattle.store_model.specs.WriterSteps.{open_writer, put_blob, finish}
-use Rattle.store_model.specs.ReaderSteps.{open_reader, download}
-
--- the lane's session ends
-abbrev pub ended : Store → ℕ → Store
-ended s lane = with_session s lane none
+use Rattle.store_model.specs.Store.{Store, Outcome, ended}
+use Rattle.store_model.specs.WriterSteps.{open_writer, put_blob, finish, abort}
+use Rattle.store_model.specs.ReaderSteps.{open_reader, download, close_reader}
 
 unfoldable pub outcome : Store → ℕ → ℕ → Command → Outcome
 outcome s lane moment (OpenWriter snapshot) = open_writer s lane moment snapshot
 outcome s lane moment (Blob file blob) = put_blob s lane file blob
 outcome s lane moment Finish = finish s lane
+outcome s lane moment Abort = abort s lane
 outcome s lane moment (OpenReader snapshot) = open_reader s lane snapshot
 outcome s lane moment (Download file offset) = download s lane file offset
+outcome s lane moment CloseReader = close_reader s lane
 outcome s lane moment Bye = Ok (ended s lane, Done)
 
 -- a refused step changes nothing

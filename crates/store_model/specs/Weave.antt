@@ -11,8 +11,8 @@ use Rattle.wire_commands.specs.declared.reply.Reply.{Reply}
 use Rattle.wire_commands.specs.declared.reply.Reply.TheVariants.{Done, Refused}
 use Rattle.store_model.specs.declared.ending.Ending.{Ending}
 use Rattle.store_model.specs.declared.ending.Ending.TheVariants as endings
-use Rattle.store_model.specs.Store.{Store}
-use Rattle.store_model.specs.Steps.{ended, step}
+use Rattle.store_model.specs.Store.{Store, ended}
+use Rattle.store_model.specs.Steps.{step}
 use Rattle.store_model.specs.Lanes.{Run, Next, plain, bye, broken, end, new_run, lane_at, with_lane, say, next_of}
 
 -- ---- what an entry may do

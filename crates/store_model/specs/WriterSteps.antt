@@ -10,7 +10,7 @@ use Rattle.blob_codec.specs.Blob.{data_of}
 use Rattle.store_files.specs.Archive.{Content, blob, Snapshot, file_named}
 use Rattle.wire_commands.specs.declared.reply.Reply.{Reply}
 use Rattle.wire_commands.specs.declared.reply.Reply.TheVariants.{Done, Base, Part}
-use Rattle.store_model.specs.Store.{Writer, none, writer, Store, Outcome, session, with_session, want_writer, want_idle, group_holder, in_group, latest_in, insert_snapshot, insert_file}
+use Rattle.store_model.specs.Store.{Writer, none, writer, Store, Outcome, session, with_session, want_writer, want_idle, ended, group_holder, in_group, latest_in, insert_snapshot, insert_file}
 use Rattle.store_model.specs.Uploads.{want_room}
 
 -- the lane's writer becomes this one
@@ -81,3 +81,11 @@ finish s lane = do
   w ← want_writer (session s lane)
   _ ← or_else NoFile (file_named manifest_name w.files)
   Ok (record (with_session s lane none) { snapshots = insert_snapshot (snapshot_of w) s.snapshots }, Done)
+
+-- ---- ABORT
+
+-- the writer ends, and its snapshot is never finished
+unfoldable pub abort : Store → ℕ → Outcome
+abort s lane = do
+  _ ← want_writer (session s lane)
+  Ok (ended s lane, Done)

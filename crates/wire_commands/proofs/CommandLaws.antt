@@ -5,7 +5,7 @@ use Rattle.std.proofs.lemmas.Bool.{leb-true, le-leb}
 use Rattle.store_types.specs.Chain.Reading.{◌>>=◌, only_if}
 use Rattle.wire_frames.specs.Frames.{body_limit, AreBytes}
 use Rattle.wire_commands.specs.declared.command.Command.{Command}
-use Rattle.wire_commands.specs.declared.command.Command.TheVariants.{OpenWriter, Blob, Finish, OpenReader, Download, Bye}
+use Rattle.wire_commands.specs.declared.command.Command.TheVariants.{OpenWriter, Blob, Finish, Abort, OpenReader, Download, CloseReader, Bye}
 use Rattle.wire_commands.specs.Fields.{byte_at}
 use Rattle.wire_commands.specs.CommandText.{command_text, nothing_more, one_text, text_and_offset, blob, fields_of, command_of}
 use Rattle.wire_commands.specs.HasText.{HasText, FitsCommand, CommandsAreReadAgain, CommandsHaveOneText}
@@ -20,10 +20,12 @@ fields_spell n bytes fits =
     either_at P n 10 (one_text OpenWriter bytes) _ (one_spells command_text FitsCommand text_field OpenWriter bytes 10 fits (λ t. refl) (λ t h. h))
     (either_at P n 17 (blob bytes) _ (rest_spells command_text FitsCommand text_field Blob bytes 17 fits (λ t rest. refl) (λ t rest h. h))
     (either_at P n 18 (nothing_more Finish bytes) _ (nothing_spells command_text FitsCommand bytes 18 Finish tt refl)
+    (either_at P n 19 (nothing_more Abort bytes) _ (nothing_spells command_text FitsCommand bytes 19 Abort tt refl)
     (either_at P n 20 (one_text OpenReader bytes) _ (one_spells command_text FitsCommand text_field OpenReader bytes 20 fits (λ t. refl) (λ t h. h))
     (either_at P n 21 (text_and_offset Download bytes) _ (two_spells command_text FitsCommand text_field u64_field Download bytes 21 fits (λ p. refl) (λ p h. h))
+    (either_at P n 24 (nothing_more CloseReader bytes) _ (nothing_spells command_text FitsCommand bytes 24 CloseReader tt refl)
     (either_at P n 63 (nothing_more Bye bytes) None (nothing_spells command_text FitsCommand bytes 63 Bye tt refl)
-    (none_spells command_text FitsCommand bytes n))))))
+    (none_spells command_text FitsCommand bytes n))))))))
 
 -- the command of a body of any length
 abbrev command_in : List ℕ → Option Command
@@ -38,8 +40,10 @@ unfolding command_text fields_of nothing_more one_text text_and_offset blob
 fields_again (OpenWriter snapshot) fits = one_again text_field OpenWriter snapshot fits
 fields_again (Blob file content) fits = rest_again text_field Blob file content fits
 fields_again Finish fits = refl
+fields_again Abort fits = refl
 fields_again (OpenReader snapshot) fits = one_again text_field OpenReader snapshot fits
 fields_again (Download file offset) fits = two_again text_field u64_field Download file offset fits.0 fits.1
+fields_again CloseReader fits = refl
 fields_again Bye fits = refl
 
 pub commands_again : CommandsAreReadAgain

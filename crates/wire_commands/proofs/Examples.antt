@@ -8,7 +8,7 @@ use Rattle.store_types.specs.declared.refusal.ChunkFault.TheVariants.{Nothing, N
 use Rattle.store_types.specs.declared.refusal.Refusal.{Refusal}
 use Rattle.store_types.specs.declared.refusal.Refusal.TheVariants.{BadFrame, TooLong, WrongState, BadName, GroupBusy, SnapshotBusy, NotNewer, NoSnapshot, NoFile, Exists, BadBlob, WrongDigest, WrongSize, UnknownChunk, BadOffset, BadClose, OpenIndexes, BadManifest, ManifestMismatch, NotAllowed, TooMany, BadRange, Damaged, Unreadable, CollectorBusy, DiskFault, Halted, NoMemory, NoRemote, RemoteFault}
 use Rattle.wire_frames.specs.Frames.{frame}
-use Rattle.wire_commands.specs.declared.command.Command.TheVariants.{OpenWriter, Blob, Finish, OpenReader, Download, Bye}
+use Rattle.wire_commands.specs.declared.command.Command.TheVariants.{OpenWriter, Blob, Finish, Abort, OpenReader, Download, CloseReader, Bye}
 use Rattle.wire_commands.specs.declared.reply.Reply.TheVariants.{Done, Base, Part, Refused}
 use Rattle.wire_commands.specs.CommandText.{command_text, command_of}
 use Rattle.wire_commands.specs.ReplyText.{reply_text}
@@ -48,6 +48,14 @@ upload = refl
 finish : frame (command_text Finish) ≡ hex (codes "01000000 12")
 unfolding wire_commands_on_literals
 finish = refl
+
+abort : frame (command_text Abort) ≡ hex (codes "01000000 13")
+unfolding wire_commands_on_literals
+abort = refl
+
+close_reader : frame (command_text CloseReader) ≡ hex (codes "01000000 18")
+unfolding wire_commands_on_literals
+close_reader = refl
 
 open_reader : frame (command_text (OpenReader snapshot)) ≡ hex (codes "1d000000 14 1b") ++ snapshot
 unfolding wire_commands_on_literals

@@ -3,7 +3,7 @@ use Rattle.std.proofs.Common.{◌≡◌, ℕ, zero, suc, List, [], ◌∷◌, �
 use Rattle.wire_frames.specs.Frames.{frame, Front, short, too_long, whole, cut, Tail, Frames, advanced_by, frames_from, first_frames, frames_of}
 use Rattle.wire_frames.proofs.FramesLemmas.{cut-frame, frames_of-next}
 use Rattle.wire_commands.specs.declared.command.Command.{Command}
-use Rattle.wire_commands.specs.declared.command.Command.TheVariants.{OpenWriter, Blob, Finish, OpenReader, Download, Bye}
+use Rattle.wire_commands.specs.declared.command.Command.TheVariants.{Bye}
 use Rattle.wire_commands.specs.CommandText.{command_of}
 use Rattle.wire_commands.specs.Inputs.{body_front, cut_front, front, commands_from, first_commands, frames, command_and, commands_of, FramesAreCommands, InputsAreFrames, InputsGoOn}
 
@@ -21,12 +21,8 @@ frames_are_commands body rest h = starts body rest ∙ ap cut_front (cut-frame b
 by_command : (o : Option Command) (rest : List ℕ) (go_on : List ℕ → List Command) (others : List Command) → go_on rest ≡ others
     → commands_from (body_front o rest) go_on ≡ command_and o others
 by_command None rest go_on others e = refl
-by_command (Some (OpenWriter snapshot)) rest go_on others e = ap (λ (cs : List Command). OpenWriter snapshot ∷ cs) e
-by_command (Some (Blob file content)) rest go_on others e = ap (λ (cs : List Command). Blob file content ∷ cs) e
-by_command (Some Finish) rest go_on others e = ap (λ (cs : List Command). Finish ∷ cs) e
-by_command (Some (OpenReader snapshot)) rest go_on others e = ap (λ (cs : List Command). OpenReader snapshot ∷ cs) e
-by_command (Some (Download file offset)) rest go_on others e = ap (λ (cs : List Command). Download file offset ∷ cs) e
 by_command (Some Bye) rest go_on others e = refl
+by_command (Some c) rest go_on others e = ap (λ (cs : List Command). c ∷ cs) e
 
 -- two ways to go on that agree
 abbrev Agree : (List ℕ → List Command) → (Tail → Frames) → Type 0

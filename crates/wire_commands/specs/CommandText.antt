@@ -4,15 +4,17 @@ use Rattle.std.specs.Int.{w64}
 use Rattle.store_types.specs.Chain.Reading.{◌>>=◌, only_if}
 use Rattle.wire_frames.specs.Frames.{body_limit}
 use Rattle.wire_commands.specs.declared.command.Command.{Command}
-use Rattle.wire_commands.specs.declared.command.Command.TheVariants.{OpenWriter, Blob, Finish, OpenReader, Download, Bye}
+use Rattle.wire_commands.specs.declared.command.Command.TheVariants.{OpenWriter, Blob, Finish, Abort, OpenReader, Download, CloseReader, Bye}
 use Rattle.wire_commands.specs.Fields.{u64, text, whole, byte_at, number_at, text_at}
 
 unfoldable pub command_text : Command → List ℕ
 command_text (OpenWriter snapshot) = 10 ∷ text snapshot
 command_text (Blob file blob) = 17 ∷ text file ++ blob
 command_text Finish = 18 ∷ []
+command_text Abort = 19 ∷ []
 command_text (OpenReader snapshot) = 20 ∷ text snapshot
 command_text (Download file offset) = 21 ∷ text file ++ u64 offset
+command_text CloseReader = 24 ∷ []
 command_text Bye = 63 ∷ []
 
 -- ---- reading
@@ -45,8 +47,10 @@ fields_of code bytes =
     if code == 10 then one_text OpenWriter bytes else
     if code == 17 then blob bytes else
     if code == 18 then nothing_more Finish bytes else
+    if code == 19 then nothing_more Abort bytes else
     if code == 20 then one_text OpenReader bytes else
     if code == 21 then text_and_offset Download bytes else
+    if code == 24 then nothing_more CloseReader bytes else
     if code == 63 then nothing_more Bye bytes else
     None
 

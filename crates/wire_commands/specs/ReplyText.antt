@@ -23,8 +23,10 @@ reply_form code =
     if code == 10 then Some base else
     if code == 17 then Some empty else
     if code == 18 then Some empty else
+    if code == 19 then Some empty else
     if code == 20 then Some empty else
     if code == 21 then Some part else
+    if code == 24 then Some empty else
     if code == 63 then Some empty else
     None
 

@@ -21,10 +21,14 @@ pub enum Command {
     Blob { file: Bytes, blob: Bytes },
     /// 18: the writer's files become a finished snapshot.
     Finish,
+    /// 19: the writer ends, and its files are removed.
+    Abort,
     /// 20: a reader of the snapshot.
     OpenReader { snapshot: Bytes },
     /// 21: a part of a file of the reader's snapshot, from an offset in bytes.
     Download { file: Bytes, offset: u64 },
+    /// 24: the reader ends.
+    CloseReader,
     /// 63: the lane's end.
     Bye,
 }
@@ -71,10 +75,12 @@ impl Command {
                 rest: blob.as_slice(),
             },
             Command::Finish => Spelling::of(Head::new(18)),
+            Command::Abort => Spelling::of(Head::new(19)),
             Command::OpenReader { snapshot } => Spelling::of(Head::new(20).text(snapshot)),
             Command::Download { file, offset } => {
                 Spelling::of(Head::new(21).text(file).u64(*offset))
             }
+            Command::CloseReader => Spelling::of(Head::new(24)),
             Command::Bye => Spelling::of(Head::new(63)),
         }
     }
@@ -104,8 +110,10 @@ fn with_code(alloc: Global, code: u8, fields: &[u8]) -> Result<Option<Command>, 
         10 => open_writer(alloc, fields),
         17 => blob(alloc, fields),
         18 => Ok(nothing_more(Command::Finish, fields)),
+        19 => Ok(nothing_more(Command::Abort, fields)),
         20 => open_reader(alloc, fields),
         21 => download(alloc, fields),
+        24 => Ok(nothing_more(Command::CloseReader, fields)),
         63 => Ok(nothing_more(Command::Bye, fields)),
         _ => Ok(None),
     }

@@ -118,7 +118,7 @@ fn accepted(alloc: Global, code: u8, fields: &[u8]) -> Result<Option<Reply>, All
             Ok(snapshot.map(|snapshot| Reply::Base { snapshot }))
         }
         21 => part(alloc, fields),
-        17 | 18 | 20 | 63 if fields.is_empty() => Ok(Some(Reply::Done)),
+        17 | 18 | 19 | 20 | 24 | 63 if fields.is_empty() => Ok(Some(Reply::Done)),
         _ => Ok(None),
     }
 }

@@ -5,19 +5,21 @@ use port_traits::{Failed, MemSink, Sink};
 use std::test::Fail;
 
 /// Bodies of commands.
-static COMMANDS: [&[u8]; 8] = [
+static COMMANDS: [&[u8]; 10] = [
     b"\x0a\x1bhost/a/2020-01-15T06:30:03Z",
     b"\x11\x0findex.json.blob\x42\xab\x38\x07\xbe\x83\x70\xa1\xb2\x94\x08\x45{\"backup-id\":\"a\",\"backup-time\":1579069803,\"backup-type\":\"host\",\"files\":[]}",
     b"\x11\0",
     b"\x12",
+    b"\x13",
     b"\x14\x1bhost/a/2020-01-15T06:30:03Z",
     b"\x15\x0findex.json.blob\0\0\0\0\0\0\0\0",
     b"\x15\0\x01\x02\x03\x04\x05\x06\x07\x08",
+    b"\x18",
     b"\x3f",
 ];
 
 /// Bodies that are no commands.
-static BAD_BODIES: [&[u8]; 14] = [
+static BAD_BODIES: [&[u8]; 16] = [
     b"",
     b"\0",
     b"\x63",
@@ -27,18 +29,22 @@ static BAD_BODIES: [&[u8]; 14] = [
     b"\x11",
     b"\x11\x02a",
     b"\x12\0",
+    b"\x13\0",
     b"\x14\x01",
     b"\x15\x01a\0\0\0\0\0\0\0",
     b"\x15\x01a\0\0\0\0\0\0\0\0\0",
+    b"\x18\0",
     b"\x3f\0",
     b"\xff",
 ];
 
 /// The code of a command, and the frame of a reply to it.
-static REPLIES: [(u8, &[u8]); 48] = [
+static REPLIES: [(u8, &[u8]); 50] = [
     (10, b"\x02\0\0\0\0\0"),
     (10, b"\x1d\0\0\0\0\x1bhost/a/2020-01-15T06:30:03Z"),
     (17, b"\x01\0\0\0\0"),
+    (19, b"\x01\0\0\0\0"),
+    (24, b"\x01\0\0\0\0"),
     (63, b"\x01\0\0\0\0"),
     (
         21,

@@ -1,11 +1,28 @@
-use Rattle.std.proofs.Common.{◌≡◌, ◌∙◌, ap, sym}
-use Rattle.store_history.specs.Acts.{wanting, ending, class_of}
+use Rattle.std.specs.Prelude.{slice_index_or}
+use Rattle.std.proofs.Common.{◌≡◌, ◌∙◌, ap, sym, subst, rules}
+use Rattle.store_history.specs.Acts.{stepping, wanting, ending, class_of}
 use Rattle.core_state.proofs.Answered.{short_stands}
-use Rattle.core_state.proofs.Answering.{short_answered}
+use Rattle.core_state.specs.Begins.{short}
+use Rattle.core_state.proofs.Answering.{short_answered, where_some, refused_same}
+use Rattle.store_types.specs.declared.refusal.Refusal.TheVariants.{Unreadable}
+use Rattle.wire_commands.specs.declared.reply.Reply.TheVariants.{Refused}
+use Rattle.core_state.specs.declared.kept.Session.TheVariants.{Idle}
+use Rattle.core_state.specs.Replies.{may_answer}
+use Rattle.core_state.proofs.Caused.{short_caused, no_end_caused}
+use Rattle.core_state.proofs.Unchanging.{refused_parts, short_unchanged}
+use Rattle.core_state.proofs.Reserves.{short_keeps, no_end_keeps, end_keeps}
+use Rattle.core_writer.proofs.OtherNames.{others_unmoved}
+use Rattle.core_writer.specs.Ended.{HasEnded}
+use Rattle.shared_store.proofs.Asking.{short_closes, end_closes}
+use Rattle.core_reader.specs.Asked.{asked_path}
+use Rattle.core_reader.proofs.Unreadables.{tells_no_reader}
 use Rattle.shared_store.proofs.apply.Goals as goal
 
 apart : wanting ≡ ending → ⊥
 apart e = cc
+
+steps : stepping ≡ ending → ⊥
+steps e = cc
 
 pub returns-in-Short-clause-history : goal.returns-in-Short-clause-history
 returns-in-Short-clause-history g c = let d = g.D.Disk in λ h s.
@@ -14,5 +31,55 @@ returns-in-Short-clause-history g c = let d = g.D.Disk in λ h s.
 pub returns-in-Short-clause-answers : goal.returns-in-Short-clause-answers
 returns-in-Short-clause-answers g c = let d = g.D.Disk in short_answered d.calls d.faults g.C.Clock.readings _ _ c.args.lane _ c.short.ensures
 
+pub returns-in-Short-clause-halted : goal.returns-in-Short-clause-halted
+returns-in-Short-clause-halted g c = where_some _ _ (refused_same g.D.Disk.calls g.C.Clock.readings _ _ c.args.lane _ (short c.short.ensures))
+
 pub returns-in-Short-clause-short : goal.returns-in-Short-clause-short
 returns-in-Short-clause-short g c = λ _. ap (λ x. x.kind) ((c.short.ensures).entered).entry
+
+pub returns-in-Short-clause-cause : goal.returns-in-Short-clause-cause
+returns-in-Short-clause-cause g c = let d = g.D.Disk in
+    no_end_caused d.faults _ _ c.args.act _ (λ e. apart (sym (ap class_of c.in-Short.is) ∙ e)) (short_caused d.calls d.faults g.C.Clock.readings _ _ c.args.lane c.args.act _ c.short.ensures)
+
+pub returns-in-Plain-OpenReader-clause-cause : goal.returns-in-Plain-OpenReader-clause-cause
+returns-in-Plain-OpenReader-clause-cause g c =
+    let step : class_of c.args.act ≡ stepping = search rules in
+    no_end_caused g.D.Disk.faults _ _ c.args.act _ (λ e. steps (sym step ∙ e)) c.reader_act.ensures.cause
+
+pub returns-in-Plain-clause-cause : goal.returns-in-Plain-clause-cause
+returns-in-Plain-clause-cause g c =
+    let step : class_of c.args.act ≡ stepping = search rules in
+    no_end_caused g.D.Disk.faults _ _ c.args.act _ (λ e. steps (sym step ∙ e)) c.writer_act.ensures.cause
+
+pub returns-in-Short-clause-unreadable : goal.returns-in-Short-clause-unreadable
+returns-in-Short-clause-unreadable g c = let d = g.D.Disk in
+    let old = (c.args.core.now).parts in
+    tells_no_reader d.honest d.content d.faults _ _ old.disk _ c.args.act _ (short_caused d.calls d.faults g.C.Clock.readings _ _ c.args.lane c.args.act _ c.short.ensures)
+    (ap (λ a. asked_path a (slice_index_or old.sessions.items c.args.lane Idle) old.catalogue.items) c.in-Short.is)
+    (λ name. ap (λ a. may_answer a (Refused (Unreadable name))) c.in-Short.is)
+
+pub returns-in-Short-clause-unchanged : goal.returns-in-Short-clause-unchanged
+returns-in-Short-clause-unchanged g c = let d = g.D.Disk in short_unchanged d.honest d.content d.calls g.C.Clock.readings _ _ c.args.lane _ c.short.ensures
+
+pub returns-in-Short-clause-others : goal.returns-in-Short-clause-others
+returns-in-Short-clause-others g c = let d = g.D.Disk in
+    others_unmoved d.honest d.content _ _ c.args.lane _ (refused_parts d.calls g.C.Clock.readings _ _ c.args.lane _ (short c.short.ensures))
+
+pub returns-in-Short-clause-removed : goal.returns-in-Short-clause-removed
+returns-in-Short-clause-removed g c = λ ended none. absurd (subst (λ a. HasEnded a c.short.result) c.in-Short.is ended)
+
+pub returns-in-Short-clause-memory : goal.returns-in-Short-clause-memory
+returns-in-Short-clause-memory g c = λ closing. absurd (short_closes _ c.args.act _ c.in-Short.is closing)
+
+pub returns-in-Short-clause-reserve : goal.returns-in-Short-clause-reserve
+returns-in-Short-clause-reserve g c =
+    no_end_keeps _ _ c.args.lane c.args.act _ (λ e. apart (sym (ap class_of c.in-Short.is) ∙ e)) (short_keeps g.D.Disk.calls g.C.Clock.readings _ _ c.args.lane _ _ c.short.ensures)
+
+pub returns-in-End-clause-removed : goal.returns-in-End-clause-removed
+returns-in-End-clause-removed g c = λ ended. c.end_act.ensures.removed (subst (λ a. HasEnded a c.end_act.result) c.in-End.is ended)
+
+pub returns-in-End-clause-memory : goal.returns-in-End-clause-memory
+returns-in-End-clause-memory g c = λ closing. absurd (end_closes _ c.args.act _ c.in-End.is closing)
+
+pub returns-in-End-clause-reserve : goal.returns-in-End-clause-reserve
+returns-in-End-clause-reserve g c = end_keeps _ _ c.args.lane c.args.act _ c.in-End.is c.end_act.ensures.reserve

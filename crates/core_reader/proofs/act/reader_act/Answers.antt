@@ -1,8 +1,16 @@
-use Rattle.std.proofs.Common.{is_some, refl, ap}
+use Rattle.std.specs.Prelude.{slice_index_or}
+use Rattle.std.proofs.Common.{◌∙◌, is_some, refl, sym, ap, subst}
 use Rattle.store_history.specs.History.{act_outcome}
 use Rattle.core_state.specs.History.{world}
+use Rattle.core_state.specs.declared.kept.Session.TheVariants.{Idle}
 use Rattle.core_state.proofs.Answered.{refused_stands, done_stands}
-use Rattle.core_state.proofs.Answering.{refused_answered, done_answered, refused_told}
+use Rattle.core_state.proofs.Answering.{refused_answered, done_answered, refused_told, where_some, where_none, refused_same}
+use Rattle.core_state.proofs.Caused.{refused_caused, done_caused}
+use Rattle.core_state.proofs.Reserves.{refused_keeps, done_keeps}
+use Rattle.core_state.proofs.Unchanging.{refused_parts, refused_unchanged, done_unchanged}
+use Rattle.core_state.proofs.Reserves.{refused_keeps, done_keeps, closing_kind, closing_before}
+use Rattle.core_reader.specs.Asked.{asked_path}
+use Rattle.core_reader.proofs.Unreadables.{tells_refused, tells_done}
 use Rattle.core_reader.proofs.ActLemmas.{readers_formed, readers_step}
 use Rattle.core_reader.proofs.act.reader_act.Goals as goal
 
@@ -33,3 +41,62 @@ returns-in-At-clause-answers g c = let d = g.D.Disk in
 
 pub returns-in-At-clause-told : goal.returns-in-At-clause-told
 returns-in-At-clause-told g c = ap is_some c.settle.ensures.reply_is
+
+pub returns-in-Answered-clause-halted : goal.returns-in-Answered-clause-halted
+returns-in-Answered-clause-halted g c = where_some _ _ (refused_same g.D.Disk.calls g.C.Clock.readings _ _ c.args.lane _ c.in-Answered.ensures.begun)
+
+pub returns-in-At-clause-halted : goal.returns-in-At-clause-halted
+returns-in-At-clause-halted g c = where_none _ _ c.in-At.ensures.begun.no_fault
+
+pub returns-in-Answered-clause-cause : goal.returns-in-Answered-clause-cause
+returns-in-Answered-clause-cause g c = let d = g.D.Disk in
+    refused_caused d.calls d.faults g.C.Clock.readings _ _ c.args.lane c.args.act _ c.in-Answered.ensures.begun
+
+pub returns-in-At-clause-cause : goal.returns-in-At-clause-cause
+returns-in-At-clause-cause g c = let d = g.D.Disk in
+    done_caused d.honest d.calls d.faults g.C.Clock.readings _ c.begin.new.core _ _ c.args.lane c.in-At.moment c.args.act _ _ c.in-At.ensures.begun
+    c.perform-outcome.ensures.serves c.perform-outcome.ensures.answers c.settle.ensures
+
+pub returns-in-Answered-clause-unchanged : goal.returns-in-Answered-clause-unchanged
+returns-in-Answered-clause-unchanged g c = let d = g.D.Disk in
+    refused_unchanged d.honest d.content d.calls g.C.Clock.readings _ _ c.args.lane _ c.in-Answered.ensures.begun
+
+pub returns-in-At-clause-unchanged : goal.returns-in-At-clause-unchanged
+returns-in-At-clause-unchanged g c = let d = g.D.Disk in
+    done_unchanged d.honest d.content d.calls g.C.Clock.readings _ c.begin.new.core _ _ c.args.lane c.in-At.moment _ _ c.in-At.ensures.begun
+    c.perform-outcome.ensures.unchanged c.settle.ensures
+
+pub returns-in-Answered-clause-unreadable : goal.returns-in-Answered-clause-unreadable
+returns-in-Answered-clause-unreadable g c = let d = g.D.Disk in
+    tells_refused d.honest d.content d.calls g.C.Clock.readings _ _ c.args.lane _ _ _ c.in-Answered.ensures.begun
+
+pub returns-in-At-clause-unreadable : goal.returns-in-At-clause-unreadable
+returns-in-At-clause-unreadable g c = let d = g.D.Disk in
+    tells_done d.honest d.content d.calls g.C.Clock.readings _ c.begin.new.core _ _ c.args.lane c.in-At.moment
+    (λ p. asked_path c.args.act (slice_index_or p.sessions.items c.args.lane Idle) p.catalogue.items) _ _ c.in-At.ensures.begun
+    c.perform-outcome.ensures.unreadable c.settle.ensures
+
+pub returns-in-Answered-clause-content : goal.returns-in-Answered-clause-content
+returns-in-Answered-clause-content g c = let d = g.D.Disk in λ h.
+    ap (λ p. d.content p.disk) (refused_parts d.calls g.C.Clock.readings _ _ c.args.lane _ c.in-Answered.ensures.begun)
+
+pub returns-in-At-clause-content : goal.returns-in-At-clause-content
+returns-in-At-clause-content g c = let d = g.D.Disk in λ h.
+    let before = (c.in-At.ensures.begun.begun).parts in
+    ap (λ p. d.content p.disk) c.settle.ensures.parts ∙ c.perform-outcome.ensures.content (subst (λ p. d.honest p.disk) (sym before) h) ∙ ap (λ p. d.content p.disk) before
+
+pub returns-in-Answered-clause-memory : goal.returns-in-Answered-clause-memory
+returns-in-Answered-clause-memory g c = λ closing. c.in-Answered.ensures.memory closing
+
+pub returns-in-At-clause-memory : goal.returns-in-At-clause-memory
+returns-in-At-clause-memory g c = let b = c.in-At.ensures.begun.begun in λ closing.
+    closing_kind g.D.Disk.calls _ _ c.args.lane c.in-At.moment _ _ (c.perform-outcome.ensures.closed (closing_before c.args.core.now c.begin.new.core c.args.lane c.args.act b.parts closing)) c.settle.ensures
+
+pub returns-in-Answered-clause-reserve : goal.returns-in-Answered-clause-reserve
+returns-in-Answered-clause-reserve g c = refused_keeps g.D.Disk.calls g.C.Clock.readings _ _ c.args.lane _ _ c.in-Answered.ensures.begun
+
+pub returns-in-At-clause-reserve : goal.returns-in-At-clause-reserve
+returns-in-At-clause-reserve g c = let b = c.in-At.ensures.begun.begun in
+    done_keeps g.D.Disk.calls g.C.Clock.readings _ c.begin.new.core _ _ c.args.lane c.in-At.moment c.args.act _ _ c.in-At.ensures.begun refl
+    c.in-At.ensures.filled
+    (λ closing. c.perform-outcome.ensures.closed (closing_before c.args.core.now c.begin.new.core c.args.lane c.args.act b.parts closing)) c.settle.ensures

@@ -11,7 +11,7 @@ returns-then-is_err-clause-begun g c = short (record {
   moment = _;
   between = _;
   begun = is_begun g.C.Clock.readings _ _ _ _ _ c.now.ensures.value c.now.ensures.after c.moment_by-moment.ensures (c.args.core.now).in_time
-      refl refl refl refl c.fill.ensures.same c.fill.ensures.more c.fill.ensures.none_lost c.fill.ensures.others;
+      refl refl refl refl c.fill.ensures.same c.fill.ensures.more c.fill.ensures.none_lost c.fill.ensures.filled c.fill.ensures.others;
   entered = c.enter.ensures;
 })
 
@@ -23,8 +23,9 @@ returns-in-Some-clause-begun g c =
       first = _;
       between = _;
       begun = is_begun g.C.Clock.readings _ _ _ _ _ c.now.ensures.value c.now.ensures.after c.moment_by-moment.ensures (c.args.core.now).in_time
-          refl refl refl refl c.fill.ensures.same c.fill.ensures.more c.fill.ensures.none_lost c.fill.ensures.others;
+          refl refl refl refl c.fill.ensures.same c.fill.ensures.more c.fill.ensures.none_lost c.fill.ensures.filled c.fill.ensures.others;
       fault = c.in-Some.is;
+      whole = filled.whole;
       spare = filled.spare;
       entered = entered_as g.D.Disk.calls _ _ _ _ _ _ _ _ c.halted.ensures.reply c.enter-in-Some.ensures;
     })

@@ -1,9 +1,15 @@
-use Rattle.std.proofs.Common.{refl}
+use Rattle.std.proofs.Common.{◌∙◌, refl, sym, ap}
 use Rattle.store_history.specs.History.{act_outcome}
 use Rattle.core_state.specs.History.{world}
 use Rattle.core_state.proofs.Answered.{refused_stands, done_stands}
-use Rattle.core_state.proofs.Answering.{refused_answered, done_answered, refused_told, settled_told}
-use Rattle.core_writer.proofs.ActLemmas.{writers_formed, writers_step}
+use Rattle.core_state.proofs.Answering.{refused_answered, done_answered, refused_told, settled_told, where_some, where_none, refused_same}
+use Rattle.core_state.proofs.Caused.{refused_caused, done_caused}
+use Rattle.core_state.proofs.Reserves.{refused_keeps, done_keeps}
+use Rattle.core_state.proofs.Unchanging.{refused_parts, refused_unchanged, done_unchanged}
+use Rattle.core_writer.proofs.OtherNames.{others_unmoved, others_between}
+use Rattle.core_writer.proofs.ActLemmas.{writers_formed, writers_step, ended_is, refused_ends, some_same}
+use Rattle.core_writer.proofs.EndingLemmas.{gone_between}
+use Rattle.core_state.proofs.Reserves.{refused_keeps, done_keeps, closing_kind, closing_before}
 use Rattle.core_writer.proofs.act.writer_act.Goals as goal
 
 pub returns-in-Answered-clause-history : goal.returns-in-Answered-clause-history
@@ -33,3 +39,62 @@ returns-in-At-clause-answers g c = let d = g.D.Disk in
 
 pub returns-in-At-clause-told : goal.returns-in-At-clause-told
 returns-in-At-clause-told g c = settled_told g.D.Disk.calls c.begin.new.core _ _ c.args.lane c.in-At.moment _ _ refl c.settle.ensures
+
+pub returns-in-Answered-clause-halted : goal.returns-in-Answered-clause-halted
+returns-in-Answered-clause-halted g c = where_some _ _ (refused_same g.D.Disk.calls g.C.Clock.readings _ _ c.args.lane _ c.in-Answered.ensures.begun)
+
+pub returns-in-At-clause-halted : goal.returns-in-At-clause-halted
+returns-in-At-clause-halted g c = where_none _ _ c.in-At.ensures.begun.no_fault
+
+pub returns-in-Answered-clause-cause : goal.returns-in-Answered-clause-cause
+returns-in-Answered-clause-cause g c = let d = g.D.Disk in
+    refused_caused d.calls d.faults g.C.Clock.readings _ _ c.args.lane c.args.act _ c.in-Answered.ensures.begun
+
+pub returns-in-At-clause-cause : goal.returns-in-At-clause-cause
+returns-in-At-clause-cause g c = let d = g.D.Disk in
+    done_caused d.honest d.calls d.faults g.C.Clock.readings _ c.begin.new.core _ _ c.args.lane c.in-At.moment c.args.act _ _ c.in-At.ensures.begun
+    c.perform-outcome.ensures.serves c.perform-outcome.ensures.answers c.settle.ensures
+
+pub returns-in-Answered-clause-unchanged : goal.returns-in-Answered-clause-unchanged
+returns-in-Answered-clause-unchanged g c = let d = g.D.Disk in
+    refused_unchanged d.honest d.content d.calls g.C.Clock.readings _ _ c.args.lane _ c.in-Answered.ensures.begun
+
+pub returns-in-At-clause-unchanged : goal.returns-in-At-clause-unchanged
+returns-in-At-clause-unchanged g c = let d = g.D.Disk in
+    done_unchanged d.honest d.content d.calls g.C.Clock.readings _ c.begin.new.core _ _ c.args.lane c.in-At.moment _ _ c.in-At.ensures.begun
+    c.perform-outcome.ensures.unchanged c.settle.ensures
+
+pub returns-in-Answered-clause-others : goal.returns-in-Answered-clause-others
+returns-in-Answered-clause-others g c = let d = g.D.Disk in
+    others_unmoved d.honest d.content _ _ c.args.lane _ (refused_parts d.calls g.C.Clock.readings _ _ c.args.lane _ c.in-Answered.ensures.begun)
+
+pub returns-in-At-clause-others : goal.returns-in-At-clause-others
+returns-in-At-clause-others g c = let d = g.D.Disk in
+    others_between d.honest d.content _ c.begin.new.core.parts _ _ c.args.lane _ _ (c.in-At.ensures.begun.begun).parts c.settle.ensures.parts c.settle.ensures.reply_is c.perform-outcome.ensures.others
+
+pub returns-in-Answered-clause-removed : goal.returns-in-Answered-clause-removed
+returns-in-Answered-clause-removed g c = λ ended none.
+    absurd (refused_ends g.D.Disk.calls g.C.Clock.readings _ _ c.args.lane c.args.act _ c.in-Answered.ensures.begun c.requires.kind ended)
+
+pub returns-in-At-clause-removed : goal.returns-in-At-clause-removed
+returns-in-At-clause-removed g c = let d = g.D.Disk in λ ended none.
+    let is = ended_is c.args.act c.settle.result c.requires.kind ended in
+    let before = (c.in-At.ensures.begun.begun).parts in
+    gone_between d.honest d.content _ c.begin.new.core.parts _ _ c.args.lane before (ap (λ p. p.disk) c.settle.ensures.parts)
+    (c.perform-outcome.ensures.removed is.0 (some_same _ _ (sym c.settle.ensures.reply_is ∙ is.1)))
+
+pub returns-in-Answered-clause-memory : goal.returns-in-Answered-clause-memory
+returns-in-Answered-clause-memory g c = λ closing. c.in-Answered.ensures.memory closing
+
+pub returns-in-At-clause-memory : goal.returns-in-At-clause-memory
+returns-in-At-clause-memory g c = let b = c.in-At.ensures.begun.begun in λ closing.
+    closing_kind g.D.Disk.calls _ _ c.args.lane c.in-At.moment _ _ (c.perform-outcome.ensures.closed (closing_before c.args.core.now c.begin.new.core c.args.lane c.args.act b.parts closing)) c.settle.ensures
+
+pub returns-in-Answered-clause-reserve : goal.returns-in-Answered-clause-reserve
+returns-in-Answered-clause-reserve g c = refused_keeps g.D.Disk.calls g.C.Clock.readings _ _ c.args.lane _ _ c.in-Answered.ensures.begun
+
+pub returns-in-At-clause-reserve : goal.returns-in-At-clause-reserve
+returns-in-At-clause-reserve g c = let b = c.in-At.ensures.begun.begun in
+    done_keeps g.D.Disk.calls g.C.Clock.readings _ c.begin.new.core _ _ c.args.lane c.in-At.moment c.args.act _ _ c.in-At.ensures.begun refl
+    c.in-At.ensures.filled
+    (λ closing. c.perform-outcome.ensures.closed (closing_before c.args.core.now c.begin.new.core c.args.lane c.args.act b.parts closing)) c.settle.ensures

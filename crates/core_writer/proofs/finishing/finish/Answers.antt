@@ -1,4 +1,5 @@
 use Rattle.std.proofs.Common.{◌≡◌, ◌<◌, ◌∙◌, ap, refl, sym, set, length, arith, rules, Some, None, Err}
+use Rattle.std.specs.FinMap.{get}
 use Rattle.std.specs.List.{list_all}
 use Rattle.store_types.specs.declared.refusal.Refusal.TheVariants.{NoFile}
 use Rattle.core_state.specs.declared.kept.Session.TheVariants.{Writer, Idle}
@@ -9,6 +10,11 @@ use Rattle.core_state.proofs.Sessions.{at_lane, writer_found}
 use Rattle.core_writer.specs.Closed.{kept_manifest, closed}
 use Rattle.core_writer.proofs.FinishLemmas.{not_writing, no_file, does_finish, named_closed}
 use Rattle.core_state.proofs.Texts.{no_file_has_text, done_has_text}
+use Rattle.core_state.specs.Replies.{refuses_finish}
+use Rattle.core_state.proofs.Unchanging.{leaves_same}
+use Rattle.core_writer.specs.Ended.{stored_files}
+use Rattle.core_writer.specs.Others.{stand_at}
+use Rattle.core_writer.proofs.OtherNames.{session_is, closed_elsewhere}
 use Rattle.core_writer.proofs.finishing.finish.Goals as goal
 
 pub returns-in_default-clause-act : goal.returns-in_default-clause-act
@@ -59,3 +65,21 @@ returns-in_default-manifest_of-clause-text g c = no_file_has_text
 
 pub returns-clause-text : goal.returns-clause-text
 returns-clause-text g c = done_has_text
+
+pub returns-in_default-clause-answers : goal.returns-in_default-clause-answers
+returns-in_default-clause-answers g c = ap refuses_finish c.wrong_state.ensures.value
+
+pub returns-in_default-clause-unchanged : goal.returns-in_default-clause-unchanged
+returns-in_default-clause-unchanged g c = let d = g.D.Disk in leaves_same d.honest d.content c.args.parts.now _ c.wrong_state.result refl (record { catalogue = refl; sessions = refl })
+
+pub returns-in_default-manifest_of-clause-unchanged : goal.returns-in_default-manifest_of-clause-unchanged
+returns-in_default-manifest_of-clause-unchanged g c = let d = g.D.Disk in leaves_same d.honest d.content c.args.parts.now _ NoFile refl (record { catalogue = refl; sessions = refl })
+
+pub returns-clause-others : goal.returns-clause-others
+returns-clause-others g c = let d = g.D.Disk in λ ok h q before after.
+    let old = c.args.parts.now in
+    let within : c.args.lane < length old.sessions.items = omega (arith, old.lanes, old.sessions.ok.0, c.requires) in
+    let here = session_is old.sessions.items c.args.lane c.index-session.result.now within c.index-session.ensures in
+    let manifest : kept_manifest c.in-Writer.w ≡ Some (c.in-Some.path.now, c.in-Some.text.now) = search rules in
+    ap (λ m. get m q) (c.in_ok-put_manifest.ensures.put h)
+    ∙ closed_elsewhere c.in-Writer.w c.in-Some.path.now c.in-Some.text.now (d.content old.disk) q manifest (ap (λ x. stand_at q (stored_files x)) (sym (here ∙ c.in-Writer.is)) ∙ before)

@@ -16,6 +16,7 @@ use Rattle.core_writer.specs.Opened.{want_idle, base_kept}
 use Rattle.core_writer.proofs.OpenedLemmas.{may_open, latest_named}
 use Rattle.core_writer.proofs.OpeningLemmas.{not_idle, bad_name, refused, idle_is, tests_are, does_open}
 use Rattle.core_state.proofs.Texts.{bad_name_has_text, base_has_text}
+use Rattle.core_state.proofs.Unchanging.{leaves_same}
 use Rattle.core_writer.proofs.opening.open_writer.Goals as goal
 
 pub returns-in-Err-clause-act : goal.returns-in-Err-clause-act
@@ -79,3 +80,18 @@ returns-in-Err-base_of-clause-text g c = c.in-Err-base_of.ensures.text
 
 pub returns-clause-text : goal.returns-clause-text
 returns-clause-text g c = base_has_text c.in_ok-text.text c.in_ok-text.ensures.short
+
+pub returns-in-Err-clause-answers : goal.returns-in-Err-clause-answers
+returns-in-Err-clause-answers g c = c.in-Err.ensures.kind
+
+pub returns-in-Err-base_of-clause-answers : goal.returns-in-Err-base_of-clause-answers
+returns-in-Err-base_of-clause-answers g c = c.in-Err-base_of.ensures.kind
+
+pub returns-in-Err-clause-unchanged : goal.returns-in-Err-clause-unchanged
+returns-in-Err-clause-unchanged g c = let d = g.D.Disk in leaves_same d.honest d.content c.args.parts.now _ c.in-Err.refusal refl (record { catalogue = refl; sessions = refl })
+
+pub returns-in_default-2-clause-unchanged : goal.returns-in_default-2-clause-unchanged
+returns-in_default-2-clause-unchanged g c = let d = g.D.Disk in leaves_same d.honest d.content c.args.parts.now _ BadName refl (record { catalogue = refl; sessions = refl })
+
+pub returns-in-Err-base_of-clause-unchanged : goal.returns-in-Err-base_of-clause-unchanged
+returns-in-Err-base_of-clause-unchanged g c = let d = g.D.Disk in leaves_same d.honest d.content c.args.parts.now _ c.in-Err-base_of.refusal refl (record { catalogue = refl; sessions = refl })

@@ -1,4 +1,5 @@
-use Rattle.std.proofs.Common.{◌<◌, ◌∙◌, IfErr, ap, refl, sym, subst, set, length, arith}
+use Rattle.std.proofs.Common.{◌<◌, ◌∙◌, IfErr, IsTrue, ap, refl, sym, subst, set, length, arith}
+use Rattle.std.specs.FinMap.{get}
 use Rattle.store_types.specs.Chain.Refusing.{◌>>=◌}
 use Rattle.store_files.specs.Archive.{blob}
 use Rattle.wire_commands.specs.declared.reply.Reply.TheVariants.{Done, Refused}
@@ -13,6 +14,12 @@ use Rattle.core_writer.specs.Uploaded.{upload_of}
 use Rattle.core_writer.proofs.BlobStep.{upload_refused, may_upload}
 use Rattle.core_writer.proofs.BlobLemmas.{named_after, does_blob}
 use Rattle.core_state.proofs.Texts.{done_has_text}
+use Rattle.core_state.specs.Replies.{refuses_blob}
+use Rattle.core_state.specs.Unchanged.{Unchanged}
+use Rattle.core_state.proofs.Unchanging.{leaves_same}
+use Rattle.core_writer.specs.Ended.{stored_files}
+use Rattle.core_writer.specs.Others.{stand_at}
+use Rattle.core_writer.proofs.OtherNames.{session_set, put_elsewhere}
 use Rattle.core_writer.proofs.uploads.blob.Goals as goal
 
 pub returns-in-Err-clause-act : goal.returns-in-Err-clause-act
@@ -58,3 +65,24 @@ returns-in-Err-checked-clause-text g c = c.refused.ensures.text
 
 pub returns-clause-text : goal.returns-clause-text
 returns-clause-text g c = done_has_text
+
+pub returns-in-Err-clause-answers : goal.returns-in-Err-clause-answers
+returns-in-Err-clause-answers g c = subst (λ u. IfErr u (λ r. IsTrue (refuses_blob r))) c.in-Err.is c.in_ok-file.ensures.kind
+
+pub returns-in-Err-checked-clause-answers : goal.returns-in-Err-checked-clause-answers
+returns-in-Err-checked-clause-answers g c = c.refused.ensures.kind
+
+pub returns-in-Err-clause-unchanged : goal.returns-in-Err-clause-unchanged
+returns-in-Err-clause-unchanged g c = let d = g.D.Disk in leaves_same d.honest d.content c.args.parts.now _ c.in-Err.refusal refl (record { catalogue = refl; sessions = refl })
+
+pub returns-in-Err-checked-clause-unchanged : goal.returns-in-Err-checked-clause-unchanged
+returns-in-Err-checked-clause-unchanged g c = let d = g.D.Disk in
+    subst (Unchanged d.honest d.content c.args.parts.now _) (sym c.refused.ensures.value) (leaves_same d.honest d.content c.args.parts.now _ c.in-Err-checked.refusal refl (record { catalogue = refl; sessions = refl }))
+
+pub returns-clause-others : goal.returns-clause-others
+returns-clause-others g c = let d = g.D.Disk in λ ok h q before after.
+    let old = c.args.parts.now in
+    let within : c.args.lane < length old.sessions.items = omega (arith, old.lanes, old.sessions.ok.0, c.requires.lane) in
+    let set_is = session_set old.sessions.items c.args.lane c.take_upload.new.session _ within c.in_ok-take_upload.ensures.ok in
+    ap (λ m. get m q) (c.in_ok-take_upload.ensures.put h)
+    ∙ put_elsewhere c.in-Ok.file c.in-Ok-checked.text c.index_mut.result.now (d.content old.disk) q (ap (λ x. stand_at q (stored_files x)) (sym set_is) ∙ after)

@@ -1,5 +1,7 @@
 use Rattle.std.proofs.Common.{refl}
 use Rattle.core_state.specs.History.{event_of}
+use Rattle.core_state.proofs.Reserves.{reserved_room}
+use Rattle.lane.proofs.Acting.{leaves_ended, leaves_going}
 use Rattle.lane.proofs.run.do_act.Goals as goal
 
 pub returns-in-Err-clause-answers : goal.returns-in-Err-clause-answers
@@ -37,3 +39,15 @@ returns-clause-answers g c = record {
   gave = c.in-Ok.ensures.bytes;
   ended = c.if-last.false;
 }
+
+pub apply-reply-requires-clause-room : goal.apply-reply-requires-clause-room
+apply-reply-requires-clause-room g c = reserved_room c.args.core.now c.args.lane c.requires.room
+
+pub returns-in-Err-clause-room : goal.returns-in-Err-clause-room
+returns-in-Err-clause-room g c = leaves_ended c.args.act c.args.core.now _ c.args.lane c.apply-reply.result _ c.requires.no_end c.apply-reply.ensures.reserve
+
+pub returns-in-Ok-clause-room : goal.returns-in-Ok-clause-room
+returns-in-Ok-clause-room g c = leaves_ended c.args.act c.args.core.now _ c.args.lane c.apply-reply.result _ c.requires.no_end c.apply-reply.ensures.reserve
+
+pub returns-clause-room : goal.returns-clause-room
+returns-clause-room g c = leaves_going c.args.act c.args.core.now _ c.args.lane c.apply-reply.result c.requires.no_end c.apply-reply.ensures.reserve c.if-last.false

@@ -1,5 +1,6 @@
 use Rattle.std.proofs.Common.{◌≡◌, Some, inl, inr, refl, ap, ◌∙◌, arith}
 use Rattle.store_model.specs.declared.ending.Ending.TheVariants as endings
+use Rattle.core_state.proofs.Reserves.{whole_reserved}
 use Rattle.lane.proofs.Turning.{starts}
 use Rattle.lane.proofs.Caused.{causes_later}
 use Rattle.lane.proofs.Entries.{none_entered, more_entered}
@@ -8,7 +9,7 @@ use Rattle.lane.proofs.run.run_alone.Goals as goal
 pub loop-last-init : goal.loop-last-init
 loop-last-init g c = (
   λ h s none. starts _ h _ _ _ _ _ s none c.new.ensures.cutter c.new.ensures.taken,
-  record { whole = c.requires.room; source_later = omega arith; sink_later = omega arith; same = refl },
+  record { reserved = whole_reserved c.args.core.now c.args.lane c.requires.room; source_later = omega arith; sink_later = omega arith; same = refl },
   none_entered g.D.Disk.faults c.args.core.now c.args.lane ⊥ (λ f. f),
 )
 
@@ -29,7 +30,7 @@ loop-last-preserved g c =
     let did = c.in_default.ensures in (
       λ h s none. did.goes (record { history = h; left = g.S.Source.left c.args.port.now.source; taken = g.K.Sink.taken c.args.port.now.sink }) (before.0 h s none),
       record {
-        whole = did.room;
+        reserved = did.room;
         source_later = omega (arith, before.1.source_later, did.causes.source_later);
         sink_later = omega (arith, before.1.sink_later, did.causes.sink_later);
         same = did.remote ∙ before.1.same;

@@ -9,7 +9,7 @@ invariant-loop-last g l = let d = g.D.Disk in
     HasBegun (StandsFor d.honest d.content d.calls g.C.Clock.readings l.fn.core) (StandsFor d.honest d.content d.calls g.C.Clock.readings l.core)
     l.lane (g.S.Source.left l.fn.port.source) (g.S.Source.left l.port.source) (g.K.Sink.taken l.fn.port.sink) (g.K.Sink.taken l.port.sink)
     l.progress.input l.progress.given
-    × Keeps l.core.journal l.lane (g.S.Source.faults l.fn.port.source) (g.S.Source.faults l.port.source) (g.K.Sink.faults l.fn.port.sink) (g.K.Sink.faults l.port.sink)
+    × Keeps l.core l.lane (g.S.Source.faults l.fn.port.source) (g.S.Source.faults l.port.source) (g.K.Sink.faults l.fn.port.sink) (g.K.Sink.faults l.port.sink)
     l.fn.core.remote l.core.remote
     × HasEntered d.faults l.fn.core l.core l.lane ⊥
 

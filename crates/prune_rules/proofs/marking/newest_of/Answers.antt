@@ -1,4 +1,4 @@
-use Rattle.std.proofs.Common.{ℕ, ◌+◌, true, refl, sym, ◌∙◌, subst}
+use Rattle.std.proofs.Common.{ℕ, ◌+◌, [], arith, true, refl, sym, ◌∙◌, subst}
 use Rattle.prune_rules.specs.Slots.{NewestOf, time_at}
 use Rattle.prune_rules.proofs.First.{takes_over, stays_behind}
 use Rattle.prune_rules.proofs.marking.newest_of.Goals as goal
@@ -13,7 +13,7 @@ loop-i-preserved c =
     let best = c.loop-i.newest in
     elim c.if-is_later.branch [
       | then-is_later w ↦ subst (NewestOf c.args.items.now (i + 1)) (sym w.newest-is)
-          (takes_over all level time i best refl (sym c.is_later.ensures ∙ w.if-is_later.true) c.loop-i.invariant)
+          (takes_over all level time [] 0 i i best refl (omega arith) refl (sym c.is_later.ensures ∙ w.if-is_later.true) c.loop-i.invariant)
       | else-is_later w ↦ subst (NewestOf c.args.items.now (i + 1)) (sym w.newest-is)
-          (stays_behind all level time i best (sym c.is_later.ensures ∙ w.if-is_later.false) c.loop-i.invariant)
+          (stays_behind all level time [] 0 i i best refl (sym c.is_later.ensures ∙ w.if-is_later.false) c.loop-i.invariant)
     ]

@@ -1,5 +1,5 @@
 use Rattle.std.proofs.Common.{◌≡◌, ◌<◌, ◌≤◌, ℕ, sym, ◌∙◌, arith}
-use Rattle.prune_rules.specs.Slots.{StartsRun, number_at}
+use Rattle.prune_rules.specs.Slots.{StartsRun, number_in}
 use Rattle.prune_rules.proofs.marking.run_start.Goals as goal
 
 run_of : (number : ℕ → ℕ) (own start end : ℕ) → start < end → ((k : ℕ) → start ≤ k → k < end → number k ≡ own) →
@@ -10,5 +10,5 @@ run_of number own start end some same less =
 
 pub returns : goal.returns
 returns c =
-    run_of (number_at c.args.period c.args.items.now) c.number_at-number.result c.loop-start.start c.args.end
+    run_of (number_in c.args.period c.args.items.now c.args.order.now) c.number_at-number.result c.loop-start.start c.args.end
     c.loop-start.invariant.0 c.loop-start.invariant.1 (λ k h. absurd (omega arith))

@@ -1,9 +1,9 @@
-use Rattle.std.proofs.Common.{◌≡◌, ℕ, suc, ◌-◌, ◌<◌, ◌&&◌, ◌||◌, false, length, get_or, set, eqb, Some, None, refl, sym, ap, subst, ◌∙◌, arith}
+use Rattle.std.proofs.Common.{◌≡◌, ℕ, suc, ◌-◌, ◌<◌, ◌&&◌, ◌||◌, false, length, get_or, set, eqb, Some, [], refl, sym, ap, subst, ◌∙◌, arith}
 use Rattle.std.proofs.lemmas.List.{get_or-set_same, get_or-set_other}
 use Rattle.prune_rules.specs.declared.Mark.TheVariants.{Kept, Removed}
 use Rattle.prune_rules.specs.Slots.{choice, slot_in, item_at, number_at, time_at, is_kept, holds_kept}
 use Rattle.prune_rules.proofs.Taking.{Reached, reached_begin, reached_none, reached_zero, reached_skip, reached_more, open_at}
-use Rattle.prune_rules.proofs.First.{from_zero}
+use Rattle.prune_rules.proofs.First.{leads}
 use Rattle.prune_rules.proofs.marking.take_any.Goals as goal
 
 pub loop-left-init : goal.loop-left-init
@@ -13,9 +13,7 @@ loop-left-init c =
 pub returns-in_default : goal.returns-in_default
 returns-in_default c =
     reached_none (choice c.args.period c.args.count) (length c.args.items.now) (slot_in c.args.items.now c.args.covered.now c.args.into.now)
-    _ _ c.loop-left.bound c.loop-left.left c.loop-left.invariant (λ k. refl)
-    (from_zero (open_at (choice c.args.period c.args.count) (length c.args.items.now) (slot_in c.args.items.now c.args.covered.now c.args.into.now) (λ k. get_or c.loop-left.covered k false) c.loop-left.bound)
-    (number_at c.args.period c.args.items.now) (time_at c.args.items.now) _ None c.in_default.ensures)
+    _ _ c.loop-left.bound c.loop-left.left c.loop-left.invariant (λ k. refl) (λ k h. c.in_default.ensures.first k (omega arith) h)
 
 pub returns : goal.returns
 returns c =
@@ -30,7 +28,8 @@ loop-left-preserved c =
     let kept = λ (k : ℕ). is_kept (get_or c.loop-left.into k Removed) in
     let covered = λ (k : ℕ). get_or c.loop-left.covered k false in
     let i = c.in-Some.newest in
-    let first = from_zero (open_at ch (length items) F covered c.loop-left.bound) (number_at c.args.period items) (time_at items) (length items) (Some i) c.in-Some.ensures in
+    let first = leads (open_at ch (length items) F covered c.loop-left.bound) (number_at c.args.period items) (time_at items) [] 0 (length items) (length items) i
+    c.in-Some.ensures.within (λ j h e. (j, omega arith, h, refl)) c.in-Some.ensures.first in
     let number = c.number_at-number.ensures in
     subst (λ t. Reached ch (length items) F kept covered (Some t) c.loop-left.left) (sym number)
     (reached_skip ch (length items) F kept covered c.loop-left.bound c.loop-left.left c.loop-left.invariant i first
@@ -44,7 +43,8 @@ loop-left-preserved-then-not-holds_kept c =
     let kept = λ (k : ℕ). is_kept (get_or c.loop-left.into k Removed) in
     let covered = λ (k : ℕ). get_or c.loop-left.covered k false in
     let i = c.in-Some.newest in
-    let first = from_zero (open_at ch (length items) F covered c.loop-left.bound) (number_at c.args.period items) (time_at items) (length items) (Some i) c.in-Some.ensures in
+    let first = leads (open_at ch (length items) F covered c.loop-left.bound) (number_at c.args.period items) (time_at items) [] 0 (length items) (length items) i
+    c.in-Some.ensures.within (λ j h e. (j, omega arith, h, refl)) c.in-Some.ensures.first in
     let number = c.number_at-number.ensures in
     let within : i < length c.loop-left.into = omega (arith, first.within, c.loop-left.auto.into) in
     let kept' = λ (k : ℕ). is_kept (get_or (set c.loop-left.into i Kept) k Removed) in
@@ -57,3 +57,9 @@ loop-left-preserved-then-not-holds_kept c =
     (ap is_kept (get_or-set_same c.loop-left.into i Kept Removed within))
     (λ k other. ap is_kept (get_or-set_other c.loop-left.into i k Kept Removed other))
     (λ k h. c.cover.ensures k h ∙ ap (λ t. covered k || ((item_at items k).finished && eqb (number_at c.args.period items k) t)) number))
+
+pub holds_kept-requires-clause-all : goal.holds_kept-requires-clause-all
+holds_kept-requires-clause-all c = λ i h same. (i, omega arith, h, refl)
+
+pub cover-requires-clause-all : goal.cover-requires-clause-all
+cover-requires-clause-all c = λ i h same. (i, omega arith, h, refl)

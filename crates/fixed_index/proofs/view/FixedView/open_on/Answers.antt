@@ -11,7 +11,7 @@ pub returns-in-None-clause-exact : goal.returns-in-None-clause-exact
 returns-in-None-clause-exact c = fixed_of-fault c.args.bytes.now ∙ ap (outcome (fields_of c.args.bytes.now)) (sym c.in-None.ensures)
 
 pub invariant_of-result : goal.invariant_of-result
-invariant_of-result c = (is_index c.args.bytes.now (sym c.in-None.ensures)).form
+invariant_of-result c = is_index c.args.bytes.now (sym c.in-None.ensures)
 
 pub returns-in-None-clause-text : goal.returns-in-None-clause-text
 returns-in-None-clause-text c =

@@ -1,12 +1,9 @@
 use Rattle.std.proofs.Common.{◌+◌, ◌*◌, ◌<◌, length, min, ap, ap₂, ◌∙◌, arith}
 use Rattle.store_files.specs.FixedIndex.{FixedIndex, fields_of}
-use Rattle.fixed_index.specs.Viewing.{start_of, stop_of}
+use Rattle.fixed_index.specs.Viewing.{start_of}
 use Rattle.fixed_index.proofs.Cells.{count_is}
 use Rattle.fixed_index.proofs.Cutting.{end_small}
 use Rattle.fixed_index.proofs.view.FixedView.span.Goals as goal
-
-pub u64_at-size-requires : goal.u64_at-size-requires
-u64_at-size-requires c = omega (arith, c.self.invariant.long)
 
 pub u64_at-chunk_size-requires : goal.u64_at-chunk_size-requires
 u64_at-chunk_size-requires c = omega (arith, c.self.invariant.long)
@@ -29,5 +26,4 @@ returns-clause-start c =
 
 pub returns-clause-end : goal.returns-clause-end
 returns-clause-end c =
-    c.min.ensures ∙ ap₂ min (ap (λ n. c.args.i * n + n) c.u64_at-chunk_size.ensures) c.u64_at-size.ensures
-    ∙ ap (λ (x : FixedIndex). stop_of x c.args.i) c.self.view_is
+    c.min.ensures ∙ ap₂ min (ap (λ n. c.args.i * n + n) c.u64_at-chunk_size.ensures ∙ ap (λ (x : FixedIndex). c.args.i * x.chunk_size + x.chunk_size) c.self.view_is) c.size.ensures

@@ -1,0 +1,56 @@
+-- Acts that end a session, and how many entries a lane's end may take.
+use Rattle.std.specs.Prelude.{◌≡◌, ℕ, Bool, true, false, Option, Some, None, Result, Ok, Err, slice_index_or}
+use Rattle.disk_trait.specs.declared.disk.DiskError.{DiskError}
+use Rattle.disk_trait.specs.declared.disk.DiskError.TheVariants.{NoMemory, Failed}
+use Rattle.wire_commands.specs.declared.reply.Reply.{Reply}
+use Rattle.wire_commands.specs.declared.command.Command.TheVariants.{Abort, CloseReader}
+use Rattle.store_history.specs.declared.act.Act.{Act}
+use Rattle.store_history.specs.declared.act.Act.TheVariants.{Plain}
+use Rattle.core_state.specs.declared.parts.Parts.{Parts}
+use Rattle.core_state.specs.declared.state.Core.{Core}
+use Rattle.core_state.specs.declared.kept.Session.{Session}
+use Rattle.core_state.specs.declared.kept.Session.TheVariants.{Idle, Writer, Reader}
+
+abbrev pub session_at : {D E C : Type 0} → Core D E C → ℕ → Session
+session_at core lane = slice_index_or (core.parts).sessions.items lane Idle
+
+abbrev pub is_writer : Session → Bool
+is_writer Idle = false
+is_writer (Writer w) = true
+is_writer (Reader r) = false
+
+abbrev pub is_reader : Session → Bool
+is_reader Idle = false
+is_reader (Writer w) = false
+is_reader (Reader r) = true
+
+-- an ABORT ends a writer, a CLOSE_READER a reader
+abbrev pub closes : Act → Session → Bool
+closes (Plain Abort) session = is_writer session
+closes (Plain CloseReader) session = is_reader session
+closes _ session = false
+
+-- after a fault of the disk no act ends a session
+abbrev pub closes_by : Option ℕ → Act → Session → Bool
+closes_by None act session = closes act session
+closes_by (Some first) act session = false
+
+abbrev pub is_closing : {D E C : Type 0} → Core D E C → ℕ → Act → Bool
+is_closing core lane act = closes_by core.fault act (session_at core lane)
+
+-- The end of a lane with a session may meet a fault of the disk, and then comes again. So may the act that ends the session, after
+-- which the lane's end meets none.
+abbrev pub end_entries : Option ℕ → Session → ℕ
+end_entries None Idle = 1
+end_entries None (Writer w) = 2
+end_entries None (Reader r) = 2
+end_entries (Some first) session = 1
+
+abbrev pub ends_by : {D E C : Type 0} → Core D E C → ℕ → ℕ
+ends_by core lane = end_entries core.fault (session_at core lane)
+
+-- What an act that ends the lane's session leaves: no session, or a fault of the disk.
+abbrev pub HasClosed : {D : Type 0} → Parts D → ℕ → Result Reply DiskError → Type 0
+HasClosed parts lane (Ok reply) = slice_index_or parts.sessions.items lane Idle ≡ Idle
+HasClosed parts lane (Err NoMemory) = ⊥
+HasClosed parts lane (Err Failed) = Unit {0}

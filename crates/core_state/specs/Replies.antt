@@ -1,0 +1,98 @@
+-- What a command's own tests may answer: what it was asked for, or one of its refusals.
+use Rattle.std.specs.Prelude.{Bool, true, false}
+use Rattle.store_types.specs.declared.refusal.Refusal.{Refusal}
+use Rattle.store_types.specs.declared.refusal.Refusal.TheVariants.{WrongState, BadName, GroupBusy, NotNewer, NoSnapshot, NoFile, Exists, BadBlob, TooMany, BadRange, Unreadable}
+use Rattle.wire_commands.specs.declared.command.Command.{Command}
+use Rattle.wire_commands.specs.declared.command.Command.TheVariants as commands
+use Rattle.wire_commands.specs.declared.reply.Reply.{Reply}
+use Rattle.wire_commands.specs.declared.reply.Reply.TheVariants.{Done, Base, Part, Refused}
+use Rattle.store_history.specs.declared.act.Act.{Act}
+use Rattle.store_history.specs.declared.act.Act.TheVariants as acts
+
+-- ---- the refusals of each command
+
+abbrev pub refuses_writer : Refusal → Bool
+refuses_writer (WrongState state) = true
+refuses_writer BadName = true
+refuses_writer (GroupBusy lane) = true
+refuses_writer (NotNewer latest) = true
+refuses_writer (TooMany limit) = true
+refuses_writer _ = false
+
+abbrev pub refuses_blob : Refusal → Bool
+refuses_blob (WrongState state) = true
+refuses_blob BadName = true
+refuses_blob Exists = true
+refuses_blob (TooMany limit) = true
+refuses_blob (BadBlob cause) = true
+refuses_blob _ = false
+
+abbrev pub refuses_finish : Refusal → Bool
+refuses_finish (WrongState state) = true
+refuses_finish NoFile = true
+refuses_finish _ = false
+
+abbrev pub refuses_reader : Refusal → Bool
+refuses_reader (WrongState state) = true
+refuses_reader BadName = true
+refuses_reader NoSnapshot = true
+refuses_reader _ = false
+
+abbrev pub refuses_download : Refusal → Bool
+refuses_download (WrongState state) = true
+refuses_download BadName = true
+refuses_download NoFile = true
+refuses_download (BadRange size) = true
+refuses_download (Unreadable name) = true
+refuses_download _ = false
+
+-- an ABORT, or a CLOSE_READER
+abbrev pub refuses_close : Refusal → Bool
+refuses_close (WrongState state) = true
+refuses_close _ = false
+
+-- ---- the replies
+
+abbrev pub answers_writer : Reply → Bool
+answers_writer (Base snapshot) = true
+answers_writer (Refused refusal) = refuses_writer refusal
+answers_writer _ = false
+
+abbrev pub answers_blob : Reply → Bool
+answers_blob Done = true
+answers_blob (Refused refusal) = refuses_blob refusal
+answers_blob _ = false
+
+abbrev pub answers_finish : Reply → Bool
+answers_finish Done = true
+answers_finish (Refused refusal) = refuses_finish refusal
+answers_finish _ = false
+
+abbrev pub answers_reader : Reply → Bool
+answers_reader Done = true
+answers_reader (Refused refusal) = refuses_reader refusal
+answers_reader _ = false
+
+abbrev pub answers_download : Reply → Bool
+answers_download (Part total bytes) = true
+answers_download (Refused refusal) = refuses_download refusal
+answers_download _ = false
+
+abbrev pub answers_close : Reply → Bool
+answers_close Done = true
+answers_close (Refused refusal) = refuses_close refusal
+answers_close _ = false
+
+abbrev pub command_answers : Command → Reply → Bool
+command_answers (commands.OpenWriter snapshot) reply = answers_writer reply
+command_answers commands.Finish reply = answers_finish reply
+command_answers commands.Abort reply = answers_close reply
+command_answers commands.CloseReader reply = answers_close reply
+command_answers (commands.OpenReader snapshot) reply = answers_reader reply
+command_answers (commands.Download file offset) reply = answers_download reply
+command_answers _ reply = false
+
+abbrev pub may_answer : Act → Reply → Bool
+may_answer (acts.Plain command) reply = command_answers command reply
+may_answer (acts.Blob name checked) reply = answers_blob reply
+may_answer _ reply = false

@@ -1,0 +1,59 @@
+//! Acts that end a session, and the entries of the order that are to be had without memory.
+
+ghost use Rattle.std.specs.Prelude.{◌≡◌, ◌<◌, ◌+◌, ◌⊎◌, ◌↔◌, IsTrue, OnOk, OnErr, slice_index};
+ghost use Rattle.core_state.specs.Closing as closing;
+ghost use Rattle.core_state.specs.Entering.{SameEntries};
+
+use crate::kept::Session;
+use crate::state::Core;
+use std::alloc::AllocError;
+use store_history::Act;
+use wire_commands::Command;
+
+/// The act ends the session: an ABORT of a writer, a CLOSE_READER of a reader.
+pub fn closes(session: &Session, act: &Act) -> bool
+    ensures { result ≡ closing.closes act.now session.now }
+{
+    match act {
+        Act::Plain(Command::Abort) => matches!(session, Session::Writer(_)),
+        Act::Plain(Command::CloseReader) => matches!(session, Session::Reader(_)),
+        _ => false,
+    }
+}
+
+impl<D, E, C> Core<D, E, C> {
+    /// The act ends the lane's session, and the disk hasn't failed so far.
+    pub fn is_closing(&self, lane: u32, act: &Act) -> bool
+        requires { lane < 64 }
+        ensures { result ≡ closing.is_closing self.now lane act.now }
+    {
+        match self.fault {
+            None => closes(&self.parts.sessions[lane as usize], act),
+            Some(_) => false,
+        }
+    }
+
+    /// An entry for an act of the lane is to be had without memory: a spare one, or one of the lane's reserve. No act asks
+    /// for more than another.
+    pub fn room(&self, lane: u32, _act: &Act) -> bool
+        requires { lane < 64 }
+        ensures { IsTrue result ↔ (0 < self.now.journal.spare ⊎ 0 < slice_index self.now.journal.held lane) }
+    {
+        self.journal.room(lane as usize)
+    }
+
+    /// Makes so many spare entries. At want of memory nothing has changed.
+    pub fn reserve(&mut self, more: u32) -> Result<(), AllocError>
+        ensures entries { SameEntries self.old.journal self.new.journal }
+        ensures held { self.new.journal.held ≡ self.old.journal.held }
+        ensures spare { OnOk result (self.new.journal.spare ≡ self.old.journal.spare + more) }
+        ensures err { OnErr result (self.new.journal.spare ≡ self.old.journal.spare) }
+        ensures parts { self.new.parts ≡ self.old.parts }
+        ensures remote { self.new.remote ≡ self.old.remote }
+        ensures clock { self.new.clock ≡ self.old.clock }
+        ensures last { self.new.last ≡ self.old.last }
+        ensures fault { self.new.fault ≡ self.old.fault }
+    {
+        self.journal.reserve(more)
+    }
+}

@@ -1,0 +1,7 @@
+mod Steps
+mod Cells
+mod LastEntry
+mod Faults
+mod TextParts
+mod Spelling
+pub mod Reading

@@ -1,0 +1,3 @@
+pub mod Shown
+pub mod Contents
+pub mod Loading

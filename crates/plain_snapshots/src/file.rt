@@ -1,0 +1,106 @@
+//! Files of snapshots.
+
+ghost use Rattle.std.specs.Prelude.{◌≡◌, IfOk, OnOk, OnErr, position, option_map};
+ghost use Rattle.store_types.specs.Names.{name_lt};
+ghost use Rattle.store_files.specs.Archive.{file_text, file_named as find_file};
+ghost use Rattle.store_model.specs.Store.{insert_file as with_file};
+ghost use Rattle.plain_snapshots.specs.Contents.{shown_content, is_archive};
+
+use crate::archive::Archive;
+use crate::blob::BlobData;
+use std::alloc::{AllocError, Global};
+use std::marker::Model;
+use store_types::FileName;
+
+/// What a file holds: an archive, or the data of a blob.
+#[derive(Drop)]
+pub enum Content {
+    /// An index file, with the pieces that it names.
+    Archive(Archive),
+    /// The data of a blob file.
+    Blob(BlobData),
+}
+
+/// A file of a snapshot.
+#[derive(Drop)]
+pub struct File {
+    pub name: FileName,
+    pub content: Content,
+}
+
+impl Model for File {
+    ghost use Rattle.store_files.specs.Archive as model;
+
+    ghost Value = { model.File };
+
+    ghost use Rattle.plain_snapshots.specs.Contents.{shown_content};
+
+    ghost view = { λ f. record { name = f.name; content = shown_content f.content } };
+}
+
+impl Content {
+    /// The text of the file.
+    #[tactic(auto, unfolding(store_files::specs::Archive::file_text))]
+    pub fn text(&self, alloc: Global) -> Result<Vec<u8>, AllocError>
+        ensures { IfOk result (λ text. text.items ≡ file_text (shown_content self.now)) }
+    {
+        match self {
+            Content::Archive(archive) => archive.text(alloc),
+            Content::Blob(bytes) => bytes.text(alloc),
+        }
+    }
+
+    /// Whether this is an archive.
+    pub fn is_archive(&self) -> bool
+        ensures { result ≡ is_archive (shown_content self.now) }
+    {
+        matches!(self, Content::Archive(_))
+    }
+}
+
+impl Clone for Content {
+    ghost is_clone = { λ content copy. copy ≡ content };
+
+    fn clone(&self) -> Result<Content, AllocError> {
+        match self {
+            Content::Archive(archive) => Ok(Content::Archive(archive.clone()?)),
+            Content::Blob(bytes) => Ok(Content::Blob(bytes.clone()?)),
+        }
+    }
+}
+
+impl Clone for File {
+    ghost is_clone = { λ file copy. copy ≡ file };
+
+    fn clone(&self) -> Result<File, AllocError> {
+        Ok(File {
+            name: self.name.clone()?,
+            content: self.content.clone()?,
+        })
+    }
+}
+
+/// The file of this name.
+pub fn file_named<'a>(name: &[u8], files: &'a [File]) -> Option<&'a File>
+    ensures { option_map (λ f. f.now) result ≡ find_file name.now files.now }
+{
+    files.iter().find(|file| file.name.as_slice() == name)
+}
+
+/// The place of the first file with a greater name.
+fn first_after(files: &[File], file: &File) -> Option<usize>
+    ensures { result ≡ position (λ f. name_lt file.now.name f.name) files.now }
+{
+    files.iter().position(|other| file.name < other.name)
+}
+
+/// Places a file before the first with a greater name. At want of memory nothing has changed.
+pub fn insert_file(files: &mut Vec<File>, file: File) -> Result<(), AllocError>
+    ensures ok { OnOk result (files.new.items ≡ with_file file files.old.items) }
+    ensures err { OnErr result (files.new.items ≡ files.old.items) }
+{
+    let after = first_after(files, &file);
+    let place = after.unwrap_or(files.len());
+    files.insert(place, file)?;
+    Ok(())
+}
