@@ -7,6 +7,7 @@ ghost use Rattle.wire_commands.specs.HasText.{ReplyHasText};
 ghost use Rattle.store_history.specs.History.{World, act_outcome};
 ghost use Rattle.core_state.specs.Answers.{IsAnswered, HasCause};
 ghost use Rattle.core_state.specs.Closing.{HasClosed, closes, is_closing};
+ghost use Rattle.core_state.specs.Records.{IsTimely};
 ghost use Rattle.core_state.specs.Reserved.{KeepsReserve};
 ghost use Rattle.core_state.specs.History.{History, StandsFor, then_event, event_of};
 ghost use Rattle.core_state.specs.Holds.{Acts};
@@ -71,6 +72,7 @@ pub fn reader_act<D: Disk, E, C: Clock>(
     ensures history { (h : History) → StandsFor D.honest D.content D.calls C.readings core.old h
         → StandsFor D.honest D.content D.calls C.readings core.new (then_event h (event_of act result (D.calls core.new.parts.disk))) }
     ensures answers { IsAnswered D.calls D.faults core.old core.new lane result }
+    ensures timely { IsTimely C.readings core.old core.new result }
     ensures told { IsSome result.reply }
     // why it is answered so, on any disk
     ensures cause { HasCause D.faults core.old core.new act result }

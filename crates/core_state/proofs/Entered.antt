@@ -39,8 +39,8 @@ pub record Grows {D E C : Type 0} (is_honest : D → Type 0) (content : D → Fi
   pub shows : Shows new.parts (after h.remote (world h) e).store
   pub files : (after h.remote (world h) e).fault ≡ None → IsOnDisk (content (new.parts).disk) (after h.remote (world h) e).store
 
-time_more : {C : Type 0} (readings : C → Option Readings) (old new : C) (last : ℕ) (h : History) (e : Event)
-    → last ≡ (world h).moment → KeepsTime readings old h → ReadsClock readings old new last (moment e) → KeepsTime readings new (then_event h e)
+pub time_more : {C : Type 0} (readings : C → Option Readings) (old new : C) (last : ℕ) (h : History) (e : Event)
+    → last ≡ moment_after (h.opening).moment h.events → KeepsTime readings old h → ReadsClock readings old new last (moment e) → KeepsTime readings new (then_event h e)
 time_more readings old new last h e is keeps reads = by_clock h.clock keeps
   where
     by_clock : (o : Option Readings)
@@ -48,9 +48,8 @@ time_more readings old new last h e is keeps reads = by_clock h.clock keeps
         → IfSome o (λ c. Rattle.store_history.specs.Legal.IsTimed c (h.opening).moment (h.events ++ e ∷ []) × (readings new ≡ Some (readings_left c (h.events ++ e ∷ []))))
     by_clock None k = tt
     by_clock (Some c) k =
-        let rule = reads.rule (readings_left c h.events) k.1 in
-        let from : last ≡ moment_after (h.opening).moment h.events = is ∙ moment_is h.remote (opened h.opening) h.events in (
-          timed_more c (h.opening).moment h.events e k.0 (rule.0 ∙ ap (moment_at (readings_left c h.events)) from),
+        let rule = reads.rule (readings_left c h.events) k.1 in (
+          timed_more c (h.opening).moment h.events e k.0 (rule.0 ∙ ap (moment_at (readings_left c h.events)) is),
           rule.1 ∙ ap (λ r. Some r) (sym (readings_more c h.events e)),
         )
 
@@ -64,7 +63,7 @@ grown is_honest content calls_of readings old new h e s g = let more = sym (worl
   calls = g.calls ∙ ap (λ xs. xs ++ e.calls ∷ []) s.calls ∙ sym (map-append (λ v. v.calls) h.events (e ∷ []));
   fault = g.fault ∙ ap (λ w. w.fault) more;
   last = g.last ∙ ap (λ w. w.moment) more;
-  time = time_more readings old.clock new.clock old.last h e s.last s.time g.clock;
+  time = time_more readings old.clock new.clock old.last h e (s.last ∙ moment_is h.remote (opened h.opening) h.events) s.time g.clock;
   reached = let at = ap (λ w. w.calls) (world_more h e) in let r = g.reached in omega (arith, at, r);
   honest = g.honest;
   shows = subst (λ w. Shows new.parts w.store) more g.shows;

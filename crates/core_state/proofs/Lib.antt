@@ -14,3 +14,4 @@ pub mod Texts
 pub mod Answering
 pub mod Unchanging
 pub mod Caused
+pub mod Recorded

@@ -49,7 +49,7 @@ map_replicate : (n : ℕ) → map shown_session (replicate n none) ≡ replicate
 map_replicate zero = refl
 map_replicate (suc n) = ap (λ xs. Idle ∷ xs) (map_replicate n)
 
-keeps_time : {C : Type 0} (readings : C → Option Readings) (clock : C) (o : Option Readings) → readings clock ≡ o
+pub keeps_time : {C : Type 0} (readings : C → Option Readings) (clock : C) (o : Option Readings) → readings clock ≡ o
     → IfSome o (λ c. Unit {0} × (readings clock ≡ Some c))
 keeps_time readings clock None is = tt
 keeps_time readings clock (Some c) is = (tt, is)

@@ -12,3 +12,4 @@ pub mod Unchanged
 pub mod Answers
 pub mod Closing
 pub mod Reserved
+pub mod Records

@@ -7,6 +7,7 @@ ghost use Rattle.store_model.specs.Stands.{StandsFor as Stands};
 ghost use Rattle.core_state.specs.Entering.{AllHeld};
 ghost use Rattle.core_state.specs.History.{StandsFor, began};
 ghost use Rattle.core_state.specs.Opening.{opening_at};
+ghost use Rattle.core_state.specs.Records.{Records};
 ghost use Rattle.core_state.specs.declared.kept.Session.TheVariants.{Idle};
 
 use crate::journal::{Journal, LANES};
@@ -66,6 +67,8 @@ pub fn open_on<D: Disk, E, C: Clock>(
     // it stands for a history without events, where the disk stands for no snapshots
     ensures opened { IfOk result (λ core. (R : Option (List Snapshot)) → D.honest disk → Stands (D.content disk) []
         → StandsFor D.honest D.content D.calls C.readings core (began (opening_at (D.calls disk)) R (C.readings clock))) }
+    // on any disk it keeps a history without events
+    ensures records { IfOk result (λ core. (R : Option (List Snapshot)) → Records C.readings core (began (opening_at (D.calls disk)) R (C.readings clock))) }
     ensures reserve { IfOk result (λ core. AllHeld core.journal) }
     // whatever the disk is, nothing has happened yet
     ensures fault { IfOk result (λ core. core.fault ≡ None) }

@@ -9,6 +9,7 @@ ghost use Rattle.store_history.specs.History.{World, act_outcome};
 ghost use Rattle.store_history.specs.declared.act.Act.TheVariants.{End};
 ghost use Rattle.core_state.specs.Answers.{IsAnswered, HasCause, EndHasCause, EndIsTold};
 ghost use Rattle.core_state.specs.Closing.{HasClosed, closes, is_closing};
+ghost use Rattle.core_state.specs.Records.{IsTimely};
 ghost use Rattle.core_state.specs.Reserved.{KeepsReserve, EndKeeps};
 ghost use Rattle.core_state.specs.declared.kept.Session.TheVariants.{Idle};
 ghost use Rattle.core_state.specs.History.{History, StandsFor, then_event, event_of};
@@ -75,6 +76,7 @@ pub fn writer_act<D: Disk, E, C: Clock>(
     ensures history { (h : History) → StandsFor D.honest D.content D.calls C.readings core.old h
         → StandsFor D.honest D.content D.calls C.readings core.new (then_event h (event_of act result (D.calls core.new.parts.disk))) }
     ensures answers { IsAnswered D.calls D.faults core.old core.new lane result }
+    ensures timely { IsTimely C.readings core.old core.new result }
     ensures told { IsSome result.reply }
     // why it is answered so, on any disk
     ensures cause { HasCause D.faults core.old core.new act result }
@@ -109,6 +111,7 @@ pub fn end_act<D: Disk, E, C: Clock>(core: &mut Core<D, E, C>, lane: u32) -> Ans
     ensures history { (h : History) → StandsFor D.honest D.content D.calls C.readings core.old h
         → StandsFor D.honest D.content D.calls C.readings core.new (then_event h (event_of End result (D.calls core.new.parts.disk))) }
     ensures answers { IsAnswered D.calls D.faults core.old core.new lane result }
+    ensures timely { IsTimely C.readings core.old core.new result }
     ensures told { EndIsTold result }
     // why it is answered so, on any disk
     ensures cause { EndHasCause D.faults core.old core.new result }

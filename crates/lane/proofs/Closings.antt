@@ -13,14 +13,14 @@ use Rattle.store_model.specs.Lanes.{Next, plain, bye, broken, end}
 use Rattle.store_history.specs.declared.act.Act.TheVariants as acts
 use Rattle.store_history.specs.declared.act.Event.{Event}
 use Rattle.store_history.specs.declared.act.Answer.{Answer}
-use Rattle.store_history.specs.History.{reply, opened}
-use Rattle.store_history.specs.Legal.{IsLegal}
+use Rattle.store_history.specs.History.{reply}
 use Rattle.store_history.specs.LaneRun.{Position, text, next_at, heard_at, last_words, end_faulted, EndsSo, Runs}
 use Rattle.store_history.specs.Seats.{AreOf}
 use Rattle.store_history.proofs.Ending.{end_runs, end_again_runs, faulted_same}
 use Rattle.store_history.proofs.Longer.{of_more}
 use Rattle.core_state.specs.History.{History, then_event, event_of}
 use Rattle.core_state.specs.Answers.{EndIsTold}
+use Rattle.core_state.specs.Records.{AreKept}
 use Rattle.lane.specs.Acting.{gave_all}
 use Rattle.lane.specs.Closing.{AreEndOf, EndsLane}
 use Rattle.lane.specs.Progress.{Start, HasStopped, HasWords}
@@ -325,24 +325,35 @@ closed_in_fault before after start k left taken taken' size given given' e words
       read_out = record { before = s.events; ends = c.vs; split = refl; read = tt };
     }
 
--- ---- an end that met a fault comes again
+-- ---- the end
 
+pub ends_here : (before after : History → Type 0) (k : ℕ) (a : Answer) (n : ℕ)
+    → ((h : History) → before h → after (then_event h (event_of acts.End a n)))
+    → (a.entry).lane ≡ k → (a.entry).kind ≢ 5 → EndIsTold a → EndsLane before after k
+ends_here before after k a n entered of other told h s =
+    (event_of acts.End a n ∷ [], (entered h s, record { asks = refl; lane_is = of; kind_is = six told }))
+  where
+    six : EndIsTold a → (a.entry).kind ≡ 6
+    six (inl p) = p.0
+    six (inr p) = absurd (other p.0)
+
+-- one that met a fault comes again
 pub ends_again : (before between after : History → Type 0) (k : ℕ) (a b : Answer) (m n : ℕ)
     → ((h : History) → before h → between (then_event h (event_of acts.End a m))) → ((h : History) → between h → after (then_event h (event_of acts.End b n)))
-    → ((h : History) → after h → IsLegal h.remote (opened h.opening) h.events)
+    → ((h : History) → after h → AreKept 0 None (h.opening).moment h.events)
     → (a.entry).lane ≡ k → (b.entry).lane ≡ k → (a.entry).kind ≡ 5 → EndIsTold b → EndsLane before after k
-ends_again before between after k a b m n first second legal of also five told h s =
+ends_again before between after k a b m n first second kept of also five told h s =
     let v = event_of acts.End a m in
     let u = event_of acts.End b n in
     let stands = second (then_event h v) (first h s) in
-    let right = legal (then_event (then_event h v) u) stands in (
+    let right = kept (then_event (then_event h v) u) stands in (
       v ∷ u ∷ [],
       (
         subst (λ es. after (with_events h es)) (append_assoc h.events (v ∷ []) (u ∷ [])) stands,
-        (record { asks = refl; lane_is = of; kind_is = five }, record { asks = refl; lane_is = also; kind_is = six v u right told }),
+        (record { asks = refl; lane_is = of; kind_is = five }, record { asks = refl; lane_is = also; kind_is = six right told }),
       ),
     )
   where
-    six : (v u : Event) → IsLegal h.remote (opened h.opening) ((h.events ++ event_of acts.End a m ∷ []) ++ event_of acts.End b n ∷ []) → EndIsTold b → (b.entry).kind ≡ 6
-    six v u right (inl p) = p.0
-    six v u right (inr p) = absurd (second_end h.remote (opened h.opening) h.events (event_of acts.End a m) (event_of acts.End b n) right five refl p.0)
+    six : AreKept 0 None (h.opening).moment ((h.events ++ event_of acts.End a m ∷ []) ++ event_of acts.End b n ∷ []) → EndIsTold b → (b.entry).kind ≡ 6
+    six right (inl p) = p.0
+    six right (inr p) = absurd (second_end 0 None (h.opening).moment h.events (event_of acts.End a m) (event_of acts.End b n) right five refl p.0)

@@ -13,8 +13,7 @@ use Rattle.store_history.specs.declared.act.Act.{Act}
 use Rattle.store_history.specs.declared.act.Answer.{Answer}
 use Rattle.store_history.specs.declared.act.Event.{Event}
 use Rattle.store_history.specs.Acts.{act_of_command}
-use Rattle.store_history.specs.History.{kind, reply, opened}
-use Rattle.store_history.specs.Legal.{IsLegal}
+use Rattle.store_history.specs.History.{kind, reply}
 use Rattle.store_history.specs.LaneRun.{Position, begin, text, next_at, heard, may_want, EndsSo, Runs}
 use Rattle.store_history.specs.SoFar.{Leads}
 use Rattle.store_history.proofs.Ending.{heard_plain, heard_broken, leads_command, short_runs}
@@ -22,6 +21,7 @@ use Rattle.store_history.proofs.Growing.{leads_runs}
 use Rattle.store_history.proofs.Longer.{of_more}
 use Rattle.store_history.proofs.Wanting.{Goes, want_goes}
 use Rattle.core_state.specs.History.{History}
+use Rattle.core_state.specs.Records.{AreKept}
 use Rattle.lane.specs.declared.input.Input.{Input}
 use Rattle.lane.specs.declared.ending.Last.{Last}
 use Rattle.lane.specs.Acting.{Answers, AnswersShort, IsEndedBy, went_on, gave_all, short_ending}
@@ -193,11 +193,11 @@ quiet endings.SourceTooLong p left left' input vs h took = absurd h
 
 -- where memory is wanting, with this more of the input that wasn't held
 pub short_stops : (before after : History → Type 0) (start : Start) (k : ℕ) (left left' taken taken' : Option (List ℕ)) (tail : Tail) (size size' given given' : ℕ) (piece : List ℕ) (e : Ending)
-    → ((h : History) → after h → IsLegal h.remote (opened h.opening) h.events)
+    → ((h : History) → after h → AreKept 0 None (h.opening).moment h.events)
     → HasServed before start k left taken tail size given → AnswersShort before after k taken taken' given given' e
     → may_want (tail.bytes ++ piece) ≡ true → TakesFrom left left' piece → size' ≡ size + length piece
     → HasStopped after start k left' taken' size' given' e None
-short_stops before after start k left left' taken taken' tail size size' given given' piece e legal s answers wants took more =
+short_stops before after start k left left' taken taken' tail size size' given given' piece e kept s answers wants took more =
     let a = answers.answers in
     let input = s.input ++ piece in
     let p = position input (tail.bytes ++ piece) s.is_short s.told in
@@ -205,7 +205,7 @@ short_stops before after start k left left' taken taken' tail size size' given g
     let q = heard p v.answer in
     let all = taken_on start.left left left' s.input piece s.took took in
     let stands = a.history (with_events start.history s.events) s.stands_for in
-    let two : kind v ≡ 2 = short_kind_is start.history.remote (opened start.history.opening) s.events v (legal (with_events start.history (s.events ++ v ∷ [])) stands) a.asks in
+    let two : kind v ≡ 2 = short_kind_is 0 None (start.history.opening).moment s.events v (kept (with_events start.history (s.events ++ v ∷ [])) stands) a.asks in
     let h = heard_short p v.answer a.told (want_goes p wants) a.tells two in
     let one = short_one e answers.stop v.answer answers.ending_is a.ended in
     let calm = quiet e q start.left left' input (s.events ++ v ∷ []) one.0 all in
@@ -233,21 +233,21 @@ short_stops before after start k left left' taken taken' tail size size' given g
 
 -- for a frame that is held
 pub short_here : (before after : History → Type 0) (start : Start) (k : ℕ) (left taken taken' : Option (List ℕ)) (tail : Tail) (size given given' : ℕ) (e : Ending)
-    → ((h : History) → after h → IsLegal h.remote (opened h.opening) h.events)
+    → ((h : History) → after h → AreKept 0 None (h.opening).moment h.events)
     → HasServed before start k left taken tail size given → AnswersShort before after k taken taken' given given' e
     → may_want tail.bytes ≡ true → HasStopped after start k left taken' size given' e None
-short_here before after start k left taken taken' tail size given given' e legal s answers wants =
-    short_stops before after start k left left taken taken' tail size size given given' [] e legal s answers
+short_here before after start k left taken taken' tail size given given' e kept s answers wants =
+    short_stops before after start k left left taken taken' tail size size given given' [] e kept s answers
     (ap may_want (append-nil tail.bytes) ∙ wants) (nothing_taken left) (omega arith)
 
 -- for a piece that could not be held
 pub short_piece : (before after : History → Type 0) (start : Start) (k : ℕ) (left left' taken taken' : Option (List ℕ)) (old new : Input) (given given' : ℕ) (e : Ending)
-    → ((h : History) → after h → IsLegal h.remote (opened h.opening) h.events)
+    → ((h : History) → after h → AreKept 0 None (h.opening).moment h.events)
     → HasServed before start k left taken old.cutter old.taken given → AnswersShort before after k taken taken' given given' e
     → cut (old.cutter).bytes ≡ short → TakesInVain left left' old new
     → HasStopped after start k left' taken' new.taken given' e None
-short_piece before after start k left left' taken taken' old new given given' e legal s answers part vain =
-    short_stops before after start k left left' taken taken' old.cutter old.taken new.taken given given' vain.piece e legal s answers
+short_piece before after start k left left' taken taken' old new given given' e kept s answers part vain =
+    short_stops before after start k left left' taken taken' old.cutter old.taken new.taken given given' vain.piece e kept s answers
     (part_wants (old.cutter).bytes vain.piece (vain.known s.held) part) vain.took (vain.drops).taken
 
 -- as the last of a lane

@@ -7,9 +7,9 @@ use Rattle.lane.specs.declared.input.Input.{Input}
 use Rattle.lane.specs.Progress.{HasServed}
 
 -- from a history without events the lane came to where it is
-abbrev pub HasBegun : (History → Type 0) → (History → Type 0) → ℕ → Option (List ℕ) → Option (List ℕ) → Option (List ℕ) → Option (List ℕ) → Input → ℕ → Type 0
+abbrev pub HasBegun : (History → Type 0) → (History → History → Type 0) → ℕ → Option (List ℕ) → Option (List ℕ) → Option (List ℕ) → Option (List ℕ) → Input → ℕ → Type 0
 HasBegun before now k left left' taken taken' input given =
-    (h : History) → before h → h.events ≡ [] → HasServed now (record { history = h; left = left; taken = taken }) k left' taken' input.cutter input.taken given
+    (h : History) → before h → h.events ≡ [] → HasServed (now h) (record { history = h; left = left; taken = taken }) k left' taken' input.cutter input.taken given
 
 -- The lane has what it must have in reserve, no port's count of faults has fallen, and the remote is as it was.
 pub record Keeps {D E C : Type 0} (core : Core D E C) (k source source' sink sink' : ℕ) (remote remote' : Option E) : Type 0 where

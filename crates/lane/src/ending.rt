@@ -2,7 +2,8 @@
 
 ghost use Rattle.std.specs.Prelude.{◌≡◌, ◌<◌, ℕ, List, Option, Some, IfSome};
 ghost use Rattle.wire_commands.specs.HasText.{ReplyHasText};
-ghost use Rattle.core_state.specs.History.{StandsFor};
+ghost use Rattle.core_state.specs.History.{History};
+ghost use Rattle.core_state.specs.Records.{Reaches};
 ghost use Rattle.core_state.specs.Reserved.{CanEnd};
 ghost use Rattle.lane.specs.Causes.{HasCauses};
 ghost use Rattle.lane.specs.Closing.{EndsLane, Closes};
@@ -28,7 +29,7 @@ pub struct Last {
 fn end<D: Disk, E, C: Clock>(core: &mut Core<D, E, C>, alloc: Global, lane: u32)
     requires lane { lane < 64 }
     requires room { CanEnd core.old lane }
-    ensures ends { EndsLane (StandsFor D.honest D.content D.calls C.readings core.old) (StandsFor D.honest D.content D.calls C.readings core.new) lane }
+    ensures ends { (first : Core D E C) (began : History) → EndsLane (Reaches D.honest D.content D.calls C.readings first began core.old) (Reaches D.honest D.content D.calls C.readings first began core.new) lane }
     ensures remote { core.new.remote ≡ core.old.remote }
     ensures entered { HasEntered D.faults core.old core.new lane ⊥ }
 {
@@ -50,7 +51,7 @@ pub fn close<D: Disk, E, C: Clock, K: Sink>(
     requires lane { lane < 64 }
     requires room { CanEnd core.old lane }
     requires text { IfSome last.words ReplyHasText }
-    ensures closes { Closes (StandsFor D.honest D.content D.calls C.readings core.old) (StandsFor D.honest D.content D.calls C.readings core.new) lane (K.taken sink.old) (K.taken sink.new) given.old given.new last result }
+    ensures closes { (first : Core D E C) (began : History) → Closes (Reaches D.honest D.content D.calls C.readings first began core.old) (Reaches D.honest D.content D.calls C.readings first began core.new) lane (K.taken sink.old) (K.taken sink.new) given.old given.new last result }
     ensures remote { core.new.remote ≡ core.old.remote }
     ensures entered { HasEntered D.faults core.old core.new lane ⊥ }
     ensures causes { (source source' sink_before size : ℕ) → HasCauses source source' sink_before (K.faults sink.old) size (Some last.ending)

@@ -4,7 +4,8 @@ ghost use Rattle.std.specs.Prelude.{◌≡◌, ◌≤◌, ◌<◌, ◌+◌, ◌^
 ghost use Rattle.wire_commands.specs.HasText.{ReplyHasText};
 ghost use Rattle.store_history.specs.Acts.{IsWellFormed};
 ghost use Rattle.core_state.specs.Entering.{held_by};
-ghost use Rattle.core_state.specs.History.{History, StandsFor};
+ghost use Rattle.core_state.specs.History.{History};
+ghost use Rattle.core_state.specs.Records.{Records, Reaches};
 ghost use Rattle.core_state.specs.Reserved.{CanEnd, Reserved};
 ghost use Rattle.lane.specs.Acting.{IsNoEnd, Answers, AnswersShort, LeavesReserve};
 ghost use Rattle.lane.specs.Causes.{HasCauses};
@@ -47,8 +48,8 @@ pub fn run_alone<D: Disk, E, C: Clock, S: Source, K: Sink, G: Gate>(
 ) -> LaneReport
     requires lane { lane < 64 }
     requires room { 3 ≤ held_by core.old.journal lane }
-    ensures ran { (h : History) → StandsFor D.honest D.content D.calls C.readings core.old h → h.events ≡ []
-        → RanAlone (StandsFor D.honest D.content D.calls C.readings core.new) h lane (S.left port.old.source) (S.left port.new.source) (K.taken port.old.sink) (K.taken port.new.sink) result }
+    ensures ran { (h : History) → Records C.readings core.old h → h.events ≡ []
+        → RanAlone (Reaches D.honest D.content D.calls C.readings core.old h core.new) h lane (S.left port.old.source) (S.left port.new.source) (K.taken port.old.sink) (K.taken port.new.sink) result }
     ensures causes { HasCauses (S.faults port.old.source) (S.faults port.new.source) (K.faults port.old.sink) (K.faults port.new.sink) result.taken (Some result.ending) }
     ensures budget { result.taken ≤ 2 ^ 40 }
     ensures remote { core.new.remote ≡ core.old.remote }
@@ -82,7 +83,7 @@ fn turn<D: Disk, E, C: Clock, S: Source, K: Sink, G: Gate>(
 ) -> Option<Last>
     requires lane { lane < 64 }
     requires room { Reserved core.old lane }
-    ensures goes { GoesOn (StandsFor D.honest D.content D.calls C.readings core.old) (StandsFor D.honest D.content D.calls C.readings core.new) lane
+    ensures goes { (first : Core D E C) (began : History) → GoesOn (Reaches D.honest D.content D.calls C.readings first began core.old) (Reaches D.honest D.content D.calls C.readings first began core.new) lane
         (S.left port.old.source) (S.left port.new.source) (K.taken port.old.sink) (K.taken port.new.sink)
         progress.old.input progress.new.input progress.old.given progress.new.given result }
     ensures text { IfSome result (λ last. IfSome last.words ReplyHasText) }
@@ -149,7 +150,7 @@ fn more<D: Disk, E, C: Clock, S: Source, K: Sink>(
     requires lane { lane < 64 }
     requires room { Reserved core.old lane }
     requires part { cut progress.old.input.cutter.bytes ≡ short }
-    ensures goes { GoesOn (StandsFor D.honest D.content D.calls C.readings core.old) (StandsFor D.honest D.content D.calls C.readings core.new) lane
+    ensures goes { (first : Core D E C) (began : History) → GoesOn (Reaches D.honest D.content D.calls C.readings first began core.old) (Reaches D.honest D.content D.calls C.readings first began core.new) lane
         (S.left port.old.source) (S.left port.new.source) (K.taken port.old.sink) (K.taken port.new.sink)
         progress.old.input progress.new.input progress.old.given progress.new.given result }
     ensures text { IfSome result (λ last. IfSome last.words ReplyHasText) }
@@ -184,7 +185,7 @@ fn serve<D: Disk, E, C: Clock, S: Source, K: Sink, G: Gate>(
     requires lane { lane < 64 }
     requires room { Reserved core.old lane }
     requires ahead { IsCommandAhead progress.old.input.cutter command }
-    ensures goes { GoesOn (StandsFor D.honest D.content D.calls C.readings core.old) (StandsFor D.honest D.content D.calls C.readings core.new) lane
+    ensures goes { (first : Core D E C) (began : History) → GoesOn (Reaches D.honest D.content D.calls C.readings first began core.old) (Reaches D.honest D.content D.calls C.readings first began core.new) lane
         (S.left port.old.source) (S.left port.new.source) (K.taken port.old.sink) (K.taken port.new.sink)
         progress.old.input progress.new.input progress.old.given progress.new.given result }
     ensures text { IfSome result (λ last. IfSome last.words ReplyHasText) }
@@ -213,7 +214,7 @@ fn short<D: Disk, E, C: Clock, K: Sink>(
 ) -> Ending
     requires lane { lane < 64 }
     requires room { Reserved core.old lane }
-    ensures answers { AnswersShort (StandsFor D.honest D.content D.calls C.readings core.old) (StandsFor D.honest D.content D.calls C.readings core.new) lane (K.taken sink.old) (K.taken sink.new) given.old given.new result }
+    ensures answers { (first : Core D E C) (began : History) → AnswersShort (Reaches D.honest D.content D.calls C.readings first began core.old) (Reaches D.honest D.content D.calls C.readings first began core.new) lane (K.taken sink.old) (K.taken sink.new) given.old given.new result }
     ensures room { CanEnd core.new lane }
     ensures causes { (source size : ℕ) → HasCauses source source (K.faults sink.old) (K.faults sink.new) size (Some result) }
     ensures remote { core.new.remote ≡ core.old.remote }
@@ -235,7 +236,7 @@ fn do_act<D: Disk, E, C: Clock, K: Sink>(
     requires room { Reserved core.old lane }
     requires formed { IsWellFormed act }
     requires no_end { IsNoEnd act }
-    ensures answers { Answers (StandsFor D.honest D.content D.calls C.readings core.old) (StandsFor D.honest D.content D.calls C.readings core.new) lane act (K.taken sink.old) (K.taken sink.new) given.old given.new result }
+    ensures answers { (first : Core D E C) (began : History) → Answers (Reaches D.honest D.content D.calls C.readings first began core.old) (Reaches D.honest D.content D.calls C.readings first began core.new) lane act (K.taken sink.old) (K.taken sink.new) given.old given.new result }
     ensures room { LeavesReserve core.old core.new lane result }
     ensures causes { (source size : ℕ) → HasCauses source source (K.faults sink.old) (K.faults sink.new) size result }
     ensures remote { core.new.remote ≡ core.old.remote }

@@ -5,6 +5,7 @@ use Rattle.port_traits.specs.Faults.{Rose}
 use Rattle.store_types.specs.declared.order.Entry.{Entry}
 use Rattle.store_model.specs.declared.ending.Ending.{Ending}
 use Rattle.store_model.specs.declared.ending.Ending.TheVariants as endings
+use Rattle.store_history.specs.declared.act.Event.{Event}
 use Rattle.core_state.specs.declared.state.Core.{Core}
 use Rattle.lane.specs.declared.port.LaneReport.{LaneReport}
 use Rattle.lane.specs.Causes.{IsCaused, HasCauses}
@@ -12,7 +13,8 @@ use Rattle.lane.specs.Entries.{has_kind, HasEntered}
 use Rattle.pbs_server.specs.declared.status.Status.{Status}
 use Rattle.pbs_server.specs.declared.status.Status.TheVariants as statuses
 use Rattle.pbs_server.specs.Statuses.{status_by, status_of_ending, is_short}
-use Rattle.pbs_server.specs.Causes.{IsOrder, IsCalm, IsBroken, HasCause}
+use Rattle.pbs_server.specs.Causes.{IsOrder, IsCalm, HasNotFailed, ReachesNoCommand, HasCause}
+use Rattle.pbs_server.proofs.Broken.{IsBroken}
 
 -- ---- the first that applies
 
@@ -103,6 +105,22 @@ broken_is endings.SourceFault is = absurd is
 broken_is endings.SinkFault is = absurd is
 broken_is endings.SourceTooLong is = absurd is
 
+broken_served : (e : Ending) → IsBroken e → HasNotFailed e
+broken_served (endings.Broken place) is = tt
+broken_served endings.NoMemory is = absurd is
+broken_served endings.Clean is = absurd is
+broken_served endings.SourceFault is = absurd is
+broken_served endings.SinkFault is = absurd is
+broken_served endings.SourceTooLong is = absurd is
+
+served_broken : (e : Ending) → HasNotFailed e → (e ≡ endings.Clean → ⊥) → IsBroken e
+served_broken (endings.Broken place) is other = tt
+served_broken endings.Clean is other = absurd (other refl)
+served_broken endings.NoMemory is other = absurd is
+served_broken endings.SourceFault is other = absurd is
+served_broken endings.SinkFault is other = absurd is
+served_broken endings.SourceTooLong is other = absurd is
+
 -- a calm order is answered by the ending
 calm_status : (a b c : Bool) (s t : Status) → a ≡ false → b ≡ false → c ≡ false → s ≡ t → chosen a b c s ≡ t
 calm_status true b c s t x y z is = absurd (true_false x)
@@ -121,21 +139,27 @@ calm_status false false false s t x y z is = is
 
 -- ---- the whole
 
-pub caused : (status : Status) (order : List Entry) (report : LaneReport) (disk disk' source source' sink sink' : ℕ)
+pub caused : (status : Status) (order : List Entry) (report : LaneReport) (input : List ℕ) (events : List Event) (disk disk' source source' sink sink' : ℕ)
     → status ≡ status_by order report.ending
     → HasCauses source source' sink sink' report.taken (Some report.ending)
     → (has_kind 5 order ≡ true → Rose disk disk')
     → (report.ending ≡ endings.NoMemory → has_kind 2 order ≡ true)
-    → HasCause status order report disk disk' source source' sink sink'
+    → (IsBroken report.ending → ReachesNoCommand input events)
+    → (ReachesNoCommand input events → report.ending ≡ endings.Clean → ⊥)
+    → HasCause status order report input events disk disk' source source' sink sink'
 unfolding IsEndingOf
-caused status order report disk disk' source source' sink sink' by causes faults memory = record {
+caused status order report input events disk disk' source source' sink sink' by causes faults memory reached not_clean = record {
   ok = (
     λ is. let l = last statuses.Ok (λ e. cc) (λ e. cc) is in (ending_of_status report.ending statuses.Ok l.status, record { memory = l.memory_is; disk = l.disk_is }),
     λ is. by ∙ calm_status a b c s statuses.Ok is.1.memory (ap is_short is.0) is.1.disk (ap status_of_ending is.0),
   );
   bad_frame = (
-    λ is. let l = last statuses.BadFrame (λ e. cc) (λ e. cc) is in (ending_of_status report.ending statuses.BadFrame l.status, record { memory = l.memory_is; disk = l.disk_is }),
-    λ is. let e = broken_is report.ending is.0 in by ∙ calm_status a b c s statuses.BadFrame is.1.memory e.0 is.1.disk e.1,
+    λ is.
+        let l = last statuses.BadFrame (λ e. cc) (λ e. cc) is in
+        let at = ending_of_status report.ending statuses.BadFrame l.status in (reached at, broken_served report.ending at, record { memory = l.memory_is; disk = l.disk_is }),
+    λ is.
+        let e = broken_is report.ending (served_broken report.ending is.1 (not_clean is.0)) in
+        by ∙ calm_status a b c s statuses.BadFrame is.2.memory e.0 is.2.disk e.1,
   );
   disk_fault = λ is. faults (disk_chosen a b c s (no_disk report.ending) (sym by ∙ is));
   source_fault = λ is. cause_of endings.SourceFault (ending_of_status report.ending statuses.SourceFault (last statuses.SourceFault (λ e. cc) (λ e. cc) is).status);

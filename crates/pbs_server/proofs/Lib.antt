@@ -2,3 +2,5 @@ pub mod Woven
 pub mod Statuses
 pub mod Causes
 pub mod Leaving
+pub mod Rules
+pub mod Broken

@@ -12,14 +12,17 @@ use Rattle.store_history.specs.History.{Opening, World, opened, after, after_all
 use Rattle.store_history.specs.LaneRun.{text}
 use Rattle.store_history.proofs.Alone.{served_alone}
 use Rattle.store_history.proofs.Whole.{served_woven}
-use Rattle.store_history.proofs.Rules.{served_rules}
+use Rattle.store_history.specs.Legal.{IsTimed, readings_left}
+use Rattle.store_files.specs.Order.{keeps_rules}
 use Rattle.core_state.specs.declared.state.Core.{Core}
 use Rattle.core_state.specs.History.{History, StandsFor, began, world}
 use Rattle.core_state.specs.Opening.{opening_at}
+use Rattle.core_state.specs.Records.{Records, Reaches}
 use Rattle.lane.specs.declared.port.LaneReport.{LaneReport}
 use Rattle.lane.specs.Entries.{has_kind}
 use Rattle.lane.specs.Ran.{RanAlone, with_events}
-use Rattle.pbs_server.specs.Headline.{IsPlain}
+use Rattle.pbs_server.specs.Headline.{HasTold, IsPlain}
+use Rattle.pbs_server.proofs.Rules.{kept_rules}
 
 -- only a fault's entry leaves a fault
 moved_fault : (R : Option (List Snapshot)) (w : World) (k m : ℕ) (a : Rattle.store_history.specs.declared.act.Act.Act) (x : EntryKind) → (x ≡ fault_kind → ⊥) → (moved R w k m a x).fault ≡ w.fault
@@ -82,52 +85,60 @@ no_fault R w (e ∷ es) none_is =
     no_fault R (after R w e) es both.1
     ∙ moved_fault R w _ _ _ (kind_of (kind e)) (λ is. not_five (kind e) both.0 (fault_is_five (kind e) is))
 
-pub is_plain : {D E C : Type 0} (is_honest : D → Type 0) (content : D → Files) (calls_of : D → ℕ) (readings : C → Option Readings) (core : Core D E C)
-    (R : Option (List Snapshot)) (clock : Option Readings) (calls : ℕ) (left left' taken taken' : Option (List ℕ)) (report : LaneReport)
-    → RanAlone (StandsFor is_honest content calls_of readings core) (began (opening_at calls) R clock) 0 left left' taken taken' report
-    → IsPlain R clock calls left left' taken taken' (core.journal).entries.items (core.journal).calls.items report (content (core.parts).disk)
-is_plain is_honest content calls_of readings core R clock calls left left' taken taken' report ran = record {
-  input = ran.input;
-  events = ran.events;
-  store = (world h).store;
-  told = ran.told;
-  replies = text ran.told;
-  replies_are = refl;
-  ran = ran.ran;
-  woven = subst (λ order. weave [] R order (ran.input ∷ []) (report.ending ∷ []) ≡ Ok (record { store = (world h).store; replies = text ran.told ∷ [] })) (sym s.entries)
-      (served_woven (opening_at calls) R ran.events (ran.input ∷ []) (report.ending ∷ []) (ran.told ∷ []) served);
-  gave = ran.gave;
-  took = ran.took;
-  size_is = ran.size_is;
-  rules = subst (λ order. IsTrue (Rattle.store_files.specs.Order.keeps_rules 1 order)) (sym s.entries)
-      (served_rules (opening_at calls) R ran.events (ran.input ∷ []) (report.ending ∷ []) (ran.told ∷ []) served);
-  times = timed clock s.time;
-  legal = s.legal;
-  order_is = s.entries;
-  calls_are = s.calls;
-  read_out = ran.read_out;
-  stands = λ is. (s.files (no_fault R (opened (opening_at calls)) ran.events (sym (ap (has_kind 5) s.entries) ∙ is))).snapshots;
+-- what a session did on any disk, and on an honest one, from a core that stands for no events where this holds
+pub record HasBoth (clock : Option Readings) (before now : ℕ) (is_honest : Type 0) (left left' taken taken' : Option (List ℕ)) (order : List Entry) (calls : List ℕ) (report : LaneReport) (files : Files) (stands : Option (List Snapshot) → Type 0) : Type 0 where
+  pub told : HasTold clock left left' taken taken' order calls report
+  pub plain : (R : Option (List Snapshot)) → stands R → IsPlain R before now is_honest told.input told.events told.replies order report files
+
+pub has_both : {D E C : Type 0} (is_honest : D → Type 0) (content : D → Files) (calls_of : D → ℕ) (readings : C → Option Readings) (first core : Core D E C)
+    (clock : Option Readings) (before : ℕ) (left left' taken taken' : Option (List ℕ)) (order : List Entry) (calls : List ℕ) (report : LaneReport) (disk : D)
+    → RanAlone (Reaches is_honest content calls_of readings first (began (opening_at before) None clock) core) (began (opening_at before) None clock) 0 left left' taken taken' report
+    → order ≡ (core.journal).entries.items → calls ≡ (core.journal).calls.items → disk ≡ (core.parts).disk
+    → HasBoth clock before (calls_of disk) (is_honest disk) left left' taken taken' order calls report (content disk) (λ R. StandsFor is_honest content calls_of readings first (began (opening_at before) R clock))
+has_both is_honest content calls_of readings first core clock before left left' taken taken' order calls report disk ran order_as calls_as disk_as = record {
+  told = record {
+    input = ran.input;
+    events = ran.events;
+    told = ran.told;
+    replies = text ran.told;
+    gave = ran.gave;
+    replies_are = refl;
+    ran = ran.ran;
+    took = ran.took;
+    size_is = ran.size_is;
+    rules = subst (λ es. IsTrue (keeps_rules 1 es)) (sym order_is) (kept_rules 0 ran.events ran.input report.ending ran.told r.kept ran.lanes ran.ran);
+    times = timed clock r.time;
+    kept = r.kept;
+    order_is = order_is;
+    calls_are = calls_as ∙ r.calls;
+    read_out = ran.read_out;
+  };
+  plain = λ R begun. plain R ((ran.stands_for).stands R begun);
 }
   where
-    h : History
-    h = with_events (began (opening_at calls) R clock) ran.events
+    r : Records readings core (with_events (began (opening_at before) None clock) ran.events)
+    r = (ran.stands_for).records
 
-    s : StandsFor is_honest content calls_of readings core h
-    s = ran.stands_for
+    order_is : order ≡ entries ran.events
+    order_is = order_as ∙ r.entries
 
-    served : Rattle.store_history.specs.Woven.IsServed (opening_at calls) R ran.events (ran.input ∷ []) (report.ending ∷ []) (ran.told ∷ [])
-    served = served_alone (opening_at calls) R ran.events ran.input report.ending ran.told s.legal ran.lanes ran.ran
-
-    timed : (c : Option Readings) → IfSome c (λ x. Rattle.store_history.specs.Legal.IsTimed x 0 ran.events × (readings core.clock ≡ Some (Rattle.store_history.specs.Legal.readings_left x ran.events)))
-        → IfSome c (λ x. Rattle.store_history.specs.Legal.IsTimed x 0 ran.events)
+    timed : (c : Option Readings) → IfSome c (λ x. IsTimed x 0 ran.events × (readings core.clock ≡ Some (readings_left x ran.events)))
+        → IfSome c (λ x. IsTimed x 0 ran.events)
     timed None t = t
     timed (Some c) t = t.0
 
--- the same of what was handed back
-pub plain_as : (R : Option (List Snapshot)) (clock : Option Readings) (before : ℕ) (left left' taken taken' : Option (List ℕ)) (order order' : List Entry) (calls calls' : List ℕ) (report : LaneReport) (files files' : Files)
-    → order' ≡ order → calls' ≡ calls → files' ≡ files
-    → IsPlain R clock before left left' taken taken' order calls report files → IsPlain R clock before left left' taken taken' order' calls' report files'
-plain_as R clock before left left' taken taken' order order' calls calls' report files files' a b c plain =
-    subst (λ o. IsPlain R clock before left left' taken taken' o calls' report files') (sym a)
-    (subst (λ n. IsPlain R clock before left left' taken taken' order n report files') (sym b)
-    (subst (λ f. IsPlain R clock before left left' taken taken' order calls report f) (sym c) plain))
+    plain : (R : Option (List Snapshot)) → StandsFor is_honest content calls_of readings core (with_events (began (opening_at before) R clock) ran.events)
+        → IsPlain R before (calls_of disk) (is_honest disk) ran.input ran.events (text ran.told) order report (content disk)
+    plain R s =
+        let h = with_events (began (opening_at before) R clock) ran.events in
+        let served = served_alone (opening_at before) R ran.events ran.input report.ending ran.told s.legal ran.lanes ran.ran in
+        record {
+          store = (world h).store;
+          woven = subst (λ es. weave [] R es (ran.input ∷ []) (report.ending ∷ []) ≡ Ok (record { store = (world h).store; replies = text ran.told ∷ [] })) (sym order_is)
+              (served_woven (opening_at before) R ran.events (ran.input ∷ []) (report.ending ∷ []) (ran.told ∷ []) served);
+          legal = s.legal;
+          reached = subst (λ x. (world h).calls ≤ calls_of x) (sym disk_as) s.reached;
+          honest = subst is_honest (sym disk_as) s.honest;
+          stands = λ is. subst (λ x. Stands (content x) (world h).store.snapshots) (sym disk_as)
+              (s.files (no_fault R (opened (opening_at before)) ran.events (sym (ap (has_kind 5) order_is) ∙ is))).snapshots;
+        }

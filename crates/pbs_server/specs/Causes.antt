@@ -1,12 +1,18 @@
 -- Why a session is answered so, on any disk.
-use Rattle.std.specs.Prelude.{◌≡◌, ◌^◌, ◌↔◌, ℕ, true, false, List, length}
+use Rattle.std.specs.Prelude.{◌≡◌, ◌^◌, ◌↔◌, ℕ, true, false, List, ◌++◌, length}
 use Rattle.std.specs.List.{All}
 use Rattle.port_traits.specs.Faults.{Rose}
 use Rattle.store_types.specs.declared.order.Entry.{Entry}
+use Rattle.store_types.specs.declared.refusal.Refusal.{Refusal}
 use Rattle.store_model.specs.declared.ending.Ending.{Ending}
 use Rattle.store_model.specs.declared.ending.Ending.TheVariants as endings
+use Rattle.store_model.specs.Lanes.{broken}
+use Rattle.store_history.specs.declared.act.Event.{Event}
+use Rattle.store_history.specs.LaneRun.{Position, begin, next_at}
+use Rattle.store_history.specs.SoFar.{Leads}
 use Rattle.lane.specs.declared.port.LaneReport.{LaneReport}
 use Rattle.lane.specs.Entries.{has_kind}
+use Rattle.lane.specs.Ran.{AreEnds}
 use Rattle.pbs_server.specs.declared.status.Status.{Status}
 use Rattle.pbs_server.specs.declared.status.Status.TheVariants as statuses
 
@@ -22,15 +28,27 @@ pub record IsCalm (order : List Entry) : Type 0 where
   pub memory : has_kind 2 order ≡ false
   pub disk : has_kind 5 order ≡ false
 
--- a place without a command was reached
-abbrev pub IsBroken : Ending → Type 0
-IsBroken (endings.Broken place) = Unit {0}
-IsBroken e = ⊥
+-- The events before the lane's end led to a place of its input at which no command stands.
+pub record ReachesNoCommand (input : List ℕ) (events : List Event) : Type 0 where
+  pub before : List Event
+  pub ends : List Event
+  pub split : events ≡ before ++ ends
+  pub ended : AreEnds ends
+  pub last : Position
+  pub leads : Leads (begin input) before last
+  pub refusal : Refusal
+  pub next : next_at last ≡ broken refusal
+
+-- the lane itself did not fail, and did not end by want of memory
+abbrev pub HasNotFailed : Ending → Type 0
+HasNotFailed endings.Clean = Unit {0}
+HasNotFailed (endings.Broken place) = Unit {0}
+HasNotFailed e = ⊥
 
 -- The causes of the statuses of a session that was served. A fault comes only where the count of that object rose.
-pub record HasCause (status : Status) (order : List Entry) (report : LaneReport) (disk disk' source source' sink sink' : ℕ) : Type 0 where
+pub record HasCause (status : Status) (order : List Entry) (report : LaneReport) (input : List ℕ) (events : List Event) (disk disk' source source' sink sink' : ℕ) : Type 0 where
   pub ok : (status ≡ statuses.Ok) ↔ ((report.ending ≡ endings.Clean) × IsCalm order)
-  pub bad_frame : (status ≡ statuses.BadFrame) ↔ (IsBroken report.ending × IsCalm order)
+  pub bad_frame : (status ≡ statuses.BadFrame) ↔ (ReachesNoCommand input events × HasNotFailed report.ending × IsCalm order)
   pub disk_fault : status ≡ statuses.DiskFault → Rose disk disk'
   pub source_fault : status ≡ statuses.SourceFault → Rose source source'
   pub sink_fault : status ≡ statuses.SinkFault → Rose sink sink'

@@ -1,5 +1,5 @@
 -- What a run leaves, and that a session is answered as the plain store answers it.
-use Rattle.std.specs.Prelude.{◌≡◌, ◌≤◌, ◌^◌, ◌⊎◌, ℕ, false, List, [], ◌∷◌, map, length, Option, Some, IfSome, IsSome, IsTrue, Ok}
+use Rattle.std.specs.Prelude.{◌≡◌, ◌≤◌, ◌^◌, ◌⊎◌, ℕ, false, List, [], ◌∷◌, map, length, Option, Some, None, IfSome, IsSome, IsTrue, Ok}
 use Rattle.port_traits.specs.Bytes.{WritesCounted}
 use Rattle.port_traits.specs.Readings.{Readings}
 use Rattle.disk_trait.specs.Files.{Files}
@@ -11,10 +11,11 @@ use Rattle.store_model.specs.Store.{Store}
 use Rattle.store_model.specs.Stands.{StandsFor}
 use Rattle.store_model.specs.Weave.{weave}
 use Rattle.store_history.specs.declared.act.Event.{Event}
-use Rattle.store_history.specs.History.{opened, entries}
+use Rattle.store_history.specs.History.{opened, after_all, entries}
 use Rattle.store_history.specs.LaneRun.{text, LaneRan}
 use Rattle.store_history.specs.Legal.{IsLegal, IsTimed}
 use Rattle.core_state.specs.Opening.{opening_at}
+use Rattle.core_state.specs.Records.{AreKept}
 use Rattle.lane.specs.declared.port.LaneReport.{LaneReport}
 use Rattle.lane.specs.declared.port.Port.{Port}
 use Rattle.lane.specs.Acting.{gave_all}
@@ -27,17 +28,14 @@ use Rattle.pbs_server.specs.Causes.{IsOrder, HasCause}
 use Rattle.pbs_server.specs.Statuses.{status_by}
 use Rattle.pbs_server.specs.Words.{reading}
 
--- The plain store of whole archives, opened without snapshots and asked by the session's commands in the returned order, gives
--- the bytes that the sink was given (a front of them where the sink failed) and this last store. The order fits, and its
--- moments are by the clock's readings. What the disk now holds stands for the last store's snapshots, where the disk did not fail.
-pub record IsPlain (remote : Option (List Snapshot)) (readings : Option Readings) (before : ℕ) (left left' taken taken' : Option (List ℕ)) (order : List Entry) (calls : List ℕ) (report : LaneReport) (files : Files) : Type 0 where
-  -- the bytes that the session's source gave, the acts with their answers, the last store, all replies, and their bytes
+-- What a session did, on any disk: its acts are a run of the lane's program on the bytes that its source gave, its sink was given the
+-- replies (a front of them where it failed), the order is that of the acts, and its moments are by the clock's readings.
+pub record HasTold (readings : Option Readings) (left left' taken taken' : Option (List ℕ)) (order : List Entry) (calls : List ℕ) (report : LaneReport) : Type 0 where
+  -- the bytes that the session's source gave, the acts with their answers, all replies, and their bytes
   pub input : List ℕ
   pub events : List Event
-  pub store : Store
   pub told : List Reply
   pub replies : List ℕ
-  pub woven : weave [] remote order (input ∷ []) (report.ending ∷ []) ≡ Ok (record { store = store; replies = replies ∷ [] })
   pub gave : WritesCounted taken taken' 0 report.given replies (gave_all report.ending)
   pub replies_are : replies ≡ text told
   -- the acts are a run of the lane's program on this input, to the ending that is reported: Clean only at BYE or at the
@@ -47,23 +45,36 @@ pub record IsPlain (remote : Option (List Snapshot)) (readings : Option Readings
   pub size_is : length input ≡ report.taken
   pub rules : IsTrue (keeps_rules 1 order)
   pub times : IfSome readings (λ c. IsTimed c 0 events)
-  pub legal : IsLegal remote (opened (opening_at before)) events
+  -- each act's kind is one that it may have, and its answer has its place in the order
+  pub kept : AreKept 0 None 0 events
   pub order_is : order ≡ entries events
   pub calls_are : calls ≡ map (λ e. e.calls) events
   -- a session that ends cleanly, or where no command stands, was read to there
   pub read_out : EndsRead report.ending input events left'
+
+-- The plain store of whole archives, opened without snapshots and asked by the session's commands in the returned order, gives
+-- the bytes of the replies and this last store. The answers are the plain store's. The disk is honest still, its count of calls is
+-- not below the last entry's, and what it holds stands for the last store's snapshots, where it did not fail.
+pub record IsPlain (remote : Option (List Snapshot)) (before now : ℕ) (is_honest : Type 0) (input : List ℕ) (events : List Event) (replies : List ℕ) (order : List Entry) (report : LaneReport) (files : Files) : Type 0 where
+  pub store : Store
+  pub woven : weave [] remote order (input ∷ []) (report.ending ∷ []) ≡ Ok (record { store = store; replies = replies ∷ [] })
+  pub legal : IsLegal remote (opened (opening_at before)) events
+  pub reached : (after_all remote (opened (opening_at before)) events).calls ≤ now
+  pub honest : is_honest
   pub stands : has_kind 5 order ≡ false → StandsFor files store.snapshots
 
 -- One session was served.
 pub record HasServed {D E S K : Type 0} (honest : D → Type 0) (content : D → Files) (calls_of faults_of : D → ℕ) (left : S → Option (List ℕ)) (source_faults : S → ℕ) (taken : K → Option (List ℕ)) (sink_faults : K → ℕ)
     (readings : Option Readings) (disk : D) (remote : Option E) (old new : Port S K) (report : LaneReport) (result : Served D E) : Type 0 where
+  -- on any disk
+  pub told : HasTold readings (left old.source) (left new.source) (taken old.sink) (taken new.sink) (result.order).items ((result.report).calls).items report
+  -- on an honest disk without snapshots, whatever the remote has
   pub plain : (R : Option (List Snapshot)) → honest disk → StandsFor (content disk) []
-      → IsPlain R readings (calls_of disk) (left old.source) (left new.source) (taken old.sink) (taken new.sink)
-      (result.order).items ((result.report).calls).items report (content result.disk)
+      → IsPlain R (calls_of disk) (calls_of result.disk) (honest result.disk) told.input told.events told.replies (result.order).items report (content result.disk)
   -- on any disk
   pub status : result.status ≡ status_by (result.order).items report.ending
   pub causes : HasCauses (source_faults old.source) (source_faults new.source) (sink_faults old.sink) (sink_faults new.sink) report.taken (Some report.ending)
-  pub why : HasCause result.status (result.order).items report (faults_of disk) (faults_of result.disk) (source_faults old.source) (source_faults new.source) (sink_faults old.sink) (sink_faults new.sink)
+  pub why : HasCause result.status (result.order).items report told.input told.events (faults_of disk) (faults_of result.disk) (source_faults old.source) (source_faults new.source) (sink_faults old.sink) (sink_faults new.sink)
   pub order : IsOrder (result.order).items ((result.report).calls).items (faults_of disk) (faults_of result.disk)
   pub budget : report.taken ≤ 2 ^ 40
   pub faults : faults_of disk ≤ faults_of result.disk

@@ -308,6 +308,22 @@ fn try_session(rt: &impl Abort, alloc: Global, input: &[u8], left: &Left<'_>) ->
     try_source(rt, alloc, source_of(alloc, input)?.at_most(1), left)
 }
 
+/// Beside each entry stands the disk's count of calls: FINISH puts and syncs, DOWNLOAD asks the size and reads.
+#[test]
+fn calls_are_counted(rt: HostRuntime) -> Result<(), Fail> {
+    let alloc = rt.alloc();
+    let mut ports: Ports<MemSink> = [Port {
+        source: source_of(alloc, READ_BACK)?,
+        sink: empty_sink(alloc),
+    }];
+    let served = run_on(alloc, &mut ports, MemoryDisk::new(alloc))?;
+    assert_eq!(rt;
+        served.report.calls.as_slice(),
+        [0, 0, 2, 2, 4, 4].as_slice()
+    );
+    Ok(())
+}
+
 #[test]
 fn sessions_are_served(rt: HostRuntime) -> Result<(), Fail> {
     for (input, replies, kinds) in &CLEAN {

@@ -6,6 +6,7 @@ ghost use Rattle.store_history.specs.Acts.{IsWellFormed};
 ghost use Rattle.core_state.specs.Answers.{IsAnswered, IsCaused, IsTold};
 ghost use Rattle.core_state.specs.Closing.{is_closing};
 ghost use Rattle.core_state.specs.History.{History, StandsFor, then_event, event_of};
+ghost use Rattle.core_state.specs.Records.{Records, IsTimely};
 ghost use Rattle.core_state.specs.Reserved.{Keeps};
 ghost use Rattle.core_state.specs.Unchanged.{Unchanged};
 ghost use Rattle.core_state.specs.declared.kept.Session.TheVariants.{Idle};
@@ -35,8 +36,11 @@ pub fn apply<D: Disk, E, C: Clock>(
     // for every history that the core stood for, it stands for that history with this act's event more
     ensures history { (h : History) → StandsFor D.honest D.content D.calls C.readings core.old h
         → StandsFor D.honest D.content D.calls C.readings core.new (then_event h (event_of act result (D.calls core.new.parts.disk))) }
-    // on any disk
+    // on any disk it keeps this act's event behind those that it kept
+    ensures records { (h : History) → Records C.readings core.old h → Records C.readings core.new (then_event h (event_of act result (D.calls core.new.parts.disk))) }
     ensures answers { IsAnswered D.calls D.faults core.old core.new lane result }
+    // its moment is by one reading of the clock
+    ensures timely { IsTimely C.readings core.old core.new result }
     ensures told { IsTold act result }
     // why it is answered so
     ensures cause { IsCaused D.faults core.old core.new act result }

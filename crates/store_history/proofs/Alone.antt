@@ -11,12 +11,14 @@ use Rattle.store_history.specs.Seats.{AreOf}
 use Rattle.store_history.specs.Woven.{ending_at, IsServed}
 use Rattle.store_history.proofs.Longer.{own_all, of_lanes}
 
+-- its events are those of lane 0
+pub runs_alone : (h : List Event) (input : List ℕ) (e : Ending) (told : List Reply) → AreOf 0 h → LaneRan input e h told
+    → (k : ℕ) → k < 1 → LaneRan (slice_index_or (input ∷ []) k []) (ending_at (e ∷ []) k) (own k h) (slice_index_or (told ∷ []) k [])
+runs_alone h input e told are ran zero lt = subst (λ xs. LaneRan input e xs told) (sym (own_all 0 h are)) ran
+runs_alone h input e told are ran (suc k) lt = absurd (omega arith)
+
 -- where its events are a run of the lane's program, the one lane is served
 pub served_alone : (o : Opening) (R : Option (List Snapshot)) (h : List Event) (input : List ℕ) (e : Ending) (told : List Reply)
     → IsLegal R (opened o) h → AreOf 0 h → LaneRan input e h told → IsServed o R h (input ∷ []) (e ∷ []) (told ∷ [])
 served_alone o R h input e told legal are ran =
-    record { legal = legal; lanes = of_lanes 0 1 h (omega arith) are; each = refl; runs = λ k lt. lane k lt }
-  where
-    lane : (k : ℕ) → k < 1 → LaneRan (slice_index_or (input ∷ []) k []) (ending_at (e ∷ []) k) (own k h) (slice_index_or (told ∷ []) k [])
-    lane zero lt = subst (λ xs. LaneRan input e xs told) (sym (own_all 0 h are)) ran
-    lane (suc k) lt = absurd (omega arith)
+    record { legal = legal; lanes = of_lanes 0 1 h (omega arith) are; each = refl; runs = λ k lt. runs_alone h input e told are ran k lt }

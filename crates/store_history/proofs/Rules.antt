@@ -13,7 +13,7 @@ use Rattle.store_history.specs.declared.act.Event.{Event}
 use Rattle.store_history.specs.Acts.{Class, stepping, wanting, ending, class_of}
 use Rattle.store_history.specs.History.{Opening, World, opened, kind_of, entry, lane, moment, kind, reply, entries, own, after}
 use Rattle.store_history.specs.Legal.{Right, IsLegal}
-use Rattle.store_history.specs.LaneRun.{Position, begin, next_at, used_up, last_words, heard_at, heard, heard_as, end_heard, position_after, Does, EndFollows, Runs}
+use Rattle.store_history.specs.LaneRun.{Position, LaneRan, begin, next_at, used_up, last_words, heard_at, heard, heard_as, end_heard, position_after, Does, EndFollows, Runs}
 use Rattle.store_history.specs.Woven.{AreLanes, ending_at, IsServed, FitsRules}
 use Rattle.store_history.proofs.Events.{IsEnding, right_end, right_none}
 
@@ -68,11 +68,11 @@ of_own k (v ∷ vs) = by_test (lane v == k) (of_own k vs)
     by_test false ih = ih
 
 -- an end is of kind 5 or 6, and nothing else is of kind 6
-KindIs : Class → ℕ → Type 0
+unfoldable pub KindIs : Class → ℕ → Type 0
 KindIs ending n = (n ≢ 5) → n ≡ 6
 KindIs c n = (n == 6) ≡ false
 
-KindsAre : List Event → Type 0
+unfoldable pub KindsAre : List Event → Type 0
 KindsAre [] = Unit {0}
 KindsAre (v ∷ vs) = KindIs (class_of v.act) (kind v) × KindsAre vs
 
@@ -124,7 +124,7 @@ heard_over p n None bye = refl
 heard_over p n None end = refl
 
 -- an event that is no end does not end the lane
-goes_on : (p : Position) (v : Event) → p.is_over ≡ false → (heard p v.answer).is_over ≡ false
+pub goes_on : (p : Position) (v : Event) → p.is_over ≡ false → (heard p v.answer).is_over ≡ false
 unfolding heard
 goes_on p v off = heard_over p (kind v) (reply v) (next_at p) ∙ off
 
@@ -162,17 +162,23 @@ in_range f a zero h = refl
 in_range f a (suc n) h =
     both (f a) (list_all f (range_with_len (a + 1) n)) (h a (omega arith) (omega arith)) (in_range f (a + 1) n (λ k low high. h k (omega arith) (omega arith)))
 
--- the order keeps the rules of order files
-pub served_rules : (o : Opening) (R : Option (List Snapshot)) (h : List Event) (inputs : List (List ℕ)) (es : List Ending) (told : List (List Reply))
-    → IsServed o R h inputs es told → FitsRules h inputs
+-- the order keeps the rules of order files, by what they ask for
+pub rules_by : (h : List Event) (inputs : List (List ℕ)) (es : List Ending) (told : List (List Reply))
+    → list_all (fits_entry (length inputs)) (entries h) ≡ true → moments_rise (entries h) ≡ true → ((k : ℕ) → KindsAre (own k h))
+    → ((k : ℕ) → k < length inputs → LaneRan (slice_index_or inputs k []) (ending_at es k) (own k h) (slice_index_or told k []))
+    → FitsRules h inputs
 unfolding keeps_rules
-served_rules o R h inputs es told s =
+rules_by h inputs es told fits rise kinds runs =
     all_three (list_all (fits_entry (length inputs)) (entries h)) (moments_rise (entries h)) (list_all (λ k. ends_once (of_lane k (entries h))) (range_with_len 0 (length inputs)))
-    (all_fit R (length inputs) (opened o) h s.legal s.lanes)
-    (all_rise R (opened o) h s.legal)
+    fits rise
     (in_range (λ k. ends_once (of_lane k (entries h))) 0 (length inputs) (λ k low high.
     ap ends_once (of_own k h)
-    ∙ runs_once (own k h) (ending_at es k) (begin (slice_index_or inputs k [])) (slice_index_or told k []) (s.runs k (omega arith)) (kinds_are R (opened o) k h s.legal) refl))
+    ∙ runs_once (own k h) (ending_at es k) (begin (slice_index_or inputs k [])) (slice_index_or told k []) (runs k (omega arith)) (kinds k) refl))
   where
     all_three : (a b c : Bool) → a ≡ true → b ≡ true → c ≡ true → (a && b && c) ≡ true
     all_three a b c p q r = rw (p, q, r) refl
+
+pub served_rules : (o : Opening) (R : Option (List Snapshot)) (h : List Event) (inputs : List (List ℕ)) (es : List Ending) (told : List (List Reply))
+    → IsServed o R h inputs es told → FitsRules h inputs
+served_rules o R h inputs es told s =
+    rules_by h inputs es told (all_fit R (length inputs) (opened o) h s.legal s.lanes) (all_rise R (opened o) h s.legal) (λ k. kinds_are R (opened o) k h s.legal) s.runs

@@ -9,6 +9,7 @@ use Rattle.wire_commands.specs.declared.reply.Reply.TheVariants.{Refused}
 use Rattle.core_state.specs.declared.kept.Session.TheVariants.{Idle}
 use Rattle.core_state.specs.Replies.{may_answer}
 use Rattle.core_state.proofs.Caused.{short_caused, no_end_caused}
+use Rattle.core_state.proofs.Recorded.{records_more, short_timely, step_kind, wanting_kind, end_kind, tells_reply, end_tells_reply}
 use Rattle.core_state.proofs.Unchanging.{refused_parts, short_unchanged}
 use Rattle.core_state.proofs.Reserves.{short_keeps, no_end_keeps, end_keeps}
 use Rattle.core_writer.proofs.OtherNames.{others_unmoved}
@@ -83,3 +84,31 @@ returns-in-End-clause-memory g c = λ closing. absurd (end_closes _ c.args.act _
 
 pub returns-in-End-clause-reserve : goal.returns-in-End-clause-reserve
 returns-in-End-clause-reserve g c = end_keeps _ _ c.args.lane c.args.act _ c.in-End.is c.end_act.ensures.reserve
+
+pub returns-in-Plain-OpenReader-clause-records : goal.returns-in-Plain-OpenReader-clause-records
+returns-in-Plain-OpenReader-clause-records g c = let d = g.D.Disk in
+    let step : class_of c.args.act ≡ stepping = search rules in
+    λ h. records_more d.calls d.faults g.C.Clock.readings _ _ c.args.lane c.args.act _ h c.reader_act.ensures.answers c.reader_act.ensures.timely
+    (step_kind d.faults _ _ c.args.act _ step c.reader_act.ensures.cause) (tells_reply d.faults _ _ c.args.act _ c.reader_act.ensures.cause c.reader_act.ensures.answers.text)
+
+pub returns-in-Plain-clause-records : goal.returns-in-Plain-clause-records
+returns-in-Plain-clause-records g c = let d = g.D.Disk in
+    let step : class_of c.args.act ≡ stepping = search rules in
+    λ h. records_more d.calls d.faults g.C.Clock.readings _ _ c.args.lane c.args.act _ h c.writer_act.ensures.answers c.writer_act.ensures.timely
+    (step_kind d.faults _ _ c.args.act _ step c.writer_act.ensures.cause) (tells_reply d.faults _ _ c.args.act _ c.writer_act.ensures.cause c.writer_act.ensures.answers.text)
+
+pub returns-in-Short-clause-records : goal.returns-in-Short-clause-records
+returns-in-Short-clause-records g c = let d = g.D.Disk in
+    λ h. records_more d.calls d.faults g.C.Clock.readings _ _ c.args.lane c.args.act _ h
+    (short_answered d.calls d.faults g.C.Clock.readings _ _ c.args.lane _ c.short.ensures) (short_timely d.calls g.C.Clock.readings _ _ c.args.lane _ c.short.ensures)
+    (wanting_kind c.args.core.now c.args.act c.short.result (ap class_of c.in-Short.is) (ap (λ x. x.kind) ((c.short.ensures).entered).entry))
+    (tells_reply d.faults _ _ c.args.act _ (short_caused d.calls d.faults g.C.Clock.readings _ _ c.args.lane c.args.act _ c.short.ensures)
+    (short_answered d.calls d.faults g.C.Clock.readings _ _ c.args.lane _ c.short.ensures).text)
+
+pub returns-in-End-clause-records : goal.returns-in-End-clause-records
+returns-in-End-clause-records g c = let d = g.D.Disk in
+    λ h. records_more d.calls d.faults g.C.Clock.readings _ _ c.args.lane c.args.act _ h c.end_act.ensures.answers c.end_act.ensures.timely
+    (end_kind d.faults _ _ c.args.act _ (ap class_of c.in-End.is) c.end_act.ensures.cause) (end_tells_reply d.faults _ _ c.args.act _ c.end_act.ensures.cause)
+
+pub returns-in-Short-clause-timely : goal.returns-in-Short-clause-timely
+returns-in-Short-clause-timely g c = short_timely g.D.Disk.calls g.C.Clock.readings _ _ c.args.lane _ c.short.ensures

@@ -7,6 +7,7 @@ use Rattle.core_state.specs.Settles.{reply_by}
 use Rattle.core_state.proofs.Answering.{untouched, ended_answered, end_failed_answered, ended_told, end_failed_told, where_some, where_none}
 use Rattle.core_state.proofs.Ended.{ended_stands, end_failed_stands, end_halted_stands}
 use Rattle.core_state.proofs.Caused.{ended_caused, end_failed_caused}
+use Rattle.core_state.proofs.Recorded.{entered_timely}
 use Rattle.core_state.proofs.Unchanging.{not_done, unchanged_between, untold_unchanged}
 use Rattle.core_writer.proofs.OtherNames.{others_same, others_between, removed_elsewhere}
 use Rattle.core_writer.proofs.ActLemmas.{some_is, none_is, not_none, not_ok}
@@ -165,3 +166,15 @@ returns-in-Err-clause-reserve g c =
     end_failed_keeps g.D.Disk.calls g.C.Clock.readings _ c.begin_end-moment.new.core _ _ c.args.lane c.begin_end-moment.result _ (sym b.fault ∙ fault)
     (λ idle. not_ok c.end.result _ c.in-Err.is (c.end.ensures.idle (ap (λ p. slice_index_or p.sessions.items c.args.lane Idle) b.parts ∙ idle)))
     c.begin_end-moment.ensures.room refl _ refl c.settle.ensures
+
+pub returns-then-is_some-clause-timely : goal.returns-then-is_some-clause-timely
+returns-then-is_some-clause-timely g c =
+    entered_timely g.D.Disk.calls g.C.Clock.readings _ _ _ c.args.lane c.begin_end-moment.result _ _ _ (c.begin_end-moment.ensures.begun c.args.lane).clock c.enter.ensures
+
+pub returns-in-Ok-clause-timely : goal.returns-in-Ok-clause-timely
+returns-in-Ok-clause-timely g c =
+    entered_timely g.D.Disk.calls g.C.Clock.readings _ _ _ c.args.lane c.begin_end-moment.result _ _ _ (c.begin_end-moment.ensures.begun c.args.lane).clock c.enter-in-Ok.ensures
+
+pub returns-in-Err-clause-timely : goal.returns-in-Err-clause-timely
+returns-in-Err-clause-timely g c =
+    entered_timely g.D.Disk.calls g.C.Clock.readings _ _ _ c.args.lane c.begin_end-moment.result _ _ _ (c.begin_end-moment.ensures.begun c.args.lane).clock c.settle.ensures

@@ -4,6 +4,7 @@ use Rattle.core_state.specs.History.{world}
 use Rattle.core_state.proofs.Answered.{refused_stands, done_stands}
 use Rattle.core_state.proofs.Answering.{refused_answered, done_answered, refused_told, settled_told, where_some, where_none, refused_same}
 use Rattle.core_state.proofs.Caused.{refused_caused, done_caused}
+use Rattle.core_state.proofs.Recorded.{refused_timely, settled_timely}
 use Rattle.core_state.proofs.Reserves.{refused_keeps, done_keeps}
 use Rattle.core_state.proofs.Unchanging.{refused_parts, refused_unchanged, done_unchanged}
 use Rattle.core_writer.proofs.OtherNames.{others_unmoved, others_between}
@@ -98,3 +99,10 @@ returns-in-At-clause-reserve g c = let b = c.in-At.ensures.begun.begun in
     done_keeps g.D.Disk.calls g.C.Clock.readings _ c.begin.new.core _ _ c.args.lane c.in-At.moment c.args.act _ _ c.in-At.ensures.begun refl
     c.in-At.ensures.filled
     (λ closing. c.perform-outcome.ensures.closed (closing_before c.args.core.now c.begin.new.core c.args.lane c.args.act b.parts closing)) c.settle.ensures
+
+pub returns-in-Answered-clause-timely : goal.returns-in-Answered-clause-timely
+returns-in-Answered-clause-timely g c = refused_timely g.D.Disk.calls g.C.Clock.readings _ _ c.args.lane _ c.in-Answered.ensures.begun
+
+pub returns-in-At-clause-timely : goal.returns-in-At-clause-timely
+returns-in-At-clause-timely g c =
+    settled_timely g.D.Disk.calls g.C.Clock.readings _ _ _ c.args.lane c.in-At.moment _ _ (c.in-At.ensures.begun.begun).clock c.settle.ensures

@@ -9,23 +9,23 @@ use Rattle.lane.proofs.Entries.{none_entered, no_ending, read_ending, other_endi
 use Rattle.lane.proofs.run.more.Goals as goal
 
 pub returns-in-More-clause-goes : goal.returns-in-More-clause-goes
-returns-in-More-clause-goes g c = λ start s. took_more _ start _ _ _ _ c.args.progress.now.input c.take.new.self _ s c.in-More.ensures.takes
+returns-in-More-clause-goes g c = λ first began start s. took_more _ start _ _ _ _ c.args.progress.now.input c.take.new.self _ s c.in-More.ensures.takes
 
 pub returns-in-End-clause-goes : goal.returns-in-End-clause-goes
-returns-in-End-clause-goes g c = λ start s.
+returns-in-End-clause-goes g c = λ first began start s.
     ended_stops _ start _ _ _ _ c.args.progress.now.input c.take.new.self _ c.ended.result s c.requires.part c.in-End.ensures.takes c.ended.ensures.ending
 
 pub returns-in-Fault-clause-goes : goal.returns-in-Fault-clause-goes
-returns-in-Fault-clause-goes g c = λ start s. as_last _ start _ _ _ _ _ c.untold.result _ _ c.untold.ensures
+returns-in-Fault-clause-goes g c = λ first began start s. as_last _ start _ _ _ _ _ c.untold.result _ _ c.untold.ensures
     (source_stops _ start _ _ _ _ c.args.progress.now.input c.take.new.self _ s c.requires.part c.in-Fault.ensures.takes)
 
 pub returns-in-TooLong-clause-goes : goal.returns-in-TooLong-clause-goes
-returns-in-TooLong-clause-goes g c = λ start s. as_last _ start _ _ _ _ _ c.untold-in-TooLong.result _ _ c.untold-in-TooLong.ensures
+returns-in-TooLong-clause-goes g c = λ first began start s. as_last _ start _ _ _ _ _ c.untold-in-TooLong.result _ _ c.untold-in-TooLong.ensures
     (full_stops _ start _ _ _ _ c.args.progress.now.input c.take.new.self _ s c.requires.part c.in-TooLong.ensures.takes)
 
 pub returns-in-NoMemory-clause-goes : goal.returns-in-NoMemory-clause-goes
-returns-in-NoMemory-clause-goes g c = λ start s. as_last _ start _ _ _ _ _ c.untold-in-NoMemory.result _ _ c.untold-in-NoMemory.ensures
-    (short_piece _ _ start _ _ _ _ _ c.args.progress.now.input c.take.new.self _ _ _ (λ h x. x.legal) s c.short-ending.ensures.answers c.requires.part c.in-NoMemory.ensures.takes)
+returns-in-NoMemory-clause-goes g c = λ first began start s. as_last _ start _ _ _ _ _ c.untold-in-NoMemory.result _ _ c.untold-in-NoMemory.ensures
+    (short_piece _ _ start _ _ _ _ _ c.args.progress.now.input c.take.new.self _ _ _ (λ h x. (x.records).kept) s (c.short-ending.ensures.answers first began) c.requires.part c.in-NoMemory.ensures.takes)
 
 pub returns-in-NoMemory-clause-causes : goal.returns-in-NoMemory-clause-causes
 returns-in-NoMemory-clause-causes g c =

@@ -1,6 +1,8 @@
 use Rattle.std.proofs.Common.{◌≡◌, Some, inl, inr, refl, ap, ◌∙◌, arith}
 use Rattle.store_model.specs.declared.ending.Ending.TheVariants as endings
+use Rattle.core_state.proofs.Recorded.{reaches_first}
 use Rattle.core_state.proofs.Reserves.{whole_reserved}
+use Rattle.lane.specs.Progress.{Start}
 use Rattle.lane.proofs.Turning.{starts}
 use Rattle.lane.proofs.Caused.{causes_later}
 use Rattle.lane.proofs.Entries.{none_entered, more_entered}
@@ -8,10 +10,15 @@ use Rattle.lane.proofs.run.run_alone.Goals as goal
 
 pub loop-last-init : goal.loop-last-init
 loop-last-init g c = (
-  λ h s none. starts _ h _ _ _ _ _ s none c.new.ensures.cutter c.new.ensures.taken,
+  λ h r none. starts _ h _ _ _ _ _ (reaches_first (g.D.Disk).honest (g.D.Disk).content (g.D.Disk).calls g.C.Clock.readings c.args.core.now h r) none c.new.ensures.cutter c.new.ensures.taken,
   record { reserved = whole_reserved c.args.core.now c.args.lane c.requires.room; source_later = omega arith; sink_later = omega arith; same = refl },
   none_entered g.D.Disk.faults c.args.core.now c.args.lane ⊥ (λ f. f),
 )
+
+pub returns-in-Some-clause-ran : goal.returns-in-Some-clause-ran
+returns-in-Some-clause-ran g c = λ h r none.
+    let start : Start = record { history = h; left = g.S.Source.left c.args.port.now.source; taken = g.K.Sink.taken c.args.port.now.sink } in
+    c.close-ending.ensures.closes c.args.core.now h start _ _ (c.in-Some.ensures.goes c.args.core.now h start (c.loop-last.invariant.0 h r none))
 
 pub returns-in-Some-clause-causes : goal.returns-in-Some-clause-causes
 returns-in-Some-clause-causes g c =
@@ -28,7 +35,7 @@ pub loop-last-preserved : goal.loop-last-preserved
 loop-last-preserved g c =
     let before = c.loop-last.invariant in
     let did = c.in_default.ensures in (
-      λ h s none. did.goes (record { history = h; left = g.S.Source.left c.args.port.now.source; taken = g.K.Sink.taken c.args.port.now.sink }) (before.0 h s none),
+      λ h r none. did.goes c.args.core.now h (record { history = h; left = g.S.Source.left c.args.port.now.source; taken = g.K.Sink.taken c.args.port.now.sink }) (before.0 h r none),
       record {
         reserved = did.room;
         source_later = omega (arith, before.1.source_later, did.causes.source_later);

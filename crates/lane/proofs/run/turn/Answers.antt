@@ -9,18 +9,18 @@ use Rattle.lane.proofs.Entries.{none_entered, other_ending}
 use Rattle.lane.proofs.run.turn.Goals as goal
 
 pub returns-in-Bye-clause-goes : goal.returns-in-Bye-clause-goes
-returns-in-Bye-clause-goes g c = λ start s. bye_stops _ start _ _ _ c.args.progress.now.input.cutter _ _ s c.in-Bye.ensures
+returns-in-Bye-clause-goes g c = λ first began start s. bye_stops _ start _ _ _ c.args.progress.now.input.cutter _ _ s c.in-Bye.ensures
 
 pub returns-in-Bye-clause-text : goal.returns-in-Bye-clause-text
 returns-in-Bye-clause-text g c = done_has_text
 
 pub returns-in-Broken-clause-goes : goal.returns-in-Broken-clause-goes
-returns-in-Broken-clause-goes g c = λ start s. as_last _ start _ _ _ _ _ c.broken.result _ _ c.broken.ensures
+returns-in-Broken-clause-goes g c = λ first began start s. as_last _ start _ _ _ _ _ c.broken.result _ _ c.broken.ensures
     (broken_stops _ start _ _ _ c.args.progress.now.input.cutter _ _ _ _ s (c.in-Broken.ensures).0 (sym c.args.progress.now.input.begins))
 
 pub returns-in-NoMemory-clause-goes : goal.returns-in-NoMemory-clause-goes
-returns-in-NoMemory-clause-goes g c = λ start s. as_last _ start _ _ _ _ _ c.untold.result _ _ c.untold.ensures
-    (short_here _ _ start _ _ _ _ c.args.progress.now.input.cutter _ _ _ _ (λ h x. x.legal) s c.short-ending.ensures.answers c.in-NoMemory.ensures)
+returns-in-NoMemory-clause-goes g c = λ first began start s. as_last _ start _ _ _ _ _ c.untold.result _ _ c.untold.ensures
+    (short_here _ _ start _ _ _ _ c.args.progress.now.input.cutter _ _ _ _ (λ h x. (x.records).kept) s (c.short-ending.ensures.answers first began) c.in-NoMemory.ensures)
 
 pub returns-in-NoMemory-clause-causes : goal.returns-in-NoMemory-clause-causes
 returns-in-NoMemory-clause-causes g c =

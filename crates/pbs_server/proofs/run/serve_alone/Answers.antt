@@ -1,11 +1,12 @@
-use Rattle.std.proofs.Common.{◌∷◌, ◌++◌, [], refl, ap, sym, ◌∙◌, arith}
+use Rattle.std.proofs.Common.{◌∷◌, ◌++◌, [], None, refl, ap, sym, ◌∙◌, arith}
 use Rattle.core_state.specs.History.{began}
 use Rattle.core_state.specs.Opening.{opening_at}
 use Rattle.pbs_server.specs.Statuses.{status_by}
 use Rattle.pbs_server.proofs.Causes.{caused, handed_back}
 use Rattle.pbs_server.proofs.Leaving.{leaves_one}
 use Rattle.pbs_server.proofs.Statuses.{served_other}
-use Rattle.pbs_server.proofs.Woven.{is_plain, plain_as}
+use Rattle.pbs_server.proofs.Woven.{has_both}
+use Rattle.pbs_server.proofs.Broken.{reached, not_clean}
 use Rattle.pbs_server.proofs.run.serve_alone.Goals as goal
 
 pub returns-in-Ok-open_on-clause-leaves : goal.returns-in-Ok-open_on-clause-leaves
@@ -18,17 +19,21 @@ returns-in-Ok-open_on-clause-leaves g c = let d = g.D.Disk in let s = g.S.Source
     let status = back.status ∙ ap (λ v. status_by v.items report.ending) (sym back.order) in
     let order = handed_back d.faults _ core _ _ _ c.args.disk c.handed_back.result.disk c.run_alone-report.ensures.entered opened.entries opened.calls opened.fault
     (ap (λ v. v.items) back.order) (ap (λ v. v.items) back.calls) opened.disk back.disk in
+    let both = has_both d.honest d.content d.calls g.C.Clock.readings _ core readings (d.calls c.args.disk)
+    (s.left c.args.port.now.source) (s.left c.run_alone-report.new.port.source) (k.taken c.args.port.now.sink) (k.taken c.run_alone-report.new.port.sink)
+    (c.handed_back.result.order).items ((c.handed_back.result.report).calls).items report c.handed_back.result.disk
+    (c.run_alone-report.ensures.ran (began (opening_at (d.calls c.args.disk)) None readings) (opened.records None) refl)
+    (ap (λ v. v.items) back.order) (ap (λ v. v.items) back.calls) back.disk in
     leaves_one d.honest d.content d.calls d.faults s.left s.faults k.taken k.faults readings c.args.disk c.args.remote c.handed_back.result c.args.port.now c.run_alone-report.new.port _ report
     (ap (λ v. v.items) back.lanes ∙ c.push_reserved.ensures.items ∙ ap (λ xs. xs ++ report ∷ []) c.in-Ok.ensures.items)
     (record {
-      plain = λ R honest stands.
-          plain_as R readings (d.calls c.args.disk) (s.left c.args.port.now.source) (s.left c.run_alone-report.new.port.source) (k.taken c.args.port.now.sink) (k.taken c.run_alone-report.new.port.sink)
-          _ _ _ _ report _ _ (ap (λ v. v.items) back.order) (ap (λ v. v.items) back.calls) (ap d.content back.disk)
-          (is_plain d.honest d.content d.calls g.C.Clock.readings core R readings (d.calls c.args.disk) _ _ _ _ report
-          (c.run_alone-report.ensures.ran (began (opening_at (d.calls c.args.disk)) R readings) (c.in-Ok-open_on.ensures.opened R honest stands) refl));
+      told = both.told;
+      plain = λ R honest stands. both.plain R (opened.opened R honest stands);
       status = status;
       causes = c.run_alone-report.ensures.causes;
-      why = caused c.handed_back.result.status (c.handed_back.result.order).items report _ _ _ _ _ _ status c.run_alone-report.ensures.causes (order.order_is).faults order.memory;
+      why = caused c.handed_back.result.status (c.handed_back.result.order).items report (both.told).input (both.told).events _ _ _ _ _ _ status c.run_alone-report.ensures.causes (order.order_is).faults order.memory
+          (reached report.ending (both.told).input (both.told).events (both.told).told _ (both.told).ran (both.told).read_out)
+          (not_clean report.ending (both.told).input (both.told).events (both.told).told (both.told).ran);
       order = order.order_is;
       budget = c.run_alone-report.ensures.budget;
       faults = let a = ap d.faults c.in-Ok-open_on.ensures.disk in let b = ap d.faults back.disk in omega (arith, a, b, c.run_alone-report.ensures.entered.count);

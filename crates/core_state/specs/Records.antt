@@ -1,0 +1,85 @@
+-- What the core keeps of a history, on any disk.
+use Rattle.std.specs.Prelude.{◌≡◌, ◌≤◌, ◌<◌, ◌+◌, ◌⊎◌, ℕ, true, List, [], ◌∷◌, map, Option, Some, None, IsTrue}
+use Rattle.port_traits.specs.Readings.{Readings}
+use Rattle.disk_trait.specs.Files.{Files}
+use Rattle.store_types.specs.Times.{last_moment}
+use Rattle.store_types.specs.declared.refusal.Refusal.TheVariants.{NoMemory}
+use Rattle.wire_commands.specs.declared.reply.Reply.{Reply}
+use Rattle.wire_commands.specs.declared.reply.Reply.TheVariants.{Refused}
+use Rattle.wire_commands.specs.HasText.{ReplyHasText}
+use Rattle.store_model.specs.Weave.{fault_refusal}
+use Rattle.store_history.specs.declared.act.Act.{Act}
+use Rattle.store_files.specs.Archive.{Snapshot}
+use Rattle.store_history.specs.declared.act.Answer.{Answer}
+use Rattle.store_history.specs.declared.act.Event.{Event}
+use Rattle.store_history.specs.Acts.{Class, stepping, wanting, ending, class_of}
+use Rattle.store_history.specs.History.{entries, moment, kind, reply, EntryKind, kind_of, step_kind, short_kind, fault_kind, end_kind}
+use Rattle.store_history.specs.Legal.{moment_after}
+use Rattle.core_state.specs.declared.state.Core.{Core}
+use Rattle.core_state.specs.Answers.{fault_after}
+use Rattle.core_state.specs.Begins.{ReadsClock}
+use Rattle.core_state.specs.History.{History, KeepsTime, StandsFor}
+use Rattle.core_state.specs.Replies.{may_answer}
+
+-- the clock was read once for the act's moment, which is the last one then
+pub record IsTimely {D E C : Type 0} (readings : C → Option Readings) (old new : Core D E C) (answer : Answer) : Type 0 where
+  pub clock : ReadsClock readings old.clock new.clock old.last (answer.entry).moment
+  pub last : new.last ≡ (answer.entry).moment
+
+-- The kinds that an act's entry may have, after this first fault: an act is done only where there was none, and a lane's end meets
+-- a fault only where there was none.
+abbrev pub FitsKind : Class → Option ℕ → ℕ → Type 0
+FitsKind stepping fault n = ((n ≡ 0) × (fault ≡ None)) ⊎ ((n ≡ 2) ⊎ (n ≡ 5))
+FitsKind wanting fault n = n ≡ 2
+FitsKind ending fault n = (n ≡ 6) ⊎ ((n ≡ 5) × (fault ≡ None))
+
+-- What an act is answered whose entry is of this kind, after this first fault: what its command's tests may answer, want of memory,
+-- or the disk's fault. A lane's end has no reply.
+abbrev pub FitsReply : Option ℕ → Act → EntryKind → Option Reply → Type 0
+FitsReply fault a step_kind (Some r) = IsTrue (may_answer a r) × ReplyHasText r
+FitsReply fault a short_kind r = r ≡ Some (Refused NoMemory)
+FitsReply fault a fault_kind r = r ≡ Some (Refused (fault_refusal fault))
+FitsReply fault a end_kind r = r ≡ None
+FitsReply fault a _ r = ⊥
+
+-- an event behind so many others, the first fault among them, and this moment
+pub record IsKept (place : ℕ) (fault : Option ℕ) (before : ℕ) (e : Event) : Type 0 where
+  pub kind_is : FitsKind (class_of e.act) fault (kind e)
+  pub tells : FitsReply fault e.act (kind_of (kind e)) (reply e)
+  pub place_is : (e.answer).place ≡ place
+  -- an entry of the reserve is one of want of memory
+  pub last : (e.answer).last ≡ true → kind e ≡ 2
+  -- moments never fall
+  pub risen : before ≤ moment e
+  pub in_time : moment e ≤ last_moment
+
+-- from this place on
+abbrev pub AreKept : ℕ → Option ℕ → ℕ → List Event → Type 0
+AreKept place fault before [] = Unit {0}
+AreKept place fault before (e ∷ es) = IsKept place fault before e × AreKept (place + 1) (fault_after place (kind e) fault) (moment e) es
+
+-- the place of the first fault
+abbrev pub fault_in : ℕ → Option ℕ → List Event → Option ℕ
+fault_in place fault [] = fault
+fault_in place fault (e ∷ es) = fault_in (place + 1) (fault_after place (kind e) fault) es
+
+-- The core's order, counts, first fault and last moment are the history's, moments are by the clock's readings, and each act has one
+-- of the answers that it may have. Of the store's content nothing is said.
+pub record Records {D E C : Type 0} (readings : C → Option Readings) (core : Core D E C) (h : History) : Type 0 where
+  pub kept : AreKept 0 None (h.opening).moment h.events
+  pub entries : (core.journal).entries.items ≡ entries h.events
+  pub calls : (core.journal).calls.items ≡ map (λ e. e.calls) h.events
+  pub fault : core.fault ≡ fault_in 0 None h.events
+  pub last : core.last ≡ moment_after (h.opening).moment h.events
+  pub time : KeepsTime readings core.clock h
+
+-- beside these snapshots of the remote
+abbrev pub with_remote : Option (List Snapshot) → History → History
+with_remote remote h = record h { remote = remote }
+
+-- From a first core and its history the core came to this history: it records it, and stands for it where the first core stood
+-- for its own.
+pub record Reaches {D E C : Type 0} (is_honest : D → Type 0) (content : D → Files) (calls_of : D → ℕ) (readings : C → Option Readings) (first : Core D E C) (began : History) (core : Core D E C) (h : History) : Type 0 where
+  pub records : Records readings core h
+  pub stands : (R : Option (List Snapshot)) → StandsFor is_honest content calls_of readings first (with_remote R began)
+      → StandsFor is_honest content calls_of readings core (with_remote R h)
