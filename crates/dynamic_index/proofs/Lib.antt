@@ -1,6 +1,7 @@
 mod Steps
 mod Cells
 mod LastEntry
+mod KnownPieces
 mod Faults
 mod TextParts
 mod Spelling

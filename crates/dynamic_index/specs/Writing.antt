@@ -1,8 +1,10 @@
 -- A dynamic index as it is written: its pieces come one by one.
 use Rattle.std.specs.Prelude.{ℕ, ◌≡◌, ◌+◌, ◌<◌, ◌≤◌, FitsSigned, All, List, [], ◌∷◌, ◌++◌, length, replicate, ℤ, IsTrue}
+use Rattle.std.specs.List.{AllByRecursion}
 use Rattle.std.specs.Int.{w64}
 use Rattle.store_files.specs.Cells.{entry_limit}
 use Rattle.store_files.specs.DynamicIndex.{DynamicIndex, Ended, steps_fit}
+use Rattle.store_types.specs.declared.names.Digest32.{Digest32}
 use Rattle.dynamic_index.specs.Pieces.{size_of}
 
 -- the rest of the header
@@ -22,6 +24,28 @@ pub record FitsPiece (x : DynamicIndex) (len : ℕ) : Type 0 where
 -- a piece of this length behind the others
 abbrev pub with_piece : DynamicIndex → List ℕ → ℕ → DynamicIndex
 with_piece x digest len = record x { entries = x.entries ++ record { end = size_of x + len; digest = digest } ∷ [] }
+
+-- ---- several pieces at once, each by its digest and its length
+
+abbrev pub Known : Type 0
+Known = List ℕ × ℕ
+
+abbrev pub known_of : Digest32 × ℕ → Known
+known_of piece = ((piece.0).0, piece.1)
+
+-- where each of them ends, behind a start
+abbrev pub ends_behind : ℕ → List Known → List Ended
+ends_behind start [] = []
+ends_behind start (k ∷ ks) = record { end = start + k.1; digest = k.0 } ∷ ends_behind (start + k.1) ks
+
+-- there is room for them all
+pub record FitsPieces (x : DynamicIndex) (pieces : List Known) : Type 0 where
+  pub room : length x.entries + length pieces ≤ entry_limit
+  pub lengths : AllByRecursion (λ k. (1 ≤ k.1) × (k.1 ≤ 16_777_216)) pieces
+
+-- they all stand behind the others
+abbrev pub with_pieces : DynamicIndex → List Known → DynamicIndex
+with_pieces x pieces = record x { entries = x.entries ++ ends_behind (size_of x) pieces }
 
 -- what a writer keeps
 pub record IsBegun (uuid : List ℕ) (ctime : ℤ) (entries : List Ended) : Type 0 where

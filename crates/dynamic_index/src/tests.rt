@@ -34,7 +34,7 @@ const EMPTY_CSUM: [u8; 32] = [
 fn two_pieces(rt: &impl Abort, alloc: Global) -> Result<Vec<u8>, Fail> {
     let mut writer = DynamicWriter::new(alloc, [1; 16], 1_579_069_803);
     writer.append(&Digest32(ABC), 3)?;
-    writer.append(&Digest32(DE), 2)?;
+    writer.append_all(alloc, &[(Digest32(DE), 2)])?;
     let (entries, end, csum) = writer.facts();
     assert_eq!(rt; (entries, end), (2, 5));
     assert_eq!(rt; csum, Digest32(CSUM));

@@ -1,13 +1,13 @@
 //! An index as it is written.
 
-ghost use Rattle.std.specs.Prelude.{◌≡◌, ◌++◌, length, map, IfOk, OnOk, OnErr, Ok};
+ghost use Rattle.std.specs.Prelude.{◌≡◌, ◌≤◌, ◌*◌, ◌++◌, All, length, map, IfOk, OnOk, OnErr, Ok};
 ghost use Rattle.std.specs.Int.{w64, to_le_bytes, cast_unsigned};
 ghost use Rattle.std.specs.List.{flat_map};
 ghost use Rattle.sha2.specs.Sha256.{sha256};
 ghost use Rattle.store_files.specs.DynamicIndex.{DynamicIndex, dynamic_text, dynamic_of, csum_of, entry_text, magic as magic_bytes};
 ghost use Rattle.dynamic_index.specs.Pieces.{size_of};
-ghost use Rattle.dynamic_index.specs.Entries.{spelled};
-ghost use Rattle.dynamic_index.specs.Writing.{reserved, begun, with_piece, FitsPiece};
+ghost use Rattle.dynamic_index.specs.Entries.{ended_of, ends_of, spelled};
+ghost use Rattle.dynamic_index.specs.Writing.{reserved, begun, with_piece, FitsPiece, known_of, ends_behind, with_pieces, FitsPieces};
 
 use crate::{ENTRY_SIZE, HEADER_SIZE, MAGIC};
 use sha2::{Digest, Sha256};
@@ -63,7 +63,8 @@ impl DynamicWriter {
 
     /// Where the pieces so far end.
     pub fn end(&self) -> u64
-        ensures { result ≡ size_of self.now }
+        ensures value { result ≡ size_of self.now }
+        ensures limit { result ≤ 1_048_576 * 16_777_216 }
     {
         match self.entries.last() {
             Some(entry) => entry.end,
@@ -81,6 +82,22 @@ impl DynamicWriter {
         let end = self.end() + length as u64;
         let digest = Digest32(digest.0);
         self.entries.push(Entry { end, digest })?;
+        Ok(())
+    }
+
+    /// The digests and lengths of the next pieces, each of 1 to 16,777,216 bytes. With those that are there they are at
+    /// most 1,048,576. At want of memory nothing has changed.
+    pub fn append_all(
+        &mut self,
+        alloc: Global,
+        pieces: &[(Digest32, u32)],
+    ) -> Result<(), AllocError>
+        requires { FitsPieces self.old (map known_of pieces.now) }
+        ensures ok { OnOk result (self.new ≡ with_pieces self.old (map known_of pieces.now)) }
+        ensures err { OnErr result (self.new ≡ self.old) }
+    {
+        let mut more = entries_behind(alloc, self.end(), pieces)?;
+        self.entries.append(&mut more)?;
         Ok(())
     }
 
@@ -117,6 +134,34 @@ impl DynamicWriter {
         text.extend_from_slice(&zeros())?;
         Ok(text)
     }
+}
+
+fn entry_at(end: u64, digest: &Digest32) -> Entry
+    ensures value { ended_of result ≡ record { end = end; digest = digest.now.0 } }
+    ensures digest { length (ended_of result).digest ≡ 32 }
+{
+    let digest = Digest32(digest.0);
+    Entry { end, digest }
+}
+
+// The entries of these pieces, which begin at a start.
+fn entries_behind(
+    alloc: Global,
+    start: u64,
+    pieces: &[(Digest32, u32)],
+) -> Result<Vec<Entry>, AllocError>
+    requires count { length pieces.now ≤ 1_048_576 }
+    requires start { start ≤ 1_048_576 * 16_777_216 }
+    ensures ends { IfOk result (λ entries. ends_of entries.items ≡ ends_behind start (map known_of pieces.now)) }
+    ensures digests { IfOk result (λ entries. All (λ e. length e.digest ≡ 32) (ends_of entries.items)) }
+{
+    let mut entries = Vec::with_capacity(alloc, pieces.len())?;
+    let mut end = start;
+    for piece in pieces {
+        end += piece.1 as u64;
+        entries.push(entry_at(end, &piece.0))?;
+    }
+    Ok(entries)
 }
 
 // The rest of the header.

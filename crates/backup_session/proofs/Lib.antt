@@ -1,0 +1,10 @@
+mod PiecesNamed
+mod Places
+mod Numbers
+mod Naming
+mod Pools
+mod FileLemmas
+mod StateSteps
+mod Squares
+mod Plainly
+mod Lifting

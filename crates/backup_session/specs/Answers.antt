@@ -1,0 +1,44 @@
+-- What a call that may be refused, or may want memory, gives and leaves.
+use Rattle.std.specs.Prelude.{◌≡◌, None, Result, Ok, Err, MatchResult, IsSome}
+use Rattle.store_types.specs.declared.refusal.Refusal.{Refusal}
+use Rattle.store_model.specs.Store.{Writer}
+use Rattle.backup_session.specs.Session.{Writing, Session}
+use Rattle.backup_session.specs.Shown.{Shows}
+
+-- the step answers so, and the call leaves what this makes of the writer afterwards
+pub record Leaves {S B : Type 0} (leave : Writing → S) (new : S) (step : Result (Writing × B) Refusal) (answer : B) : Type 0 where
+  pub after : Writing
+  pub stepped : step ≡ Ok (after, answer)
+  pub left : new ≡ leave after
+
+-- The answer is the step's. A refusal leaves all as it was.
+abbrev pub Tells : {S A B : Type 0} → (A → B) → (Writing → S) → S → S → Result (Writing × B) Refusal → Result A Refusal → Type 0
+Tells show leave old new step told =
+    MatchResult told (λ a. Leaves leave new step (show a)) (λ refusal. (step ≡ Err refusal) × (new ≡ old))
+
+-- where memory is wanting all is as it was too
+abbrev pub Does : {S A B E : Type 0} → (A → B) → (Writing → S) → S → S → Result (Result A Refusal) E → Result (Writing × B) Refusal → Type 0
+Does show leave old new result step = MatchResult result (Tells show leave old new step) (λ _. new ≡ old)
+
+-- a file is pending exactly at Ok
+abbrev pub IsPendingAt : {A E : Type 0} → Session → Result (Result A Refusal) E → Type 0
+IsPendingAt s result = MatchResult result (λ told. MatchResult told (λ a. IsSome s.pending) (λ refusal. s.pending ≡ None)) (λ _. s.pending ≡ None)
+
+-- ---- beside a plain writer
+
+-- the plain step answers so, and the call leaves what this makes of a session that shows the plain writer afterwards
+pub record LeavesShown {B : Type 0} (leave : Writing → Session) (new : Session) (step : Result (Writer × B) Refusal) (answer : B) : Type 0 where
+  pub plain : Writer
+  pub stepped : step ≡ Ok (plain, answer)
+  pub after : Writing
+  pub left : new ≡ leave after
+  pub shows : Shows after plain
+
+abbrev pub TellsPlainly : {A B : Type 0} → (A → B) → (Writing → Session) → Session → Result (Writer × B) Refusal → Result A Refusal → Type 0
+TellsPlainly show leave new step told =
+    MatchResult told (λ a. LeavesShown leave new step (show a)) (λ refusal. step ≡ Err refusal)
+
+-- of each plain writer that the session shows, the answer is the plain step's, and what is left shows the writer afterwards
+abbrev pub DoesPlainly : {A B E : Type 0} → (A → B) → (Writing → Session) → Session → Session → Result (Result A Refusal) E → (Writer → Result (Writer × B) Refusal) → Type 0
+DoesPlainly show leave old new result step =
+    (w : Writer) → Shows old.writer w → MatchResult result (TellsPlainly show leave new (step w)) (λ _. Unit {0})

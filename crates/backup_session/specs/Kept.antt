@@ -1,0 +1,71 @@
+-- What a session keeps in memory.
+use Rattle.std.specs.Prelude.{◌≡◌, ℕ, ◌<◌, ◌≤◌, List, map, length, Option, Some, None, Result, Ok, Err, MatchResult}
+use Rattle.std.specs.List.{remove}
+use Rattle.store_types.specs.Names.{IsKey}
+use Rattle.store_types.specs.declared.refusal.Refusal.{Refusal}
+use Rattle.backup_session.specs.declared.state.Begun.{Begun}
+use Rattle.backup_session.specs.declared.state.Pending.{Pending}
+use Rattle.backup_session.specs.Session.{Pool, length_at, Open, Writing, Session, settled, held}
+
+abbrev pub open_of : Begun → Open
+open_of b = record { number = b.number; name = b.name; index = b.index }
+
+abbrev pub opens_of : List Begun → List Open
+opens_of begun = map open_of begun
+
+-- a length that is kept is a piece's
+abbrev pub HasLengths : Pool → Type 0
+HasLengths pool = (digest : List ℕ) (n : ℕ) → length_at pool digest ≡ Some n → (1 ≤ n) × (n ≤ 16_777_216)
+
+-- what is so of every writer
+pub record IsWriting (w : Writing) : Type 0 where
+  pub key : IsKey w.key
+  pub lengths : HasLengths w.pool
+  pub begun : length w.begun ≤ 16
+
+-- ---- the pending file is among the files already
+
+-- without it
+abbrev pub before : Pending → Writing → Writing
+before p w = record w { files = remove w.files p.place }
+
+-- the index that became the file is not open any more
+abbrev pub left_of : Option ℕ → List Open → List Open
+left_of None begun = begun
+left_of (Some place) begun = remove begun place
+
+abbrev pub text_of : Option (List ℕ) → Option (List ℕ) → Option (List ℕ)
+text_of None old = old
+text_of (Some text) old = Some text
+
+-- with it
+abbrev pub after : Pending → Writing → Writing
+after p w = record w { begun = left_of p.closes w.begun; manifest = text_of p.manifest w.manifest }
+
+abbrev pub session_of : Option Pending → Writing → Session
+session_of None w = settled w
+session_of (Some p) w = held (before p w) (after p w)
+
+-- the places are there
+abbrev pub IsClosing : Option ℕ → List Open → Type 0
+IsClosing None begun = Unit {0}
+IsClosing (Some place) begun = place < length begun
+
+abbrev pub IsPlaced : Option Pending → Writing → Type 0
+IsPlaced None w = Unit {0}
+IsPlaced (Some p) w = (p.place < length w.files) × IsClosing p.closes w.begun
+
+-- ---- what a call gives and leaves that makes a file pending
+
+-- the step answers so; without the pending file the writer is as before, and with it as the step leaves it
+pub record LeavesPending {B : Type 0} (old new : Writing) (p : Pending) (step : Result (Writing × B) Refusal) (answer : B) : Type 0 where
+  pub stepped : step ≡ Ok (after p new, answer)
+  pub back : before p new ≡ old
+  pub placed : IsPlaced (Some p) new
+
+abbrev pub TellsPending : {A B : Type 0} → (A → B) → (A → Pending) → Writing → Writing → Result (Writing × B) Refusal → Result A Refusal → Type 0
+TellsPending show pending old new step told =
+    MatchResult told (λ a. LeavesPending old new (pending a) step (show a)) (λ refusal. (step ≡ Err refusal) × (new ≡ old))
+
+abbrev pub HoldsBack : {A B E : Type 0} → (A → B) → (A → Pending) → Writing → Writing → Result (Result A Refusal) E → Result (Writing × B) Refusal → Type 0
+HoldsBack show pending old new result step = MatchResult result (TellsPending show pending old new step) (λ _. new ≡ old)

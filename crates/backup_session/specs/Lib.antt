@@ -1,0 +1,7 @@
+pub mod Archives
+pub mod WriterCalls
+pub mod Session
+pub mod Steps
+pub mod Shown
+pub mod Answers
+pub mod Kept

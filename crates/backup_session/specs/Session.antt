@@ -1,0 +1,52 @@
+-- A writer with digests in place of pieces.
+use Rattle.std.specs.Prelude.{ℕ, List, if◌then◌else◌, Option, Some, None, is_some}
+use Rattle.std.specs.FinMap.{find, put}
+use Rattle.store_types.specs.declared.names.SnapshotKey.{SnapshotKey}
+use Rattle.store_types.specs.Names.{text_cmp}
+use Rattle.store_files.specs.DynamicIndex.{DynamicIndex}
+use Rattle.manifest.specs.declared.facts.FileFact.{FileFact}
+
+-- the lengths of the pieces that were sent, by the bytes of their digests: a finite map's entries
+abbrev pub Pool : Type 0
+Pool = List (List ℕ × ℕ)
+
+-- the length that is kept of a digest
+abbrev pub length_at : Pool → List ℕ → Option ℕ
+length_at pool digest = find text_cmp digest pool
+
+-- a length that is there already stays
+abbrev pub with_length : Pool → List ℕ → ℕ → Pool
+with_length pool digest len = if is_some (length_at pool digest) then pool else put text_cmp digest len pool
+
+-- an index that was begun
+pub record Open : Type 0 where
+  pub number : ℕ
+  pub name : List ℕ
+  pub index : DynamicIndex
+
+-- The open indexes stand as they were begun, and the files in byte order. Of the manifest its file's text is kept.
+pub record Writing : Type 0 where
+  pub key : SnapshotKey
+  pub start : ℕ
+  pub base : Option SnapshotKey
+  pub pool : Pool
+  pub begun : List Open
+  pub files : List FileFact
+  pub manifest : Option (List ℕ)
+
+-- the writer, and what it becomes where the pending file is kept
+pub record Session : Type 0 where
+  pub writer : Writing
+  pub pending : Option Writing
+
+-- no file is pending
+abbrev pub settled : Writing → Session
+settled w = record { writer = w; pending = None }
+
+-- a file is
+abbrev pub held : Writing → Writing → Session
+held w after = record { writer = w; pending = Some after }
+
+-- what keeping the pending file makes of a session
+abbrev pub kept : Session → Session
+kept s = elim s.pending [ None ↦ s | Some after ↦ settled after ]

@@ -1,0 +1,96 @@
+//! The entries of an APPEND.
+
+ghost use Rattle.std.specs.Prelude.{◌≡◌, ◌≤◌, ◌*◌, length, map, Ok, Err, IfOk, MatchResult};
+ghost use Rattle.std.specs.FinMap.{entries as entries_of};
+ghost use Rattle.store_files.specs.Archive.{dynamic};
+ghost use Rattle.backup_session.specs.Archives.{piece_named as piece_by, pieces_named as pieces_by, want_entries as entries_fit};
+ghost use Rattle.dynamic_index.specs.Writing.{known_of, FitsPieces};
+ghost use Rattle.backup_session.specs.Steps.{known_in, pieces_for as pieces_of};
+ghost use Rattle.backup_session.specs.Kept.{HasLengths};
+
+use dynamic_index::DynamicWriter;
+use known_chunks::Known;
+use std::alloc::{AllocError, Global};
+use store_types::{Digest32, Refusal};
+
+/// So many entries fit a command, and an index that has so many pieces.
+fn want_entries(pieces: u32, entries: usize) -> Result<(), Refusal>
+    ensures { result ≡ entries_fit pieces entries }
+{
+    if entries > 4096 {
+        return Err(Refusal::TooMany { limit: 4096 });
+    }
+    if pieces as usize + entries > 1_048_576 {
+        return Err(Refusal::TooMany { limit: 1_048_576 });
+    }
+    Ok(())
+}
+
+/// The length of the piece that the entry at a place names, where it begins at the end reached so far.
+fn piece_named(pool: &Known, place: u32, end: u64, entry: &(Digest32, u64)) -> Result<u32, Refusal>
+    requires { HasLengths (entries_of pool.now) }
+    ensures exact { MatchResult result
+        (λ length. piece_by (known_in (entries_of pool.now)) (λ k. k.1) dynamic place end entry.now ≡ Ok (known_of ((entry.now).0, length)))
+        (λ refusal. piece_by (known_in (entries_of pool.now)) (λ k. k.1) dynamic place end entry.now ≡ Err refusal) }
+    ensures short { IfOk result (λ length. length ≤ 16_777_216) }
+{
+    let Some(length) = pool.find(&entry.0) else {
+        return Err(Refusal::UnknownChunk { place });
+    };
+    if entry.1 != end {
+        return Err(Refusal::BadOffset {
+            place,
+            expected: end,
+        });
+    }
+    Ok(length)
+}
+
+/// The pieces that the entries name, where the first begins at a start.
+fn pieces_named(
+    alloc: Global,
+    pool: &Known,
+    start: u64,
+    entries: &[(Digest32, u64)],
+) -> Result<Result<Vec<(Digest32, u32)>, Refusal>, AllocError>
+    requires count { length entries.now ≤ 4096 }
+    requires start { start ≤ 1_048_576 * 16_777_216 }
+    requires lengths { HasLengths (entries_of pool.now) }
+    ensures { IfOk result (λ told. MatchResult told
+        (λ pieces. pieces_by (known_in (entries_of pool.now)) (λ k. k.1) dynamic 0 start entries.now ≡ Ok (map known_of pieces.items))
+        (λ refusal. pieces_by (known_in (entries_of pool.now)) (λ k. k.1) dynamic 0 start entries.now ≡ Err refusal)) }
+{
+    let mut pieces = Vec::new(alloc);
+    let mut end = start;
+    for entry in entries {
+        let place = pieces.len() as u32;
+        match piece_named(pool, place, end, entry) {
+            Ok(length) => {
+                pieces.push((entry.0, length))?;
+                end += length as u64;
+            }
+            Err(refusal) => return Ok(Err(refusal)),
+        }
+    }
+    Ok(Ok(pieces))
+}
+
+/// The pieces that an APPEND to an index names, or its first refusal: more than 4,096 entries, more than 1,048,576 pieces
+/// in the index, then entry by entry a digest that the pool lacks, and an offset other than the end reached so far.
+pub fn pieces_for(
+    alloc: Global,
+    pool: &Known,
+    index: &DynamicWriter,
+    entries: &[(Digest32, u64)],
+) -> Result<Result<Vec<(Digest32, u32)>, Refusal>, AllocError>
+    requires { HasLengths (entries_of pool.now) }
+    ensures exact { IfOk result (λ told. MatchResult told
+        (λ pieces. pieces_of (entries_of pool.now) index.now entries.now ≡ Ok (map known_of pieces.items))
+        (λ refusal. pieces_of (entries_of pool.now) index.now entries.now ≡ Err refusal)) }
+    ensures fits { IfOk result (λ told. IfOk told (λ pieces. FitsPieces index.now (map known_of pieces.items))) }
+{
+    if let Err(refusal) = want_entries(index.len(), entries.len()) {
+        return Ok(Err(refusal));
+    }
+    pieces_named(alloc, pool, index.end(), entries)
+}

@@ -1,0 +1,116 @@
+//! The open indexes.
+
+ghost use Rattle.std.specs.Prelude.{◌≡◌, ◌==◌, position, IfOk, MatchResult, Ok, Err};
+ghost use Rattle.std.specs.List.{list_any};
+ghost use Rattle.store_types.specs.Names.{IsKey};
+ghost use Rattle.store_files.specs.DynamicIndex.{dynamic_text};
+ghost use Rattle.backup_session.specs.Archives.{uuid_of as uuid_by, want_number as number_left, free_number as least_free};
+ghost use Rattle.backup_session.specs.Kept.{opens_of, open_of, left_of, IsClosing};
+ghost use Rattle.backup_session.specs.Steps.{numbers, want_close as close_test, fact_of};
+
+use crate::state::Begun;
+use dynamic_index::DynamicWriter;
+use manifest::FileFact;
+use std::alloc::{AllocError, Global};
+use store_types::{CloseFault, Digest32, FileName, Refusal, SnapshotKey};
+use uuid::Uuid;
+
+/// The version 5 identifier of a file's path in the datastore, under the namespace of 16 zero bytes.
+#[tactic(auto, unfolding(crate::specs::Archives::uuid_of))]
+pub fn uuid_of(alloc: Global, key: &SnapshotKey, name: &FileName) -> Result<[u8; 16], AllocError>
+    requires { IsKey key.now }
+    ensures { IfOk result (λ uuid. uuid ≡ uuid_by key.now name.now) }
+{
+    let mut path = key.print(alloc)?;
+    path.push_str("/")?;
+    path.push_str(name.as_str())?;
+    Ok(Uuid::new_v5(&Uuid::nil(), path.as_bytes()).into_bytes())
+}
+
+/// Beside so many open indexes there is room for one more.
+pub fn want_number(begun: usize) -> Result<(), Refusal>
+    ensures { result ≡ number_left begun }
+{
+    if begun < 16 {
+        Ok(())
+    } else {
+        Err(Refusal::TooMany { limit: 16 })
+    }
+}
+
+fn has_number(begun: &[Begun], number: u8) -> bool
+    ensures { result ≡ list_any (λ b. b.number == number) begun.now }
+{
+    begun.iter().any(|b| b.number == number)
+}
+
+/// The least number from 0 to 15 that none of them has.
+pub fn free_number(begun: &[Begun]) -> u8
+    ensures { result ≡ least_free (numbers (opens_of begun.now)) }
+{
+    for number in 0..16 {
+        if !has_number(begun, number) {
+            return number;
+        }
+    }
+    16
+}
+
+/// Where the first stands that has the number.
+pub fn place_of(begun: &[Begun], number: u8) -> Option<usize>
+    ensures { result ≡ position (λ b. b.number == number) begun.now }
+{
+    begun.iter().position(|b| b.number == number)
+}
+
+/// An index has so many pieces, they end there, and this is its checksum.
+fn want_close(index: &DynamicWriter, count: u64, size: u64, csum: &Digest32) -> Result<(), Refusal>
+    ensures { result ≡ close_test index.now count size csum.now }
+{
+    let (pieces, end, found) = index.facts();
+    if count != pieces as u64 {
+        return Err(Refusal::BadClose(CloseFault::Count(pieces as u64)));
+    }
+    if size != end {
+        return Err(Refusal::BadClose(CloseFault::Size(end)));
+    }
+    if *csum != found {
+        return Err(Refusal::BadClose(CloseFault::Csum(found)));
+    }
+    Ok(())
+}
+
+/// The file's text and what a manifest lists of it, where the index is as it is said to be.
+pub fn closed(
+    alloc: Global,
+    begun: &Begun,
+    count: u64,
+    size: u64,
+    csum: &Digest32,
+) -> Result<Result<(Vec<u8>, FileFact), Refusal>, AllocError>
+    ensures { IfOk result (λ told. MatchResult told
+        (λ closed. (close_test begun.now.index count size csum.now ≡ Ok tt) × (closed.0.items ≡ dynamic_text begun.now.index) × (closed.1 ≡ fact_of (open_of begun.now)))
+        (λ refusal. close_test begun.now.index count size csum.now ≡ Err refusal)) }
+{
+    if let Err(refusal) = want_close(&begun.index, count, size, csum) {
+        return Ok(Err(refusal));
+    }
+    let text = begun.index.close(alloc)?;
+    let name = begun.name.clone()?;
+    let file = FileFact {
+        name,
+        size,
+        csum: *csum,
+    };
+    Ok(Ok((text, file)))
+}
+
+/// The index at a place, where there is one, is not open any more. It takes no memory.
+pub fn leave(begun: &mut Vec<Begun>, closes: Option<usize>)
+    requires { IsClosing closes (opens_of begun.old.items) }
+    ensures { opens_of begun.new.items ≡ left_of closes (opens_of begun.old.items) }
+{
+    if let Some(place) = closes {
+        let _ = begun.remove(place);
+    }
+}

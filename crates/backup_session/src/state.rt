@@ -1,0 +1,234 @@
+//! What a writer keeps.
+
+ghost use Rattle.std.specs.Prelude.{◌≡◌, ◌<◌, ◌≤◌, length, OnOk, OnErr, IfOk};
+ghost use Rattle.std.specs.List.{remove};
+ghost use Rattle.store_types.specs.Names.{IsKey};
+ghost use Rattle.store_types.specs.Times.{last_moment};
+ghost use Rattle.backup_session.specs.Archives.{free_number as least_free};
+ghost use Rattle.backup_session.specs.Answers.{Does};
+ghost use Rattle.backup_session.specs.Kept.{after, IsClosing, HoldsBack};
+ghost use Rattle.backup_session.specs.Steps as steps;
+
+use crate::entries::pieces_for;
+use crate::files::{blob_fact, insert, keep_text, kept_text, want_room};
+use crate::indexes::{closed, free_number, leave, place_of, uuid_of, want_number};
+use dynamic_index::DynamicWriter;
+use known_chunks::Known;
+use manifest::FileFact;
+use std::alloc::{AllocError, Global};
+use std::marker::Model;
+use store_types::{Bytes, Digest32, FileName, Refusal, SnapshotKey};
+
+/// An index that was begun.
+#[derive(Drop)]
+pub struct Begun {
+    pub number: u8,
+    pub name: FileName,
+    pub index: DynamicWriter,
+}
+
+/// A file that is among the writer's files already, and not yet the writer's.
+#[derive(Drop)]
+pub struct Pending {
+    /// Where it stands among the files.
+    pub place: usize,
+    /// Where the index that became it stands among the open ones.
+    pub closes: Option<usize>,
+    /// The text, where it is the manifest's.
+    pub manifest: Option<Bytes>,
+}
+
+/// What contracts see as a writer.
+#[derive(Drop)]
+pub struct State {
+    key: SnapshotKey,
+    start: u64,
+    base: Option<SnapshotKey>,
+    pool: Known,
+    begun: Vec<Begun>,
+    files: Vec<FileFact>,
+    manifest: Option<Bytes>,
+}
+
+impl Model for State {
+    ghost use Rattle.std.specs.FinMap.{entries};
+    ghost use Rattle.backup_session.specs.Session.{Writing};
+    ghost use Rattle.backup_session.specs.Kept.{opens_of, IsWriting};
+
+    ghost Value = { Writing };
+
+    ghost view = { λ s. record { key = s.key; start = s.start; base = s.base; pool = entries s.pool; begun = opens_of s.begun.items; files = s.files.items; manifest = s.manifest } };
+
+    ghost invariant = { λ s. IsWriting (record { key = s.key; start = s.start; base = s.base; pool = entries s.pool; begun = opens_of s.begun.items; files = s.files.items; manifest = s.manifest }) };
+}
+
+impl State {
+    /// Nothing was sent yet. It takes no memory.
+    pub fn new(alloc: Global, key: SnapshotKey, start: u64, base: Option<SnapshotKey>) -> State
+        requires { IsKey key }
+        ensures { result ≡ steps.opened key start base }
+    {
+        State {
+            key,
+            start,
+            base,
+            pool: Known::new(alloc),
+            begun: Vec::new(alloc),
+            files: Vec::new(alloc),
+            manifest: None,
+        }
+    }
+
+    fn want_dynamic(&self, name: &FileName) -> Result<(), Refusal>
+        ensures { result ≡ steps.want_dynamic name.now self.now }
+    {
+        if !name.is_dynamic() {
+            return Err(Refusal::BadName);
+        }
+        want_room(&self.files, &self.begun, name)?;
+        want_number(self.begun.len())
+    }
+
+    // Begins a dynamic index at the least free number.
+    fn begin(&mut self, alloc: Global, name: FileName, ctime: u64) -> Result<u8, AllocError>
+        requires room { length self.old.begun < 16 }
+        requires ctime { ctime ≤ last_moment }
+        ensures ok { OnOk result (self.new ≡ steps.begin_dynamic self.old name ctime) }
+        ensures number { IfOk result (λ number. number ≡ least_free (steps.numbers self.old.begun)) }
+        ensures err { OnErr result (self.new ≡ self.old) }
+    {
+        let uuid = uuid_of(alloc, &self.key, &name)?;
+        let number = free_number(&self.begun);
+        let index = DynamicWriter::new(alloc, uuid, ctime as i64);
+        self.begun.push(Begun {
+            number,
+            name,
+            index,
+        })?;
+        Ok(number)
+    }
+
+    pub fn new_dynamic(
+        &mut self,
+        alloc: Global,
+        name: FileName,
+        ctime: u64,
+    ) -> Result<Result<u8, Refusal>, AllocError>
+        requires { ctime ≤ last_moment }
+        ensures { Does (λ n. n) (λ w. w) self.old self.new result (steps.new_dynamic self.old name ctime) }
+    {
+        if let Err(refusal) = self.want_dynamic(&name) {
+            return Ok(Err(refusal));
+        }
+        let number = self.begin(alloc, name, ctime)?;
+        Ok(Ok(number))
+    }
+
+    /// Notes a piece's length, unless one is noted.
+    pub fn chunk(&mut self, digest: &Digest32, length: u32) -> Result<(), AllocError>
+        requires { (1 ≤ length) × (length ≤ 16_777_216) }
+        ensures ok { OnOk result (self.new ≡ steps.chunk self.old digest.now.0 length) }
+        ensures err { OnErr result (self.new ≡ self.old) }
+    {
+        match self.pool.find(digest) {
+            Some(_) => Ok(()),
+            None => self.pool.add(digest, length),
+        }
+    }
+
+    pub fn append(
+        &mut self,
+        alloc: Global,
+        number: u8,
+        entries: &[(Digest32, u64)],
+    ) -> Result<Result<(), Refusal>, AllocError>
+        ensures { Does (λ u. u) (λ w. w) self.old self.new result (steps.append self.old number entries.now) }
+    {
+        let Some(place) = place_of(&self.begun, number) else {
+            return Ok(Err(Refusal::NoFile));
+        };
+        match pieces_for(alloc, &self.pool, &self.begun[place].index, entries)? {
+            Ok(pieces) => self.begun[place].index.append_all(alloc, &pieces)?,
+            Err(refusal) => return Ok(Err(refusal)),
+        }
+        Ok(Ok(()))
+    }
+
+    /// The index's text. Its file is among the files then, and pending.
+    pub fn close_index(
+        &mut self,
+        alloc: Global,
+        number: u8,
+        count: u64,
+        size: u64,
+        csum: &Digest32,
+    ) -> Result<Result<(Vec<u8>, Pending), Refusal>, AllocError>
+        ensures { HoldsBack (λ a. a.0.items) (λ a. a.1) self.old self.new result (steps.close_index self.old number count size csum.now) }
+    {
+        let Some(place) = place_of(&self.begun, number) else {
+            return Ok(Err(Refusal::NoFile));
+        };
+        let (text, file) = match closed(alloc, &self.begun[place], count, size, csum)? {
+            Ok(file) => file,
+            Err(refusal) => return Ok(Err(refusal)),
+        };
+        let pending = Pending {
+            place: insert(&mut self.files, file)?,
+            closes: Some(place),
+            manifest: None,
+        };
+        Ok(Ok((text, pending)))
+    }
+
+    fn want_blob(&self, name: &FileName) -> Result<(), Refusal>
+        ensures { result ≡ steps.want_blob name.now self.now }
+    {
+        if !name.is_blob() {
+            return Err(Refusal::BadName);
+        }
+        want_room(&self.files, &self.begun, name)
+    }
+
+    /// The file is among the files then, and pending.
+    pub fn blob(
+        &mut self,
+        alloc: Global,
+        name: FileName,
+        text: &[u8],
+    ) -> Result<Result<Pending, Refusal>, AllocError>
+        ensures { HoldsBack (λ p. tt) (λ p. p) self.old self.new result (steps.blob self.old name text.now) }
+    {
+        if let Err(refusal) = self.want_blob(&name) {
+            return Ok(Err(refusal));
+        }
+        let manifest = kept_text(alloc, &name, text)?;
+        let pending = Pending {
+            place: insert(&mut self.files, blob_fact(name, text))?,
+            closes: None,
+            manifest,
+        };
+        Ok(Ok(pending))
+    }
+
+    /// The pending file becomes the writer's. It takes no memory.
+    pub fn keep(&mut self, pending: Pending)
+        requires { IsClosing pending.closes self.old.begun }
+        ensures { self.new ≡ after pending self.old }
+    {
+        let Pending {
+            closes,
+            manifest,
+            ..
+        } = pending;
+        leave(&mut self.begun, closes);
+        keep_text(&mut self.manifest, manifest);
+    }
+
+    /// The file at a place goes. It takes no memory.
+    pub fn back(&mut self, place: usize)
+        requires { place < length self.old.files }
+        ensures { self.new ≡ record self.old { files = remove self.old.files place } }
+    {
+        let _ = self.files.remove(place);
+    }
+}

@@ -1,0 +1,180 @@
+//! A writer's calls.
+
+ghost use Rattle.std.specs.Prelude.{◌≡◌, ◌≤◌, ℕ, List, length as len, None, IsSome, OnOk, OnErr};
+ghost use Rattle.sha2.specs.Sha256.{sha256};
+ghost use Rattle.store_types.specs.Names.{IsKey};
+ghost use Rattle.store_types.specs.Times.{last_moment};
+ghost use Rattle.blob_codec.specs.Blob.{blob as blob_text};
+ghost use Rattle.store_model.specs.Store.{Writer as PlainWriter};
+ghost use Rattle.store_model.specs.WriterSteps.{new_writer};
+ghost use Rattle.backup_session.specs.WriterCalls as plain;
+ghost use Rattle.backup_session.specs.Answers.{Does, DoesPlainly, IsPendingAt};
+ghost use Rattle.backup_session.specs.Session.{settled, held, kept};
+ghost use Rattle.backup_session.specs.Shown.{Shows};
+ghost use Rattle.backup_session.specs.Steps as steps;
+
+use crate::state::{Pending, State};
+use std::alloc::{AllocError, Global};
+use std::marker::Model;
+use store_types::{Digest32, FileName, Refusal, SnapshotKey};
+
+/// A backup that is being written, as contracts see it: the chunks that may be named, the indexes that are open, the
+/// files, and what these become where the pending file is kept.
+///
+/// Where memory is wanting, and at a refusal, a call has changed nothing.
+#[derive(Drop)]
+pub struct Writer {
+    state: State,
+    pending: Option<Pending>,
+}
+
+impl Model for Writer {
+    ghost use Rattle.backup_session.specs.Session.{Session};
+    ghost use Rattle.backup_session.specs.Kept.{session_of, IsPlaced};
+
+    ghost Value = { Session };
+
+    ghost view = { λ w. session_of w.pending w.state };
+
+    ghost invariant = { λ w. IsPlaced w.pending w.state };
+}
+
+/// A writer of a snapshot, opened at a moment in seconds since 1970, with the group's latest snapshot as its base. It
+/// takes no memory.
+pub fn open_writer(alloc: Global, key: SnapshotKey, start: u64, base: Option<SnapshotKey>) -> Writer
+    requires key { IsKey key }
+    requires start { start ≤ last_moment }
+    ensures opened { result ≡ settled (steps.opened key start base) }
+    ensures plain { Shows result.writer (new_writer key start base) }
+{
+    let state = State::new(alloc, key, start, base);
+    Writer {
+        state,
+        pending: None,
+    }
+}
+
+impl Writer {
+    /// Begins a dynamic index at the least number from 0 to 15 that is free, and gives it. `ctime` is seconds since 1970.
+    ///
+    /// The refusals, in the order in which they are tested: the name is no dynamic index's; there is such a file or open
+    /// index; there are 64 files and open indexes; 16 indexes are open.
+    pub fn new_dynamic(
+        &mut self,
+        alloc: Global,
+        name: FileName,
+        ctime: u64,
+    ) -> Result<Result<u8, Refusal>, AllocError>
+        requires settled { self.old.pending ≡ None }
+        requires ctime { ctime ≤ last_moment }
+        ensures does { Does (λ n. n) settled self.old self.new result (steps.new_dynamic self.old.writer name ctime) }
+        ensures settled { self.new.pending ≡ None }
+        ensures plain { DoesPlainly (λ n. n) settled self.old self.new result (λ w. plain.new_dynamic w name ctime) }
+    {
+        self.state.new_dynamic(alloc, name, ctime)
+    }
+
+    /// A chunk may be named from now on. A length that is noted already stays.
+    pub fn chunk(&mut self, digest: &Digest32, length: u32) -> Result<(), AllocError>
+        requires settled { self.old.pending ≡ None }
+        requires length { (1 ≤ length) × (length ≤ 16_777_216) }
+        ensures ok { OnOk result (self.new ≡ settled (steps.chunk self.old.writer digest.now.0 length)) }
+        ensures err { OnErr result (self.new ≡ self.old) }
+        ensures settled { self.new.pending ≡ None }
+        ensures plain { OnOk result ((w : PlainWriter) → (piece : List ℕ) → Shows self.old.writer w → digest.now.0 ≡ sha256 piece → length ≡ len piece →
+            Shows self.new.writer (plain.chunk w piece)) }
+    {
+        self.state.chunk(digest, length)
+    }
+
+    /// Appends the chunks with these digests to an open index. Each entry has the offset in the archive at which its
+    /// chunk begins. All are taken, or none.
+    ///
+    /// The refusals, in the order in which they are tested: no index of the number is open; there are more than 4,096
+    /// entries; the index would have more than 1,048,576; then entry by entry, with its place, the chunk may not be
+    /// named, and its offset isn't the end reached so far.
+    pub fn append(
+        &mut self,
+        alloc: Global,
+        number: u8,
+        entries: &[(Digest32, u64)],
+    ) -> Result<Result<(), Refusal>, AllocError>
+        requires { self.old.pending ≡ None }
+        ensures does { Does (λ u. u) settled self.old self.new result (steps.append self.old.writer number entries.now) }
+        ensures settled { self.new.pending ≡ None }
+        ensures plain { DoesPlainly (λ u. u) settled self.old self.new result (λ w. plain.append w number entries.now) }
+    {
+        self.state.append(alloc, number, entries)
+    }
+
+    /// Closes an index and gives its file's text. The file is pending then.
+    ///
+    /// The refusals, in the order in which they are tested: no index of the number is open; the number of its entries,
+    /// the size of its archive or its checksum is another.
+    pub fn close_index(
+        &mut self,
+        alloc: Global,
+        number: u8,
+        count: u64,
+        size: u64,
+        csum: &Digest32,
+    ) -> Result<Result<Vec<u8>, Refusal>, AllocError>
+        requires { self.old.pending ≡ None }
+        ensures does { Does (λ text. text.items) (held self.old.writer) self.old self.new result (steps.close_index self.old.writer number count size csum.now) }
+        ensures pending { IsPendingAt self.new result }
+        ensures plain { DoesPlainly (λ text. text.items) (held self.old.writer) self.old self.new result (λ w. plain.close_index w number count size csum.now) }
+    {
+        match self.state.close_index(alloc, number, count, size, csum)? {
+            Ok(closed) => {
+                let (text, pending) = closed;
+                self.pending = Some(pending);
+                Ok(Ok(text))
+            }
+            Err(refusal) => Ok(Err(refusal)),
+        }
+    }
+
+    /// Takes a blob's file, whose text is that of some data. The file is pending then.
+    ///
+    /// The refusals, in the order in which they are tested: the name is no blob's; there is such a file or open index;
+    /// there are 64 files and open indexes.
+    pub fn blob(
+        &mut self,
+        alloc: Global,
+        name: FileName,
+        text: &[u8],
+    ) -> Result<Result<(), Refusal>, AllocError>
+        requires { self.old.pending ≡ None }
+        ensures does { Does (λ u. u) (held self.old.writer) self.old self.new result (steps.blob self.old.writer name text.now) }
+        ensures pending { IsPendingAt self.new result }
+        ensures plain { (contents : List ℕ) → text.now ≡ blob_text contents → DoesPlainly (λ u. u) (held self.old.writer) self.old self.new result (λ w. plain.put_data w name contents) }
+    {
+        match self.state.blob(alloc, name, text)? {
+            Ok(pending) => {
+                self.pending = Some(pending);
+                Ok(Ok(()))
+            }
+            Err(refusal) => Ok(Err(refusal)),
+        }
+    }
+
+    /// The pending file becomes the writer's. It takes no memory.
+    pub fn keep(&mut self)
+        requires { IsSome self.old.pending }
+        ensures { self.new ≡ kept self.old }
+    {
+        if let Some(pending) = self.pending.take() {
+            self.state.keep(pending);
+        }
+    }
+
+    /// The writer is as before the call that made the file pending. It takes no memory.
+    pub fn back(&mut self)
+        requires { IsSome self.old.pending }
+        ensures { self.new ≡ settled self.old.writer }
+    {
+        if let Some(pending) = self.pending.take() {
+            self.state.back(pending.place);
+        }
+    }
+}

@@ -1,0 +1,3 @@
+pub mod Pieces
+pub mod Listed
+pub mod Faults

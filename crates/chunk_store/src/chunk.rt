@@ -1,0 +1,100 @@
+//! Chunks as they are read.
+
+ghost use Rattle.std.specs.Prelude.{◌≡◌, Ok, Err, MatchResult};
+ghost use Rattle.blob_codec.specs.Blob.{blob as blob_of};
+ghost use Rattle.chunk_store.specs.Pieces.{checked, piece_in};
+ghost use Rattle.chunk_store.specs.declared.chunk.LoadFault.TheVariants.{Failed as FailedDisk, NoMemory};
+ghost use Rattle.chunk_store.specs.Faults.{load_fault};
+
+use blob_codec::{HEADER_SIZE, decode};
+use disk_trait::DiskError;
+use sha2::{Digest, Sha256};
+use std::marker::Model;
+use store_types::{ChunkFault, Digest32};
+use thiserror::Error;
+
+/// Why a chunk isn't loaded.
+#[derive(Clone, Copy, Debug, PartialEq, Eq, Error)]
+pub enum LoadFault {
+    /// The digest that was asked for, and what stands there.
+    #[error("the chunk is damaged")]
+    Damaged { digest: Digest32, found: ChunkFault },
+    #[error("the disk failed")]
+    Failed,
+    #[error("out of memory")]
+    NoMemory,
+}
+
+impl From<DiskError> for LoadFault {
+    ghost from_gives = { λ e fault. fault ≡ load_fault e };
+
+    fn from(error: DiskError) -> Self {
+        match error {
+            DiskError::Failed => LoadFault::Failed,
+            DiskError::NoMemory => LoadFault::NoMemory,
+        }
+    }
+}
+
+/// A chunk's blob, as contracts see it: its piece.
+#[derive(Debug, Drop)]
+pub struct Chunk {
+    text: Vec<u8>,
+}
+
+impl Model for Chunk {
+    ghost use Rattle.std.specs.Prelude.{◌≡◌, ℕ, List, drop};
+    ghost use Rattle.blob_codec.specs.Blob.{blob};
+
+    ghost Value = { List ℕ };
+
+    ghost view = { λ c. drop 12 c.text.items };
+
+    ghost invariant = { λ c. c.text.items ≡ blob (drop 12 c.text.items) };
+}
+
+impl Chunk {
+    /// The piece, lent from the blob.
+    pub fn piece(&self) -> &[u8]
+        ensures { result.now ≡ self.now }
+    {
+        &self.text[HEADER_SIZE..]
+    }
+
+    /// The blob, which is sent on as it was read.
+    pub fn blob(&self) -> &[u8]
+        ensures { result.now ≡ blob_of self.now }
+    {
+        &self.text
+    }
+
+    /// The blob, in the memory into which it was read.
+    pub fn into_blob(self) -> Vec<u8>
+        ensures { result.items ≡ blob_of self }
+    {
+        let Chunk { text } = self;
+        text
+    }
+}
+
+/// Whether these data of a blob are a piece with this digest.
+fn check_piece(digest: &Digest32, piece: &[u8]) -> Result<(), ChunkFault>
+    ensures { MatchResult result (λ _. checked digest.now.0 piece.now ≡ Ok piece.now) (λ fault. checked digest.now.0 piece.now ≡ Err fault) }
+{
+    let found = Sha256::digest(piece);
+    if piece.is_empty() || found != digest.0 {
+        return Err(ChunkFault::Other(Digest32(found)));
+    }
+    Ok(())
+}
+
+/// The chunk whose file has these bytes, or why there is none with this digest.
+pub fn check(digest: &Digest32, text: Vec<u8>) -> Result<Chunk, ChunkFault>
+    ensures { MatchResult result (λ chunk. piece_in digest.now.0 text.items ≡ Ok chunk) (λ fault. piece_in digest.now.0 text.items ≡ Err fault) }
+{
+    let Ok(piece) = decode(&text) else {
+        return Err(ChunkFault::NotABlob);
+    };
+    check_piece(digest, piece)?;
+    Ok(Chunk { text })
+}

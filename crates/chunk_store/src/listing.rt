@@ -1,0 +1,50 @@
+//! The digests of all chunks on a disk.
+
+ghost use Rattle.std.specs.Prelude.{◌≡◌, string_bytes, IfOk, IsErrOf};
+ghost use Rattle.std.specs.List.{filter_map};
+ghost use Rattle.disk_trait.specs.Disk.{Serves, Ticks, Steps, Same};
+ghost use Rattle.chunk_store.specs.Listed.{Lists, digest_named};
+
+use crate::name::ChunkName;
+use disk_trait::{Disk, DiskError};
+use hex::FromHex;
+use std::alloc::{AllocError, Global};
+use store_types::Digest32;
+
+/// The digest whose chunk has this name.
+fn digest_of(name: &str) -> Option<Digest32>
+    ensures { result ≡ digest_named name.now }
+{
+    let digits = name.as_bytes().get(13..)?;
+    let digest = Digest32(<[u8; 32]>::from_hex(digits).ok()?);
+    if name == ChunkName::of(&digest).as_str() {
+        Some(digest)
+    } else {
+        None
+    }
+}
+
+fn digests_of(alloc: Global, names: &[String]) -> Result<Vec<Digest32>, AllocError>
+    ensures { IfOk result (λ digests. digests.items ≡ filter_map (λ n. digest_named (string_bytes n)) names.now) }
+{
+    let mut digests = Vec::new(alloc);
+    for name in names {
+        if let Some(digest) = digest_of(name.as_str()) {
+            digests.push(digest)?;
+        }
+    }
+    Ok(digests)
+}
+
+/// The digests under which a file stands, whatever it holds, in byte order. Names of another form are passed over.
+pub fn scan<D: Disk>(alloc: Global, disk: &mut D) -> Result<Vec<Digest32>, DiskError>
+    ensures serves { Serves D.honest D.faults disk.old disk.new (IsErrOf result DiskError.Failed) }
+    ensures moment { Ticks D.honest D.calls disk.old disk.new }
+    ensures crash { Steps D.calls D.images disk.old disk.new Same }
+    ensures same { D.honest disk.old → D.content disk.new ≡ D.content disk.old }
+    ensures digests { D.honest disk.old → IfOk result (λ digests. Lists (D.content disk.old) digests.items) }
+{
+    let names = disk.list(alloc, ".chunks/")?;
+    let digests = digests_of(alloc, &names)?;
+    Ok(digests)
+}
