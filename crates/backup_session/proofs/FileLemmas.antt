@@ -1,14 +1,14 @@
 -- The files in their order, and what is kept of the manifest.
-use Rattle.std.proofs.Common.{◌≡◌, ℕ, Bool, true, false, cond, List, [], ◌∷◌, map, Some, refl, sym, ap, ◌∙◌}
+use Rattle.std.proofs.Common.{◌≡◌, ℕ, ◌≤◌, Bool, true, false, cond, List, [], ◌∷◌, length, map, Some, None, refl, sym, ap, ◌∙◌}
 use Rattle.std.specs.Prelude.{Option}
 use Rattle.std.specs.Option.{option_map}
-use Rattle.std.specs.List.{list_any, insert, position_or_len}
+use Rattle.std.specs.List.{list_any, insert, remove, position_or_len}
 use Rattle.std.specs.Str.{bytes_eq}
 use Rattle.std.proofs.lemmas.Slice.Eq.{bytes_eq-Decides}
 use Rattle.store_types.specs.FileNames.{manifest_name, is_dynamic_name}
 use Rattle.store_types.specs.Names.{name_lt}
 use Rattle.blob_codec.specs.Blob as blobs
-use Rattle.store_files.specs.Archive.{blob, File, file_text}
+use Rattle.store_files.specs.Archive.{Content, archive, blob, File, file_text, file_named}
 use Rattle.store_model.specs.Store.{insert_file}
 use Rattle.store_model.proofs.FileInsertions.{is_free, file_named-insert_other, file_named-insert_new}
 use Rattle.manifest.specs.declared.facts.FileFact.{FileFact}

@@ -1,10 +1,10 @@
-mod PiecesNamed
 mod Places
 mod Numbers
 mod Naming
-mod Pools
+pub mod Pools
 mod FileLemmas
 mod StateSteps
 mod Squares
 mod Plainly
 mod Lifting
+pub mod Asked

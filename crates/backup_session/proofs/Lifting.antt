@@ -1,18 +1,19 @@
 -- From what is kept to the session.
-use Rattle.std.proofs.Common.{◌≡◌, ℕ, ◌<◌, ◌≤◌, Bool, true, false, cond, List, [], ◌∷◌, ◌++◌, drop, length, get_or, zero, suc, Some, None, Ok, Err, refl, sym, ap, ap₂, subst, ◌∙◌, arith}
-use Rattle.std.specs.Prelude.{Option, Result, OnOk, OnErr}
+use Rattle.std.proofs.Common.{◌≡◌, ℕ, ◌<◌, ◌≤◌, Bool, true, false, cond, List, [], ◌∷◌, ◌++◌, drop, length, get_or, zero, suc, map, Some, None, Ok, Err, refl, sym, ap, ap₂, subst, ◌∙◌, arith}
+use Rattle.std.specs.Prelude.{Option, Result, MatchResult, OnOk, OnErr}
 use Rattle.std.specs.FinMap.{entries, insert}
 use Rattle.known_chunks.specs.Lengths.{Lengths}
+use Rattle.std.specs.List.{AllByRecursion}
 use Rattle.sha2.specs.Sha256.{sha256}
 use Rattle.store_types.specs.declared.names.SnapshotKey.{SnapshotKey}
 use Rattle.store_types.specs.declared.refusal.Refusal.{Refusal}
 use Rattle.store_model.specs.Store.{Writer}
 use Rattle.store_model.specs.WriterSteps.{new_writer}
-use Rattle.backup_session.specs.WriterCalls as plain
+use Rattle.store_model.specs.WriterCalls as plain
 use Rattle.backup_session.specs.declared.state.Pending.{Pending}
-use Rattle.backup_session.specs.Session.{Pool, Writing, Session, settled, held}
+use Rattle.backup_session.specs.Session.{Pool, Writing, Session, settled, held, with_length}
 use Rattle.backup_session.specs.Steps as steps
-use Rattle.backup_session.specs.Shown.{shown, Shows}
+use Rattle.backup_session.specs.Shown.{pool_of, shown, Shows}
 use Rattle.backup_session.specs.Answers.{Leaves, Does}
 use Rattle.backup_session.specs.Kept.{before, after, session_of, text_of, HasLengths, LeavesPending}
 use Rattle.backup_session.proofs.Pools.{entries-empty, has_lengths-insert, pool_of-more}

@@ -1,5 +1,5 @@
 -- The pieces that entries name, one by one.
-use Rattle.std.proofs.Common.{◌≡◌, ℕ, suc, ◌+◌, ◌<◌, List, [], ◌∷◌, ◌++◌, length, get_or, drop, Ok, Err, Some, None, refl, sym, ap, subst, ◌∙◌, append_assoc, drop-cons, add-one}
+use Rattle.std.proofs.Common.{◌≡◌, ℕ, suc, ◌+◌, ◌<◌, List, [], ◌∷◌, ◌++◌, length, get_or, drop, Ok, Err, Some, None, refl, sym, ap, subst, ◌∙◌, append_assoc, drop-cons, add-one, arith}
 use Rattle.std.specs.Prelude.{Bool, true, false, ◌==◌, Option, Result}
 use Rattle.std.specs.List.{AllByRecursion}
 use Rattle.store_types.specs.declared.names.Digest32.{Digest32}
@@ -7,7 +7,7 @@ use Rattle.store_types.specs.declared.refusal.Refusal.{Refusal}
 use Rattle.store_types.specs.declared.refusal.Refusal.TheVariants.{UnknownChunk, BadOffset, WrongSize}
 use Rattle.store_types.specs.Chain.Refusing.{◌>>=◌, unless, or_else}
 use Rattle.store_files.specs.Archive.{Layout}
-use Rattle.backup_session.specs.Archives.{fits_layout, piece_named, pieces_named}
+use Rattle.store_model.specs.Archives.{fits_layout, piece_named, pieces_named}
 
 module _ {A : Type 0} (find : Digest32 → Option A) (len : A → ℕ) (layout : Layout) where
   -- the first is named, and the others behind it

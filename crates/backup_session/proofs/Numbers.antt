@@ -1,16 +1,17 @@
 -- Numbers and names of open indexes.
-use Rattle.std.proofs.Common.{◌≡◌, ℕ, suc, ◌+◌, Bool, true, false, cond, ◌||◌, List, [], ◌∷◌, length, refl, ap, ◌∙◌}
-use Rattle.std.specs.Prelude.{◌==◌, Ok}
+use Rattle.std.proofs.Common.{◌≡◌, ℕ, zero, suc, ◌+◌, Bool, true, false, cond, ◌||◌, List, [], ◌∷◌, length, refl, sym, ap, ◌∙◌}
+use Rattle.std.specs.Prelude.{◌==◌, Result, Ok}
 use Rattle.std.specs.List.{list_any}
 use Rattle.std.specs.Str.{bytes_eq}
 use Rattle.std.proofs.lemmas.Bool.{eqb-true}
 use Rattle.std.proofs.lemmas.Slice.Eq.{bytes_eq-Decides}
 use Rattle.store_types.specs.declared.names.Digest32.{Digest32}
 use Rattle.store_types.specs.declared.refusal.CloseFault.TheVariants.{Count, Size, Csum}
+use Rattle.store_types.specs.declared.refusal.Refusal.{Refusal}
 use Rattle.store_types.specs.declared.refusal.Refusal.TheVariants.{BadClose}
 use Rattle.store_types.specs.Chain.Refusing.{◌>>=◌, unless}
 use Rattle.store_files.specs.DynamicIndex.{DynamicIndex, csum_of}
-use Rattle.backup_session.specs.Archives.{free_from}
+use Rattle.store_model.specs.Archives.{free_from}
 use Rattle.dynamic_index.specs.Pieces.{size_of}
 use Rattle.backup_session.specs.declared.state.Begun.{Begun}
 use Rattle.backup_session.specs.Steps.{numbers, want_close}

@@ -2,7 +2,7 @@
 use Rattle.std.proofs.Common.{◌≡◌, ℕ, ◌≤◌, Bool, true, false, cond, List, [], ◌∷◌, ◌++◌, map, length, Some, None, Ok, Err, refl, sym, ap, ap₂, subst, eq-eqb, ◌∙◌, arith}
 use Rattle.std.specs.Prelude.{◌==◌, Option, Result, is_some}
 use Rattle.std.specs.Option.{option_map}
-use Rattle.std.specs.FinMap.{find, put, get, insert, entries, empty, from_entries, get-entries, len-entries, len-empty, get-insert, get-from_entries, entries-insert, from_entries_push, same_map, nat_cmp-IsAntisymmetric, slice_cmp-IsAntisymmetric}
+use Rattle.std.specs.FinMap.{FinMap, find, put, get, insert, remove, entries, empty, from_entries, get-entries, len-entries, len-empty, get-insert, get-remove, get-from_entries, entries-insert, from_entries_push, same_map, nat_cmp-IsAntisymmetric, slice_cmp-IsAntisymmetric}
 use Rattle.std.specs.Cmp.Lexicographic.{nat_list_cmp_total}
 use Rattle.std.specs.Ordering.{eq_by_cmp}
 use Rattle.std.specs.Str.{bytes_eq}
@@ -16,11 +16,11 @@ use Rattle.store_types.specs.declared.refusal.Refusal.{Refusal}
 use Rattle.store_types.specs.declared.refusal.Refusal.TheVariants.{UnknownChunk, BadOffset}
 use Rattle.store_types.specs.Chain.Refusing.{◌>>=◌, unless, or_else}
 use Rattle.store_files.specs.Archive.{dynamic, piece_with}
-use Rattle.backup_session.specs.Archives.{piece_named}
+use Rattle.store_model.specs.Archives.{piece_named}
 use Rattle.dynamic_index.specs.Writing.{Known}
 use Rattle.dynamic_index.specs.Writing as indexes
 use Rattle.known_chunks.specs.Lengths.{Lengths}
-use Rattle.backup_session.specs.Session.{with_length}
+use Rattle.backup_session.specs.Session.{Pool, IsPool, lengths_in, length_at, with_length, without_length}
 use Rattle.backup_session.specs.Steps.{known_in}
 use Rattle.backup_session.specs.Shown.{known_of, lengths_of, pool_of}
 use Rattle.backup_session.specs.Kept.{HasLengths}
@@ -68,6 +68,40 @@ pub with_length-new : (m : Lengths) (digest : List ℕ) (len : ℕ) → get m di
 with_length-new m digest len e =
     ap (λ o. cond (is_some o) (entries m) (put text_cmp digest len (entries m))) (sym (get-entries m digest) ∙ e)
     ∙ sym (entries-insert nat_list_cmp_total m digest len)
+
+-- ---- one length less
+
+pub has_lengths-remove : (m : Lengths) (digest : List ℕ) → HasLengths (entries m) → HasLengths (entries (remove m digest))
+has_lengths-remove m digest has q n is =
+    by_test (eq_by_cmp text_cmp q digest) (sym (get-remove nat_list_cmp_total m digest q) ∙ get-entries (remove m digest) q ∙ is)
+  where
+    by_test : (b : Bool) → cond b None (get m q) ≡ Some n → (1 ≤ n) × (n ≤ 16_777_216)
+    by_test true e = cc
+    by_test false e = has q n (sym (get-entries m q) ∙ e)
+
+entered : (m : Lengths) → lengths_in (entries m) ≡ m
+entered m = same_map nat_list_cmp_total (slice_cmp-IsAntisymmetric nat_cmp-IsAntisymmetric) _ _
+    (λ q. get-from_entries nat_list_cmp_total (entries m) q ∙ sym (get-entries m q))
+
+pub without_length-is : (m : Lengths) (digest : List ℕ) → entries (remove m digest) ≡ without_length (entries m) digest
+without_length-is m digest = ap (λ x. entries (remove x digest)) (sym (entered m))
+
+taken_back : (m : Lengths) (digest : List ℕ) (len : ℕ) → get m digest ≡ None → remove (insert m digest len) digest ≡ m
+taken_back m digest len none = same_map nat_list_cmp_total (slice_cmp-IsAntisymmetric nat_cmp-IsAntisymmetric) _ _
+    (λ q. get-remove nat_list_cmp_total (insert m digest len) digest q
+    ∙ ap (cond (eq_by_cmp text_cmp q digest) None) (get-insert nat_list_cmp_total m digest len q) ∙ by_test q (eq_by_cmp text_cmp q digest) refl)
+  where
+    by_test : (q : List ℕ) (b : Bool) → eq_by_cmp text_cmp q digest ≡ b → cond b None (cond b (Some len) (get m q)) ≡ get m q
+    by_test q true e = sym none ∙ ap (get m) (sym (same_text q digest (sym (text_same q digest) ∙ e)))
+    by_test q false e = refl
+
+-- what was noted is forgotten
+pub forgotten : (pool : Pool) (digest : List ℕ) (len : ℕ) → IsPool pool → length_at pool digest ≡ None → without_length (with_length pool digest len) digest ≡ pool
+forgotten pool digest len (m, is) none =
+    let absent : get m digest ≡ None = get-entries m digest ∙ ap (λ p. length_at p digest) (sym is) ∙ none in
+    ap (λ p. without_length (with_length p digest len) digest) is
+    ∙ ap (λ p. without_length p digest) (with_length-new m digest len absent)
+    ∙ sym (without_length-is (insert m digest len) digest) ∙ ap entries (taken_back m digest len absent) ∙ sym is
 
 -- ---- of pieces
 

@@ -1,6 +1,6 @@
 -- Each step answers for a session as for the plain writer that it shows.
-use Rattle.std.proofs.Common.{◌≡◌, ℕ, suc, ◌+◌, Bool, true, false, cond, ◌||◌, List, [], ◌∷◌, ◌++◌, map, length, Some, None, Ok, Err, refl, sym, ap, ap₂, subst, ◌∙◌, arith}
-use Rattle.std.specs.Prelude.{Option, Result, nat_lt, pos, not}
+use Rattle.std.proofs.Common.{◌≡◌, ℕ, suc, ◌+◌, Bool, true, false, cond, ◌||◌, List, [], ◌∷◌, ◌++◌, map, length, Some, None, Ok, Err, refl, sym, ap, ap₂, subst, ◌∙◌, arith, append_assoc}
+use Rattle.std.specs.Prelude.{Option, Result, MatchResult, nat_lt, pos, not, IsTrue}
 use Rattle.std.specs.Option.{option_map}
 use Rattle.std.specs.List.{AllByRecursion, concat, find, list_any}
 use Rattle.std.specs.Str.{bytes_eq}
@@ -14,19 +14,20 @@ use Rattle.store_types.specs.Chain.Refusing.{◌>>=◌, unless, or_else}
 use Rattle.store_types.specs.FileNames.{is_dynamic_name, is_blob_name}
 use Rattle.blob_codec.specs.Blob as blobs
 use Rattle.store_files.specs.Archive.{Layout, dynamic, Archive, archive, blob, File, content_of, ends_from, dynamic_of_archive, archive_text, text_by, size_by, csum_by, piece_with}
-use Rattle.store_files.specs.DynamicIndex.{Ended, dynamic_text}
+use Rattle.store_files.specs.DynamicIndex.{Ended, DynamicIndex, dynamic_text}
 use Rattle.store_model.specs.Store.{Begun, Writer, insert_file}
 use Rattle.store_model.specs.Uploads as uploads
-use Rattle.backup_session.specs.Archives.{uuid_of, new_archive, want_number, free_number, change_first, without_first, want_entries, pieces_named, want_facts}
-use Rattle.backup_session.specs.WriterCalls as plain
+use Rattle.store_model.specs.Archives.{uuid_of, new_archive, want_number, free_number, change_first, without_first, want_entries, pieces_named, want_facts}
+use Rattle.store_model.specs.WriterCalls as plain
 use Rattle.store_model.proofs.FileInsertions.{is_free}
-use Rattle.backup_session.proofs.PiecesNamed.{pieces_named-alike}
+use Rattle.store_model.proofs.PiecesNamed.{pieces_named-alike}
 use Rattle.manifest.specs.declared.facts.FileFact.{FileFact}
 use Rattle.dynamic_index.specs.Pieces.{last_end, size_of}
 use Rattle.dynamic_index.specs.Writing.{reserved, Known, ends_behind, with_pieces}
 use Rattle.dynamic_index.specs.Writing as indexes
 use Rattle.backup_session.specs.Session.{Open, Writing}
 use Rattle.backup_session.specs.Steps as steps
+use Rattle.backup_session.specs.Answers.{takes_blob}
 use Rattle.backup_session.specs.Shown.{known_of, pool_of, shown_begun, shown_file, manifest_text, IsOpen, shown}
 use Rattle.backup_session.proofs.Places.{find-map, change_first-map, without_first-map}
 use Rattle.backup_session.proofs.Pools.{known_in-pool}
@@ -316,3 +317,8 @@ blob-agrees name contents text is w all =
     by_name false room free = refl
     by_name true (Err r) free = refl
     by_name true (Ok u) free = (ap (λ v. Ok (v, tt)) (puts_alike w name contents text is (free u refl)), all)
+
+-- whether a blob of the name may be taken
+pub takes-agrees : (name : List ℕ) (w : Writer) → steps.want_blob name (shown w) ≡ takes_blob name w
+unfolding shown takes_blob
+takes-agrees name w = ap (λ room. unless BadName (is_blob_name name) >>= λ _. room) (room_same name w)

@@ -1,8 +1,9 @@
 -- The steps of a session, where their tests answer so.
-use Rattle.std.proofs.Common.{◌≡◌, ℕ, ◌+◌, ◌≤◌, ◌<◌, Bool, true, false, ◌||◌, List, length, get_or, Some, None, Ok, Err, refl, sym, ap, ap₂, subst, ◌∙◌, arith}
+use Rattle.std.proofs.Common.{◌≡◌, ℕ, ◌+◌, ◌≤◌, ◌<◌, Bool, true, false, ◌||◌, List, [], ◌∷◌, length, get_or, map, Some, None, Ok, Err, refl, sym, ap, ap₂, subst, ◌∙◌, arith}
 use Rattle.std.specs.Prelude.{◌==◌, Option, Result, MatchResult, IfOk, nat_lt, nat_le, not}
 use Rattle.std.specs.Option.{option_map}
-use Rattle.std.specs.List.{find, list_any}
+use Rattle.std.specs.FinMap.{entries}
+use Rattle.std.specs.List.{find, list_any, AllByRecursion, remove}
 use Rattle.std.specs.Str.{bytes_eq}
 use Rattle.std.proofs.lemmas.Bool.{leb-true, ltb-true}
 use Rattle.std.proofs.lemmas.List.{length-map}
@@ -14,8 +15,9 @@ use Rattle.store_types.specs.Chain.Refusing.{◌>>=◌, unless, or_else}
 use Rattle.store_files.specs.Archive.{dynamic}
 use Rattle.store_files.specs.Cells.{entry_limit}
 use Rattle.store_files.specs.DynamicIndex.{DynamicIndex, dynamic_text}
-use Rattle.backup_session.specs.Archives.{want_entries, pieces_named, change_first, without_first, free_number}
+use Rattle.store_model.specs.Archives.{want_entries, want_number, pieces_named, change_first, without_first, free_number}
 use Rattle.manifest.specs.declared.facts.FileFact.{FileFact}
+use Rattle.known_chunks.specs.Lengths.{Lengths}
 use Rattle.dynamic_index.specs.Pieces.{size_of}
 use Rattle.dynamic_index.specs.Writing.{Known, FitsPieces}
 use Rattle.backup_session.specs.declared.state.Begun.{Begun}
@@ -24,7 +26,7 @@ use Rattle.backup_session.specs.Steps as steps
 use Rattle.backup_session.specs.Kept.{open_of, opens_of, HasLengths}
 use Rattle.backup_session.proofs.Naming.{named_found}
 use Rattle.backup_session.proofs.Numbers.{name_open}
-use Rattle.backup_session.proofs.Places.{First, first_found, find-map}
+use Rattle.backup_session.proofs.Places.{First, place_none, place_first, first_found, find-map}
 
 -- ---- room
 

@@ -1,7 +1,11 @@
 -- What a call that may be refused, or may want memory, gives and leaves.
-use Rattle.std.specs.Prelude.{◌≡◌, None, Result, Ok, Err, MatchResult, IsSome}
+use Rattle.std.specs.Prelude.{◌≡◌, ℕ, List, None, Result, Ok, Err, MatchResult, IsSome}
 use Rattle.store_types.specs.declared.refusal.Refusal.{Refusal}
+use Rattle.store_types.specs.declared.refusal.Refusal.TheVariants.{BadName}
+use Rattle.store_types.specs.Chain.Refusing.{◌>>=◌, unless}
+use Rattle.store_types.specs.FileNames.{is_blob_name}
 use Rattle.store_model.specs.Store.{Writer}
+use Rattle.store_model.specs.Uploads.{want_room}
 use Rattle.backup_session.specs.Session.{Writing, Session}
 use Rattle.backup_session.specs.Shown.{Shows}
 
@@ -25,6 +29,12 @@ abbrev pub IsPendingAt : {A E : Type 0} → Session → Result (Result A Refusal
 IsPendingAt s result = MatchResult result (λ told. MatchResult told (λ a. IsSome s.pending) (λ refusal. s.pending ≡ None)) (λ _. s.pending ≡ None)
 
 -- ---- beside a plain writer
+
+-- a blob of the name may be taken
+unfoldable pub takes_blob : List ℕ → Writer → Result (Unit {0}) Refusal
+takes_blob name w = do
+  _ ← unless BadName (is_blob_name name)
+  want_room name w
 
 -- the plain step answers so, and the call leaves what this makes of a session that shows the plain writer afterwards
 pub record LeavesShown {B : Type 0} (leave : Writing → Session) (new : Session) (step : Result (Writer × B) Refusal) (answer : B) : Type 0 where

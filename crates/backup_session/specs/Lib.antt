@@ -1,5 +1,3 @@
-pub mod Archives
-pub mod WriterCalls
 pub mod Session
 pub mod Steps
 pub mod Shown

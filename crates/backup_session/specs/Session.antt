@@ -1,6 +1,6 @@
 -- A writer with digests in place of pieces.
-use Rattle.std.specs.Prelude.{ℕ, List, if◌then◌else◌, Option, Some, None, is_some}
-use Rattle.std.specs.FinMap.{find, put}
+use Rattle.std.specs.Prelude.{◌≡◌, ℕ, List, if◌then◌else◌, Option, Some, None, is_some}
+use Rattle.std.specs.FinMap.{FinMap, find, put, remove, entries, from_entries}
 use Rattle.store_types.specs.declared.names.SnapshotKey.{SnapshotKey}
 use Rattle.store_types.specs.Names.{text_cmp}
 use Rattle.store_files.specs.DynamicIndex.{DynamicIndex}
@@ -10,6 +10,13 @@ use Rattle.manifest.specs.declared.facts.FileFact.{FileFact}
 abbrev pub Pool : Type 0
 Pool = List (List ℕ × ℕ)
 
+abbrev pub lengths_in : Pool → FinMap text_cmp ℕ
+lengths_in pool = from_entries pool
+
+-- a finite map has these entries
+abbrev pub IsPool : Pool → Type 0
+IsPool pool = (m : FinMap text_cmp ℕ) × (pool ≡ entries m)
+
 -- the length that is kept of a digest
 abbrev pub length_at : Pool → List ℕ → Option ℕ
 length_at pool digest = find text_cmp digest pool
@@ -17,6 +24,10 @@ length_at pool digest = find text_cmp digest pool
 -- a length that is there already stays
 abbrev pub with_length : Pool → List ℕ → ℕ → Pool
 with_length pool digest len = if is_some (length_at pool digest) then pool else put text_cmp digest len pool
+
+-- without the length of the digest
+abbrev pub without_length : Pool → List ℕ → Pool
+without_length pool digest = entries (remove (lengths_in pool) digest)
 
 -- an index that was begun
 pub record Open : Type 0 where

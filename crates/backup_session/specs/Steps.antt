@@ -17,7 +17,7 @@ use Rattle.manifest.specs.declared.facts.FileFact.{FileFact}
 use Rattle.dynamic_index.specs.Pieces.{size_of}
 use Rattle.dynamic_index.specs.Writing.{Known, with_pieces}
 use Rattle.dynamic_index.specs.Writing as indexes
-use Rattle.backup_session.specs.Archives.{uuid_of, want_number, free_number, change_first, without_first, want_entries, pieces_named, want_facts}
+use Rattle.store_model.specs.Archives.{uuid_of, want_number, free_number, change_first, without_first, want_entries, pieces_named, want_facts}
 use Rattle.backup_session.specs.Session.{Pool, length_at, with_length, Open, Writing}
 
 abbrev pub opened : SnapshotKey → ℕ → Option SnapshotKey → Writing

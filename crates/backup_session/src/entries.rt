@@ -3,7 +3,7 @@
 ghost use Rattle.std.specs.Prelude.{◌≡◌, ◌≤◌, ◌*◌, length, map, Ok, Err, IfOk, MatchResult};
 ghost use Rattle.std.specs.FinMap.{entries as entries_of};
 ghost use Rattle.store_files.specs.Archive.{dynamic};
-ghost use Rattle.backup_session.specs.Archives.{piece_named as piece_by, pieces_named as pieces_by, want_entries as entries_fit};
+ghost use Rattle.store_model.specs.Archives.{piece_named as piece_by, pieces_named as pieces_by, want_entries as entries_fit};
 ghost use Rattle.dynamic_index.specs.Writing.{known_of, FitsPieces};
 ghost use Rattle.backup_session.specs.Steps.{known_in, pieces_for as pieces_of};
 ghost use Rattle.backup_session.specs.Kept.{HasLengths};

@@ -4,7 +4,7 @@ ghost use Rattle.std.specs.Prelude.{◌≡◌, ◌==◌, position, IfOk, MatchRe
 ghost use Rattle.std.specs.List.{list_any};
 ghost use Rattle.store_types.specs.Names.{IsKey};
 ghost use Rattle.store_files.specs.DynamicIndex.{dynamic_text};
-ghost use Rattle.backup_session.specs.Archives.{uuid_of as uuid_by, want_number as number_left, free_number as least_free};
+ghost use Rattle.store_model.specs.Archives.{uuid_of as uuid_by, want_number as number_left, free_number as least_free};
 ghost use Rattle.backup_session.specs.Kept.{opens_of, open_of, left_of, IsClosing};
 ghost use Rattle.backup_session.specs.Steps.{numbers, want_close as close_test, fact_of};
 
@@ -16,7 +16,7 @@ use store_types::{CloseFault, Digest32, FileName, Refusal, SnapshotKey};
 use uuid::Uuid;
 
 /// The version 5 identifier of a file's path in the datastore, under the namespace of 16 zero bytes.
-#[tactic(auto, unfolding(crate::specs::Archives::uuid_of))]
+#[tactic(auto, unfolding(store_model::specs::Archives::uuid_of))]
 pub fn uuid_of(alloc: Global, key: &SnapshotKey, name: &FileName) -> Result<[u8; 16], AllocError>
     requires { IsKey key.now }
     ensures { IfOk result (λ uuid. uuid ≡ uuid_by key.now name.now) }

@@ -1,13 +1,14 @@
 //! What a writer keeps.
 
-ghost use Rattle.std.specs.Prelude.{◌≡◌, ◌<◌, ◌≤◌, length, OnOk, OnErr, IfOk};
+ghost use Rattle.std.specs.Prelude.{◌≡◌, ◌<◌, ◌≤◌, length, is_some, option_map, OnOk, OnErr, IfOk};
 ghost use Rattle.std.specs.List.{remove};
 ghost use Rattle.store_types.specs.Names.{IsKey};
 ghost use Rattle.store_types.specs.Times.{last_moment};
-ghost use Rattle.backup_session.specs.Archives.{free_number as least_free};
+ghost use Rattle.store_model.specs.Archives.{free_number as least_free};
 ghost use Rattle.backup_session.specs.Answers.{Does};
 ghost use Rattle.backup_session.specs.Kept.{after, IsClosing, HoldsBack};
 ghost use Rattle.backup_session.specs.Steps as steps;
+ghost use Rattle.backup_session.specs.Session.{IsPool, length_at, without_length};
 
 use crate::entries::pieces_for;
 use crate::files::{blob_fact, insert, keep_text, kept_text, want_room};
@@ -79,6 +80,54 @@ impl State {
         }
     }
 
+    pub fn key(&self) -> &SnapshotKey
+        ensures key { result.now ≡ self.now.key }
+        ensures grammar { IsKey result.now }
+    {
+        &self.key
+    }
+
+    /// The key, and nothing else of the writer.
+    pub fn into_key(self) -> SnapshotKey
+        ensures { result ≡ self.key }
+    {
+        let State { key, .. } = self;
+        key
+    }
+
+    /// A length is noted for the digest.
+    pub fn knows(&self, digest: &Digest32) -> bool
+        ensures value { result ≡ is_some (length_at self.now.pool digest.now.0) }
+        ensures pool { IsPool self.now.pool }
+    {
+        self.pool.find(digest).is_some()
+    }
+
+    /// The name of the first open index of the number.
+    pub fn index_name(&self, number: u8) -> Option<&FileName>
+        ensures { option_map (λ name. name.now) result ≡ option_map (λ b. b.name) (steps.begun_at number self.now) }
+    {
+        let Some(place) = place_of(&self.begun, number) else {
+            return None;
+        };
+        Some(&self.begun[place].name)
+    }
+
+    /// How many indexes are open.
+    pub fn open_indexes(&self) -> u8
+        ensures { result ≡ length self.now.begun }
+    {
+        self.begun.len() as u8
+    }
+
+    /// The manifest's text.
+    pub fn manifest(&self) -> Option<&[u8]>
+        ensures { option_map (λ text. text.now) result ≡ self.now.manifest }
+    {
+        let text = self.manifest.as_ref()?;
+        Some(text.as_slice())
+    }
+
     fn want_dynamic(&self, name: &FileName) -> Result<(), Refusal>
         ensures { result ≡ steps.want_dynamic name.now self.now }
     {
@@ -136,6 +185,13 @@ impl State {
         }
     }
 
+    /// Takes the length of a digest out.
+    pub fn forget(&mut self, digest: &Digest32)
+        ensures { self.new ≡ record self.old { pool = without_length self.old.pool digest.now.0 } }
+    {
+        self.pool.remove(digest);
+    }
+
     pub fn append(
         &mut self,
         alloc: Global,
@@ -180,7 +236,7 @@ impl State {
         Ok(Ok((text, pending)))
     }
 
-    fn want_blob(&self, name: &FileName) -> Result<(), Refusal>
+    pub fn want_blob(&self, name: &FileName) -> Result<(), Refusal>
         ensures { result ≡ steps.want_blob name.now self.now }
     {
         if !name.is_blob() {

@@ -1,15 +1,15 @@
 //! A writer's calls.
 
-ghost use Rattle.std.specs.Prelude.{◌≡◌, ◌≤◌, ℕ, List, length as len, None, IsSome, OnOk, OnErr};
+ghost use Rattle.std.specs.Prelude.{◌≡◌, ◌≤◌, ℕ, List, length as len, is_some, option_map, None, IsSome, OnOk, OnErr};
 ghost use Rattle.sha2.specs.Sha256.{sha256};
 ghost use Rattle.store_types.specs.Names.{IsKey};
 ghost use Rattle.store_types.specs.Times.{last_moment};
 ghost use Rattle.blob_codec.specs.Blob.{blob as blob_text};
 ghost use Rattle.store_model.specs.Store.{Writer as PlainWriter};
 ghost use Rattle.store_model.specs.WriterSteps.{new_writer};
-ghost use Rattle.backup_session.specs.WriterCalls as plain;
-ghost use Rattle.backup_session.specs.Answers.{Does, DoesPlainly, IsPendingAt};
-ghost use Rattle.backup_session.specs.Session.{settled, held, kept};
+ghost use Rattle.store_model.specs.WriterCalls as plain;
+ghost use Rattle.backup_session.specs.Answers.{Does, DoesPlainly, IsPendingAt, takes_blob};
+ghost use Rattle.backup_session.specs.Session.{Writing, IsPool, length_at, without_length, settled, held, kept};
 ghost use Rattle.backup_session.specs.Shown.{Shows};
 ghost use Rattle.backup_session.specs.Steps as steps;
 
@@ -55,6 +55,66 @@ pub fn open_writer(alloc: Global, key: SnapshotKey, start: u64, base: Option<Sna
 }
 
 impl Writer {
+    /// The snapshot's key.
+    #[tactic(auto, using(crate::proofs::Asked::key_is))]
+    pub fn key(&self) -> &SnapshotKey
+        ensures key { result.now ≡ self.now.writer.key }
+        ensures grammar { IsKey result.now }
+    {
+        self.state.key()
+    }
+
+    /// The key, and nothing else of the writer. It takes no memory.
+    #[tactic(auto, using(crate::proofs::Asked::key_is))]
+    pub fn into_key(self) -> SnapshotKey
+        ensures { result ≡ self.writer.key }
+    {
+        let Writer { state, pending: _ } = self;
+        state.into_key()
+    }
+
+    /// A chunk of this digest may be named.
+    #[tactic(auto, using(crate::proofs::Asked::pool_is))]
+    pub fn knows(&self, digest: &Digest32) -> bool
+        ensures value { result ≡ is_some (length_at self.now.writer.pool digest.now.0) }
+        ensures pool { IsPool self.now.writer.pool }
+    {
+        self.state.knows(digest)
+    }
+
+    /// The name of the open index of a number.
+    #[tactic(auto, using(crate::proofs::Asked::index_is))]
+    pub fn index_name(&self, number: u8) -> Option<&FileName>
+        ensures { option_map (λ name. name.now) result ≡ option_map (λ b. b.name) (steps.begun_at number self.now.writer) }
+    {
+        self.state.index_name(number)
+    }
+
+    /// A blob of this name may be taken. The refusals are those of `blob`.
+    pub fn want_blob(&self, name: &FileName) -> Result<(), Refusal>
+        requires { self.now.pending ≡ None }
+        ensures value { result ≡ steps.want_blob name.now self.now.writer }
+        ensures plain { (w : PlainWriter) → Shows self.now.writer w → result ≡ takes_blob name.now w }
+    {
+        self.state.want_blob(name)
+    }
+
+    /// How many indexes are open.
+    #[tactic(auto, using(crate::proofs::Asked::begun_is))]
+    pub fn open_indexes(&self) -> u8
+        ensures { result ≡ len self.now.writer.begun }
+    {
+        self.state.open_indexes()
+    }
+
+    /// The manifest's file text, where the writer has it.
+    #[tactic(auto, using(crate::proofs::Asked::manifest_is))]
+    pub fn manifest(&self) -> Option<&[u8]>
+        ensures { option_map (λ text. text.now) result ≡ self.now.writer.manifest }
+    {
+        self.state.manifest()
+    }
+
     /// Begins a dynamic index at the least number from 0 to 15 that is free, and gives it. `ctime` is seconds since 1970.
     ///
     /// The refusals, in the order in which they are tested: the name is no dynamic index's; there is such a file or open
@@ -85,6 +145,16 @@ impl Writer {
             Shows self.new.writer (plain.chunk w piece)) }
     {
         self.state.chunk(digest, length)
+    }
+
+    /// The chunk may not be named any more. It takes no memory.
+    pub fn forget(&mut self, digest: &Digest32)
+        requires { self.old.pending ≡ None }
+        ensures value { self.new ≡ settled (record self.old.writer { pool = without_length self.old.writer.pool digest.now.0 }) }
+        // where it might not be named before it was noted, the writer is as before
+        ensures back { (before : Writing) → (length : ℕ) → IsPool before.pool → length_at before.pool digest.now.0 ≡ None → self.old ≡ settled (steps.chunk before digest.now.0 length) → self.new ≡ settled before }
+    {
+        self.state.forget(digest)
     }
 
     /// Appends the chunks with these digests to an open index. Each entry has the offset in the archive at which its

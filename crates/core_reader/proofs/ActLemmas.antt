@@ -1,9 +1,11 @@
 -- The acts of readers are well-formed commands.
 use Rattle.std.proofs.Common.{◌≡◌, refl}
-use Rattle.wire_commands.specs.declared.command.Command.TheVariants.{OpenWriter, Blob as BlobCommand, Finish, Abort, OpenReader, Download, CloseReader, Bye}
+use Rattle.wire_commands.specs.declared.command.Command.TheVariants.{OpenWriter, NewDynamic, Chunk as ChunkCommand, Append, CloseIndex, Blob as BlobCommand, Finish, Abort, OpenReader, Download, CloseReader, Bye}
 use Rattle.store_history.specs.declared.act.Act.{Act}
-use Rattle.store_history.specs.declared.act.Act.TheVariants.{Plain, Blob, Short, End}
+use Rattle.store_history.specs.declared.act.Act.TheVariants.{Plain, Blob, Chunk, Short, End}
 use Rattle.store_history.specs.Acts.{IsWellFormed, class_of, stepping}
+use Rattle.disk_trait.specs.Files.{Files}
+use Rattle.core_state.specs.Chunks.{IsSafe}
 use Rattle.core_reader.specs.ReaderActs.{IsReaders}
 
 pub readers_formed : (a : Act) → IsReaders a → IsWellFormed a
@@ -11,16 +13,30 @@ readers_formed (Plain (OpenReader snapshot)) h = tt
 readers_formed (Plain (Download file offset)) h = tt
 readers_formed (Plain CloseReader) h = tt
 readers_formed (Plain (OpenWriter snapshot)) h = absurd h
+readers_formed (Plain (NewDynamic file)) h = absurd h
+readers_formed (Plain (ChunkCommand digest blob)) h = absurd h
+readers_formed (Plain (Append number entries)) h = absurd h
+readers_formed (Plain (CloseIndex number count size csum)) h = absurd h
 readers_formed (Plain Finish) h = absurd h
 readers_formed (Plain Abort) h = absurd h
 readers_formed (Plain (BlobCommand file blob)) h = absurd h
 readers_formed (Plain Bye) h = absurd h
 readers_formed (Blob name checked) h = absurd h
+readers_formed (Chunk digest checked) h = absurd h
 readers_formed Short h = absurd h
 readers_formed End h = absurd h
 
 pub readers_step : (a : Act) → IsReaders a → class_of a ≡ stepping
 readers_step (Plain c) h = refl
 readers_step (Blob name checked) h = absurd h
+readers_step (Chunk digest checked) h = absurd h
 readers_step Short h = absurd h
 readers_step End h = absurd h
+
+-- they put no chunk
+pub readers_safe : (m : Files) (a : Act) → IsReaders a → IsSafe m a
+readers_safe m (Plain c) h = tt
+readers_safe m (Blob name checked) h = tt
+readers_safe m (Chunk digest checked) h = absurd h
+readers_safe m Short h = tt
+readers_safe m End h = tt

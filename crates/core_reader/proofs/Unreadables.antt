@@ -12,7 +12,7 @@ use Rattle.store_types.specs.declared.refusal.SessionState.{SessionState}
 use Rattle.store_types.specs.FileNames.{is_file_name}
 use Rattle.store_types.specs.Chain.Refusing.{◌>>=◌, unless}
 use Rattle.wire_commands.specs.declared.reply.Reply.{Reply}
-use Rattle.wire_commands.specs.declared.reply.Reply.TheVariants.{Done, Base, Part, Refused}
+use Rattle.wire_commands.specs.declared.reply.Reply.TheVariants.{Done, Base, Number, Part, Refused}
 use Rattle.store_history.specs.declared.act.Act.{Act}
 use Rattle.store_history.specs.declared.act.Answer.{Answer}
 use Rattle.store_model.specs.WriterSteps.{part_of}
@@ -60,12 +60,14 @@ unreadable_part path r is = subst (λ x. IsPartOf path (Err x)) (sym is) refl
 pub part_answers : (path : List ℕ) (reply : Reply) → IsPartOf path (Ok reply) → answers_download reply ≡ true
 part_answers path Done h = absurd h
 part_answers path (Base snapshot) h = absurd h
+part_answers path (Number n) h = absurd h
 part_answers path (Part total bytes) h = refl
 part_answers path (Refused r) h = absurd h
 
 pub part_unchanged : {D : Type 0} (honest : D → Type 0) (content : D → Files) (old new : Parts D) (path : List ℕ) (reply : Reply) → IsPartOf path (Ok reply) → Unchanged honest content old new reply
 part_unchanged honest content old new path Done h = absurd h
 part_unchanged honest content old new path (Base snapshot) h = absurd h
+part_unchanged honest content old new path (Number n) h = absurd h
 part_unchanged honest content old new path (Part total bytes) h = tt
 part_unchanged honest content old new path (Refused r) h = absurd h
 
@@ -137,6 +139,7 @@ module _ {D : Type 0} (honest : D → Type 0) (content : D → Files) (disk : D)
       plain : (reply : Reply) → IsPartOf path (Ok reply) → (total : ℕ) × (bytes : List ℕ) × (reply ≡ Part total bytes)
       plain Done h = absurd h
       plain (Base snapshot) h = absurd h
+      plain (Number n) h = absurd h
       plain (Part total bytes) h = (total, bytes, refl)
       plain (Refused r) h = absurd h
 

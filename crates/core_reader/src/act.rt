@@ -43,6 +43,7 @@ fn perform<D: Disk>(
     ensures answers { IfOk result (λ reply. IsTrue (may_answer act reply)) }
     ensures unchanged { Unchanged D.honest D.content parts.old parts.new (reply_by result) }
     ensures content { SameContent D.honest D.content parts.old.disk parts.new.disk }
+    ensures catalogue { parts.new.catalogue.items ≡ parts.old.catalogue.items }
     ensures closed { closes act (slice_index_or parts.old.sessions.items lane Idle) ≡ true → HasClosed parts.new lane result }
     ensures unreadable { TellsUnreadable D.honest D.content parts.old.disk (asked_path act (slice_index_or parts.old.sessions.items lane Idle) parts.old.catalogue.items) (kind_by result) (Some (reply_by result)) }
     ensures act { (remote : Option (List Snapshot)) (w : World) (moment : ℕ) → Acts D.honest D.content parts.old parts.new (λ s. act_outcome remote (record w { store = s }) lane moment act) result }
@@ -81,6 +82,8 @@ pub fn reader_act<D: Disk, E, C: Clock>(
     ensures unchanged { IfSome result.reply (Unchanged D.honest D.content core.old.parts core.new.parts) }
     // an honest disk reads as before in any case
     ensures content { SameContent D.honest D.content core.old.parts.disk core.new.parts.disk }
+    // so does the catalogue, on any disk
+    ensures catalogue { core.new.parts.catalogue.items ≡ core.old.parts.catalogue.items }
     // after the disk failed no call of it is made
     ensures halted { IfSome core.old.fault (λ _. core.new.parts.disk ≡ core.old.parts.disk) }
     ensures remote { core.new.remote ≡ core.old.remote }

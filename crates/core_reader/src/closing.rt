@@ -28,6 +28,7 @@ pub fn close_reader<D: Disk>(parts: &mut Parts<D>, lane: u32) -> Result<Reply, D
     ensures answers { IfOk result (λ reply. IsTrue (answers_close reply)) }
     ensures unchanged { Unchanged D.honest D.content parts.old parts.new (reply_by result) }
     ensures content { SameContent D.honest D.content parts.old.disk parts.new.disk }
+    ensures catalogue { parts.new.catalogue.items ≡ parts.old.catalogue.items }
     ensures closed { is_reader (slice_index_or parts.old.sessions.items lane Idle) ≡ true → HasClosed parts.new lane result }
     ensures act { (moment : ℕ) → Acts D.honest D.content parts.old parts.new (λ s. outcome s lane moment commands.CloseReader) result }
 {

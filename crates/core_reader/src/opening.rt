@@ -1,6 +1,6 @@
 //! OPEN_READER.
 
-ghost use Rattle.std.specs.Prelude.{◌<◌, ◌≤◌, ℕ, IfOk, IsErrOf, IsTrue};
+ghost use Rattle.std.specs.Prelude.{◌≡◌, ◌<◌, ◌≤◌, ℕ, IfOk, IsErrOf, IsTrue};
 ghost use Rattle.disk_trait.specs.Disk.{Serves};
 ghost use Rattle.wire_commands.specs.HasText.{ReplyHasText};
 ghost use Rattle.wire_commands.specs.declared.command.Command.TheVariants as commands;
@@ -34,6 +34,7 @@ pub fn open_reader<D: Disk>(
     ensures answers { IfOk result (λ reply. IsTrue (answers_reader reply)) }
     ensures unchanged { Unchanged D.honest D.content parts.old parts.new (reply_by result) }
     ensures content { SameContent D.honest D.content parts.old.disk parts.new.disk }
+    ensures catalogue { parts.new.catalogue.items ≡ parts.old.catalogue.items }
     ensures act { (moment : ℕ) → Acts D.honest D.content parts.old parts.new (λ s. outcome s lane moment (commands.OpenReader snapshot.now)) result }
 {
     let lane = lane as usize;

@@ -122,6 +122,7 @@ pub fn download<D: Disk>(
     ensures answers { IfOk result (λ reply. IsTrue (answers_download reply)) }
     ensures unchanged { Unchanged D.honest D.content parts.old parts.new (reply_by result) }
     ensures content { SameContent D.honest D.content parts.old.disk parts.new.disk }
+    ensures catalogue { parts.new.catalogue.items ≡ parts.old.catalogue.items }
     // it is unreadable exactly where nothing stands there, as far as the disk tells
     ensures unreadable { TellsUnreadable D.honest D.content parts.old.disk (downloaded file.now (slice_index_or parts.old.sessions.items lane Idle) parts.old.catalogue.items) (kind_by result) (Some (reply_by result)) }
     ensures act { (moment : ℕ) → Acts D.honest D.content parts.old parts.new (λ s. outcome s lane moment (commands.Download file.now offset)) result }

@@ -1,5 +1,5 @@
 -- An act that is refused before it is done, and one that is done, are entered.
-use Rattle.std.proofs.Common.{◌≡◌, ◌<◌, ◌≤◌, ℕ, length, Option, Some, None, Result, Ok, Err, refl, sym, ap, subst, ◌∙◌, arith}
+use Rattle.std.proofs.Common.{◌≡◌, ◌<◌, ◌≤◌, ℕ, ◌++◌, length, Option, Some, None, Result, Ok, Err, refl, sym, ap, subst, ◌∙◌, arith}
 use Rattle.std.proofs.lemmas.List.{length-map}
 use Rattle.port_traits.specs.Readings.{Readings}
 use Rattle.disk_trait.specs.Files.{Files}
@@ -9,18 +9,21 @@ use Rattle.store_types.specs.declared.refusal.Refusal.TheVariants.{NoMemory, Hal
 use Rattle.wire_commands.specs.declared.reply.Reply.{Reply}
 use Rattle.wire_commands.specs.declared.reply.Reply.TheVariants.{Refused}
 use Rattle.store_model.specs.Store.{Store, Outcome}
+use Rattle.store_model.specs.Stands.{HasWholeChunks}
 use Rattle.store_model.specs.Steps.{answered}
 use Rattle.store_model.specs.Weave.{fault_refusal, first_fault}
 use Rattle.store_history.specs.declared.act.Act.{Act}
 use Rattle.store_history.specs.declared.act.Answer.{Answer}
 use Rattle.store_history.specs.Acts.{IsWellFormed, Class, stepping, wanting, ending, class_of}
-use Rattle.store_history.specs.History.{moved, act_outcome, entry, step_kind, short_kind, fault_kind}
+use Rattle.store_history.specs.History.{moved, act_outcome, entry, step_kind, short_kind, fault_kind, sent_by}
 use Rattle.store_history.specs.Legal.{Right}
 use Rattle.core_state.specs.declared.state.Core.{Core}
 use Rattle.core_state.specs.Holds.{Shows, IsOnDisk, Holds, Does, Acts}
-use Rattle.core_state.specs.History.{History, world, then_event, event_of, StandsFor}
+use Rattle.core_state.specs.Chunks.{IsSafe, HoldsOnly, AddsUnless, Adds}
+use Rattle.core_state.specs.History.{History, world, then_event, pieces_of, event_of, StandsFor}
 use Rattle.core_state.specs.Settles.{Settles}
 use Rattle.core_state.specs.Begins.{IsBegun, IsShort, IsHalted, Refuses, short, halted, IsReady}
+use Rattle.core_state.proofs.Chunks.{only_same, only_added}
 use Rattle.core_state.proofs.Entered.{events_are, moves, IsActed, entered_stands}
 
 -- nothing has happened but that the clock was read
@@ -37,6 +40,9 @@ begun_acted is_honest content calls_of readings old mid h k m act n s b same = r
   shows = subst (λ w. Shows mid.parts w.store) (sym same) (subst (λ p. Shows p (world h).store) (sym b.parts) s.shows);
   files = subst (λ w. w.fault ≡ None → IsOnDisk (content (mid.parts).disk) w.store) (sym same)
       (subst (λ p. (world h).fault ≡ None → IsOnDisk (content p.disk) (world h).store) (sym b.parts) s.files);
+  chunks = subst (λ w. w.fault ≡ None → HoldsOnly (content (mid.parts).disk) (pieces_of h ++ sent_by act)) (sym same)
+      (subst (λ p. (world h).fault ≡ None → HoldsOnly (content p.disk) (pieces_of h ++ sent_by act)) (sym b.parts)
+      (λ none. only_same (content (old.parts).disk) (pieces_of h) (sent_by act) (s.chunks none)));
 }
 
 -- want of memory may come to all but a lane's end
@@ -101,8 +107,9 @@ acted_by : {D E C : Type 0} (is_honest : D → Type 0) (content : D → Files) (
     → IsDone calls_of readings old mid acted k m
     → fault ≡ (moves h k m act n).fault → is_honest (acted.parts).disk → Shows acted.parts (moves h k m act n).store
     → ((moves h k m act n).fault ≡ None → IsOnDisk (content (acted.parts).disk) (moves h k m act n).store)
+    → ((moves h k m act n).fault ≡ None → HoldsOnly (content (acted.parts).disk) (pieces_of h ++ sent_by act))
     → IsActed is_honest content calls_of readings old (record acted { fault = fault }) h k m act n
-acted_by is_honest content calls_of readings old mid acted h k m act n fault d is honest shows files =
+acted_by is_honest content calls_of readings old mid acted h k m act n fault d is honest shows files chunks =
     let b = (d.ready).begun in record {
       clock = subst (λ c. Rattle.core_state.specs.Begins.ReadsClock readings old.clock c old.last m) (sym d.clock) b.clock;
       entries = ap (λ j. j.entries.items) d.journal ∙ (b.entries).entries;
@@ -112,6 +119,7 @@ acted_by is_honest content calls_of readings old mid acted h k m act n fault d i
       fault = is;
       shows = shows;
       files = files;
+      chunks = chunks;
     }
 
 none_some : (n : ℕ) → Some n ≡ None → ⊥
@@ -122,11 +130,13 @@ pub done_stands : {D E C : Type 0} (is_honest : D → Type 0) (content : D → F
     → StandsFor is_honest content calls_of readings old h → k < 64 → IsWellFormed act → class_of act ≡ stepping
     → outcome_of (world h).store ≡ act_outcome h.remote (world h) k m act
     → IsDone calls_of readings old mid acted k m
-    → Acts is_honest content mid.parts acted.parts outcome_of result → Settles calls_of acted new k m result answer
+    → (IsSafe (content (mid.parts).disk) act → Acts is_honest content mid.parts acted.parts outcome_of result)
+    → Adds is_honest content mid.parts acted.parts act result → Settles calls_of acted new k m result answer
+    → (HasWholeChunks (content (mid.parts).disk) → HoldsOnly (content (mid.parts).disk) (pieces_of h) → IsSafe (content (mid.parts).disk) act)
     → StandsFor is_honest content calls_of readings new (then_event h (event_of act answer (calls_of (new.parts).disk)))
 unfolding moved
-done_stands is_honest content calls_of readings old mid acted new h k m act outcome_of result answer s inside formed step same d acts settles =
-    by_result result does settles
+done_stands is_honest content calls_of readings old mid acted new h k m act outcome_of result answer s inside formed step same d acts adds settles may =
+    by_result result does (adds (world h).store held) settles
   where
     fault : (world h).fault ≡ None
     fault = sym s.fault ∙ (d.ready).no_fault
@@ -137,25 +147,34 @@ done_stands is_honest content calls_of readings old mid acted new h k m act outc
     held : Holds is_honest content mid.parts (world h).store
     held = subst (λ p. Holds is_honest content p (world h).store) (sym ((d.ready).begun).parts) (record { honest = s.honest; shows = s.shows; files = s.files fault })
 
+    only : HoldsOnly (content (mid.parts).disk) (pieces_of h)
+    only = subst (λ p. HoldsOnly (content p.disk) (pieces_of h)) (sym ((d.ready).begun).parts) (s.chunks fault)
+
+    is_safe : IsSafe (content (mid.parts).disk) act
+    is_safe = may ((held.files).snapshots).chunks only
+
     does : Does is_honest content acted.parts (world h).store (answered (world h).store (act_outcome h.remote (world h) k m act)) result
-    does = subst (λ o. Does is_honest content acted.parts (world h).store (answered (world h).store o) result) same (acts (world h).store held)
+    does = subst (λ o. Does is_honest content acted.parts (world h).store (answered (world h).store o) result) same (acts is_safe (world h).store held)
 
     place : length (acted.journal).entries.items ≡ (world h).events
     place = ap (λ j. length j.entries.items) d.journal ∙ ap length (((d.ready).begun).entries).entries ∙ ap length s.entries ∙ length-map h.events entry ∙ sym (events_are h)
 
     by_result : (r : Result Reply DiskError) → Does is_honest content acted.parts (world h).store (answered (world h).store (act_outcome h.remote (world h) k m act)) r
+        → AddsUnless (content (mid.parts).disk) (content (acted.parts).disk) act r
         → Settles calls_of acted new k m r answer
         → StandsFor is_honest content calls_of readings new (then_event h (event_of act answer (calls_of (new.parts).disk)))
-    by_result (Ok reply) does e = let held = does.1 in
+    by_result (Ok reply) does added e = let held = does.1 in
         entered_stands is_honest content calls_of readings old (record acted { fault = acted.fault }) new h k m act 0 (Some reply) answer s inside formed
         (subst (λ c. Right h.remote (world h) k m act (Some reply) c step_kind) (sym step) (fault, ap (λ x. Some x) does.0))
-        (acted_by is_honest content calls_of readings old mid acted h k m act 0 acted.fault d (acted_fault ∙ sym fault) held.honest held.shows (λ _. held.files)) e
-    by_result (Err DiskMemory) does e =
+        (acted_by is_honest content calls_of readings old mid acted h k m act 0 acted.fault d (acted_fault ∙ sym fault) held.honest held.shows (λ _. held.files)
+        (λ _. only_added (content (mid.parts).disk) (content (acted.parts).disk) (pieces_of h) act only added)) e
+    by_result (Err DiskMemory) does added e =
         entered_stands is_honest content calls_of readings old (record acted { fault = acted.fault }) new h k m act 2 (Some (Refused NoMemory)) answer s inside formed
         (subst (λ c. Right h.remote (world h) k m act (Some (Refused NoMemory)) c short_kind) (sym step) refl)
-        (acted_by is_honest content calls_of readings old mid acted h k m act 2 acted.fault d (acted_fault ∙ sym fault) does.honest does.shows (λ _. does.files)) e
-    by_result (Err DiskFailed) does e = let first = ap (first_fault (world h).events) fault in
+        (acted_by is_honest content calls_of readings old mid acted h k m act 2 acted.fault d (acted_fault ∙ sym fault) does.honest does.shows (λ _. does.files)
+        (λ _. only_added (content (mid.parts).disk) (content (acted.parts).disk) (pieces_of h) act only added)) e
+    by_result (Err DiskFailed) does added e = let first = ap (first_fault (world h).events) fault in
         entered_stands is_honest content calls_of readings old (record acted { fault = Some (length (acted.journal).entries.items) }) new h k m act 5 (Some (Refused DiskFault)) answer s inside formed
         (subst (λ c. Right h.remote (world h) k m act (Some (Refused DiskFault)) c fault_kind) (sym step) (ap (λ f. Some (Refused (fault_refusal f))) (sym fault)))
         (acted_by is_honest content calls_of readings old mid acted h k m act 5 (Some (length (acted.journal).entries.items)) d (ap (λ n. Some n) place ∙ sym first) does.0 does.1
-        (λ none. absurd (none_some (world h).events (sym first ∙ none)))) e
+        (λ none. absurd (none_some (world h).events (sym first ∙ none))) (λ none. absurd (none_some (world h).events (sym first ∙ none)))) e

@@ -9,14 +9,16 @@ use Rattle.store_history.specs.declared.act.Act.{Act}
 use Rattle.store_history.specs.declared.act.Answer.{Answer}
 use Rattle.store_history.specs.declared.act.Event.{Event}
 use Rattle.store_history.specs.Acts.{IsWellFormed, class_of}
-use Rattle.store_history.specs.History.{World, opened, after, moved, entry, moment, kind_of}
+use Rattle.store_history.specs.History.{World, opened, after, moved, entry, moment, kind_of, sent_by}
 use Rattle.store_history.specs.Legal.{IsRight, Right, Says, IsLegal, moment_at, later, readings_left, moment_after}
 use Rattle.store_history.proofs.Longer.{after_all_more, legal_more, timed_more, readings_more, moment_is, events_after, entries_more}
 use Rattle.core_state.specs.declared.state.Core.{Core}
 use Rattle.core_state.specs.Holds.{Shows, IsOnDisk}
-use Rattle.core_state.specs.History.{History, world, then_event, event_of, KeepsTime, StandsFor}
+use Rattle.core_state.specs.History.{History, world, then_event, pieces_of, event_of, KeepsTime, StandsFor}
 use Rattle.core_state.specs.Settles.{IsEntered}
 use Rattle.core_state.specs.Begins.{ReadsClock}
+use Rattle.core_state.specs.Chunks.{HoldsOnly}
+use Rattle.core_state.proofs.Chunks.{pieces_more}
 
 -- the world after one more event
 pub world_more : (h : History) (e : Event) → world (then_event h e) ≡ after h.remote (world h) e
@@ -38,6 +40,7 @@ pub record Grows {D E C : Type 0} (is_honest : D → Type 0) (content : D → Fi
   pub honest : is_honest (new.parts).disk
   pub shows : Shows new.parts (after h.remote (world h) e).store
   pub files : (after h.remote (world h) e).fault ≡ None → IsOnDisk (content (new.parts).disk) (after h.remote (world h) e).store
+  pub chunks : (after h.remote (world h) e).fault ≡ None → HoldsOnly (content (new.parts).disk) (pieces_of h ++ sent_by e.act)
 
 pub time_more : {C : Type 0} (readings : C → Option Readings) (old new : C) (last : ℕ) (h : History) (e : Event)
     → last ≡ moment_after (h.opening).moment h.events → KeepsTime readings old h → ReadsClock readings old new last (moment e) → KeepsTime readings new (then_event h e)
@@ -68,6 +71,7 @@ grown is_honest content calls_of readings old new h e s g = let more = sym (worl
   honest = g.honest;
   shows = subst (λ w. Shows new.parts w.store) more g.shows;
   files = subst (λ w. w.fault ≡ None → IsOnDisk (content (new.parts).disk) w.store) more g.files;
+  chunks = λ none. subst (λ ps. HoldsOnly (content (new.parts).disk) ps) (sym (pieces_more h e)) (g.chunks (ap (λ w. w.fault) more ∙ none));
 }
 
 -- ---- by an entry
@@ -93,6 +97,7 @@ pub record IsActed {D E C : Type 0} (is_honest : D → Type 0) (content : D → 
   pub fault : mid.fault ≡ (moves h k m act n).fault
   pub shows : Shows mid.parts (moves h k m act n).store
   pub files : (moves h k m act n).fault ≡ None → IsOnDisk (content (mid.parts).disk) (moves h k m act n).store
+  pub chunks : (moves h k m act n).fault ≡ None → HoldsOnly (content (mid.parts).disk) (pieces_of h ++ sent_by act)
 
 pub entered_stands : {D E C : Type 0} (is_honest : D → Type 0) (content : D → Files) (calls_of : D → ℕ) (readings : C → Option Readings) (old mid new : Core D E C) (h : History)
     (k m : ℕ) (act : Act) (n : ℕ) (reply : Option Reply) (answer : Answer)
@@ -133,6 +138,8 @@ entered_stands is_honest content calls_of readings old mid new h k m act n reply
       shows = subst (λ x. Shows new.parts x.store) moved_is (subst (λ p. Shows p (moves h k m act n).store) (sym e.parts) a.shows);
       files = subst (λ x. x.fault ≡ None → IsOnDisk (content (new.parts).disk) x.store) moved_is
           (subst (λ p. (moves h k m act n).fault ≡ None → IsOnDisk (content p.disk) (moves h k m act n).store) (sym e.parts) a.files);
+      chunks = subst (λ x. x.fault ≡ None → HoldsOnly (content (new.parts).disk) (pieces_of h ++ sent_by act)) moved_is
+          (subst (λ p. (moves h k m act n).fault ≡ None → HoldsOnly (content p.disk) (pieces_of h ++ sent_by act)) (sym e.parts) a.chunks);
     })
   where
     two : (x : ℕ) → (x == 2) ≡ true → x ≡ 2

@@ -1,4 +1,5 @@
 pub mod Clocks
+pub mod Chunks
 pub mod Opened
 pub mod Entered
 pub mod Answered

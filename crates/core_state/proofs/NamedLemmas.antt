@@ -1,13 +1,15 @@
 -- What has a text, and keeps it.
-use Rattle.std.proofs.Common.{◌≡◌, ◌<◌, ◌∙◌, ℕ, zero, suc, Bool, true, length, get_or, set, List, [], ◌∷◌, refl, ap, arith}
+use Rattle.std.proofs.Common.{◌≡◌, ◌<◌, ◌∙◌, ℕ, zero, suc, Bool, true, false, not, Option, Some, None, length, get_or, set, List, [], ◌∷◌, refl, ap, arith}
 use Rattle.std.proofs.lemmas.Bool.{and_parts, and_from, leb-true, le-leb}
-use Rattle.std.specs.Prelude.{nat_le}
+use Rattle.std.specs.Prelude.{nat_le, is_some}
 use Rattle.std.specs.List.{list_all}
 use Rattle.store_types.specs.declared.names.SnapshotKey.{SnapshotKey}
 use Rattle.store_types.specs.FileNames.{is_id}
 use Rattle.store_types.specs.Names.{IsKey}
 use Rattle.store_types.specs.Times.{last_moment}
-use Rattle.core_state.specs.Named.{has_text}
+use Rattle.core_state.specs.declared.kept.Writing.{Writing}
+use Rattle.core_state.specs.declared.kept.Session.TheVariants.{Writer}
+use Rattle.core_state.specs.Named.{has_text, is_named}
 
 pub is_key : (k : SnapshotKey) → has_text k ≡ true → IsKey k
 is_key k h = let both = and_parts (is_id k.id) (nat_le k.time last_moment) h in (both.0, leb-true k.time last_moment both.1)
@@ -24,3 +26,19 @@ pub list_all-at : {A : Type 0} (p : A → Bool) (xs : List A) (i : ℕ) (x : A) 
 list_all-at p [] i x h lt is = absurd (omega arith)
 list_all-at p (y ∷ ys) zero x h lt is = ap p is ∙ (and_parts (p y) (list_all p ys) h).0
 list_all-at p (y ∷ ys) (suc i) x h lt is = list_all-at p ys i x (and_parts (p y) (list_all p ys) h).1 (omega arith) is
+
+none_is : {A : Type 0} (o : Option A) → not (is_some o) ≡ true → o ≡ None
+none_is None h = refl
+none_is (Some x) h = absurd (false_true h)
+  where
+    false_true : false ≡ true → ⊥
+    false_true e = cc
+
+-- a writer's key has a text, and no file of it is pending
+pub writer_named : (w : Writing) → is_named (Writer w) ≡ true → IsKey ((w.session).writer).key × ((w.session).pending ≡ None)
+writer_named w h =
+    let both = and_parts (has_text ((w.session).writer).key) (not (is_some (w.session).pending)) h in (is_key ((w.session).writer).key both.0, none_is (w.session).pending both.1)
+
+pub writer_stays_named : (w : Writing) → IsKey ((w.session).writer).key → (w.session).pending ≡ None → is_named (Writer w) ≡ true
+writer_stays_named w key none =
+    and_from (has_text ((w.session).writer).key) (not (is_some (w.session).pending)) (key_text_is ((w.session).writer).key key) (ap (λ o. not (is_some o)) none)

@@ -1,21 +1,24 @@
 -- Which names of the disk matter for a writer, and for the snapshots beside it.
-use Rattle.std.proofs.Common.{◌≡◌, ◌≢◌, ℕ, ◌<◌, true, get_or, List, refl, ap, ◌∙◌, arith}
+use Rattle.std.proofs.Common.{◌≡◌, ◌≢◌, ℕ, ◌<◌, true, get_or, List, [], ◌∷◌, Some, refl, ap, ◌∙◌, arith}
 use Rattle.std.specs.Bool.{IsTrue}
 use Rattle.std.specs.FinMap.{get}
-use Rattle.std.specs.List.{All}
+use Rattle.std.specs.List.{All, Contains, flat_map}
+use Rattle.std.proofs.lemmas.List.Elements.{All-nil, All-head, All-tail, All-append, All-contains}
+use Rattle.sha2.specs.Sha256.{sha256}
 use Rattle.disk_trait.specs.Files.{Files}
 use Rattle.store_types.specs.declared.names.SnapshotKey.{SnapshotKey}
 use Rattle.store_types.specs.FileNames.{manifest_name}
 use Rattle.store_types.specs.KeyOrder.{same_group_equiv}
 use Rattle.store_types.specs.Names.{IsKey, same_group, group_of_key}
 use Rattle.store_types.proofs.KeyTexts.{no_slash}
-use Rattle.store_files.specs.Archive.{Snapshot}
+use Rattle.blob_codec.specs.Blob.{blob}
+use Rattle.store_files.specs.Archive.{File, Snapshot, pieces_of}
 use Rattle.store_model.specs.Store.{Store, Writer, writer, session}
 use Rattle.store_model.specs.Uploads.{file_path}
 use Rattle.store_model.specs.WriterSteps.{snapshot_of}
-use Rattle.store_model.specs.Stands.{chunk_name}
+use Rattle.store_model.specs.Stands.{HoldsPieces, chunk_name}
 use Rattle.store_model.proofs.Paths.{same_path, content_plain}
-use Rattle.store_model.proofs.StandsLemmas.{Apart, apart_file, pieces_agree}
+use Rattle.store_model.proofs.StandsLemmas.{Apart, apart_file}
 use Rattle.core_state.specs.Holds.{IsSound, IsWriter, HasUploads}
 
 -- ---- keys
@@ -60,5 +63,21 @@ pub uploads_off : (m n : Files) (w : Writer) (Changed : List ℕ → Type 0) →
 uploads_off m n w Changed same off chunks h = record {
   files = λ i d lt other.
       same (file_path w.key (get_or w.files i d).name) (λ c. off (file_path w.key (get_or w.files i d).name) c i d lt refl) ∙ h.files i d lt other;
-  pieces = pieces_agree m n (λ digest. same (chunk_name digest) (λ c. chunks digest (chunk_name digest) c refl)) (snapshot_of w) h.pieces;
+  pool = λ i d lt.
+      let name = chunk_name (sha256 (get_or w.pool i d)) in
+      same name (λ c. chunks (sha256 (get_or w.pool i d)) name c refl) ∙ h.pool i d lt;
 }
+
+-- ---- the pieces of a writer's files
+
+held_in : (P : List ℕ → Type 0) (pool : List (List ℕ)) (fs : List File) → All P pool → All (λ f. All (Contains pool) (pieces_of f.content)) fs → All P (flat_map (λ f. pieces_of f.content) fs)
+held_in P pool [] held each = All-nil P
+held_in P pool (f ∷ fs) held each =
+    All-append P (pieces_of f.content) (flat_map (λ g. pieces_of g.content) fs)
+    (λ i d lt. All-contains P pool (get_or (pieces_of f.content) i d) held (All-head (λ (g : File). All (Contains pool) (pieces_of g.content)) f fs each i d lt))
+    (held_in P pool fs held (All-tail (λ (g : File). All (Contains pool) (pieces_of g.content)) f fs each))
+
+-- each is there under its digest
+pub pieces_there : (m : Files) (snapshots : List Snapshot) (w : Writer) → IsWriter snapshots w → HasUploads m w → HoldsPieces m (snapshot_of w)
+pieces_there m snapshots w h uploads =
+    held_in (λ p. get m (chunk_name (sha256 p)) ≡ Some (blob p)) w.pool w.files uploads.pool h.pooled

@@ -7,6 +7,7 @@ use Rattle.disk_trait.specs.Files.{Files}
 use Rattle.store_files.specs.Archive.{Snapshot}
 use Rattle.store_model.specs.Store.{Writer, Reader, none, writer, reader, store_of, session, lane_count}
 use Rattle.store_model.specs.Stands.{StandsFor as Stands}
+use Rattle.store_model.specs.Clash.{chunk_pieces}
 use Rattle.store_history.specs.History.{after_all}
 use Rattle.core_state.specs.declared.state.Core.{Core}
 use Rattle.core_state.specs.declared.kept.Session.TheVariants.{Idle}
@@ -14,6 +15,7 @@ use Rattle.core_state.specs.Shown.{shown_session}
 use Rattle.core_state.specs.Holds.{IsSound}
 use Rattle.core_state.specs.History.{StandsFor, began}
 use Rattle.core_state.specs.Opening.{opening_at}
+use Rattle.core_state.proofs.Chunks.{opened_only, only_same}
 
 -- no lane has a session
 no_session : (lane : ℕ) → session (store_of []) lane ≡ none
@@ -58,7 +60,7 @@ pub opened_stands : {D E C : Type 0} (is_honest : D → Type 0) (content : D →
     → is_honest (core.parts).disk → Stands (content (core.parts).disk) []
     → (core.journal).entries.items ≡ [] → (core.journal).calls.items ≡ [] → core.fault ≡ None → core.last ≡ 0
     → (core.parts).catalogue.items ≡ [] → (core.parts).sessions.items ≡ replicate 64 Idle
-    → StandsFor is_honest content calls_of readings core (began (opening_at (calls_of (core.parts).disk)) R (readings core.clock))
+    → StandsFor is_honest content calls_of readings core (began (opening_at (content (core.parts).disk) (calls_of (core.parts).disk)) R (readings core.clock))
 unfolding after_all
 opened_stands is_honest content calls_of readings core R honest stands entries calls fault last catalogue sessions = record {
   legal = tt;
@@ -75,4 +77,5 @@ opened_stands is_honest content calls_of readings core R honest stands entries c
     sound = empty_is_sound;
   };
   files = λ _. record { snapshots = stands; writers = λ lane w e. absurd (no_writer lane w e) };
+  chunks = λ _. only_same (content (core.parts).disk) (chunk_pieces (content (core.parts).disk)) [] (opened_only (content (core.parts).disk) stands.chunks);
 }

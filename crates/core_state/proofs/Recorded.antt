@@ -18,12 +18,13 @@ use Rattle.store_history.specs.History as kinds
 use Rattle.store_history.specs.Legal.{moment_after}
 use Rattle.store_history.proofs.Longer.{moment_more, entries_more}
 use Rattle.core_state.specs.declared.state.Core.{Core}
-use Rattle.core_state.specs.History.{History, began, then_event, event_of, StandsFor}
+use Rattle.core_state.specs.History.{History, began, then_event, IsClear, event_of, StandsFor}
 use Rattle.core_state.specs.Opening.{opening_at}
 use Rattle.core_state.specs.Settles.{IsEntered, Settles, with_fault, fault_by, kind_by, reply_by}
 use Rattle.core_state.specs.Begins.{ReadsClock, IsShort, Refuses, short, halted}
 use Rattle.core_state.specs.Answers.{IsAnswered, fault_after, HasCause, done, short as was_short, failed, halted as was_halted, EndHasCause, ended, end_failed}
 use Rattle.core_state.specs.Records.{IsTimely, FitsKind, FitsReply, IsKept, AreKept, fault_in, Records, with_remote, Reaches}
+use Rattle.core_state.proofs.Chunks.{clear_before}
 use Rattle.core_state.proofs.Entered.{time_more}
 use Rattle.core_state.proofs.Opened.{keeps_time}
 
@@ -149,22 +150,22 @@ end_tells_reply faults_of old new act answer (end_failed before is told first ro
 
 pub reaches_first : {D E C : Type 0} (is_honest : D → Type 0) (content : D → Files) (calls_of : D → ℕ) (readings : C → Option Readings) (core : Core D E C) (h : History)
     → Records readings core h → Reaches is_honest content calls_of readings core h core h
-reaches_first is_honest content calls_of readings core h r = record { records = r; stands = λ R s. s }
+reaches_first is_honest content calls_of readings core h r = record { records = r; stands = λ R s _. s }
 
 pub reaches_more : {D E C : Type 0} (is_honest : D → Type 0) (content : D → Files) (calls_of : D → ℕ) (readings : C → Option Readings) (first : Core D E C) (began : History) (old new : Core D E C) (e : Event)
-    → ((h : History) → StandsFor is_honest content calls_of readings old h → StandsFor is_honest content calls_of readings new (then_event h e))
+    → ((h : History) → StandsFor is_honest content calls_of readings old h → IsClear (then_event h e) → StandsFor is_honest content calls_of readings new (then_event h e))
     → ((h : History) → Records readings old h → Records readings new (then_event h e))
     → (h : History) → Reaches is_honest content calls_of readings first began old h → Reaches is_honest content calls_of readings first began new (then_event h e)
 reaches_more is_honest content calls_of readings first began old new e stands records h x = record {
   records = records h x.records;
-  stands = λ R s. stands (with_remote R h) (x.stands R s);
+  stands = λ R s clear. stands (with_remote R h) (x.stands R s (clear_before h e clear)) clear;
 }
 
 -- a core that was opened
-pub opened_records : {D E C : Type 0} (readings : C → Option Readings) (core : Core D E C) (calls : ℕ) (R : Option (List Snapshot))
+pub opened_records : {D E C : Type 0} (readings : C → Option Readings) (core : Core D E C) (m : Files) (calls : ℕ) (R : Option (List Snapshot))
     → (core.journal).entries.items ≡ [] → (core.journal).calls.items ≡ [] → core.fault ≡ None → core.last ≡ 0
-    → Records readings core (began (opening_at calls) R (readings core.clock))
-opened_records readings core calls R entries counts fault last = record {
+    → Records readings core (began (opening_at m calls) R (readings core.clock))
+opened_records readings core m calls R entries counts fault last = record {
   kept = tt;
   entries = entries;
   calls = counts;

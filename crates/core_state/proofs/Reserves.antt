@@ -79,12 +79,17 @@ closing_two (Some n) act x h = absurd (true_false (sym h))
 closing_two None (acts.Plain commands.Abort) x h = writer_two x h
 closing_two None (acts.Plain commands.CloseReader) x h = reader_two x h
 closing_two None (acts.Plain (commands.OpenWriter snapshot)) x h = absurd (true_false (sym h))
+closing_two None (acts.Plain (commands.NewDynamic file)) x h = absurd (true_false (sym h))
+closing_two None (acts.Plain (commands.Chunk digest blob)) x h = absurd (true_false (sym h))
+closing_two None (acts.Plain (commands.Append number entries)) x h = absurd (true_false (sym h))
+closing_two None (acts.Plain (commands.CloseIndex number count size csum)) x h = absurd (true_false (sym h))
 closing_two None (acts.Plain (commands.Blob file blob)) x h = absurd (true_false (sym h))
 closing_two None (acts.Plain commands.Finish) x h = absurd (true_false (sym h))
 closing_two None (acts.Plain (commands.OpenReader snapshot)) x h = absurd (true_false (sym h))
 closing_two None (acts.Plain (commands.Download file offset)) x h = absurd (true_false (sym h))
 closing_two None (acts.Plain commands.Bye) x h = absurd (true_false (sym h))
 closing_two None (acts.Blob name checked) x h = absurd (true_false (sym h))
+closing_two None (acts.Chunk digest checked) x h = absurd (true_false (sym h))
 closing_two None acts.Short x h = absurd (true_false (sym h))
 closing_two None acts.End x h = absurd (true_false (sym h))
 
@@ -250,6 +255,7 @@ end_failed_keeps calls_of readings old mid acted new lane moment answer none bus
 pub no_end_keeps : {D E C : Type 0} (old new : Core D E C) (lane : ℕ) (act : Act) (answer : Answer) → (class_of act ≡ ending → ⊥) → KeepsReserve old new lane (is_closing old lane act) answer → Keeps act old new lane answer
 no_end_keeps old new lane (acts.Plain command) answer other h = h
 no_end_keeps old new lane (acts.Blob name checked) answer other h = h
+no_end_keeps old new lane (acts.Chunk digest checked) answer other h = h
 no_end_keeps old new lane acts.Short answer other h = h
 no_end_keeps old new lane acts.End answer other h = absurd (other refl)
 

@@ -1,12 +1,15 @@
 -- Which replies have a spelling.
 use Rattle.std.proofs.Common.{◌≡◌, ◌<◌, ◌≤◌, ◌^◌, ℕ, List, length, Some, refl, subst, arith}
-use Rattle.store_types.specs.declared.refusal.Refusal.TheVariants.{WrongState, BadName, GroupBusy, NotNewer, NoSnapshot, NoFile, Exists, BadBlob, TooMany, BadRange, Unreadable, DiskFault, Halted, NoMemory}
+use Rattle.store_types.specs.declared.refusal.Refusal.TheVariants.{WrongState, BadName, GroupBusy, NotNewer, NoSnapshot, NoFile, Exists, BadBlob, WrongDigest, WrongSize, UnknownChunk, BadOffset, BadClose, OpenIndexes, TooMany, BadRange, Unreadable, DiskFault, Halted, NoMemory}
+use Rattle.store_types.specs.declared.names.Digest32.{Digest32}
+use Rattle.store_types.specs.declared.refusal.CloseFault.{CloseFault}
+use Rattle.store_types.specs.declared.refusal.CloseFault.TheVariants.{Count, Size, Csum, Rest}
 use Rattle.store_types.specs.declared.refusal.SessionState.{SessionState}
 use Rattle.store_types.specs.declared.refusal.BadBlob.{BadBlob as BlobCause}
 use Rattle.store_types.specs.declared.refusal.BadBlob.TheVariants as blobs
 use Rattle.wire_commands.specs.declared.reply.Reply.{Reply}
-use Rattle.wire_commands.specs.declared.reply.Reply.TheVariants.{Done, Base, Part, Refused}
-use Rattle.wire_commands.specs.HasText.{FitsBadBlob, ReplyHasText}
+use Rattle.wire_commands.specs.declared.reply.Reply.TheVariants.{Done, Base, Part, Number, Refused}
+use Rattle.wire_commands.specs.HasText.{FitsBadBlob, FitsCloseFault, ReplyHasText}
 use Rattle.wire_commands.specs.RefusalText.{refusal_text}
 use Rattle.wire_commands.specs.ReplyText.{reply_text}
 use Rattle.store_history.specs.declared.act.Answer.{Answer}
@@ -25,6 +28,10 @@ base_has_text snapshot lt = (lt, omega (arith, lt))
 pub part_has_text : (total : ℕ) (bytes : List ℕ) → total < 2 ^ 64 → length bytes ≤ 4_194_304 → ReplyHasText (Part total bytes)
 unfolding reply_text
 part_has_text total bytes lt short = (lt, omega (arith, short))
+
+pub number_has_text : (number : ℕ) → number < 256 → ReplyHasText (Number number)
+unfolding reply_text
+number_has_text number lt = (lt, omega arith)
 
 pub wrong_state_has_text : (state : SessionState) → ReplyHasText (Refused (WrongState state))
 unfolding reply_text refusal_text
@@ -73,6 +80,33 @@ plain_cause_has_text blobs.EncryptedCompressed other = bad_blob_has_text blobs.E
 plain_cause_has_text blobs.UnknownMagic other = bad_blob_has_text blobs.UnknownMagic tt
 plain_cause_has_text blobs.TooLong other = bad_blob_has_text blobs.TooLong tt
 plain_cause_has_text (blobs.WrongCrc kept found) other = absurd (other kept found refl)
+
+pub wrong_digest_has_text : (found : Digest32) → length found.0 ≡ 32 → ReplyHasText (Refused (WrongDigest found))
+unfolding reply_text refusal_text
+wrong_digest_has_text found is = (is, omega (arith, is))
+
+pub wrong_size_has_text : (place size : ℕ) → place < 2 ^ 32 → size < 2 ^ 64 → ReplyHasText (Refused (WrongSize place size))
+unfolding reply_text refusal_text
+wrong_size_has_text place size lt small = ((lt, small), omega arith)
+
+pub unknown_chunk_has_text : (place : ℕ) → place < 2 ^ 32 → ReplyHasText (Refused (UnknownChunk place))
+unfolding reply_text refusal_text
+unknown_chunk_has_text place lt = (lt, omega arith)
+
+pub bad_offset_has_text : (place expected : ℕ) → place < 2 ^ 32 → expected < 2 ^ 64 → ReplyHasText (Refused (BadOffset place expected))
+unfolding reply_text refusal_text
+bad_offset_has_text place expected lt small = ((lt, small), omega arith)
+
+pub bad_close_has_text : (fault : CloseFault) → FitsCloseFault fault → ReplyHasText (Refused (BadClose fault))
+unfolding reply_text refusal_text
+bad_close_has_text (Count n) fits = (fits, omega arith)
+bad_close_has_text (Size n) fits = (fits, omega arith)
+bad_close_has_text (Csum d) fits = (fits, omega (arith, fits))
+bad_close_has_text (Rest n) fits = (fits, omega arith)
+
+pub open_indexes_has_text : (count : ℕ) → count < 256 → ReplyHasText (Refused (OpenIndexes count))
+unfolding reply_text refusal_text
+open_indexes_has_text count lt = (lt, omega arith)
 
 pub too_many_has_text : (limit : ℕ) → limit < 2 ^ 32 → ReplyHasText (Refused (TooMany limit))
 unfolding reply_text refusal_text

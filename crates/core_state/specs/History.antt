@@ -6,10 +6,12 @@ use Rattle.store_files.specs.Archive.{Snapshot}
 use Rattle.store_history.specs.declared.act.Act.{Act}
 use Rattle.store_history.specs.declared.act.Answer.{Answer}
 use Rattle.store_history.specs.declared.act.Event.{Event}
-use Rattle.store_history.specs.History.{Opening, World, opened, after_all, entries}
+use Rattle.store_model.specs.Clash.{NoClash}
+use Rattle.store_history.specs.History.{Opening, World, opened, after_all, entries, sent}
 use Rattle.store_history.specs.Legal.{IsLegal, IsTimed, readings_left}
 use Rattle.core_state.specs.declared.state.Core.{Core}
 use Rattle.core_state.specs.Holds.{Shows, IsOnDisk}
+use Rattle.core_state.specs.Chunks.{HoldsOnly}
 
 -- an opening, the remote's snapshots where there is a remote, the clock's readings where they are told, and the events
 pub record History : Type 0 where
@@ -30,6 +32,14 @@ world h = after_all h.remote (opened h.opening) h.events
 abbrev pub then_event : History → Event → History
 then_event h e = record h { events = h.events ++ e ∷ [] }
 
+-- the pieces of the chunk files at opening, and those of each CHUNK since
+abbrev pub pieces_of : History → List (List ℕ)
+pieces_of h = (h.opening).chunks ++ sent h.events
+
+-- no two unequal ones have one digest
+abbrev pub IsClear : History → Type 0
+IsClear h = NoClash (pieces_of h)
+
 -- the event of an act, as it was answered at this count of the disk's calls
 abbrev pub event_of : Act → Answer → ℕ → Event
 event_of act answer calls = record { act = act; answer = answer; calls = calls }
@@ -40,7 +50,8 @@ KeepsTime readings clock h =
     IfSome h.clock (λ c. IsTimed c (h.opening).moment h.events × (readings clock ≡ Some (readings_left c h.events)))
 
 -- The core stands for the history. Order and calls are the history's; catalogue and sessions, and so the locks, are
--- those of the plain store that it gives; on the disk are this store's files, until the disk failed.
+-- those of the plain store that it gives; on the disk are this store's files, until the disk failed, and no chunk file but of a piece
+-- that was there at opening or was sent.
 pub record StandsFor {D E C : Type 0} (is_honest : D → Type 0) (content : D → Files) (calls_of : D → ℕ) (readings : C → Option Readings) (core : Core D E C) (h : History) : Type 0 where
   pub legal : IsLegal h.remote (opened h.opening) h.events
   pub entries : (core.journal).entries.items ≡ entries h.events
@@ -52,3 +63,4 @@ pub record StandsFor {D E C : Type 0} (is_honest : D → Type 0) (content : D �
   pub honest : is_honest (core.parts).disk
   pub shows : Shows core.parts (world h).store
   pub files : (world h).fault ≡ None → IsOnDisk (content (core.parts).disk) (world h).store
+  pub chunks : (world h).fault ≡ None → HoldsOnly (content (core.parts).disk) (pieces_of h)

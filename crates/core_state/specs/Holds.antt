@@ -1,21 +1,24 @@
 -- When the core's parts stand for a plain store, and what an act on them does.
-use Rattle.std.specs.Prelude.{◌≡◌, ◌<◌, ◌≤◌, ℕ, List, [], map, length, Some, IsTrue, IsSome, Result, MatchResult}
-use Rattle.std.specs.List.{All}
+use Rattle.std.specs.Prelude.{◌≡◌, ◌<◌, ◌≤◌, ℕ, ◌+◌, Bool, true, false, not, ◌&&◌, List, [], ◌∷◌, map, length, Some, IsTrue, IsSome, Result, MatchResult}
+use Rattle.std.specs.List.{All, AllByRecursion, Contains, list_any}
+use Rattle.std.specs.Str.{bytes_eq}
 use Rattle.std.specs.FinMap.{get}
+use Rattle.sha2.specs.Sha256.{sha256}
 use Rattle.store_types.specs.declared.names.GroupKey.{GroupKey}
 use Rattle.store_types.specs.FileNames.{manifest_name}
 use Rattle.store_types.specs.Names.{IsKey, same_group, group_of_key}
-use Rattle.store_files.specs.Archive.{File, Snapshot, file_text}
+use Rattle.blob_codec.specs.Blob.{blob}
+use Rattle.store_files.specs.Archive.{File, Snapshot, file_text, pieces_of}
 use Rattle.wire_commands.specs.declared.reply.Reply.{Reply}
 use Rattle.disk_trait.specs.Files.{Files}
 use Rattle.disk_trait.specs.declared.disk.DiskError.{DiskError}
 use Rattle.disk_trait.specs.declared.disk.DiskError.TheVariants.{NoMemory, Failed as DiskFailed}
 use Rattle.disk_trait.specs.declared.disk.Failed.{Failed}
-use Rattle.store_model.specs.Store.{Store, Writer, Reader, writer, reader, session, in_group, snapshot_named, Outcome, ended}
+use Rattle.store_model.specs.Store.{Store, Begun, Writer, Reader, writer, reader, session, in_group, snapshot_named, Outcome, ended}
 use Rattle.store_model.specs.Uploads.{file_path}
-use Rattle.store_model.specs.WriterSteps.{snapshot_of}
 use Rattle.store_model.specs.Steps.{answered}
-use Rattle.store_model.specs.Stands.{StandsFor, HoldsPieces, IsSnapshot, names_content, names_rise, keys_rise, FitsContent, file_limit, group_limit}
+use Rattle.store_model.specs.Stands.{StandsFor, IsPiece, IsSnapshot, names_content, names_rise, keys_rise, FitsLayout, FitsContent, chunk_name, file_limit, group_limit}
+use Rattle.backup_session.specs.Shown.{IsOpen}
 use Rattle.core_state.specs.declared.parts.Parts.{Parts}
 use Rattle.core_state.specs.Shown.{shown_snapshot, shown_session}
 
@@ -25,6 +28,19 @@ use Rattle.core_state.specs.Shown.{shown_snapshot, shown_session}
 abbrev pub IsOlder : Writer → Snapshot → Type 0
 IsOlder w x = IsTrue (same_group (group_of_key x.key) (group_of_key w.key)) → (x.key).time < (w.key).time
 
+-- an open archive: a dynamic one, under a name of its kind, whose pieces are among these
+pub record IsBegun (pool : List (List ℕ)) (b : Begun) : Type 0 where
+  pub is_open : IsOpen b
+  pub fits : FitsLayout (b.archive).layout b.archive
+  pub pieces : All (Contains pool) (b.archive).pieces
+
+abbrev pub has_named : List ℕ → List File → Bool
+has_named name files = list_any (λ f. bytes_eq f.name name) files
+
+abbrev pub names_differ : List Begun → Bool
+names_differ [] = true
+names_differ (b ∷ bs) = not (list_any (λ c. bytes_eq c.name b.name) bs) && names_differ bs
+
 -- a writer beside these snapshots
 pub record IsWriter (snapshots : List Snapshot) (w : Writer) : Type 0 where
   pub key : IsKey w.key
@@ -33,10 +49,13 @@ pub record IsWriter (snapshots : List Snapshot) (w : Writer) : Type 0 where
   pub names : IsTrue (names_rise w.files)
   pub kinds : All (λ f. IsTrue (names_content f.content f.name)) w.files
   pub contents : All (λ f. FitsContent f.content) w.files
-  pub count : length w.files ≤ file_limit
-  -- no archives yet
-  pub pool : w.pool ≡ []
-  pub begun : w.begun ≡ []
+  pub count : length w.files + length w.begun ≤ file_limit
+  pub pool : All IsPiece w.pool
+  pub begun : AllByRecursion (IsBegun w.pool) w.begun
+  pub pooled : All (λ f. All (Contains w.pool) (pieces_of f.content)) w.files
+  -- no two of the files and the open archives have one name
+  pub free : All (λ b. has_named b.name w.files ≡ false) w.begun
+  pub differ : IsTrue (names_differ w.begun)
 
 pub record IsReader (snapshots : List Snapshot) (r : Reader) : Type 0 where
   pub finished : IsSome (snapshot_named r.key snapshots)
@@ -64,10 +83,10 @@ pub record Shows {D : Type 0} (parts : Parts D) (s : Store) : Type 0 where
 abbrev pub IsPut : Files → Writer → File → Type 0
 IsPut m w f = (f.name ≡ manifest_name → ⊥) → get m (file_path w.key f.name) ≡ Some (file_text f.content)
 
--- its files, and their pieces
+-- its files, and its pieces
 pub record HasUploads (m : Files) (w : Writer) : Type 0 where
   pub files : All (IsPut m w) w.files
-  pub pieces : HoldsPieces m (snapshot_of w)
+  pub pool : All (λ p. get m (chunk_name (sha256 p)) ≡ Some (blob p)) w.pool
 
 -- the files of the snapshots and of the writers are there
 pub record IsOnDisk (m : Files) (s : Store) : Type 0 where

@@ -2,6 +2,7 @@ pub mod Named
 pub mod Entering
 pub mod Shown
 pub mod Holds
+pub mod Chunks
 pub mod History
 pub mod Settles
 pub mod Begins

@@ -1,5 +1,5 @@
--- Snapshots whose keys have a text in the grammar.
-use Rattle.std.specs.Prelude.{Bool, true, ◌&&◌, nat_le}
+-- Snapshots whose keys have a text in the grammar, and writers between two acts.
+use Rattle.std.specs.Prelude.{Bool, true, not, ◌&&◌, nat_le, is_some}
 use Rattle.store_types.specs.declared.names.SnapshotKey.{SnapshotKey}
 use Rattle.store_types.specs.FileNames.{is_id}
 use Rattle.store_types.specs.Times.{last_moment}
@@ -13,8 +13,8 @@ has_text k = is_id k.id && nat_le k.time last_moment
 abbrev pub is_named_snapshot : Listed → Bool
 is_named_snapshot x = has_text (x.kept).key
 
--- a writer's snapshot
+-- a writer's snapshot, and no file of it is pending
 abbrev pub is_named : Session → Bool
 is_named Idle = true
-is_named (Writer w) = has_text w.key
+is_named (Writer w) = has_text ((w.session).writer).key && not (is_some (w.session).pending)
 is_named (Reader r) = true

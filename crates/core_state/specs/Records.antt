@@ -18,7 +18,7 @@ use Rattle.store_history.specs.Legal.{moment_after}
 use Rattle.core_state.specs.declared.state.Core.{Core}
 use Rattle.core_state.specs.Answers.{fault_after}
 use Rattle.core_state.specs.Begins.{ReadsClock}
-use Rattle.core_state.specs.History.{History, KeepsTime, StandsFor}
+use Rattle.core_state.specs.History.{History, KeepsTime, IsClear, StandsFor}
 use Rattle.core_state.specs.Replies.{may_answer}
 
 -- the clock was read once for the act's moment, which is the last one then
@@ -78,8 +78,8 @@ abbrev pub with_remote : Option (List Snapshot) → History → History
 with_remote remote h = record h { remote = remote }
 
 -- From a first core and its history the core came to this history: it records it, and stands for it where the first core stood
--- for its own.
+-- for its own and no two pieces of the history have one digest.
 pub record Reaches {D E C : Type 0} (is_honest : D → Type 0) (content : D → Files) (calls_of : D → ℕ) (readings : C → Option Readings) (first : Core D E C) (began : History) (core : Core D E C) (h : History) : Type 0 where
   pub records : Records readings core h
-  pub stands : (R : Option (List Snapshot)) → StandsFor is_honest content calls_of readings first (with_remote R began)
+  pub stands : (R : Option (List Snapshot)) → StandsFor is_honest content calls_of readings first (with_remote R began) → IsClear h
       → StandsFor is_honest content calls_of readings core (with_remote R h)

@@ -1,11 +1,11 @@
 -- What a command's own tests may answer: what it was asked for, or one of its refusals.
 use Rattle.std.specs.Prelude.{Bool, true, false}
 use Rattle.store_types.specs.declared.refusal.Refusal.{Refusal}
-use Rattle.store_types.specs.declared.refusal.Refusal.TheVariants.{WrongState, BadName, GroupBusy, NotNewer, NoSnapshot, NoFile, Exists, BadBlob, TooMany, BadRange, Unreadable}
+use Rattle.store_types.specs.declared.refusal.Refusal.TheVariants.{WrongState, BadName, GroupBusy, NotNewer, NoSnapshot, NoFile, Exists, BadBlob, WrongDigest, WrongSize, UnknownChunk, BadOffset, BadClose, OpenIndexes, TooMany, BadRange, Unreadable}
 use Rattle.wire_commands.specs.declared.command.Command.{Command}
 use Rattle.wire_commands.specs.declared.command.Command.TheVariants as commands
 use Rattle.wire_commands.specs.declared.reply.Reply.{Reply}
-use Rattle.wire_commands.specs.declared.reply.Reply.TheVariants.{Done, Base, Part, Refused}
+use Rattle.wire_commands.specs.declared.reply.Reply.TheVariants.{Done, Base, Part, Number, Refused}
 use Rattle.store_history.specs.declared.act.Act.{Act}
 use Rattle.store_history.specs.declared.act.Act.TheVariants as acts
 
@@ -19,6 +19,37 @@ refuses_writer (NotNewer latest) = true
 refuses_writer (TooMany limit) = true
 refuses_writer _ = false
 
+-- a NEW_DYNAMIC
+abbrev pub refuses_index : Refusal → Bool
+refuses_index (WrongState state) = true
+refuses_index BadName = true
+refuses_index Exists = true
+refuses_index (TooMany limit) = true
+refuses_index _ = false
+
+abbrev pub refuses_chunk : Refusal → Bool
+refuses_chunk (WrongState state) = true
+refuses_chunk (BadBlob cause) = true
+refuses_chunk (WrongSize place size) = true
+refuses_chunk (WrongDigest found) = true
+refuses_chunk _ = false
+
+abbrev pub refuses_append : Refusal → Bool
+refuses_append (WrongState state) = true
+refuses_append NoFile = true
+refuses_append (TooMany limit) = true
+refuses_append (UnknownChunk place) = true
+refuses_append (BadOffset place expected) = true
+refuses_append (WrongSize place size) = true
+refuses_append _ = false
+
+-- a CLOSE_INDEX
+abbrev pub refuses_closing : Refusal → Bool
+refuses_closing (WrongState state) = true
+refuses_closing NoFile = true
+refuses_closing (BadClose fault) = true
+refuses_closing _ = false
+
 abbrev pub refuses_blob : Refusal → Bool
 refuses_blob (WrongState state) = true
 refuses_blob BadName = true
@@ -29,6 +60,7 @@ refuses_blob _ = false
 
 abbrev pub refuses_finish : Refusal → Bool
 refuses_finish (WrongState state) = true
+refuses_finish (OpenIndexes count) = true
 refuses_finish NoFile = true
 refuses_finish _ = false
 
@@ -58,6 +90,26 @@ answers_writer (Base snapshot) = true
 answers_writer (Refused refusal) = refuses_writer refusal
 answers_writer _ = false
 
+abbrev pub answers_index : Reply → Bool
+answers_index (Number number) = true
+answers_index (Refused refusal) = refuses_index refusal
+answers_index _ = false
+
+abbrev pub answers_chunk : Reply → Bool
+answers_chunk Done = true
+answers_chunk (Refused refusal) = refuses_chunk refusal
+answers_chunk _ = false
+
+abbrev pub answers_append : Reply → Bool
+answers_append Done = true
+answers_append (Refused refusal) = refuses_append refusal
+answers_append _ = false
+
+abbrev pub answers_closing : Reply → Bool
+answers_closing Done = true
+answers_closing (Refused refusal) = refuses_closing refusal
+answers_closing _ = false
+
 abbrev pub answers_blob : Reply → Bool
 answers_blob Done = true
 answers_blob (Refused refusal) = refuses_blob refusal
@@ -85,6 +137,9 @@ answers_close _ = false
 
 abbrev pub command_answers : Command → Reply → Bool
 command_answers (commands.OpenWriter snapshot) reply = answers_writer reply
+command_answers (commands.NewDynamic file) reply = answers_index reply
+command_answers (commands.Append number entries) reply = answers_append reply
+command_answers (commands.CloseIndex number count size csum) reply = answers_closing reply
 command_answers commands.Finish reply = answers_finish reply
 command_answers commands.Abort reply = answers_close reply
 command_answers commands.CloseReader reply = answers_close reply
@@ -95,4 +150,5 @@ command_answers _ reply = false
 abbrev pub may_answer : Act → Reply → Bool
 may_answer (acts.Plain command) reply = command_answers command reply
 may_answer (acts.Blob name checked) reply = answers_blob reply
+may_answer (acts.Chunk digest checked) reply = answers_chunk reply
 may_answer _ reply = false

@@ -1,10 +1,11 @@
 -- What the core keeps of the plain store.
-use Rattle.std.specs.Prelude.{ℕ, List, map, Option, Some, None}
+use Rattle.std.specs.Prelude.{List, map}
 use Rattle.store_types.specs.declared.names.SnapshotKey.{SnapshotKey}
-use Rattle.store_types.specs.FileNames.{manifest_name}
-use Rattle.store_files.specs.Archive.{File, Snapshot, file_text, file_named}
+use Rattle.store_files.specs.Archive.{File, Snapshot}
 use Rattle.store_model.specs.Store as model
 use Rattle.store_model.specs.Uploads.{file_path}
+use Rattle.backup_session.specs.Session.{settled}
+use Rattle.backup_session.specs.Shown.{shown}
 use Rattle.core_state.specs.declared.kept.StoredFile.{StoredFile}
 use Rattle.core_state.specs.declared.kept.Kept.{Kept}
 use Rattle.core_state.specs.declared.kept.Writing.{Writing}
@@ -21,22 +22,8 @@ shown_files key files = map (shown_file key) files
 abbrev pub shown_snapshot : Snapshot → Kept
 shown_snapshot x = record { key = x.key; files = shown_files x.key x.files }
 
-abbrev pub text_of : Option File → Option (List ℕ)
-text_of None = None
-text_of (Some f) = Some (file_text f.content)
-
--- the manifest's text among a writer's files
-abbrev pub manifest_text : List File → Option (List ℕ)
-manifest_text files = text_of (file_named manifest_name files)
-
 abbrev pub shown_writer : model.Writer → Writing
-shown_writer w = record {
-  key = w.key;
-  start = w.start;
-  base = w.base;
-  files = shown_files w.key w.files;
-  manifest = manifest_text w.files;
-}
+shown_writer w = record { session = settled (shown w); files = shown_files w.key w.files }
 
 abbrev pub shown_reader : model.Reader → Reading
 shown_reader r = record { key = r.key; noted = r.noted }

@@ -1,7 +1,8 @@
 //! What the core keeps of snapshots and sessions.
 
 use crate::path::Path;
-use store_types::{Bytes, FileName, Rows, SessionState, SnapshotKey};
+use backup_session::Writer;
+use store_types::{FileName, Rows, SessionState, SnapshotKey};
 
 /// A file of a snapshot: its name there, and its name in the datastore folder.
 #[derive(Debug, Drop)]
@@ -26,17 +27,13 @@ pub struct Listed {
 }
 
 /// A writer: its snapshot is not finished.
-#[derive(Debug, Drop)]
+#[derive(Drop)]
 pub struct Writing {
-    pub key: SnapshotKey,
-    /// The moment at which it was opened.
-    pub start: u64,
-    /// The group's latest snapshot at that moment.
-    pub base: Option<SnapshotKey>,
+    /// Its pieces, open indexes and files, and the manifest's file text, which stays in memory until the snapshot is
+    /// finished.
+    pub session: Writer,
     /// Its files in byte order of their names, the manifest among them.
     pub files: Rows<StoredFile>,
-    /// The manifest's file text, which stays in memory until the snapshot is finished.
-    pub manifest: Option<Bytes>,
 }
 
 /// A reader of a finished snapshot.
@@ -48,7 +45,7 @@ pub struct Reading {
 }
 
 /// What a lane has.
-#[derive(Debug, Drop)]
+#[derive(Drop)]
 pub enum Session {
     Idle,
     Writer(Writing),

@@ -66,9 +66,9 @@ pub fn open_on<D: Disk, E, C: Clock>(
 ) -> Result<Core<D, E, C>, NotOpened<D, E, C>>
     // it stands for a history without events, where the disk stands for no snapshots
     ensures opened { IfOk result (λ core. (R : Option (List Snapshot)) → D.honest disk → Stands (D.content disk) []
-        → StandsFor D.honest D.content D.calls C.readings core (began (opening_at (D.calls disk)) R (C.readings clock))) }
+        → StandsFor D.honest D.content D.calls C.readings core (began (opening_at (D.content disk) (D.calls disk)) R (C.readings clock))) }
     // on any disk it keeps a history without events
-    ensures records { IfOk result (λ core. (R : Option (List Snapshot)) → Records C.readings core (began (opening_at (D.calls disk)) R (C.readings clock))) }
+    ensures records { IfOk result (λ core. (R : Option (List Snapshot)) → Records C.readings core (began (opening_at (D.content disk) (D.calls disk)) R (C.readings clock))) }
     ensures reserve { IfOk result (λ core. AllHeld core.journal) }
     // whatever the disk is, nothing has happened yet
     ensures fault { IfOk result (λ core. core.fault ≡ None) }

@@ -5,11 +5,11 @@ use Rattle.std.specs.Prelude.{IsOk, is_ok}
 use Rattle.disk_trait.specs.declared.disk.Failed.{Failed}
 use Rattle.port_traits.specs.Readings.{Readings}
 use Rattle.store_types.specs.declared.refusal.Refusal.TheVariants.{NoMemory, Halted}
-use Rattle.wire_commands.specs.declared.command.Command.TheVariants.{OpenWriter, Blob as BlobCommand, Finish, Abort, OpenReader, Download, CloseReader, Bye}
+use Rattle.wire_commands.specs.declared.command.Command.TheVariants.{OpenWriter, NewDynamic, Chunk as ChunkCommand, Append, CloseIndex, Blob as BlobCommand, Finish, Abort, OpenReader, Download, CloseReader, Bye}
 use Rattle.wire_commands.specs.declared.reply.Reply.{Reply}
 use Rattle.wire_commands.specs.declared.reply.Reply.TheVariants.{Done, Refused}
 use Rattle.store_history.specs.declared.act.Act.{Act}
-use Rattle.store_history.specs.declared.act.Act.TheVariants.{Plain, Blob, Short, End}
+use Rattle.store_history.specs.declared.act.Act.TheVariants.{Plain, Blob, Chunk, Short, End}
 use Rattle.store_history.specs.declared.act.Answer.{Answer}
 use Rattle.store_history.specs.Acts.{IsWellFormed, class_of, stepping}
 use Rattle.core_state.specs.Begins.{Refuses, short, halted}
@@ -19,6 +19,10 @@ use Rattle.core_writer.specs.WriterActs.{IsWriters}
 
 pub writers_formed : (a : Act) → IsWriters a → IsWellFormed a
 writers_formed (Plain (OpenWriter snapshot)) h = tt
+writers_formed (Plain (NewDynamic file)) h = tt
+writers_formed (Plain (ChunkCommand digest blob)) h = absurd h
+writers_formed (Plain (Append number entries)) h = tt
+writers_formed (Plain (CloseIndex number count size csum)) h = tt
 writers_formed (Plain Finish) h = tt
 writers_formed (Plain Abort) h = tt
 writers_formed (Plain (BlobCommand file blob)) h = absurd h
@@ -27,12 +31,14 @@ writers_formed (Plain (Download file offset)) h = absurd h
 writers_formed (Plain CloseReader) h = absurd h
 writers_formed (Plain Bye) h = absurd h
 writers_formed (Blob name checked) h = h
+writers_formed (Chunk digest checked) h = h
 writers_formed Short h = absurd h
 writers_formed End h = absurd h
 
 pub writers_step : (a : Act) → IsWriters a → class_of a ≡ stepping
 writers_step (Plain c) h = refl
 writers_step (Blob name checked) h = refl
+writers_step (Chunk digest checked) h = refl
 writers_step Short h = absurd h
 writers_step End h = absurd h
 
@@ -54,6 +60,10 @@ none_is (Some n) h = absurd (no_false h)
 pub ended_is : (a : Act) (x : Answer) → IsWriters a → HasEnded a x → (a ≡ Plain Abort) × (x.reply ≡ Some Done)
 ended_is (Plain Abort) x h ended = (refl, ended)
 ended_is (Plain (OpenWriter snapshot)) x h ended = absurd ended
+ended_is (Plain (NewDynamic file)) x h ended = absurd ended
+ended_is (Plain (ChunkCommand digest blob)) x h ended = absurd ended
+ended_is (Plain (Append number entries)) x h ended = absurd ended
+ended_is (Plain (CloseIndex number count size csum)) x h ended = absurd ended
 ended_is (Plain Finish) x h ended = absurd ended
 ended_is (Plain (BlobCommand file blob)) x h ended = absurd ended
 ended_is (Plain (OpenReader snapshot)) x h ended = absurd ended
@@ -61,6 +71,7 @@ ended_is (Plain (Download file offset)) x h ended = absurd ended
 ended_is (Plain CloseReader) x h ended = absurd ended
 ended_is (Plain Bye) x h ended = absurd ended
 ended_is (Blob name checked) x h ended = absurd ended
+ended_is (Chunk digest checked) x h ended = absurd ended
 ended_is Short x h ended = absurd ended
 ended_is End x h ended = absurd h
 

@@ -1,148 +1,107 @@
--- BLOB is refused as the store refuses it.
-use Rattle.std.proofs.Common.{◌≡◌, ℕ, ◌+◌, ◌<◌, Bool, true, false, not, ◌||◌, length, List, [], ◌∷◌, Result, Ok, Err, refl, sym, ap, ◌∙◌, arith}
-use Rattle.std.proofs.lemmas.Bool.{ltb-true}
-use Rattle.std.proofs.lemmas.List.{length-map}
+-- BLOB is refused, and done, as the store does it.
+use Rattle.std.proofs.Common.{◌≡◌, ℕ, ◌+◌, ◌<◌, Bool, true, false, not, ◌||◌, length, List, Result, Ok, Err, refl, sym, ap, ◌∙◌}
+use Rattle.std.proofs.lemmas.Bool.{ltb-true, or_parts}
 use Rattle.std.specs.List.{list_any}
 use Rattle.std.specs.Prelude.{nat_lt}
 use Rattle.std.specs.Str.{bytes_eq}
-use Rattle.store_types.specs.declared.names.SnapshotKey.{SnapshotKey}
 use Rattle.store_types.specs.declared.refusal.Refusal.{Refusal}
 use Rattle.store_types.specs.declared.refusal.Refusal.TheVariants.{WrongState, BadName, Exists, TooMany}
-use Rattle.store_types.specs.declared.refusal.SessionState.TheVariants as states
 use Rattle.store_types.specs.Chain.Refusing.{◌>>=◌, unless}
-use Rattle.store_types.specs.FileNames.{is_blob_name}
-use Rattle.store_files.specs.Archive.{File, blob}
+use Rattle.store_types.specs.FileNames.{is_file_name, is_index_name, is_blob_name}
+use Rattle.store_files.specs.Archive.{blob}
 use Rattle.wire_commands.specs.declared.reply.Reply.TheVariants.{Done}
 use Rattle.store_model.specs.Store as model
-use Rattle.store_model.specs.Store.{Store, Writer, writer, session, with_session, Outcome}
-use Rattle.store_model.specs.Uploads.{file_path, has_file}
+use Rattle.store_model.specs.Store.{Store, Writer, Outcome, writer, session, with_session}
+use Rattle.store_model.specs.Uploads.{want_room}
 use Rattle.store_model.specs.WriterSteps.{checked_blob, with_file, goes_on}
-use Rattle.core_state.specs.declared.kept.StoredFile.{StoredFile}
+use Rattle.store_model.specs.WriterCalls as calls
+use Rattle.backup_session.specs.Answers.{takes_blob}
+use Rattle.core_state.specs.declared.kept.Session.{Session}
 use Rattle.core_state.specs.declared.kept.Session.TheVariants as kept
-use Rattle.core_state.specs.Shown.{shown_session, shown_writer, shown_file, shown_files}
-use Rattle.core_writer.specs.Uploaded.{has_stored, upload_of}
+use Rattle.core_state.specs.declared.kept.Writing.{Writing}
+use Rattle.core_state.specs.Shown.{shown_session, shown_writer}
+use Rattle.core_state.specs.States.{state_of}
 
--- ---- what is kept of files
+-- ---- what the tests gave
 
-pub has_shown : (name : List ℕ) (key : SnapshotKey) (fs : List File) → has_stored name (shown_files key fs) ≡ list_any (λ f. bytes_eq f.name name) fs
-has_shown name key [] = refl
-has_shown name key (f ∷ fs) = ap (λ b. bytes_eq f.name name || b) (has_shown name key fs)
+-- a name is free beside a writer's files and open archives, and there is room for one more
+pub record HasRoom (name : List ℕ) (w : Writer) : Type 0 where
+  pub free : list_any (λ f. bytes_eq f.name name) w.files ≡ false
+  pub free_open : list_any (λ b. bytes_eq b.name name) w.begun ≡ false
+  pub room : length w.files + length w.begun < 64
 
-or_false : (b : Bool) → (b || false) ≡ b
-or_false true = refl
-or_false false = refl
+room_by : (name : List ℕ) (w : Writer) (a b c : Bool) → list_any (λ f. bytes_eq f.name name) w.files ≡ a → list_any (λ x. bytes_eq x.name name) w.begun ≡ b
+    → nat_lt (length w.files + length w.begun) 64 ≡ c → (unless Exists (not (a || b)) >>= λ _. unless (TooMany 64) c) ≡ Ok tt → HasRoom name w
+room_by name w true b c e f g is = cc
+room_by name w false true c e f g is = cc
+room_by name w false false false e f g is = cc
+room_by name w false false true e f g is = record { free = e; free_open = f; room = ltb-true (length w.files + length w.begun) 64 g }
 
-has_is : (name : List ℕ) (w : Writer) → w.begun ≡ [] → has_file name w ≡ has_stored name (shown_files w.key w.files)
-has_is name w none =
-    ap (λ l. list_any (λ f. bytes_eq f.name name) w.files || list_any (λ b. bytes_eq b.name name) l) none
-    ∙ or_false (list_any (λ f. bytes_eq f.name name) w.files) ∙ sym (has_shown name w.key w.files)
+pub has_room : (name : List ℕ) (w : Writer) → want_room name w ≡ Ok tt → HasRoom name w
+has_room name w is = room_by name w _ _ _ refl refl refl is
 
-count_is : (w : Writer) → w.begun ≡ [] → length w.files + length w.begun ≡ length (shown_files w.key w.files)
-count_is w none = omega (arith, ap length none, length-map {B = StoredFile} w.files (shown_file w.key))
+-- the call that takes a blob
+pub record IsTaken (name contents : List ℕ) (w after : Writer) : Type 0 where
+  pub named : is_blob_name name ≡ true
+  pub room : want_room name w ≡ Ok tt
+  pub same : after ≡ with_file name (blob contents) w
 
--- ---- the tests in a row
+writer_of : Writer → Result (Writer × Unit {0}) Refusal → Writer
+writer_of w (Ok taken) = taken.0
+writer_of w (Err r) = w
 
-abbrev pub tests : {A : Type 0} → Bool → Bool → Bool → Result A Refusal → Result A Refusal
-tests good there room go = unless BadName good >>= λ _. unless Exists (not there) >>= λ _. unless (TooMany 64) room >>= λ _. go
+taken_by : (name contents : List ℕ) (w after : Writer) (a : Bool) (r : Result (Unit {0}) Refusal) → is_blob_name name ≡ a → want_room name w ≡ r
+    → (let taken : Result (Writer × Unit {0}) Refusal = Ok (with_file name (blob contents) w, tt) in unless BadName a >>= λ _. r >>= λ _. taken) ≡ Ok (after, tt) → IsTaken name contents w after
+unfolding writer_of
+taken_by name contents w after false r e f is = cc
+taken_by name contents w after true (Err q) e f is = cc
+taken_by name contents w after true (Ok u) e f is = record { named = e; room = f; same = sym (ap (writer_of w) is) }
 
-abbrev store_tests : {A : Type 0} → Bool → Bool → Bool → Result A Refusal → Result A Refusal
-store_tests good there room go = unless BadName good >>= λ _. (unless Exists (not there) >>= λ _. unless (TooMany 64) room) >>= λ _. go
-
-err_same : {A : Type 0} (r q : Refusal) → (let e : Result A Refusal = Err r in e ≡ Err q) → r ≡ q
-err_same r q e = cc
-
-ok_same : {A : Type 0} (a b : A) → (let e : Result A Refusal = Ok a in e ≡ Ok b) → a ≡ b
-ok_same a b e = cc
-
-refuses_alike : {A B : Type 0} (good there room : Bool) (a : A) (go : Result B Refusal) (r : Refusal) → tests good there room (Ok a) ≡ Err r → store_tests good there room go ≡ Err r
-refuses_alike {A} false there room a go r e = ap (λ x. Err x) (err_same {A = A} BadName r e)
-refuses_alike {A} true true room a go r e = ap (λ x. Err x) (err_same {A = A} Exists r e)
-refuses_alike {A} true false false a go r e = ap (λ x. Err x) (err_same {A = A} (TooMany 64) r e)
-refuses_alike {A} true false true a go r e = cc
-
-record Passes {A B : Type 0} (good there room : Bool) (a b : A) (go : Result B Refusal) : Type 0 where
-  is_good : good ≡ true
-  is_free : there ≡ false
-  has_room : room ≡ true
-  same : a ≡ b
-  goes : store_tests good there room go ≡ go
-
-passes_alike : {A B : Type 0} (good there room : Bool) (a b : A) (go : Result B Refusal) → tests good there room (Ok a) ≡ Ok b → Passes good there room a b go
-passes_alike false there room a b go e = cc
-passes_alike true true room a b go e = cc
-passes_alike true false false a b go e = cc
-passes_alike {A} true false true a b go e = record { is_good = refl; is_free = refl; has_room = refl; same = ok_same a b e; goes = refl }
+pub taken : (name contents : List ℕ) (w after : Writer) → calls.put_data w name contents ≡ Ok (after, tt) → IsTaken name contents w after
+unfolding calls.put_data
+taken name contents w after is = taken_by name contents w after _ _ refl refl is
 
 -- ---- the step
 
--- what a new file of the lane's writer is, where none refuses
-pub record MayUpload (s : Store) (lane : ℕ) (name : List ℕ) (file : StoredFile) (w : Writer) : Type 0 where
-  pub writes : session s lane ≡ writer w
-  pub named : is_blob_name name ≡ true
-  pub free : list_any (λ f. bytes_eq f.name name) w.files ≡ false
-  pub room : length w.files < 64
-  pub is : file ≡ record { name = name; path = file_path w.key name }
-  pub step : (c : Result (List ℕ) Refusal) → checked_blob s lane name c ≡ (c >>= λ contents. goes_on s lane (with_file name (blob contents) w) Done)
-
-module _ (s : Store) (lane : ℕ) (name : List ℕ) where
-  step_is : (w : Writer) (c : Result (List ℕ) Refusal) → session s lane ≡ writer w → w.begun ≡ []
-      → checked_blob s lane name c ≡ store_tests (is_blob_name name) (has_stored name (shown_files w.key w.files)) (nat_lt (length (shown_files w.key w.files)) 64) (c >>= λ contents. goes_on s lane (with_file name (blob contents) w) Done)
+module _ (s : Store) (lane : ℕ) (name : List ℕ) (checked : Result (List ℕ) Refusal) where
+  not_writing_by : (x : model.Session) → session s lane ≡ x → ((w : Writing) → shown_session x ≡ kept.Writer w → ⊥) → checked_blob s lane name checked ≡ Err (WrongState (state_of (shown_session x)))
   unfolding checked_blob
-  step_is w c at none = rw (at, has_is name w none, count_is w none) refl
+  not_writing_by model.none at other = rw at refl
+  not_writing_by (model.writer w) at other = absurd (other (shown_writer w) refl)
+  not_writing_by (model.reader r) at other = rw at refl
 
-  upload_is : (w : Writer) → upload_of (kept.Writer (shown_writer w)) name ≡ tests (is_blob_name name) (has_stored name (shown_files w.key w.files)) (nat_lt (length (shown_files w.key w.files)) 64) (Ok (record { name = name; path = file_path w.key name }))
-  unfolding upload_of
-  upload_is w = refl
+  pub not_writing : (found : Session) → found ≡ shown_session (session s lane) → ((w : Writing) → found ≡ kept.Writer w → ⊥) → checked_blob s lane name checked ≡ Err (WrongState (state_of found))
+  not_writing found is other =
+      not_writing_by (session s lane) refl (λ w e. other w (is ∙ e)) ∙ ap (λ x. Err (WrongState (state_of x))) (sym is)
 
-  not_writing : (x : model.Session) (c : Result (List ℕ) Refusal) (r : Refusal) → session s lane ≡ x → model.want_writer x ≡ Err r → checked_blob s lane name c ≡ Err r
+  pub bad_name : (w : Writer) → session s lane ≡ writer w → is_file_name name ≡ false → checked_blob s lane name checked ≡ Err BadName
   unfolding checked_blob
-  not_writing x c r at e = rw (at, e) refl
+  bad_name w at bad = let no_blob = (or_parts (is_index_name name) (is_blob_name name) bad).1 in rw (at, no_blob) refl
 
-  idle_upload : (r : Refusal) → upload_of kept.Idle name ≡ Err r → WrongState states.Idle ≡ r
-  unfolding upload_of
-  idle_upload r e = err_same {A = StoredFile} (WrongState states.Idle) r e
+  pub tests : Result (Unit {0}) Refusal → Writer → Outcome
+  tests t w = t >>= λ _. checked >>= λ contents. goes_on s lane (with_file name (blob contents) w) Done
 
-  reader_upload : (x : model.Reader) (r : Refusal) → upload_of (shown_session (model.reader x)) name ≡ Err r → WrongState states.Reader ≡ r
-  unfolding upload_of
-  reader_upload x r e = err_same {A = StoredFile} (WrongState states.Reader) r e
+  in_turn : (w : Writer) (a : Bool) (r : Result (Unit {0}) Refusal) → session s lane ≡ writer w → is_blob_name name ≡ a → want_room name w ≡ r
+      → checked_blob s lane name checked ≡ tests (unless BadName a >>= λ _. r) w
+  unfolding checked_blob tests
+  in_turn w false r at named room = rw (at, named) refl
+  in_turn w true (Err q) at named room = rw (at, named, room) refl
+  in_turn w true (Ok u) at named room = rw (at, named, room) refl
 
-  refused_by : (x : model.Session) (c : Result (List ℕ) Refusal) (r : Refusal) → session s lane ≡ x → ((w : Writer) → x ≡ writer w → w.begun ≡ []) → upload_of (shown_session x) name ≡ Err r → checked_blob s lane name c ≡ Err r
-  refused_by model.none c r at begun e = not_writing model.none c r at (ap (λ q. Err q) (idle_upload r e))
-  refused_by (model.reader x) c r at begun e = not_writing (model.reader x) c r at (ap (λ q. Err q) (reader_upload x r e))
-  refused_by (model.writer w) c r at begun e =
-      step_is w c at (begun w refl)
-      ∙ refuses_alike (is_blob_name name) (has_stored name (shown_files w.key w.files)) (nat_lt (length (shown_files w.key w.files)) 64) (record { name = name; path = file_path w.key name })
-      (c >>= λ contents. goes_on s lane (with_file name (blob contents) w) Done) r (sym (upload_is w) ∙ e)
+  pub by_tests : (w : Writer) (t : Result (Unit {0}) Refusal) → session s lane ≡ writer w → takes_blob name w ≡ t → checked_blob s lane name checked ≡ tests t w
+  unfolding takes_blob
+  by_tests w t at is = in_turn w (is_blob_name name) (want_room name w) at refl refl ∙ ap (λ x. tests x w) is
 
-  pub upload_refused : (c : Result (List ℕ) Refusal) (r : Refusal) → ((w : Writer) → session s lane ≡ writer w → w.begun ≡ []) → upload_of (shown_session (session s lane)) name ≡ Err r → checked_blob s lane name c ≡ Err r
-  upload_refused c r begun e = refused_by (session s lane) c r refl begun e
+  pub refused : (w : Writer) (r : Refusal) → session s lane ≡ writer w → takes_blob name w ≡ Err r → checked_blob s lane name checked ≡ Err r
+  unfolding tests
+  refused w r at is = by_tests w (Err r) at is
 
-  no_idle : (file : StoredFile) → upload_of kept.Idle name ≡ Ok file → ⊥
-  unfolding upload_of
-  no_idle file e = cc
+  -- the check's refusal comes last
+  pub unchecked : (w : Writer) (r : Refusal) → session s lane ≡ writer w → takes_blob name w ≡ Ok tt → checked ≡ Err r → checked_blob s lane name checked ≡ Err r
+  unfolding tests
+  unchecked w r at is bad = by_tests w (Ok tt) at is ∙ ap (λ c. c >>= λ contents. goes_on s lane (with_file name (blob contents) w) Done) bad
 
-  no_reader : (x : model.Reader) (file : StoredFile) → upload_of (shown_session (model.reader x)) name ≡ Ok file → ⊥
-  unfolding upload_of
-  no_reader x file e = cc
-
-  may_by : (x : model.Session) (file : StoredFile) → session s lane ≡ x → ((w : Writer) → x ≡ writer w → w.begun ≡ []) → upload_of (shown_session x) name ≡ Ok file → (w : Writer) × MayUpload s lane name file w
-  may_by model.none file at begun e = absurd (no_idle file e)
-  may_by (model.reader x) file at begun e = absurd (no_reader x file e)
-  may_by (model.writer w) file at begun e =
-      let stored = shown_files w.key w.files in
-      let p = λ (c : Result (List ℕ) Refusal). passes_alike (is_blob_name name) (has_stored name stored) (nat_lt (length stored) 64) (record { name = name; path = file_path w.key name }) file
-      (c >>= λ contents. goes_on s lane (with_file name (blob contents) w) Done) (sym (upload_is w) ∙ e) in
-      let few : length stored < 64 = ltb-true (length stored) 64 (p (Err BadName)).has_room in (
-        w,
-        record {
-          writes = at;
-          named = (p (Err BadName)).is_good;
-          free = sym (has_shown name w.key w.files) ∙ (p (Err BadName)).is_free;
-          room = omega (arith, few, length-map {B = StoredFile} w.files (shown_file w.key));
-          is = sym (p (Err BadName)).same;
-          step = λ c. step_is w c at (begun w refl) ∙ (p c).goes;
-        },
-      )
-
-  pub may_upload : (file : StoredFile) → ((w : Writer) → session s lane ≡ writer w → w.begun ≡ []) → upload_of (shown_session (session s lane)) name ≡ Ok file → (w : Writer) × MayUpload s lane name file w
-  may_upload file begun e = may_by (session s lane) file refl begun e
+  pub done : (w : Writer) (contents : List ℕ) → session s lane ≡ writer w → takes_blob name w ≡ Ok tt → checked ≡ Ok contents
+      → checked_blob s lane name checked ≡ Ok (with_session s lane (writer (with_file name (blob contents) w)), Done)
+  unfolding tests goes_on
+  done w contents at is good = by_tests w (Ok tt) at is ∙ ap (λ c. c >>= λ p. goes_on s lane (with_file name (blob p) w) Done) good

@@ -1,18 +1,18 @@
 -- FINISH is the store's.
-use Rattle.std.proofs.Common.{◌≡◌, ◌≢◌, ◌↔◌, ℕ, ◌<◌, Bool, true, false, cond, length, get_or, set, map, List, [], ◌∷◌, Option, Some, None, Ok, Err, refl, sym, ap, subst, ◌∙◌, arith}
-use Rattle.std.proofs.lemmas.Bool.{and_parts, and_from, false_from_ne_true}
-use Rattle.std.proofs.lemmas.List.{length-set}
+use Rattle.std.proofs.Common.{◌≡◌, ◌≢◌, ◌↔◌, ℕ, ◌<◌, ◌≤◌, Bool, true, false, not, ◌==◌, cond, length, get_or, set, map, List, [], ◌∷◌, Option, Some, None, Ok, Err, refl, sym, ap, subst, ◌∙◌, arith}
+use Rattle.std.proofs.lemmas.Bool.{and_parts, and_from, false_from_ne_true, eq-eqb, eqb-true}
+use Rattle.std.proofs.lemmas.List.{length-set, length-map}
 use Rattle.std.proofs.lemmas.Option.{some_pair_parts}
 use Rattle.std.proofs.lemmas.Slice.Eq.{bytes_eq-Decides}
 use Rattle.std.specs.FinMap.{get}
 use Rattle.std.specs.List.{All, find, list_all}
 use Rattle.std.specs.Option.{IsSome}
-use Rattle.std.specs.Prelude.{option_map}
+use Rattle.std.specs.Prelude.{option_map, is_some}
 use Rattle.std.specs.Str.{bytes_eq}
 use Rattle.disk_trait.specs.Files.{Files, placed}
 use Rattle.disk_trait.specs.Laws.{placed_same, placed_other}
 use Rattle.store_types.specs.declared.names.SnapshotKey.{SnapshotKey}
-use Rattle.store_types.specs.declared.refusal.Refusal.TheVariants.{NoFile, WrongState}
+use Rattle.store_types.specs.declared.refusal.Refusal.TheVariants.{NoFile, OpenIndexes, WrongState}
 use Rattle.store_types.specs.FileNames.{manifest_name}
 use Rattle.store_types.specs.Names.{key_lt, same_group, group_of_key}
 use Rattle.store_files.specs.Archive.{File, Snapshot, file_text, file_named}
@@ -28,18 +28,19 @@ use Rattle.store_model.proofs.Paths.{manifest_plain, chunk_apart}
 use Rattle.store_model.proofs.Insertions.{All-insert, find-insert, length-in_group-insert, rise-insert}
 use Rattle.store_model.proofs.FileInsertions.{only_named}
 use Rattle.store_model.proofs.StandsLemmas.{Puts, IsReady, different, stands_finished, groups_insert}
+use Rattle.backup_session.specs.Shown.{shown, shown_begun, manifest_text}
 use Rattle.core_state.specs.declared.kept.Kept.{Kept}
 use Rattle.core_state.specs.declared.kept.Listed.{Listed}
 use Rattle.core_state.specs.declared.kept.Writing.{Writing}
 use Rattle.core_state.specs.declared.kept.Session.{Session}
 use Rattle.core_state.specs.declared.kept.Session.TheVariants as sessions
 use Rattle.core_state.specs.declared.parts.Parts.{Parts}
-use Rattle.core_state.specs.Named.{is_named, is_named_snapshot}
-use Rattle.core_state.specs.Shown.{shown_file, shown_files, shown_snapshot, shown_writer, shown_session, text_of, manifest_text}
+use Rattle.core_state.specs.Named.{has_text, is_named, is_named_snapshot}
+use Rattle.core_state.specs.Shown.{shown_file, shown_files, shown_snapshot, shown_writer, shown_session}
 use Rattle.core_state.specs.Holds.{IsSound, IsWriter, IsReader, IsOlder, HasUploads, IsOnDisk, Holds, Does}
 use Rattle.core_state.proofs.Sessions.{changed, shown_set, no_writer_none, no_reader_none}
 use Rattle.core_state.proofs.Soundness.{sound_idle}
-use Rattle.core_state.proofs.OnDisk.{IsOff, fresh, off_other, keys_apart, uploads_off}
+use Rattle.core_state.proofs.OnDisk.{IsOff, fresh, off_other, keys_apart, uploads_off, pieces_there}
 use Rattle.core_state.specs.States.{state_of}
 use Rattle.core_writer.specs.Closed.{manifest_by, kept_manifest, insert_listed, listed_of, closed}
 
@@ -66,9 +67,10 @@ found_name (f ∷ fs) g e = by_test (bytes_eq f.name manifest_name) refl (found_
     by_test false is go e = go e
 
 abbrev manifest_of : SnapshotKey → Option File → Option (List ℕ × List ℕ)
-manifest_of key o = manifest_by (text_of o) (option_map (shown_file key) o)
+manifest_of key o = manifest_by (option_map (λ f. file_text f.content) o) (option_map (shown_file key) o)
 
 kept_manifest-shown : (w : Writer) → kept_manifest (shown_writer w) ≡ manifest_of w.key (file_named manifest_name w.files)
+unfolding shown
 kept_manifest-shown w = ap (manifest_by (manifest_text w.files)) (find_shown w.key w.files)
 
 -- the manifest is among the files, with this name on the disk and this text
@@ -110,13 +112,35 @@ module _ (s : Store) (lane moment : ℕ) where
   not_writing found is other =
       not_writing_by (session s lane) refl (λ w e. other w (is ∙ e)) ∙ ap (λ x. Err (WrongState (state_of x))) (sym is)
 
-  pub no_file : (w : Writer) → session s lane ≡ writer w → kept_manifest (shown_writer w) ≡ None → outcome s lane moment Finish ≡ Err NoFile
+  pub open_indexes : (w : Writer) → session s lane ≡ writer w → (length w.begun == 0) ≡ false → outcome s lane moment Finish ≡ Err (OpenIndexes (length w.begun))
   unfolding outcome finish
-  no_file w at e = let absent = no_manifest w e in rw (at, absent) refl
+  open_indexes w at some = rw (at, some) refl
 
-  pub finishes : (w : Writer) (path text : List ℕ) → session s lane ≡ writer w → HasManifest w path text → outcome s lane moment Finish ≡ Ok (finished s lane w, Done)
+  pub no_file : (w : Writer) → session s lane ≡ writer w → (length w.begun == 0) ≡ true → kept_manifest (shown_writer w) ≡ None → outcome s lane moment Finish ≡ Err NoFile
   unfolding outcome finish
-  finishes w path text at m = let there = m.found in rw (at, there) refl
+  no_file w at closed_all e = let absent = no_manifest w e in rw (at, closed_all, absent) refl
+
+  pub finishes : (w : Writer) (path text : List ℕ) → session s lane ≡ writer w → (length w.begun == 0) ≡ true → HasManifest w path text → outcome s lane moment Finish ≡ Ok (finished s lane w, Done)
+  unfolding outcome finish
+  finishes w path text at closed_all m = let there = m.found in rw (at, closed_all, there) refl
+
+-- how many archives are open is kept
+pub open_shown : (w : Writer) → length (((shown_writer w).session).writer).begun ≡ length w.begun
+unfolding shown
+open_shown w = length-map w.begun shown_begun
+
+count_is : (v : Writer) (w : Writing) (n : ℕ) → shown_writer v ≡ w → n ≡ length ((w.session).writer).begun → n ≡ length v.begun
+count_is v w n is count = count ∙ ap (λ x. length ((x.session).writer).begun) (sym is) ∙ open_shown v
+
+pub none_open : (v : Writer) (w : Writing) (n : ℕ) → shown_writer v ≡ w → n ≡ length ((w.session).writer).begun → n ≤ 0 → (length v.begun == 0) ≡ true
+none_open v w n is count le = let c = count_is v w n is count in eq-eqb (length v.begun) 0 (omega (arith, c, le))
+
+pub some_open : (v : Writer) (w : Writing) (n : ℕ) → shown_writer v ≡ w → n ≡ length ((w.session).writer).begun → 0 < n → ((length v.begun == 0) ≡ false) × (n ≡ length v.begun)
+some_open v w n is count more = let c = count_is v w n is count in (by_test c (length v.begun == 0) refl, c)
+  where
+    by_test : n ≡ length v.begun → (b : Bool) → (length v.begun == 0) ≡ b → b ≡ false
+    by_test c true e = absurd (let z = eqb-true (length v.begun) 0 e in omega (arith, c, z, more))
+    by_test c false e = refl
 
 -- ---- the store after
 
@@ -127,7 +151,7 @@ is_snapshot s w path text h m = record {
   kinds = h.kinds;
   contents = h.contents;
   manifest = subst (λ (o : Option File). IsSome o) (sym m.found) refl;
-  count = h.count;
+  count = let c = h.count in omega (arith, c);
 }
 
 count_cond : {A : Type 0} (b : Bool) (x : A) (xs : List A) → b ≡ false → length (cond b (x ∷ xs) xs) ≡ length xs
@@ -151,6 +175,9 @@ module _ (s : Store) (lane : ℕ) (w : Writer) (path text : List ℕ) (lt : lane
     count = o.count;
     pool = o.pool;
     begun = o.begun;
+    pooled = o.pooled;
+    free = o.free;
+    differ = o.differ;
   }
     where
       both_ways : true ≡ false → ⊥
@@ -182,7 +209,7 @@ module _ (s : Store) (lane : ℕ) (w : Writer) (path text : List ℕ) (lt : lane
 
   pub finished_on_disk : (f g : Files) → Puts f g (manifest_path w.key) text → IsOnDisk f s → IsOnDisk g (finished s lane w)
   finished_on_disk f g puts disk = let l : lane < length s.sessions = omega (arith, h.lanes, lt) in record {
-    snapshots = stands_finished f g s.snapshots (snapshot_of w) text whole new puts disk.snapshots (h.writers lane w at).room (ready f disk) (disk.writers lane w at).pieces;
+    snapshots = stands_finished f g s.snapshots (snapshot_of w) text whole new puts disk.snapshots (h.writers lane w at).room (ready f disk) (pieces_there f s.snapshots w (h.writers lane w at) (disk.writers lane w at));
     writers = λ i v is. changed s lane none i (writer v) (HasUploads g v) l is (λ e n. absurd (no_writer_none v n))
         (λ ne old. uploads_off f g v (λ q. q ≡ manifest_path w.key) (λ q off. puts.others q off)
         (λ q e. subst (IsOff v) (sym e) (off_other s.snapshots v w.key manifest_name (h.writers i v old) (h.writers lane w at).key manifest_plain (keys_apart s i lane v w h ne old at)))
@@ -228,17 +255,19 @@ list_all-insert new (x ∷ xs) is h =
 -- the catalogue's keys have texts still
 pub named_closed : (number : ℕ) (session : Session) (xs : List Listed) → is_named session ≡ true → list_all is_named_snapshot xs ≡ true → list_all is_named_snapshot (closed number session xs) ≡ true
 named_closed number sessions.Idle xs is h = h
-named_closed number (sessions.Writer w) xs is h = list_all-insert (listed_of number w) xs is h
+named_closed number (sessions.Writer w) xs is h =
+    list_all-insert (listed_of number w) xs (and_parts (has_text ((w.session).writer).key) (not (is_some (w.session).pending)) is).0 h
 named_closed number (sessions.Reader r) xs is h = h
 
 -- ---- the act
 
 module _ {D : Type 0} (honest : D → Type 0) (content : D → Files) where
-  pub does_finish : (old new : Parts D) (s : Store) (lane moment number : ℕ) (found : Session) (w : Writer) (path text : List ℕ) → lane < 64 → session s lane ≡ writer w → found ≡ sessions.Writer (shown_writer w) → kept_manifest (shown_writer w) ≡ Some (path, text)
+  pub does_finish : (old new : Parts D) (s : Store) (lane moment number : ℕ) (found : Session) (w : Writer) (path text : List ℕ) → lane < 64 → session s lane ≡ writer w → (length w.begun == 0) ≡ true → found ≡ sessions.Writer (shown_writer w) → kept_manifest (shown_writer w) ≡ Some (path, text)
       → (honest old.disk ↔ honest new.disk) → (honest old.disk → content new.disk ≡ placed (content old.disk) path (Some text))
       → new.catalogue.items ≡ closed number found old.catalogue.items → new.sessions.items ≡ set old.sessions.items lane sessions.Idle
       → Holds honest content old s → Does honest content new s (answered s (outcome s lane moment Finish)) (Ok Done)
-  does_finish old new s lane moment number found w path text lt at is manifest kept put c l h =
+  unfolding shown
+  does_finish old new s lane moment number found w path text lt at none_open is manifest kept put c l h =
       let sound = (h.shows).sound in
       let m = has_manifest w path text manifest in
       let now : content new.disk ≡ placed (content old.disk) (manifest_path w.key) (Some text) = put h.honest ∙ ap (λ q. placed (content old.disk) q (Some text)) m.is_path in
@@ -257,4 +286,4 @@ module _ {D : Type 0} (honest : D → Type 0) (content : D → Files) where
         files = finished_on_disk s lane w path text lt sound at m (content old.disk) (content new.disk) puts h.files;
       } in
       let done : Does honest content new s (finished s lane w, Done) (Ok Done) = (refl, holds) in
-      subst (λ o. Does honest content new s (answered s o) (Ok Done)) (sym (finishes s lane moment w path text at m)) done
+      subst (λ o. Does honest content new s (answered s o) (Ok Done)) (sym (finishes s lane moment w path text at none_open m)) done

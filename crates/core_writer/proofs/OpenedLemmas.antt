@@ -14,6 +14,7 @@ use Rattle.store_files.specs.Archive.{Snapshot}
 use Rattle.store_model.specs.Store as model
 use Rattle.store_model.specs.Store.{writes_group, group_holder, in_group, keys_in, latest_in}
 use Rattle.store_model.specs.WriterSteps.{want_newer}
+use Rattle.backup_session.specs.Shown.{shown}
 use Rattle.core_state.specs.declared.kept.Kept.{Kept}
 use Rattle.core_state.specs.declared.kept.Listed.{Listed}
 use Rattle.core_state.specs.declared.kept.Session.{Session}
@@ -28,9 +29,13 @@ shown_idle model.none = refl
 shown_idle (model.writer w) = refl
 shown_idle (model.reader r) = refl
 
+shown_key : (w : model.Writer) → (shown w).key ≡ w.key
+unfolding shown
+shown_key w = refl
+
 shown_writes : (group : GroupKey) (x : model.Session) → writes group (shown_session x) ≡ writes_group group x
 shown_writes group model.none = refl
-shown_writes group (model.writer w) = refl
+shown_writes group (model.writer w) = ap (λ k. same_group group (group_of_key k)) (shown_key w)
 shown_writes group (model.reader r) = refl
 
 place_shown : (group : GroupKey) (xs : List model.Session) → position_or_len (writes group) (map shown_session xs) ≡ position_or_len (writes_group group) xs

@@ -19,6 +19,13 @@ use Rattle.store_model.specs.Store.{Store, Writer, writer, session, with_session
 use Rattle.store_model.specs.WriterSteps.{want_newer, new_writer, base_text, goes_on, open_writer}
 use Rattle.store_model.specs.Steps.{outcome, answered}
 use Rattle.store_model.proofs.GroupTimes.{newer_than_all}
+use Rattle.backup_session.specs.Session.{settled}
+use Rattle.backup_session.specs.Session as sessions
+use Rattle.core_state.specs.declared.kept.StoredFile.{StoredFile}
+use Rattle.core_state.specs.Named.{is_named}
+use Rattle.core_state.proofs.NamedLemmas.{writer_stays_named}
+use Rattle.backup_session.specs.Steps as rows
+use Rattle.backup_session.specs.Shown as shows
 use Rattle.core_state.specs.declared.kept.Session.{Session}
 use Rattle.core_state.specs.declared.kept.Session.TheVariants as kept
 use Rattle.core_state.specs.declared.parts.Parts.{Parts}
@@ -128,12 +135,21 @@ is_new_writer s key moment base h is newer room = record {
   kinds = All-nil _;
   contents = All-nil _;
   count = omega arith;
-  pool = refl;
-  begun = refl;
+  pool = All-nil _;
+  begun = tt;
+  pooled = All-nil _;
+  free = All-nil _;
+  differ = refl;
 }
 
 no_uploads : (m : Files) (key : SnapshotKey) (moment : ℕ) (base : Option SnapshotKey) → HasUploads m (new_writer key moment base)
-no_uploads m key moment base = record { files = All-nil _; pieces = All-nil _ }
+no_uploads m key moment base = record { files = All-nil _; pool = All-nil _ }
+
+-- a new writer's key has a text
+pub named_new : (v : sessions.Session) (files : List StoredFile) (key : SnapshotKey) (moment : ℕ) (base : Option SnapshotKey) → v ≡ settled (rows.opened key moment base) → IsKey key
+    → is_named (kept.Writer (record { session = v; files = files })) ≡ true
+named_new v files key moment base is named =
+    ap (λ x. is_named (kept.Writer (record { session = x; files = files }))) is ∙ writer_stays_named (record { session = settled (rows.opened key moment base); files = files }) named refl
 
 -- what the code finds at the lane
 pub idle_is : {D : Type 0} (old : Parts D) (s : Store) (lane : ℕ) (found : Session) (r : Result (Unit {0}) Refusal) → lane < 64 → found ≡ get_or old.sessions.items lane found → want_idle found ≡ r → Shows old s → model.want_idle (session s lane) ≡ r
@@ -148,9 +164,9 @@ module _ {D : Type 0} (honest : D → Type 0) (content : D → Files) where
   pub does_open : (old new : Parts D) (s : Store) (lane moment : ℕ) (text : List ℕ) (found : Session) (key : SnapshotKey) (base : Option SnapshotKey) (y : Session) (reply : Reply)
       → lane < 64 → found ≡ get_or old.sessions.items lane found → want_idle found ≡ Ok tt → key_of text ≡ Some key → IsKey key
       → base_kept (map (λ x. x.kept) old.catalogue.items) old.sessions.items key ≡ Ok base
-      → new.disk ≡ old.disk → new.catalogue.items ≡ old.catalogue.items → new.sessions.items ≡ set old.sessions.items lane y → y ≡ kept.Writer (new_writing key moment base) → reply ≡ Base (base_text base)
+      → new.disk ≡ old.disk → new.catalogue.items ≡ old.catalogue.items → new.sessions.items ≡ set old.sessions.items lane y → y ≡ kept.Writer (new_writing key moment base) → shows.Shows (rows.opened key moment base) (new_writer key moment base) → reply ≡ Base (base_text base)
       → Holds honest content old s → Does honest content new s (answered s (outcome s lane moment (OpenWriter text))) (Ok reply)
-  does_open old new s lane moment text found key base y reply lt at idle named is_key tested d c l y_is reply_is h =
+  does_open old new s lane moment text found key base y reply lt at idle named is_key tested d c l y_is shown reply_is h =
       let sound = (h.shows).sound in
       let within : lane < length s.sessions = omega (arith, sound.lanes, lt) in
       let idle2 = idle_is old s lane found (Ok tt) lt at idle h.shows in
@@ -162,7 +178,7 @@ module _ {D : Type 0} (honest : D → Type 0) (content : D → Files) where
       let disk2 = disk_writer (content old.disk) s lane w within (no_uploads (content old.disk) key moment base) h.files in
       let holds : Holds honest content new (with_session s lane (writer w)) = record {
         honest = subst honest (sym d) h.honest;
-        shows = shows_changed old new s lane (writer w) y c l y_is (sound_writer s lane w lt is_writer is_alone sound) h.shows;
+        shows = shows_changed old new s lane (writer w) y c l (y_is ∙ ap (λ v. kept.Writer (record { session = settled v; files = [] })) shown.same) (sound_writer s lane w lt is_writer is_alone sound) h.shows;
         files = subst (λ m. IsOnDisk m (with_session s lane (writer w))) (sym (ap content d)) disk2;
       } in
       let done : Does honest content new s (with_session s lane (writer w), Base (base_text base)) (Ok reply) = (reply_is, holds) in

@@ -12,6 +12,7 @@ use Rattle.disk_trait.specs.declared.disk.DiskError.TheVariants.{NoMemory, Faile
 use Rattle.store_types.specs.FileNames.{manifest_name}
 use Rattle.store_types.specs.Names.{name_lt}
 use Rattle.wire_commands.specs.declared.reply.Reply.{Reply}
+use Rattle.store_history.specs.declared.act.Act.{Act}
 use Rattle.core_state.specs.declared.kept.StoredFile.{StoredFile}
 use Rattle.core_state.specs.declared.kept.Session.{Session}
 use Rattle.core_state.specs.declared.kept.Session.TheVariants.{Idle, Writer, Reader}
@@ -21,8 +22,8 @@ use Rattle.core_state.specs.Settles.{reply_by}
 use Rattle.core_state.specs.Unchanged.{SameContent}
 use Rattle.core_writer.specs.Closed.{kept_manifest, manifest_by}
 use Rattle.core_writer.specs.Ended.{is_removed, removed_by, stored_files}
-use Rattle.core_writer.specs.Others.{stand_at, OthersStay}
-use Rattle.core_writer.specs.Uploaded.{insert_stored, with_upload, with_put}
+use Rattle.core_writer.specs.Others.{stand_at, OthersStay, ActLeaves}
+use Rattle.core_writer.specs.Uploaded.{insert_stored, with_put}
 
 true_false : true ≡ false → ⊥
 true_false e = cc
@@ -61,19 +62,17 @@ not_removed q (f ∷ fs) h = let both = or_parts (bytes_eq q f.path) (stand_at q
 placed_elsewhere : (m : Files) (path text q : List ℕ) → bytes_eq q path ≡ false → get (placed m path (Some text)) q ≡ get m q
 placed_elsewhere m path text q h = get_placed m path (Some text) q ∙ ap (λ b. cond b (Some text) (get m q)) h
 
--- BLOB
-pub put_elsewhere : (file : StoredFile) (text : List ℕ) (session : Session) (m : Files) (q : List ℕ) → stand_at q (stored_files (with_upload file text session)) ≡ false → get (with_put file text session m) q ≡ get m q
-put_elsewhere file text Idle m q h = refl
-put_elsewhere file text (Writer w) m q h = by_test (bytes_eq file.name manifest_name)
+-- BLOB and CLOSE_INDEX
+pub put_elsewhere : (file : StoredFile) (text : List ℕ) (fs : List StoredFile) (m : Files) (q : List ℕ) → stand_at q (insert_stored file fs) ≡ false → get (with_put file text m) q ≡ get m q
+put_elsewhere file text fs m q h = by_test (bytes_eq file.name manifest_name)
   where
     by_test : (b : Bool) → get (cond b m (placed m file.path (Some text))) q ≡ get m q
     by_test true = refl
-    by_test false = placed_elsewhere m file.path text q (not_new q file w.files h)
-put_elsewhere file text (Reader r) m q h = refl
+    by_test false = placed_elsewhere m file.path text q (not_new q file fs h)
 
 -- FINISH
 pub closed_elsewhere : (w : Writing) (path text : List ℕ) (m : Files) (q : List ℕ) → kept_manifest w ≡ Some (path, text) → stand_at q w.files ≡ false → get (placed m path (Some text)) q ≡ get m q
-closed_elsewhere w path text m q is h = by_kept w.manifest (find (λ f. bytes_eq f.name manifest_name) w.files) refl is
+closed_elsewhere w path text m q is h = by_kept ((w.session).writer).manifest (find (λ f. bytes_eq f.name manifest_name) w.files) refl is
   where
     pairs : (x y : List ℕ × List ℕ) → Some x ≡ Some y → x ≡ y
     pairs x y e = cc
@@ -108,6 +107,18 @@ module _ {D : Type 0} (honest : D → Type 0) (content : D → Files) where
   others_between old mid acted new lane r reply before since is stay =
       subst (λ x. OthersStay honest content old new lane x) (sym is)
       (subst (λ p. OthersStay honest content old p lane r) (sym since) (subst (λ p. OthersStay honest content p acted lane r) before stay))
+
+  -- the same of an act, whose chunk may be put
+  pub acts_stay : (old new : Parts D) (lane : ℕ) (act : Act) (reply : Option Reply) → OthersStay honest content old new lane reply → ActLeaves honest content old new lane act reply
+  acts_stay old new lane act reply stay ok h q before after apart = stay ok h q before after
+
+  pub acts_unmoved : (old new : Parts D) (lane : ℕ) (act : Act) (reply : Option Reply) → new ≡ old → ActLeaves honest content old new lane act reply
+  acts_unmoved old new lane act reply is = acts_stay old new lane act reply (others_unmoved old new lane reply is)
+
+  pub acts_between : (old mid acted new : Parts D) (lane : ℕ) (act : Act) (r reply : Option Reply) → mid ≡ old → new ≡ acted → reply ≡ r → ActLeaves honest content mid acted lane act r → ActLeaves honest content old new lane act reply
+  acts_between old mid acted new lane act r reply before since is stay =
+      subst (λ x. ActLeaves honest content old new lane act x) (sym is)
+      (subst (λ p. ActLeaves honest content old p lane act r) (sym since) (subst (λ p. ActLeaves honest content p acted lane act r) before stay))
 
 -- the session at a lane
 pub session_is : (items : List Session) (lane : ℕ) (found : Session) → lane < length items → found ≡ get_or items lane found → get_or items lane Idle ≡ found

@@ -1,9 +1,17 @@
--- How a finished snapshot comes into the catalogue.
-use Rattle.std.specs.Prelude.{ℕ, List, [], ◌∷◌, if◌then◌else◌, Option, Some, None}
+-- How a finished snapshot comes into the catalogue, and what each act leaves there.
+use Rattle.std.specs.Prelude.{◌≡◌, ℕ, List, [], ◌∷◌, if◌then◌else◌, Option, Some, None}
 use Rattle.std.specs.List.{find}
 use Rattle.std.specs.Str.{bytes_eq}
 use Rattle.store_types.specs.FileNames.{manifest_name}
 use Rattle.store_types.specs.Names.{key_lt}
+use Rattle.wire_commands.specs.declared.command.Command.TheVariants.{Finish}
+use Rattle.wire_commands.specs.declared.reply.Reply.{Reply}
+use Rattle.wire_commands.specs.declared.reply.Reply.TheVariants.{Done}
+use Rattle.store_history.specs.declared.act.Act.{Act}
+use Rattle.store_history.specs.declared.act.Act.TheVariants.{Plain}
+use Rattle.store_history.specs.declared.act.Answer.{Answer}
+use Rattle.core_state.specs.Closing.{session_at}
+use Rattle.core_state.specs.declared.state.Core.{Core}
 use Rattle.core_state.specs.declared.kept.StoredFile.{StoredFile}
 use Rattle.core_state.specs.declared.kept.Listed.{Listed}
 use Rattle.core_state.specs.declared.kept.Writing.{Writing}
@@ -16,7 +24,7 @@ manifest_by _ _ = None
 
 -- the name of the writer's manifest in the datastore folder, and its text
 abbrev pub kept_manifest : Writing → Option (List ℕ × List ℕ)
-kept_manifest w = manifest_by w.manifest (find (λ f. bytes_eq f.name manifest_name) w.files)
+kept_manifest w = manifest_by ((w.session).writer).manifest (find (λ f. bytes_eq f.name manifest_name) w.files)
 
 -- at its place in the order
 abbrev pub insert_listed : Listed → List Listed → List Listed
@@ -25,10 +33,26 @@ insert_listed new (x ∷ xs) = if key_lt (new.kept).key (x.kept).key then new �
 
 -- the writer's snapshot, with the number of the order's entry by which it was finished
 abbrev pub listed_of : ℕ → Writing → Listed
-listed_of number w = record { number = number; kept = record { key = w.key; files = w.files } }
+listed_of number w = record { number = number; kept = record { key = ((w.session).writer).key; files = w.files } }
 
 -- the catalogue as the session's writer is finished
 abbrev pub closed : ℕ → Session → List Listed → List Listed
 closed number Idle catalogue = catalogue
 closed number (Writer w) catalogue = insert_listed (listed_of number w) catalogue
 closed number (Reader r) catalogue = catalogue
+
+-- the catalogue after a FINISH with this reply
+abbrev pub closed_by : Option Reply → ℕ → Session → List Listed → List Listed
+closed_by (Some Done) number session catalogue = closed number session catalogue
+closed_by reply number session catalogue = catalogue
+
+-- and after any act with this reply: no other act changes the catalogue
+abbrev pub listed_by : Act → Option Reply → ℕ → Session → List Listed → List Listed
+listed_by (Plain Finish) reply number session catalogue = closed_by reply number session catalogue
+listed_by act reply number session catalogue = catalogue
+
+-- A FINISH that was done has listed the snapshot of the lane's writer, with the number of the order's entry of this act. No other
+-- act has changed the catalogue.
+abbrev pub Lists : {D E C : Type 0} → Core D E C → Core D E C → ℕ → Act → Answer → Type 0
+Lists old new lane act answer =
+    (new.parts).catalogue.items ≡ listed_by act answer.reply answer.place (session_at old lane) (old.parts).catalogue.items

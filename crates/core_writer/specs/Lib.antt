@@ -4,3 +4,6 @@ pub mod Uploaded
 pub mod Ended
 pub mod WriterActs
 pub mod Others
+pub mod Appended
+pub mod Noted
+pub mod Stepped

@@ -9,6 +9,8 @@ use Rattle.store_types.specs.declared.refusal.Refusal.TheVariants.{WrongState, B
 use Rattle.store_types.specs.Chain.Refusing.{◌>>=◌, unless, or_else, if_none}
 use Rattle.store_types.specs.Names.{key_of, same_group, group_of_key}
 use Rattle.store_model.specs.WriterSteps.{want_newer}
+use Rattle.backup_session.specs.Session.{settled}
+use Rattle.backup_session.specs.Steps as rows
 use Rattle.core_state.specs.declared.kept.Kept.{Kept}
 use Rattle.core_state.specs.declared.kept.Writing.{Writing}
 use Rattle.core_state.specs.declared.kept.Session.{Session}
@@ -22,7 +24,7 @@ want_idle (Reader r) = Err (WrongState states.Reader)
 -- the session's writer has the group
 abbrev pub writes : GroupKey → Session → Bool
 writes group Idle = false
-writes group (Writer w) = same_group group (group_of_key w.key)
+writes group (Writer w) = same_group group (group_of_key ((w.session).writer).key)
 writes group (Reader r) = false
 
 -- the group's snapshots, the oldest first
@@ -41,7 +43,7 @@ base_kept kept sessions key = do
   Ok (latest_kept (group_of_key key) kept)
 
 abbrev pub new_writing : SnapshotKey → ℕ → Option SnapshotKey → Writing
-new_writing key moment base = record { key = key; start = moment; base = base; files = []; manifest = None }
+new_writing key moment base = record { session = settled (rows.opened key moment base); files = [] }
 
 -- the new writer, unless it is refused
 unfoldable pub opened : List Kept → List Session → ℕ → ℕ → List ℕ → Result Writing Refusal

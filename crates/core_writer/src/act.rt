@@ -2,6 +2,7 @@
 
 ghost use Rattle.std.specs.Prelude.{◌≡◌, ◌<◌, ◌≤◌, ◌⊎◌, true, List, Option, Some, slice_index, slice_index_or, IfOk, IsSome, IsErrOf, IsTrue, IfSome};
 ghost use Rattle.disk_trait.specs.Disk.{Serves};
+ghost use Rattle.store_types.specs.Times.{last_moment};
 ghost use Rattle.store_files.specs.Archive.{Snapshot};
 ghost use Rattle.wire_commands.specs.HasText.{ReplyHasText};
 ghost use Rattle.wire_commands.specs.declared.command.Command.TheVariants as commands;
@@ -12,15 +13,19 @@ ghost use Rattle.core_state.specs.Closing.{HasClosed, closes, is_closing};
 ghost use Rattle.core_state.specs.Records.{IsTimely};
 ghost use Rattle.core_state.specs.Reserved.{KeepsReserve, EndKeeps};
 ghost use Rattle.core_state.specs.declared.kept.Session.TheVariants.{Idle};
-ghost use Rattle.core_state.specs.History.{History, StandsFor, then_event, event_of};
+ghost use Rattle.core_state.specs.History.{History, IsClear, StandsFor, then_event, event_of};
+ghost use Rattle.core_state.specs.Chunks.{IsSafe, Adds};
 ghost use Rattle.core_state.specs.Holds.{Acts};
 ghost use Rattle.core_state.specs.Replies.{may_answer};
 ghost use Rattle.core_state.specs.Settles.{reply_by};
 ghost use Rattle.core_state.specs.Unchanged.{Unchanged};
+ghost use Rattle.core_writer.specs.Closed.{Lists, listed_by};
 ghost use Rattle.core_writer.specs.Ended.{FilesGone, Removes};
-ghost use Rattle.core_writer.specs.Others.{OthersStay};
+ghost use Rattle.core_writer.specs.Others.{OthersStay, ActLeaves};
 ghost use Rattle.core_writer.specs.WriterActs.{IsWriters};
 
+use crate::archives::{append, close_index, new_dynamic};
+use crate::chunks::chunk;
 use crate::ending::{abort, end, forget_session};
 use crate::finishing::finish;
 use crate::opening::open_writer;
@@ -41,23 +46,41 @@ fn perform<D: Disk>(
     act: Act,
 ) -> Result<Reply, DiskError>
     requires lane { lane < 64 }
+    requires in_time { moment ≤ last_moment }
     requires kind { IsWriters act }
     ensures serves { Serves D.honest D.faults parts.old.disk parts.new.disk (IsErrOf result DiskError.Failed) }
     ensures calls { D.calls parts.old.disk ≤ D.calls parts.new.disk }
     ensures text { IfOk result ReplyHasText }
     ensures answers { IfOk result (λ reply. IsTrue (may_answer act reply)) }
     ensures unchanged { Unchanged D.honest D.content parts.old parts.new (reply_by result) }
-    ensures others { OthersStay D.honest D.content parts.old parts.new lane (Some (reply_by result)) }
+    ensures others { ActLeaves D.honest D.content parts.old parts.new lane act (Some (reply_by result)) }
+    ensures listed { parts.new.catalogue.items ≡ listed_by act (Some (reply_by result)) number (slice_index_or parts.old.sessions.items lane Idle) parts.old.catalogue.items }
+    ensures chunks { Adds D.honest D.content parts.old parts.new act result }
     ensures closed { closes act (slice_index_or parts.old.sessions.items lane Idle) ≡ true → HasClosed parts.new lane result }
     ensures removed { act ≡ Act.Plain commands.Abort → reply_by result ≡ Reply.Done → FilesGone D.honest D.content parts.old parts.new.disk lane }
-    ensures act { (remote : Option (List Snapshot)) (w : World) → Acts D.honest D.content parts.old parts.new (λ s. act_outcome remote (record w { store = s }) lane moment act) result }
+    ensures act { (remote : Option (List Snapshot)) (w : World) → IsSafe (D.content parts.old.disk) act → Acts D.honest D.content parts.old parts.new (λ s. act_outcome remote (record w { store = s }) lane moment act) result }
 {
     match act {
         Act::Plain(Command::OpenWriter { snapshot }) => {
             open_writer(parts, alloc, lane, moment, snapshot.as_slice())
         }
+        Act::Plain(Command::NewDynamic { file }) => {
+            new_dynamic(parts, alloc, lane, moment, file.as_slice())
+        }
+        Act::Plain(Command::Append { number, entries }) => {
+            append(parts, alloc, lane, number, entries.as_slice())
+        }
+        Act::Plain(
+            Command::CloseIndex {
+                number,
+                count,
+                size,
+                csum,
+            },
+        ) => close_index(parts, alloc, lane, number, count, size, &csum),
         Act::Plain(Command::Finish) => finish(parts, alloc, lane, number),
         Act::Plain(Command::Abort) => abort(parts, lane),
+        Act::Chunk { digest, checked } => chunk(parts, alloc, lane, &digest, checked),
         Act::Blob { name, checked } => blob(parts, alloc, lane, name.as_slice(), checked),
         _ => unreachable!(),
     }
@@ -73,7 +96,8 @@ pub fn writer_act<D: Disk, E, C: Clock>(
     requires lane { lane < 64 }
     requires room { 0 < core.old.journal.spare ⊎ 0 < slice_index core.old.journal.held lane }
     requires kind { IsWriters act }
-    ensures history { (h : History) → StandsFor D.honest D.content D.calls C.readings core.old h
+    // where no two pieces of the longer history have one digest
+    ensures history { (h : History) → StandsFor D.honest D.content D.calls C.readings core.old h → IsClear (then_event h (event_of act result (D.calls core.new.parts.disk)))
         → StandsFor D.honest D.content D.calls C.readings core.new (then_event h (event_of act result (D.calls core.new.parts.disk))) }
     ensures answers { IsAnswered D.calls D.faults core.old core.new lane result }
     ensures timely { IsTimely C.readings core.old core.new result }
@@ -82,8 +106,10 @@ pub fn writer_act<D: Disk, E, C: Clock>(
     ensures cause { HasCause D.faults core.old core.new act result }
     // a refused act leaves catalogue and sessions as before, and the disk too unless it failed
     ensures unchanged { IfSome result.reply (Unchanged D.honest D.content core.old.parts core.new.parts) }
-    // under names that are no file's of the lane's writer all stays
-    ensures others { OthersStay D.honest D.content core.old.parts core.new.parts lane result.reply }
+    // under names that are no file's of the lane's writer all stays, but at that of a chunk that the act puts
+    ensures others { ActLeaves D.honest D.content core.old.parts core.new.parts lane act result.reply }
+    // a FINISH that is done lists the snapshot with the number of this act's entry, and no other act changes the catalogue
+    ensures listed { Lists core.old core.new lane act result }
     // after the disk failed no call of it is made
     ensures halted { IfSome core.old.fault (λ _. core.new.parts.disk ≡ core.old.parts.disk) }
     ensures remote { core.new.remote ≡ core.old.remote }
@@ -119,6 +145,8 @@ pub fn end_act<D: Disk, E, C: Clock>(core: &mut Core<D, E, C>, lane: u32) -> Ans
     ensures unchanged { IfSome result.reply (Unchanged D.honest D.content core.old.parts core.new.parts) }
     // under names that are no file's of the lane's writer all stays
     ensures others { OthersStay D.honest D.content core.old.parts core.new.parts lane result.reply }
+    // the catalogue stays
+    ensures listed { Lists core.old core.new lane End result }
     // after the disk failed no call of it is made
     ensures halted { IfSome core.old.fault (λ _. core.new.parts.disk ≡ core.old.parts.disk) }
     ensures remote { core.new.remote ≡ core.old.remote }

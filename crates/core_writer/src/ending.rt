@@ -64,6 +64,7 @@ pub fn end<D: Disk>(parts: &mut Parts<D>, lane: u32) -> Result<(), Failed>
     requires { lane < 64 }
     ensures serves { Serves D.honest D.faults parts.old.disk parts.new.disk (IsErr result) }
     ensures calls { D.calls parts.old.disk ≤ D.calls parts.new.disk }
+    ensures catalogue { parts.new.catalogue.items ≡ parts.old.catalogue.items }
     // the files of the lane's writer are gone, and nothing else
     ensures removed { OnOk result (FilesGone D.honest D.content parts.old parts.new.disk lane) }
     ensures kept { OnErr result (SameKept parts.old parts.new) }
@@ -88,6 +89,7 @@ pub fn abort<D: Disk>(parts: &mut Parts<D>, lane: u32) -> Result<Reply, DiskErro
     ensures answers { IfOk result (λ reply. IsTrue (answers_close reply)) }
     ensures unchanged { Unchanged D.honest D.content parts.old parts.new (reply_by result) }
     ensures others { OthersStay D.honest D.content parts.old parts.new lane (Some (reply_by result)) }
+    ensures catalogue { parts.new.catalogue.items ≡ parts.old.catalogue.items }
     ensures closed { is_writer (slice_index_or parts.old.sessions.items lane Idle) ≡ true → HasClosed parts.new lane result }
     ensures removed { reply_by result ≡ Reply.Done → FilesGone D.honest D.content parts.old parts.new.disk lane }
     ensures act { (moment : ℕ) → Acts D.honest D.content parts.old parts.new (λ s. outcome s lane moment commands.Abort) result }
@@ -103,6 +105,7 @@ pub fn abort<D: Disk>(parts: &mut Parts<D>, lane: u32) -> Result<Reply, DiskErro
 /// The lane has no session any more, and the disk is not called: what is left of its writer stays where it is.
 pub fn forget_session<D>(parts: &mut Parts<D>, lane: u32)
     requires { lane < 64 }
+    ensures catalogue { parts.new.catalogue.items ≡ parts.old.catalogue.items }
     ensures disk { parts.new.disk ≡ parts.old.disk }
     ensures shows { (s : Store) → Shows parts.old s → Shows parts.new (ended s lane) }
 {

@@ -1,6 +1,6 @@
 //! FINISH.
 
-ghost use Rattle.std.specs.Prelude.{◌≡◌, ◌<◌, ◌≤◌, ℕ, Some, option_map, IfOk, OnOk, IsErrOf, IsTrue, vec_len, vec_capacity};
+ghost use Rattle.std.specs.Prelude.{◌≡◌, ◌<◌, ◌≤◌, ℕ, Some, option_map, IfOk, OnOk, IsErrOf, IsTrue, vec_len, vec_capacity, slice_index_or};
 ghost use Rattle.std.specs.List.{find};
 ghost use Rattle.std.specs.Str.{bytes_eq};
 ghost use Rattle.store_types.specs.FileNames.{manifest_name};
@@ -14,7 +14,7 @@ ghost use Rattle.core_state.specs.declared.kept.Session.TheVariants.{Idle};
 ghost use Rattle.core_state.specs.Replies.{answers_finish};
 ghost use Rattle.core_state.specs.Settles.{reply_by};
 ghost use Rattle.core_state.specs.Unchanged.{Unchanged};
-ghost use Rattle.core_writer.specs.Closed.{closed, kept_manifest};
+ghost use Rattle.core_writer.specs.Closed.{closed, closed_by, kept_manifest};
 ghost use Rattle.core_writer.specs.Others.{OthersStay};
 
 use crate::catalogue::insert;
@@ -36,9 +36,9 @@ fn manifest_file(files: &[StoredFile]) -> Option<&StoredFile>
 fn manifest_of(w: &Writing) -> Option<(&Path, &[u8])>
     ensures { option_map (λ m. (m.0.now, m.1.now)) result ≡ kept_manifest w.now }
 {
-    let text = w.manifest.as_ref()?;
+    let text = w.session.manifest()?;
     let file = manifest_file(w.files.as_slice())?;
-    Some((&file.path, text.as_slice()))
+    Some((&file.path, text))
 }
 
 /// Puts the manifest, and makes sure that it and the files put before it outlast a crash.
@@ -65,8 +65,11 @@ fn close(catalogue: &mut Vec<Listed>, session: &mut Session, number: u64)
     ensures session { session.new ≡ Idle }
 {
     if let Session::Writer(w) = mem::replace(session, Session::Idle) {
-        let Writing { key, files, .. } = w;
-        let kept = Kept { key, files };
+        let Writing { session, files } = w;
+        let kept = Kept {
+            key: session.into_key(),
+            files,
+        };
         insert(catalogue, Listed { number, kept });
     }
 }
@@ -74,7 +77,7 @@ fn close(catalogue: &mut Vec<Listed>, session: &mut Session, number: u64)
 /// The files of the lane's writer become a finished snapshot.
 ///
 /// The number is that of the order's entry of this act. The refusals, in the order in which they are tested: the lane has
-/// no writer; it has no manifest. All memory is taken before the first disk call, that of the put itself apart.
+/// no writer; it has open indexes; it has no manifest. All memory is taken before the first disk call, that of the put itself apart.
 pub fn finish<D: Disk>(
     parts: &mut Parts<D>,
     alloc: Global,
@@ -88,6 +91,8 @@ pub fn finish<D: Disk>(
     ensures answers { IfOk result (λ reply. IsTrue (answers_finish reply)) }
     ensures unchanged { Unchanged D.honest D.content parts.old parts.new (reply_by result) }
     ensures others { OthersStay D.honest D.content parts.old parts.new lane (Some (reply_by result)) }
+    // the snapshot is listed with this number
+    ensures listed { parts.new.catalogue.items ≡ closed_by (Some (reply_by result)) number (slice_index_or parts.old.sessions.items lane Idle) parts.old.catalogue.items }
     ensures act { (moment : ℕ) → Acts D.honest D.content parts.old parts.new (λ s. outcome s lane moment commands.Finish) result }
 {
     let lane = lane as usize;
@@ -95,6 +100,10 @@ pub fn finish<D: Disk>(
     let Session::Writer(w) = session else {
         return Ok(Reply::Refused(wrong_state(session)));
     };
+    let count = w.session.open_indexes();
+    if count > 0 {
+        return Ok(Reply::Refused(Refusal::OpenIndexes { count }));
+    }
     let Some((path, text)) = manifest_of(w) else {
         return Ok(Reply::Refused(Refusal::NoFile));
     };

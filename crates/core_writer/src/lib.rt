@@ -2,14 +2,20 @@
 #![tactic(auto)]
 
 mod act;
+mod archives;
 mod catalogue;
+mod chunks;
+mod closing;
 mod ending;
+mod files;
 mod finishing;
 mod opening;
 mod sessions;
 mod uploads;
 
 pub use act::{end_act, writer_act};
+pub use archives::{append, close_index, new_dynamic};
+pub use chunks::chunk;
 pub use ending::{abort, end};
 pub use finishing::finish;
 pub use opening::open_writer;

@@ -4,6 +4,7 @@ ghost use Rattle.std.specs.Prelude.{◌≡◌, ◌<◌, ◌≤◌, map, length, 
 ghost use Rattle.std.specs.Option.{ForSome};
 ghost use Rattle.disk_trait.specs.Disk.{Serves};
 ghost use Rattle.store_types.specs.Names.{IsKey};
+ghost use Rattle.store_types.specs.Times.{last_moment};
 ghost use Rattle.wire_commands.specs.HasText.{ReplyHasText};
 ghost use Rattle.wire_commands.specs.declared.reply.Reply.TheVariants.{Refused};
 ghost use Rattle.wire_commands.specs.declared.command.Command.TheVariants as commands;
@@ -77,14 +78,17 @@ pub fn open_writer<D: Disk>(
     moment: u64,
     snapshot: &[u8],
 ) -> Result<Reply, DiskError>
-    requires { lane < 64 }
+    requires lane { lane < 64 }
+    requires in_time { moment ≤ last_moment }
     ensures serves { Serves D.honest D.faults parts.old.disk parts.new.disk (IsErrOf result DiskError.Failed) }
     ensures calls { D.calls parts.old.disk ≤ D.calls parts.new.disk }
     ensures text { IfOk result ReplyHasText }
     ensures answers { IfOk result (λ reply. IsTrue (answers_writer reply)) }
     ensures unchanged { Unchanged D.honest D.content parts.old parts.new (reply_by result) }
     ensures others { OthersStay D.honest D.content parts.old parts.new lane (Some (reply_by result)) }
+    ensures catalogue { parts.new.catalogue.items ≡ parts.old.catalogue.items }
     ensures act { Acts D.honest D.content parts.old parts.new (λ s. outcome s lane moment (commands.OpenWriter snapshot.now)) result }
+    ensures disk { parts.new.disk ≡ parts.old.disk }
 {
     let lane = lane as usize;
     if let Err(refusal) = want_idle(&parts.sessions[lane]) {
@@ -100,11 +104,8 @@ pub fn open_writer<D: Disk>(
     let text = base_text(alloc, base)?;
     let base = copied(base)?;
     parts.sessions[lane] = Session::Writer(Writing {
-        key,
-        start: moment,
-        base,
+        session: backup_session::open_writer(alloc, key, moment, base),
         files: Rows::new(alloc),
-        manifest: None,
     });
     Ok(Reply::Base { snapshot: text })
 }

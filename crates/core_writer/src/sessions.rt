@@ -38,7 +38,7 @@ fn writes_group(session: &Session, key: &SnapshotKey) -> bool
     ensures { result ≡ writes (group_of_key key.now) session.now }
 {
     match session {
-        Session::Writer(w) => key.same_group(&w.key),
+        Session::Writer(w) => key.same_group(w.session.key()),
         _ => false,
     }
 }

@@ -14,3 +14,4 @@ pub mod ShortNames
 pub mod Recorded
 pub mod FailurePlan
 pub mod Planned
+pub mod IoCauses

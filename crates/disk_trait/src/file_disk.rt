@@ -1,5 +1,5 @@
 // A disk over a folder of files. Nothing is told of its content.
-ghost use Rattle.std.specs.Prelude.{◌≡◌, ◌⊎◌, ◌+◌, ◌-◌, ◌^◌, ◌≤◌, min, IfOk, IsErr, IsErrOf};
+ghost use Rattle.std.specs.Prelude.{◌≡◌, ◌⊎◌, ◌+◌, ◌-◌, ◌^◌, ◌≤◌, min, IfOk, IsErr, IsErrOf, string_bytes};
 ghost use Rattle.std.specs.FinMap.{empty};
 
 use crate::folder::Folder;
@@ -20,6 +20,7 @@ pub struct FileDisk<R: Files + AllocGlobal + Clone + Drop> {
 impl<R: Files + AllocGlobal + Clone + Drop> FileDisk<R> {
     /// The folder is first read in the first call.
     pub fn new(rt: R, alloc: Global, root: &str) -> Result<Self, AllocError>
+        ensures root { IfOk result (λ d. string_bytes d.folder.root ≡ root.now) }
         ensures calls { IfOk result (λ d. ⟦<FileDisk<R> as Disk>⟧.calls d ≡ 0) }
         ensures faults { IfOk result (λ d. ⟦<FileDisk<R> as Disk>⟧.faults d ≡ 0) }
     {

@@ -1,4 +1,8 @@
 // A real folder whose files are seen as a map from names to bytes. A name with slashes is a file in sub-folders.
+ghost use Rattle.std.specs.Prelude.{◌≡◌, IfOk, string_bytes};
+ghost use Rattle.std.specs.IoError.{error_kind};
+ghost use Rattle.disk_trait.specs.IoCauses.{cause_of};
+
 use crate::{DiskError, Failed};
 use std::alloc::{AllocError, Global};
 use std::fs::{self, DirEntry, OpenFile};
@@ -15,6 +19,8 @@ impl From<io::Error> for Failed {
 }
 
 impl From<io::Error> for DiskError {
+    ghost from_gives = { λ error e. e ≡ cause_of (error_kind error) };
+
     fn from(error: io::Error) -> Self {
         if error.kind() == ErrorKind::OutOfMemory {
             DiskError::NoMemory
@@ -34,7 +40,9 @@ pub struct Folder<R: Files + AllocGlobal + Clone + Drop> {
 }
 
 impl<R: Files + AllocGlobal + Clone + Drop> Folder<R> {
-    pub fn new(rt: R, alloc: Global, root: &str) -> Result<Self, AllocError> {
+    pub fn new(rt: R, alloc: Global, root: &str) -> Result<Self, AllocError>
+        ensures { IfOk result (λ f. string_bytes f.root ≡ root.now) }
+    {
         let room = root.len().saturating_add(1 + MAX_NAME);
         Ok(Folder {
             rt,

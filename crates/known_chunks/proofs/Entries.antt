@@ -1,6 +1,6 @@
 -- An ordered map from digests, and the finite map from their bytes that it stands for.
-use Rattle.std.proofs.Common.{◌≡◌, ℕ, cond, refl, sym, ap, ◌∙◌, List, [], ◌∷◌, map, Some}
-use Rattle.std.specs.FinMap.{find, get, insert, get-from_entries, get-insert, same_map, nat_cmp-IsAntisymmetric, slice_cmp-IsAntisymmetric}
+use Rattle.std.proofs.Common.{◌≡◌, ℕ, cond, refl, sym, ap, ◌∙◌, List, [], ◌∷◌, map, Some, None}
+use Rattle.std.specs.FinMap.{find, get, insert, remove, get-remove, get-from_entries, get-insert, same_map, nat_cmp-IsAntisymmetric, slice_cmp-IsAntisymmetric}
 use Rattle.std.specs.Cmp.{eq_by_cmp_equiv}
 use Rattle.std.specs.Cmp.Lexicographic.{nat_list_cmp_total}
 use Rattle.std.specs.Map.{lookup}
@@ -34,3 +34,15 @@ lengths_of-insert k n old new updates =
     ∙ ap (cond (eq_by_cmp text_cmp k.0 q) (Some n)) (sym (get-lengths_of digest old))
     ∙ ap (λ b. cond b (Some n) (get (lengths_of old) q)) ((eq_by_cmp_equiv nat_list_cmp_total).symm k.0 q)
     ∙ sym (get-insert nat_list_cmp_total _ k.0 n q))
+
+-- entries that find nothing there, and elsewhere what was found before
+pub lengths_of-remove : (k : Digest32) (old new : List (Digest32 × ℕ)) →
+    ((q : Digest32) → lookup (is_at (digest_cmp q)) new ≡ cond (is_at (digest_cmp k) q) None (lookup (is_at (digest_cmp q)) old)) →
+    lengths_of new ≡ remove (lengths_of old) k.0
+lengths_of-remove k old new updates =
+    same_map nat_list_cmp_total (slice_cmp-IsAntisymmetric nat_cmp-IsAntisymmetric) _ _
+    (λ q. let digest : Digest32 = record { 0 = q } in
+    get-lengths_of digest new ∙ updates digest
+    ∙ ap (cond (eq_by_cmp text_cmp k.0 q) None) (sym (get-lengths_of digest old))
+    ∙ ap (λ b. cond b None (get (lengths_of old) q)) ((eq_by_cmp_equiv nat_list_cmp_total).symm k.0 q)
+    ∙ sym (get-remove nat_list_cmp_total _ k.0 q))

@@ -2,7 +2,7 @@
 #![tactic(auto)]
 
 ghost use Rattle.std.specs.Prelude.{◌≡◌, OnOk, OnErr};
-ghost use Rattle.std.specs.FinMap.{empty, get, insert};
+ghost use Rattle.std.specs.FinMap.{empty, get, insert, remove};
 
 use std::alloc::{AllocError, Global};
 use std::collections::BTreeMap;
@@ -46,6 +46,13 @@ impl Known {
         Ok(())
     }
 
+    /// Takes a chunk out, where it is there. It takes no memory.
+    pub fn remove(&mut self, digest: &Digest32)
+        ensures { self.new ≡ remove self.old digest.now.0 }
+    {
+        let _ = self.lengths.remove(digest);
+    }
+
     /// The chunk's length, or `None` exactly where the chunk was never added. It takes no memory.
     pub fn find(&self, digest: &Digest32) -> Option<u32>
         ensures { result ≡ get self.now digest.now.0 }
@@ -70,6 +77,10 @@ mod tests {
         assert_eq!(rt; known.find(&first), Some(1));
         assert_eq!(rt; known.find(&second), Some(4096));
         assert_eq!(rt; known.find(&third), None);
+        known.remove(&third);
+        known.remove(&second);
+        assert_eq!(rt; known.find(&second), None);
+        assert_eq!(rt; known.find(&first), Some(1));
         Ok(())
     }
 }

@@ -23,18 +23,21 @@ use Rattle.lane.specs.Acting.{IsNoEnd, LeavesReserve, short_ending}
 -- ---- acts other than a lane's end
 
 pub no_end : (c : Command) → IsNoEnd (act_of_command c)
+no_end (commands.Chunk digest blob) = tt
 no_end (commands.Blob file blob) = tt
 no_end c = tt
 
 pub is_told : (a : Act) (x : Answer) → IsNoEnd a → IsTold a x → IsSome x.reply
 is_told (acts.Plain c) x h told = told
 is_told (acts.Blob name checked) x h told = told
+is_told (acts.Chunk digest checked) x h told = told
 is_told acts.Short x h told = told
 is_told acts.End x h told = absurd h
 
 pub keeps : {D E C : Type 0} (a : Act) (old new : Core D E C) (k : ℕ) (x : Answer) → IsNoEnd a → Keeps a old new k x → KeepsReserve old new k (is_closing old k a) x
 keeps (acts.Plain c) old new k x h kept = kept
 keeps (acts.Blob name checked) old new k x h kept = kept
+keeps (acts.Chunk digest checked) old new k x h kept = kept
 keeps acts.Short old new k x h kept = kept
 keeps acts.End old new k x h kept = absurd h
 

@@ -1,4 +1,5 @@
 pub mod Fronts
+pub mod Chunks
 pub mod Acting
 pub mod Caused
 pub mod Entries

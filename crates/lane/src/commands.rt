@@ -1,14 +1,16 @@
 //! What stands next in a lane's input, and the act that it asks for.
 
-ghost use Rattle.std.specs.Prelude.{◌≡◌, ℕ, List};
+ghost use Rattle.std.specs.Prelude.{◌≡◌, ℕ, List, IsOk, MatchResult, Err};
 ghost use Rattle.wire_frames.specs.Frames.{Tail, cut, too_long, whole};
-ghost use Rattle.store_history.specs.Acts.{check_blob, act_of_command};
+ghost use Rattle.store_model.specs.ArchiveSteps.{check_chunk as piece_of};
+ghost use Rattle.store_history.specs.Acts.{check_blob, checked_by, act_of_command};
 ghost use Rattle.lane.specs.Fronts.{IsAhead, ahead_of};
 
 use blob_codec::decode;
 use core_state::Act;
+use sha2::{Digest, Sha256};
 use std::alloc::Global;
-use store_types::{Bytes, Refusal};
+use store_types::{Bytes, Digest32, Refusal};
 use wire_commands::Command;
 use wire_frames::Cutter;
 
@@ -75,7 +77,35 @@ fn check(blob: Bytes) -> Result<Bytes, Refusal>
     }
 }
 
-/// The act for a command. An upload is checked here, and not in the act.
+/// The first refusal of a chunk's upload: the bytes are no blob, the piece in them is empty, or it has another digest.
+fn test_chunk(digest: Digest32, blob: &[u8]) -> Result<(), Refusal>
+    ensures { MatchResult result (λ _. IsOk (piece_of digest blob.now)) (λ e. piece_of digest blob.now ≡ Err e) }
+{
+    let piece = match decode(blob) {
+        Ok(piece) => piece,
+        Err(cause) => return Err(Refusal::BadBlob(cause)),
+    };
+    if piece.is_empty() {
+        return Err(Refusal::WrongSize { place: 0, size: 0 });
+    }
+    let found = Digest32(Sha256::digest(piece));
+    if found != digest {
+        return Err(Refusal::WrongDigest { found });
+    }
+    Ok(())
+}
+
+/// The bytes of a chunk's upload, where they are the blob of a piece with this digest, or the refusal of their check.
+fn check_chunk(digest: Digest32, blob: Bytes) -> Result<Bytes, Refusal>
+    ensures { result ≡ checked_by blob (piece_of digest blob) }
+{
+    match test_chunk(digest, blob.as_slice()) {
+        Ok(()) => Ok(blob),
+        Err(refusal) => Err(refusal),
+    }
+}
+
+/// The act for a command. An upload is checked here, and not in the act. Its bytes are moved, not copied.
 pub fn act_of(command: Command) -> Act
     ensures { result ≡ act_of_command command }
 {
@@ -83,6 +113,10 @@ pub fn act_of(command: Command) -> Act
         Command::Blob { file, blob } => Act::Blob {
             name: file,
             checked: check(blob),
+        },
+        Command::Chunk { digest, blob } => Act::Chunk {
+            digest,
+            checked: check_chunk(digest, blob),
         },
         command => Act::Plain(command),
     }

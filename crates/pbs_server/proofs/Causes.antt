@@ -1,5 +1,5 @@
 -- Why a session is answered so.
-use Rattle.std.proofs.Common.{◌≡◌, ◌^◌, ◌↔◌, ℕ, Bool, true, false, List, [], ◌++◌, length, Option, Some, None, if◌then◌else◌, ◌⊎◌, inl, inr, refl, sym, ap, subst, ◌∙◌}
+use Rattle.std.proofs.Common.{◌≡◌, ℕ, Bool, true, false, List, [], ◌++◌, length, Some, None, if◌then◌else◌, ◌⊎◌, inl, inr, refl, sym, ap, subst, ◌∙◌}
 use Rattle.std.specs.List.{All}
 use Rattle.port_traits.specs.Faults.{Rose}
 use Rattle.store_types.specs.declared.order.Entry.{Entry}
@@ -13,7 +13,7 @@ use Rattle.lane.specs.Entries.{has_kind, HasEntered}
 use Rattle.pbs_server.specs.declared.status.Status.{Status}
 use Rattle.pbs_server.specs.declared.status.Status.TheVariants as statuses
 use Rattle.pbs_server.specs.Statuses.{status_by, status_of_ending, is_short}
-use Rattle.pbs_server.specs.Causes.{IsOrder, IsCalm, HasNotFailed, ReachesNoCommand, HasCause}
+use Rattle.pbs_server.specs.Causes.{IsOrder, HasNotFailed, ReachesNoCommand, HasCause}
 use Rattle.pbs_server.proofs.Broken.{IsBroken}
 
 -- ---- the first that applies

@@ -8,7 +8,7 @@ use Rattle.wire_commands.specs.declared.reply.Reply.{Reply}
 use Rattle.store_model.specs.declared.ending.Ending.{Ending}
 use Rattle.store_history.specs.declared.act.Event.{Event}
 use Rattle.store_history.specs.Acts.{Class, stepping, wanting, ending, class_of}
-use Rattle.store_history.specs.History.{entry, entries, own, lane, moment, kind}
+use Rattle.store_history.specs.History.{entries, own, lane, moment, kind}
 use Rattle.store_history.specs.LaneRun.{LaneRan}
 use Rattle.store_history.specs.Seats.{AreOf}
 use Rattle.store_history.specs.Woven.{FitsRules}

@@ -1,21 +1,21 @@
 -- A session that was served is answered as by the plain store.
-use Rattle.std.proofs.Common.{◌≡◌, ◌≤◌, ◌^◌, ℕ, zero, suc, Bool, true, false, ◌&&◌, ◌||◌, ◌==◌, List, [], ◌∷◌, ◌++◌, map, length, Option, Some, None, IfSome, IsTrue, Ok, refl, sym, ap, subst, ◌∙◌, arith}
+use Rattle.std.proofs.Common.{◌≡◌, ◌≤◌, ℕ, zero, suc, Bool, true, false, ◌||◌, ◌==◌, List, [], ◌∷◌, ◌++◌, Option, Some, None, IfSome, IsTrue, Ok, refl, sym, ap, subst, ◌∙◌}
 use Rattle.port_traits.specs.Readings.{Readings}
 use Rattle.disk_trait.specs.Files.{Files}
 use Rattle.store_types.specs.declared.order.Entry.{Entry}
 use Rattle.store_files.specs.Archive.{Snapshot}
+use Rattle.store_model.specs.Clash.{NoClash, chunk_pieces}
 use Rattle.store_model.specs.Stands.{StandsFor as Stands}
-use Rattle.store_model.specs.Store.{Store}
 use Rattle.store_model.specs.Weave.{weave}
 use Rattle.store_history.specs.declared.act.Event.{Event}
-use Rattle.store_history.specs.History.{Opening, World, opened, after, after_all, moved, entries, entry, kind, kind_of, EntryKind, step_kind, short_kind, fault_kind, end_kind, no_kind}
+use Rattle.store_history.specs.History.{World, opened, after, after_all, moved, entries, sent, kind, kind_of, EntryKind, step_kind, short_kind, fault_kind, end_kind, no_kind}
 use Rattle.store_history.specs.LaneRun.{text}
 use Rattle.store_history.proofs.Alone.{served_alone}
 use Rattle.store_history.proofs.Whole.{served_woven}
 use Rattle.store_history.specs.Legal.{IsTimed, readings_left}
 use Rattle.store_files.specs.Order.{keeps_rules}
 use Rattle.core_state.specs.declared.state.Core.{Core}
-use Rattle.core_state.specs.History.{History, StandsFor, began, world}
+use Rattle.core_state.specs.History.{StandsFor, began, world}
 use Rattle.core_state.specs.Opening.{opening_at}
 use Rattle.core_state.specs.Records.{Records, Reaches}
 use Rattle.lane.specs.declared.port.LaneReport.{LaneReport}
@@ -86,16 +86,16 @@ no_fault R w (e ∷ es) none_is =
     ∙ moved_fault R w _ _ _ (kind_of (kind e)) (λ is. not_five (kind e) both.0 (fault_is_five (kind e) is))
 
 -- what a session did on any disk, and on an honest one, from a core that stands for no events where this holds
-pub record HasBoth (clock : Option Readings) (before now : ℕ) (is_honest : Type 0) (left left' taken taken' : Option (List ℕ)) (order : List Entry) (calls : List ℕ) (report : LaneReport) (files : Files) (stands : Option (List Snapshot) → Type 0) : Type 0 where
+pub record HasBoth (clock : Option Readings) (old : Files) (before now : ℕ) (is_honest : Type 0) (left left' taken taken' : Option (List ℕ)) (order : List Entry) (calls : List ℕ) (report : LaneReport) (files : Files) (stands : Option (List Snapshot) → Type 0) : Type 0 where
   pub told : HasTold clock left left' taken taken' order calls report
-  pub plain : (R : Option (List Snapshot)) → stands R → IsPlain R before now is_honest told.input told.events told.replies order report files
+  pub plain : (R : Option (List Snapshot)) → stands R → NoClash (chunk_pieces old ++ sent told.events) → IsPlain (opening_at old before) R now is_honest told.input told.events told.replies order report files
 
 pub has_both : {D E C : Type 0} (is_honest : D → Type 0) (content : D → Files) (calls_of : D → ℕ) (readings : C → Option Readings) (first core : Core D E C)
-    (clock : Option Readings) (before : ℕ) (left left' taken taken' : Option (List ℕ)) (order : List Entry) (calls : List ℕ) (report : LaneReport) (disk : D)
-    → RanAlone (Reaches is_honest content calls_of readings first (began (opening_at before) None clock) core) (began (opening_at before) None clock) 0 left left' taken taken' report
+    (clock : Option Readings) (old : Files) (before : ℕ) (left left' taken taken' : Option (List ℕ)) (order : List Entry) (calls : List ℕ) (report : LaneReport) (disk : D)
+    → RanAlone (Reaches is_honest content calls_of readings first (began (opening_at old before) None clock) core) (began (opening_at old before) None clock) 0 left left' taken taken' report
     → order ≡ (core.journal).entries.items → calls ≡ (core.journal).calls.items → disk ≡ (core.parts).disk
-    → HasBoth clock before (calls_of disk) (is_honest disk) left left' taken taken' order calls report (content disk) (λ R. StandsFor is_honest content calls_of readings first (began (opening_at before) R clock))
-has_both is_honest content calls_of readings first core clock before left left' taken taken' order calls report disk ran order_as calls_as disk_as = record {
+    → HasBoth clock old before (calls_of disk) (is_honest disk) left left' taken taken' order calls report (content disk) (λ R. StandsFor is_honest content calls_of readings first (began (opening_at old before) R clock))
+has_both is_honest content calls_of readings first core clock old before left left' taken taken' order calls report disk ran order_as calls_as disk_as = record {
   told = record {
     input = ran.input;
     events = ran.events;
@@ -113,10 +113,10 @@ has_both is_honest content calls_of readings first core clock before left left' 
     calls_are = calls_as ∙ r.calls;
     read_out = ran.read_out;
   };
-  plain = λ R begun. plain R ((ran.stands_for).stands R begun);
+  plain = λ R begun clear. plain R ((ran.stands_for).stands R begun clear);
 }
   where
-    r : Records readings core (with_events (began (opening_at before) None clock) ran.events)
+    r : Records readings core (with_events (began (opening_at old before) None clock) ran.events)
     r = (ran.stands_for).records
 
     order_is : order ≡ entries ran.events
@@ -127,18 +127,18 @@ has_both is_honest content calls_of readings first core clock before left left' 
     timed None t = t
     timed (Some c) t = t.0
 
-    plain : (R : Option (List Snapshot)) → StandsFor is_honest content calls_of readings core (with_events (began (opening_at before) R clock) ran.events)
-        → IsPlain R before (calls_of disk) (is_honest disk) ran.input ran.events (text ran.told) order report (content disk)
+    plain : (R : Option (List Snapshot)) → StandsFor is_honest content calls_of readings core (with_events (began (opening_at old before) R clock) ran.events)
+        → IsPlain (opening_at old before) R (calls_of disk) (is_honest disk) ran.input ran.events (text ran.told) order report (content disk)
     plain R s =
-        let h = with_events (began (opening_at before) R clock) ran.events in
-        let served = served_alone (opening_at before) R ran.events ran.input report.ending ran.told s.legal ran.lanes ran.ran in
+        let h = with_events (began (opening_at old before) R clock) ran.events in
+        let served = served_alone (opening_at old before) R ran.events ran.input report.ending ran.told s.legal ran.lanes ran.ran in
         record {
           store = (world h).store;
           woven = subst (λ es. weave [] R es (ran.input ∷ []) (report.ending ∷ []) ≡ Ok (record { store = (world h).store; replies = text ran.told ∷ [] })) (sym order_is)
-              (served_woven (opening_at before) R ran.events (ran.input ∷ []) (report.ending ∷ []) (ran.told ∷ []) served);
+              (served_woven (opening_at old before) R ran.events (ran.input ∷ []) (report.ending ∷ []) (ran.told ∷ []) served);
           legal = s.legal;
           reached = subst (λ x. (world h).calls ≤ calls_of x) (sym disk_as) s.reached;
           honest = subst is_honest (sym disk_as) s.honest;
           stands = λ is. subst (λ x. Stands (content x) (world h).store.snapshots) (sym disk_as)
-              (s.files (no_fault R (opened (opening_at before)) ran.events (sym (ap (has_kind 5) order_is) ∙ is))).snapshots;
+              (s.files (no_fault R (opened (opening_at old before)) ran.events (sym (ap (has_kind 5) order_is) ∙ is))).snapshots;
         }

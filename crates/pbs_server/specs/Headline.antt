@@ -1,5 +1,5 @@
 -- What a run leaves, and that a session is answered as the plain store answers it.
-use Rattle.std.specs.Prelude.{◌≡◌, ◌≤◌, ◌^◌, ◌⊎◌, ℕ, false, List, [], ◌∷◌, map, length, Option, Some, None, IfSome, IsSome, IsTrue, Ok}
+use Rattle.std.specs.Prelude.{◌≡◌, ◌≤◌, ◌^◌, ◌⊎◌, ℕ, false, List, [], ◌∷◌, ◌++◌, map, length, Option, Some, None, IfSome, IsSome, IsTrue, Ok}
 use Rattle.port_traits.specs.Bytes.{WritesCounted}
 use Rattle.port_traits.specs.Readings.{Readings}
 use Rattle.disk_trait.specs.Files.{Files}
@@ -7,11 +7,12 @@ use Rattle.store_types.specs.declared.order.Entry.{Entry}
 use Rattle.wire_commands.specs.declared.reply.Reply.{Reply}
 use Rattle.store_files.specs.Archive.{Snapshot}
 use Rattle.store_files.specs.Order.{keeps_rules}
+use Rattle.store_model.specs.Clash.{NoClash, chunk_pieces}
 use Rattle.store_model.specs.Store.{Store}
 use Rattle.store_model.specs.Stands.{StandsFor}
 use Rattle.store_model.specs.Weave.{weave}
 use Rattle.store_history.specs.declared.act.Event.{Event}
-use Rattle.store_history.specs.History.{opened, after_all, entries}
+use Rattle.store_history.specs.History.{Opening, opened, after_all, entries, sent}
 use Rattle.store_history.specs.LaneRun.{text, LaneRan}
 use Rattle.store_history.specs.Legal.{IsLegal, IsTimed}
 use Rattle.core_state.specs.Opening.{opening_at}
@@ -55,11 +56,11 @@ pub record HasTold (readings : Option Readings) (left left' taken taken' : Optio
 -- The plain store of whole archives, opened without snapshots and asked by the session's commands in the returned order, gives
 -- the bytes of the replies and this last store. The answers are the plain store's. The disk is honest still, its count of calls is
 -- not below the last entry's, and what it holds stands for the last store's snapshots, where it did not fail.
-pub record IsPlain (remote : Option (List Snapshot)) (before now : ℕ) (is_honest : Type 0) (input : List ℕ) (events : List Event) (replies : List ℕ) (order : List Entry) (report : LaneReport) (files : Files) : Type 0 where
+pub record IsPlain (opening : Opening) (remote : Option (List Snapshot)) (now : ℕ) (is_honest : Type 0) (input : List ℕ) (events : List Event) (replies : List ℕ) (order : List Entry) (report : LaneReport) (files : Files) : Type 0 where
   pub store : Store
   pub woven : weave [] remote order (input ∷ []) (report.ending ∷ []) ≡ Ok (record { store = store; replies = replies ∷ [] })
-  pub legal : IsLegal remote (opened (opening_at before)) events
-  pub reached : (after_all remote (opened (opening_at before)) events).calls ≤ now
+  pub legal : IsLegal remote (opened opening) events
+  pub reached : (after_all remote (opened opening) events).calls ≤ now
   pub honest : is_honest
   pub stands : has_kind 5 order ≡ false → StandsFor files store.snapshots
 
@@ -68,9 +69,10 @@ pub record HasServed {D E S K : Type 0} (honest : D → Type 0) (content : D →
     (readings : Option Readings) (disk : D) (remote : Option E) (old new : Port S K) (report : LaneReport) (result : Served D E) : Type 0 where
   -- on any disk
   pub told : HasTold readings (left old.source) (left new.source) (taken old.sink) (taken new.sink) (result.order).items ((result.report).calls).items report
-  -- on an honest disk without snapshots, whatever the remote has
-  pub plain : (R : Option (List Snapshot)) → honest disk → StandsFor (content disk) []
-      → IsPlain R (calls_of disk) (calls_of result.disk) (honest result.disk) told.input told.events told.replies (result.order).items report (content result.disk)
+  -- on an honest disk without snapshots, whatever the remote has, where no two unequal pieces have one digest of those in the chunk
+  -- files at opening and those that the session sent
+  pub plain : (R : Option (List Snapshot)) → honest disk → StandsFor (content disk) [] → NoClash (chunk_pieces (content disk) ++ sent told.events)
+      → IsPlain (opening_at (content disk) (calls_of disk)) R (calls_of result.disk) (honest result.disk) told.input told.events told.replies (result.order).items report (content result.disk)
   -- on any disk
   pub status : result.status ≡ status_by (result.order).items report.ending
   pub causes : HasCauses (source_faults old.source) (source_faults new.source) (sink_faults old.sink) (sink_faults new.sink) report.taken (Some report.ending)

@@ -1,8 +1,13 @@
+mod archives;
 mod disk_faults;
 mod memory;
 mod port_faults;
 
 use super::*;
+use archives::{
+    CHUNKS, CHUNKS_REPLIES, EMPTY_ARCHIVE, EMPTY_ARCHIVE_REPLIES, OPEN_INDEX, OPEN_INDEX_REPLIES,
+    SENT_AGAIN, SENT_AGAIN_REPLIES,
+};
 use disk_trait::{Disk, MemoryDisk};
 use lane::{Ending, LaneReport, Port};
 use port_traits::{FreeGate, MemSink, MemSource, SetClock, Sink};
@@ -109,6 +114,22 @@ const ABORTED: Session = Session {
     replies: b"\x02\0\0\0\0\0\x01\0\0\0\0\x01\0\0\0\0\x02\0\0\0\x03\0",
     marks: &[(1, 33, 6), (2, 71, 11), (3, 76, 16), (4, 81, 22)],
     reads: 82,
+};
+
+/// It sends the piece `abc` twice, closes an index with it, and aborts: the chunk stays.
+const STORED: Session = Session {
+    input: b"\x1d\0\0\0\x0a\x1bhost/a/2020-01-15T06:30:03Z\x0b\0\0\0\x0d\x09root.didx0\0\0\0\x0e\xbax\x16\xbf\x8f\x01\xcf\xeaAA@\xde]\xae\"#\xb0\x03a\xa3\x96\x17z\x9c\xb4\x10\xffa\xf2\0\x15\xadB\xab8\x07\xbe\x83p\xa1\xc2A$5abc0\0\0\0\x0e\xbax\x16\xbf\x8f\x01\xcf\xeaAA@\xde]\xae\"#\xb0\x03a\xa3\x96\x17z\x9c\xb4\x10\xffa\xf2\0\x15\xadB\xab8\x07\xbe\x83p\xa1\xc2A$5abc,\0\0\0\x0f\0\x01\0\xbax\x16\xbf\x8f\x01\xcf\xeaAA@\xde]\xae\"#\xb0\x03a\xa3\x96\x17z\x9c\xb4\x10\xffa\xf2\0\x15\xad\0\0\0\0\0\0\0\02\0\0\0\x10\0\x01\0\0\0\0\0\0\0\x03\0\0\0\0\0\0\0\x80\xa6r\x15\xaf\xf0\xc5\x85\xb6\xc0U\xe3\x8a\xa0Kv\xd4\xb2\x08\xe2\xd0\xc3\xeb1\xbf\xd0(\"\xaeb\xe1\xc0\x01\0\0\0\x13",
+    replies: b"\x02\0\0\0\0\0\x02\0\0\0\0\0\x01\0\0\0\0\x01\0\0\0\0\x01\0\0\0\0\x01\0\0\0\0\x01\0\0\0\0",
+    marks: &[
+        (1, 33, 6),
+        (2, 48, 12),
+        (3, 100, 17),
+        (4, 152, 22),
+        (5, 200, 27),
+        (6, 254, 32),
+        (7, 259, 37),
+    ],
+    reads: 260,
 };
 
 /// Files by name and size, in byte order of the names.
@@ -233,7 +254,7 @@ fn front(bytes: &[u8], count: u64) -> &[u8] {
 }
 
 /// Sessions that end at BYE or between two frames, with their replies and the kinds of their entries.
-const CLEAN: [(&[u8], &[u8], &[u8]); 9] = [
+const CLEAN: [(&[u8], &[u8], &[u8]); 13] = [
     (b"", b"", &[6]),
     (b"\x01\0\0\0\x3f", b"\x01\0\0\0\0", &[6]),
     // FINISH without a session
@@ -249,6 +270,14 @@ const CLEAN: [(&[u8], &[u8], &[u8]); 9] = [
         CLOSED_REPLIES,
         &[0, 0, 0, 0, 0, 0, 0, 0, 0, 0, 0, 0, 6],
     ),
+    (
+        EMPTY_ARCHIVE,
+        EMPTY_ARCHIVE_REPLIES,
+        &[0, 0, 0, 0, 0, 0, 0, 0, 6],
+    ),
+    (CHUNKS, CHUNKS_REPLIES, &[0, 0, 0, 0, 0, 0, 0, 6]),
+    (OPEN_INDEX, OPEN_INDEX_REPLIES, &[0, 0, 0, 0, 0, 0, 0, 0, 6]),
+    (SENT_AGAIN, SENT_AGAIN_REPLIES, &[0, 0, 0, 0, 0, 6]),
 ];
 
 /// Sessions that come to a place without a command, with their replies, the kinds of their entries, how many bytes are taken,
@@ -308,19 +337,24 @@ fn try_session(rt: &impl Abort, alloc: Global, input: &[u8], left: &Left<'_>) ->
     try_source(rt, alloc, source_of(alloc, input)?.at_most(1), left)
 }
 
-/// Beside each entry stands the disk's count of calls: FINISH puts and syncs, DOWNLOAD asks the size and reads.
+/// The counts of the disk's calls beside the entries: FINISH puts and syncs, DOWNLOAD asks the size and reads; CHUNK asks the size,
+/// and puts only where no file was there.
+const COUNTED: [(&[u8], &[u64]); 2] = [
+    (READ_BACK, &[0, 0, 2, 2, 4, 4]),
+    (SENT_AGAIN, &[0, 2, 2, 2, 3, 3]),
+];
+
 #[test]
 fn calls_are_counted(rt: HostRuntime) -> Result<(), Fail> {
     let alloc = rt.alloc();
-    let mut ports: Ports<MemSink> = [Port {
-        source: source_of(alloc, READ_BACK)?,
-        sink: empty_sink(alloc),
-    }];
-    let served = run_on(alloc, &mut ports, MemoryDisk::new(alloc))?;
-    assert_eq!(rt;
-        served.report.calls.as_slice(),
-        [0, 0, 2, 2, 4, 4].as_slice()
-    );
+    for (input, calls) in &COUNTED {
+        let mut ports: Ports<MemSink> = [Port {
+            source: source_of(alloc, input)?,
+            sink: empty_sink(alloc),
+        }];
+        let served = run_on(alloc, &mut ports, MemoryDisk::new(alloc))?;
+        assert_eq!(rt; served.report.calls.as_slice(), *calls);
+    }
     Ok(())
 }
 
@@ -362,27 +396,47 @@ fn what_is_no_command_ends_a_session(rt: HostRuntime) -> Result<(), Fail> {
     Ok(())
 }
 
-/// An upload of one data byte more than a blob may have.
-#[test]
-fn blobs_have_a_limit(rt: HostRuntime) -> Result<(), Fail> {
-    let alloc = rt.alloc();
-    let mut input =
-        b"\x1d\0\0\0\x0a\x1bhost/a/2020-01-15T06:30:03Z\x15\0\0\x01\x11\x06a.blob\x42\xab\x38\x07\xbe\x83\x70\xa1\0\0\0\0".to_vec(
-            alloc,
-        )?;
-    input.resize(33 + 12 + 12 + 16_777_217, 0)?;
+/// Serves a session that ends with an upload of so many zeros, behind these bytes.
+fn try_zeros(
+    rt: &impl Abort,
+    alloc: Global,
+    front: &[u8],
+    zeros: usize,
+    replies: &[u8],
+) -> Result<(), Fail> {
+    let mut input = front.to_vec(alloc)?;
+    let len = input.len().saturating_add(zeros);
+    input.resize(len, 0)?;
     let left = Left {
         status: Status::Ok,
         report: LaneReport {
-            taken: 57 + 16_777_217,
-            given: 12,
+            taken: len as u64,
+            given: replies.len() as u64,
             ending: Ending::Clean,
         },
-        replies: b"\x02\0\0\0\0\0\x02\0\0\0\x0b\x06",
+        replies,
         kinds: &[0, 0, 6],
     };
     let source = MemSource::new(input, Vec::new(alloc));
-    try_source(&rt, alloc, source, &left)
+    try_source(rt, alloc, source, &left)
+}
+
+/// A BLOB of one data byte more than a blob may have.
+#[test]
+fn blobs_have_a_limit(rt: HostRuntime) -> Result<(), Fail> {
+    let front =
+        b"\x1d\0\0\0\x0a\x1bhost/a/2020-01-15T06:30:03Z\x15\0\0\x01\x11\x06a.blob\x42\xab\x38\x07\xbe\x83\x70\xa1\0\0\0\0";
+    let replies = b"\x02\0\0\0\0\0\x02\0\0\0\x0b\x06";
+    try_zeros(&rt, rt.alloc(), front, 16_777_217, replies)
+}
+
+/// A CHUNK of as many data bytes as a blob may have.
+#[test]
+fn chunks_have_the_same_limit(rt: HostRuntime) -> Result<(), Fail> {
+    let front =
+        b"\x1d\0\0\0\x0a\x1bhost/a/2020-01-15T06:30:03Z-\0\0\x01\x0e\x08\x0a\xcf5\xa5\x07\xac\x98I\xcf\xcb\xa4}\xc2\xad\x83\xe0\x1buf:Qby\xc8\xb9\xd2C\xb7\x19d>B\xab8\x07\xbe\x83p\xa1J\xa1|\xa4";
+    let replies = b"\x02\0\0\0\0\0\x01\0\0\0\0";
+    try_zeros(&rt, rt.alloc(), front, 16_777_216, replies)
 }
 
 #[test]

@@ -3,14 +3,14 @@
 ghost use Rattle.std.specs.Prelude.{◌≡◌, IfOk, map};
 ghost use Rattle.std.specs.List.{concat, flat_map};
 ghost use Rattle.sha2.specs.Sha256.{sha256};
-ghost use Rattle.store_files.specs.Archive.{archive_text, fixed_of_archive, dynamic_of_archive, ends_from};
+ghost use Rattle.store_files.specs.Archive.{archive_text, csum_by, fixed_of_archive, dynamic_of_archive, ends_from};
 ghost use Rattle.store_files.specs.FixedIndex.{fixed_text as text_of_fixed};
 ghost use Rattle.store_files.specs.DynamicIndex.{dynamic_text as text_of_dynamic, entry_text};
 
 use sha2::{Digest, Sha256};
 use std::alloc::{AllocError, Global};
 use std::marker::Model;
-use store_types::Bytes;
+use store_types::{Bytes, Digest32};
 
 const FIXED_MAGIC: [u8; 8] = [47, 127, 65, 237, 145, 253, 15, 205];
 
@@ -87,6 +87,22 @@ impl Archive {
         match self.layout {
             Layout::Dynamic => self.dynamic_text(alloc),
             Layout::Fixed { size, chunk_size } => self.fixed_text(alloc, size, chunk_size),
+        }
+    }
+
+    /// The checksum of the archive's index file: the SHA-256 of what names its pieces.
+    pub fn csum(&self, alloc: Global) -> Result<Digest32, AllocError>
+        ensures { IfOk result (λ csum. csum ≡ csum_by self.now.layout self.now) }
+    {
+        match self.layout {
+            Layout::Dynamic => {
+                let entries = entries_of(alloc, &self.pieces)?;
+                Ok(Digest32(Sha256::digest(&entries)))
+            }
+            Layout::Fixed { .. } => {
+                let digests = digests_of(alloc, &self.pieces)?;
+                Ok(Digest32(Sha256::digest(&digests)))
+            }
         }
     }
 

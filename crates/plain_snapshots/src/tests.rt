@@ -232,6 +232,23 @@ fn texts_of_files(rt: HostRuntime) -> Result<(), Fail> {
     Ok(())
 }
 
+/// The checksums of archives stand in the texts that were read.
+#[test]
+fn checksums_of_archives(rt: HostRuntime) -> Result<(), Fail> {
+    let alloc = rt.alloc();
+    let mut disk = datastore(alloc)?;
+    let snapshots = read_snapshots(alloc, &mut disk)?;
+    let first = snapshots.first().ok_or("no snapshot")?;
+    for (file, path) in first.files.iter().zip([MANIFEST, DYNAMIC, FIXED, BLOB]) {
+        if let Content::Archive(archive) = &file.content {
+            let csum = archive.csum(alloc)?;
+            let bytes = disk.read(alloc, path)?.ok_or("nothing is there")?;
+            assert_eq!(rt; Some(csum.0.as_slice()), bytes.get(32..64), "{path}");
+        }
+    }
+    Ok(())
+}
+
 /// How many calls of the disk are made: the names are listed, and each is read.
 const CALLS: u64 = 10;
 

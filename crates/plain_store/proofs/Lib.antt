@@ -1,6 +1,9 @@
 pub mod Spelled
 pub mod Stopping
+pub mod Opened
+pub mod Naming
 pub mod WriterLemmas
+pub mod ArchiveLemmas
 pub mod ReaderLemmas
 pub mod Answering
 pub mod RunLemmas

@@ -42,7 +42,7 @@ module _ (r : Run) (k : ℕ) where
   unfolding ended_with
   untold_at_end ending reply h = rw h refl
 
-differs : (a b : ℕ) → a ≢ b → (a == b) ≡ false
+pub differs : (a b : ℕ) → a ≢ b → (a == b) ≡ false
 differs a b ne = elim (eqb_tells a b) [ inl p ↦ absurd (ne p.1) | inr p ↦ p.0 ]
 
 module _ (E : Endings) (r : Run) (place : ℕ) (e : Entry) (later : List Entry) where

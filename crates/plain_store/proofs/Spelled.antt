@@ -1,11 +1,5 @@
 -- What is answered has a text.
-use Rattle.std.proofs.Common.{◌≡◌, ℕ, zero, suc, ◌<◌, ◌≤◌, ◌^◌, ◌/◌, true, ◌&&◌, length, get_or, List, refl, arith, length-append}
-use Rattle.std.proofs.lemmas.Bool.{leb-true, and_parts}
-use Rattle.std.specs.Prelude.{nat_le}
-use Rattle.std.specs.List.{list_all}
-use Rattle.store_types.specs.declared.names.Kind.{Kind}
-use Rattle.store_types.specs.declared.names.Kind.TheVariants.{Ct, Host, Vm}
-use Rattle.store_types.specs.declared.names.SnapshotKey.{SnapshotKey}
+use Rattle.std.proofs.Common.{ℕ, ◌<◌, ◌≤◌, ◌^◌, length, List, arith, length-append}
 use Rattle.store_types.specs.declared.refusal.Refusal.{Refusal}
 use Rattle.store_types.specs.declared.refusal.Refusal.TheVariants.{BadFrame, TooLong, WrongState, BadName, GroupBusy, SnapshotBusy, NotNewer, NoSnapshot, NoFile, Exists, BadBlob, WrongDigest, WrongSize, UnknownChunk, BadOffset, BadClose, OpenIndexes, BadManifest, ManifestMismatch, NotAllowed, TooMany, BadRange, Damaged, Unreadable, CollectorBusy, DiskFault, Halted, NoMemory, NoRemote, RemoteFault}
 use Rattle.store_types.specs.declared.refusal.BadBlob.{BadBlob as BlobCause}
@@ -14,10 +8,7 @@ use Rattle.store_types.specs.declared.refusal.CloseFault.{CloseFault}
 use Rattle.store_types.specs.declared.refusal.CloseFault.TheVariants.{Count, Size, Csum, Rest}
 use Rattle.store_types.specs.declared.refusal.ChunkFault.{ChunkFault}
 use Rattle.store_types.specs.declared.refusal.ChunkFault.TheVariants.{Nothing, NotABlob, Other}
-use Rattle.store_types.specs.FileNames.{is_id, is_word_byte, is_id_byte}
-use Rattle.store_types.specs.Times.{digits, time_text}
-use Rattle.store_types.specs.Names.{IsKey, kind_text, group_text, key_text}
-use Rattle.wire_commands.specs.declared.reply.Reply.TheVariants.{Done, Base, Part, Refused}
+use Rattle.wire_commands.specs.declared.reply.Reply.TheVariants.{Done, Base, Part, Number, Refused}
 use Rattle.wire_commands.specs.RefusalText.{blob_fault_text, close_fault_text, chunk_fault_text, refusal_text}
 use Rattle.wire_commands.specs.ReplyText.{reply_text}
 use Rattle.wire_commands.specs.HasText.{FitsCloseFault, FitsChunkFault, FitsRefusal, ReplyHasText}
@@ -35,6 +26,10 @@ base_spelled text h = (h, omega arith)
 pub part_spelled : (total : ℕ) (bytes : List ℕ) → total < 2 ^ 64 → length bytes ≤ 4_194_304 → ReplyHasText (Part total bytes)
 unfolding reply_text
 part_spelled total bytes h few = (h, omega arith)
+
+pub number_spelled : (n : ℕ) → n < 256 → ReplyHasText (Number n)
+unfolding reply_text
+number_spelled n h = (h, omega arith)
 
 blob_fault_short : (f : BlobCause) → length (blob_fault_text f) ≤ 9
 blob_fault_short blobs.Short = omega arith

@@ -15,13 +15,17 @@ pub refusal_fits : (result : Result Reply Stop) (r : Refusal) → result ≡ Err
 refusal_fits result r is h = subst (λ (x : Result Reply Stop). IsSpelled x) (sym is) h
 
 -- a test with a stop of its own
-pub does_stop : {A : Type 0} (s : Store) (result : Result Reply Stop) (stop : Stop) (test : Result A Refusal) (o : Outcome)
-    → result ≡ Err stop → Gives {A = A} (λ x. x) (Err stop) test → ((r : Refusal) → test ≡ Err r → o ≡ Err r) → Does s s result o
-does_stop {A} s result stop test o is gives refused = subst (λ (x : Result Reply Stop). Does s s x o) (sym is) (by_stop stop gives)
+pub does_stop : {A B : Type 0} (shown : A → B) (s : Store) (result : Result Reply Stop) (stop : Stop) (test : Result B Refusal) (o : Outcome)
+    → result ≡ Err stop → Gives {A = A} shown (Err stop) test → ((r : Refusal) → test ≡ Err r → o ≡ Err r) → Does s s result o
+does_stop {A} shown s result stop test o is gives refused = subst (λ (x : Result Reply Stop). Does s s x o) (sym is) (by_stop stop gives)
   where
-    by_stop : (stop : Stop) → Gives {A = A} (λ x. x) (Err stop) test → Does s s (Err stop) o
+    by_stop : (stop : Stop) → Gives {A = A} shown (Err stop) test → Does s s (Err stop) o
     by_stop (Refused r) g = (refused r g, refl)
     by_stop NoMemory g = refl
 
 pub stop_fits : (result : Result Reply Stop) (stop : Stop) → result ≡ Err stop → IsFitRefusal {A = Reply} (Err stop) → IsSpelled result
 stop_fits result stop is h = subst (λ (x : Result Reply Stop). IsSpelled x) (sym is) h
+
+-- a test that is refused
+pub gives_refusal : {A B : Type 0} (shown : A → B) (result : Result A Stop) (r : Refusal) (test : Result B Refusal) → result ≡ Err (Refused r) → test ≡ Err r → Gives shown result test
+gives_refusal {A} shown result r test is h = subst (λ (x : Result A Stop). Gives shown x test) (sym is) h

@@ -1,19 +1,20 @@
 -- A writer's commands, by how their tests came out.
-use Rattle.std.proofs.Common.{◌≡◌, ℕ, ◌+◌, ◌<◌, ◌≤◌, Bool, true, false, not, set, ◌||◌, add-zero, List, [], length, Option, None, Some, Result, Ok, Err, refl, ap, ◌∙◌}
-use Rattle.std.proofs.lemmas.Bool.{lt-ltb, le-ltb, or_parts}
+use Rattle.std.proofs.Common.{◌≡◌, ℕ, ◌<◌, true, false, set, List, [], length, Option, None, Some, Result, Ok, Err, refl, sym, ap, ◌∙◌, arith}
+use Rattle.std.proofs.lemmas.Bool.{or_parts}
 use Rattle.std.specs.Prelude.{nat_lt, is_some}
 use Rattle.store_types.specs.declared.names.SnapshotKey.{SnapshotKey}
 use Rattle.store_types.specs.declared.refusal.Refusal.{Refusal}
-use Rattle.store_types.specs.declared.refusal.Refusal.TheVariants.{BadName, GroupBusy, Exists, TooMany, NoFile}
+use Rattle.store_types.specs.declared.refusal.Refusal.TheVariants.{BadName, GroupBusy, TooMany, NoFile, OpenIndexes}
 use Rattle.store_types.specs.Chain.Refusing.{◌>>=◌, unless, if_none}
 use Rattle.store_types.specs.FileNames.{is_file_name, is_index_name, is_blob_name, manifest_name}
 use Rattle.store_types.specs.Names.{key_of, group_of_key}
 use Rattle.store_files.specs.Archive.{File, Snapshot, blob, file_named}
 use Rattle.wire_commands.specs.declared.reply.Reply.{Reply}
 use Rattle.wire_commands.specs.declared.reply.Reply.TheVariants.{Done, Base}
-use Rattle.store_model.specs.Store.{Store, Session, Writer, none, writer, reader, session, with_session, want_writer, want_idle, group_holder, in_group, latest_in, insert_snapshot, insert_file, ended}
+use Rattle.store_model.specs.Store.{Store, Session, Begun, Writer, none, writer, reader, session, with_session, want_writer, want_idle, group_holder, in_group, latest_in, insert_snapshot, insert_file, ended}
 use Rattle.store_model.specs.Uploads.{want_room}
 use Rattle.store_model.specs.WriterSteps.{open_writer, new_writer, base_text, want_newer, want_data, checked_blob, put_blob, goes_on, finish, snapshot_of, abort}
+use Rattle.plain_store.proofs.RunLemmas.{differs}
 use Rattle.plain_store.specs.Writers.{base_of, upload_of}
 
 -- ---- tests in a row
@@ -78,13 +79,13 @@ module _ (s : Store) (lane moment : ℕ) (text : List ℕ) where
     pub open_refused : (r : Refusal) → base_of s key ≡ Err r → open_writer s lane moment text ≡ Err r
     open_refused r h = tests_are ∙ refused_in_row latest goes (is_free s key) (is_newer s key) (has_room s key) r h
 
-    pub open_goes : (base copy : Option SnapshotKey) (files : List File) (told : List ℕ) (after : Store) → base_of s key ≡ Ok base
-        → files ≡ [] → copy ≡ base → told ≡ base_text base
-        → after ≡ with_session s lane (writer (record { key = key; start = moment; base = copy; pool = []; begun = []; files = files }))
+    pub open_goes : (base copy : Option SnapshotKey) (pool : List (List ℕ)) (begun : List Begun) (files : List File) (told : List ℕ) (after : Store)
+        → base_of s key ≡ Ok base → pool ≡ [] → begun ≡ [] → files ≡ [] → copy ≡ base → told ≡ base_text base
+        → after ≡ with_session s lane (writer (record { key = key; start = moment; base = copy; pool = pool; begun = begun; files = files }))
         → open_writer s lane moment text ≡ Ok (after, Base told)
-    open_goes base copy files told after h empty same tells is =
+    open_goes base copy pool begun files told after h no_piece no_archive empty same tells is =
         let p = passed_in_row latest goes (is_free s key) (is_newer s key) (has_room s key) base h in
-        tests_are ∙ p.1 ∙ ap (λ b. Ok (begins b)) p.2 ∙ rw (is, empty, same, tells) refl
+        tests_are ∙ p.1 ∙ ap (λ b. Ok (begins b)) p.2 ∙ rw (is, no_piece, no_archive, empty, same, tells) refl
 
 -- ---- BLOB
 
@@ -121,13 +122,6 @@ module _ (s : Store) (lane : ℕ) (name bytes : List ℕ) where
         let p = passed_in_row file goes_with (unless BadName (is_blob_name name)) (want_room name w) (want_data bytes) f h in
         put_tests ∙ p.1 ∙ ap puts p.2
 
--- the code's tests of a new file
-pub room_free : (there : Bool) (n : ℕ) → there ≡ false → n < 64 → Ok tt ≡ (unless Exists (not (there || false)) >>= λ _. unless (TooMany 64) (nat_lt (n + 0) 64))
-room_free there n new h = rw (new, add-zero, lt-ltb n 64 h) refl
-
-pub room_full : (there : Bool) (n : ℕ) → there ≡ false → 64 ≤ n → (let e : Result (Unit {0}) Refusal = Err (TooMany 64) in e) ≡ (unless Exists (not (there || false)) >>= λ _. unless (TooMany 64) (nat_lt (n + 0) 64))
-room_full there n new h = rw (new, add-zero, le-ltb n 64 h) refl
-
 -- a name that no file may have
 pub no_name : (w : Writer) (name bytes : List ℕ) → is_file_name name ≡ false → upload_of w name bytes ≡ Err BadName
 no_name w name bytes bad = let no_blob = (or_parts (is_index_name name) (is_blob_name name) bad).1 in rw no_blob refl
@@ -139,25 +133,30 @@ module _ (s : Store) (lane : ℕ) where
   unfolding finish
   finish_not_writer r e = rw e refl
 
-  pub finish_no_manifest : (w : Writer) → want_writer (session s lane) ≡ Ok w → file_named manifest_name w.files ≡ None → finish s lane ≡ Err NoFile
+  pub finish_open : (w : Writer) (count : ℕ) → want_writer (session s lane) ≡ Ok w → count ≡ length w.begun → 0 < count → finish s lane ≡ Err (OpenIndexes count)
   unfolding finish
-  finish_no_manifest w e h = rw (e, h) refl
+  finish_open w count e same some = rw (e, sym same, differs count 0 (λ e. omega (arith, some, e))) refl
 
-  pub finish_goes : (w : Writer) (f : File) → want_writer (session s lane) ≡ Ok w → file_named manifest_name w.files ≡ Some f
-      → finish s lane ≡ Ok (record (with_session s lane none) { snapshots = insert_snapshot (snapshot_of w) s.snapshots }, Done)
-  unfolding finish
-  finish_goes w f e h = rw (e, h) refl
+  module _ (w : Writer) (e : want_writer (session s lane) ≡ Ok w) (closed : length w.begun ≡ 0) where
+    pub finish_no_manifest : file_named manifest_name w.files ≡ None → finish s lane ≡ Err NoFile
+    unfolding finish
+    finish_no_manifest h = rw (e, closed, h) refl
 
-  -- as the code does it
-  pub finish_as : (w : Writer) (f : File) → want_writer (session s lane) ≡ Ok w → file_named manifest_name w.files ≡ Some f
-      → (snapshots new : List Snapshot) (sessions : List Session) (key : SnapshotKey) (files : List File) (after : Store)
-      → (let store : Store = record { snapshots = snapshots; sessions = sessions } in store ≡ s)
-      → new ≡ insert_snapshot (record { key = key; files = files }) snapshots → key ≡ w.key → files ≡ w.files
-      → after ≡ record { snapshots = new; sessions = set sessions lane none } → finish s lane ≡ Ok (after, Done)
-  finish_as w f e h snapshots new sessions key files after store placed same_key same_files is =
-      let listed : snapshots ≡ s.snapshots = ap (λ (x : Store). x.snapshots) store in
-      let held : sessions ≡ s.sessions = ap (λ (x : Store). x.sessions) store in
-      finish_goes w f e h ∙ rw (is, placed, same_key, same_files, listed, held) refl
+    pub finish_goes : (f : File) → file_named manifest_name w.files ≡ Some f
+        → finish s lane ≡ Ok (record (with_session s lane none) { snapshots = insert_snapshot (snapshot_of w) s.snapshots }, Done)
+    unfolding finish
+    finish_goes f h = rw (e, closed, h) refl
+
+    -- as the code does it
+    pub finish_as : (f : File) → file_named manifest_name w.files ≡ Some f
+        → (snapshots new : List Snapshot) (sessions : List Session) (key : SnapshotKey) (files : List File) (after : Store)
+        → (let store : Store = record { snapshots = snapshots; sessions = sessions } in store ≡ s)
+        → new ≡ insert_snapshot (record { key = key; files = files }) snapshots → key ≡ w.key → files ≡ w.files
+        → after ≡ record { snapshots = new; sessions = set sessions lane none } → finish s lane ≡ Ok (after, Done)
+    finish_as f h snapshots new sessions key files after store placed same_key same_files is =
+        let listed : snapshots ≡ s.snapshots = ap (λ (x : Store). x.snapshots) store in
+        let held : sessions ≡ s.sessions = ap (λ (x : Store). x.sessions) store in
+        finish_goes f h ∙ rw (is, placed, same_key, same_files, listed, held) refl
 
 pub is_there : {A : Type 0} (o : Option A) → is_some o ≡ true → (x : A) × (o ≡ Some x)
 is_there None h = cc

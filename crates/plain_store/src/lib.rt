@@ -3,6 +3,11 @@
 //! with: they share the formats, names, frames and commands, and the definitions.
 #![tactic(auto)]
 
+mod archive_steps;
+mod archives;
+mod changes;
+mod closing;
+mod entries;
 mod lane;
 mod loading;
 mod next;
@@ -17,5 +22,7 @@ mod writer_steps;
 pub use plain::Plain;
 pub use weave::{Misfit, Woven};
 
+#[cfg(test)]
+mod archive_tests;
 #[cfg(test)]
 mod tests;

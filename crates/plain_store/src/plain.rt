@@ -93,7 +93,8 @@ impl Plain {
         moment: u64,
         command: &Command,
     ) -> Result<Reply, Stop>
-        requires { lane < 64 }
+        requires lane { lane < 64 }
+        requires moment { moment ≤ last_moment }
         ensures does { Does self.old self.new result (outcome_of self.old lane moment command.now) }
         ensures spelled { IsSpelled result }
     {
@@ -101,6 +102,19 @@ impl Plain {
             Command::OpenWriter { snapshot } => {
                 self.open_writer(alloc, lane, moment, snapshot.as_slice())
             }
+            Command::NewDynamic { file } => self.new_dynamic(alloc, lane, moment, file.as_slice()),
+            Command::Chunk { digest, blob } => {
+                self.put_chunk(alloc, lane, digest, blob.as_slice())
+            }
+            Command::Append { number, entries } => {
+                self.append(alloc, lane, *number, entries.as_slice())
+            }
+            Command::CloseIndex {
+                number,
+                count,
+                size,
+                csum,
+            } => self.close_index(alloc, lane, *number, *count, *size, csum),
             Command::Blob { file, blob } => {
                 self.put_blob(alloc, lane, file.as_slice(), blob.as_slice())
             }

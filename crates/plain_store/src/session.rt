@@ -7,9 +7,10 @@ ghost use Rattle.store_model.specs.Store.{writes_group as has_group};
 ghost use Rattle.store_types.specs.declared.refusal.Refusal.TheVariants.{GroupBusy};
 ghost use Rattle.wire_commands.specs.HasText.{FitsRefusal};
 
+use crate::archives::Open;
 use plain_snapshots::{File, PlainKey};
 use std::marker::Model;
-use store_types::{FileName, Refusal, SessionState, SnapshotKey};
+use store_types::{Bytes, FileName, Refusal, SessionState, SnapshotKey};
 
 /// A writer: its snapshot is not finished.
 #[derive(Drop)]
@@ -19,7 +20,10 @@ pub struct Writer {
     pub start: u64,
     /// The group's latest snapshot at that moment.
     pub base: Option<PlainKey>,
-    /// Its uploads, in byte order of their names.
+    /// The pieces that it may name, as they came.
+    pub pool: Vec<Bytes>,
+    pub begun: Open,
+    /// Its files, in byte order of their names.
     pub files: Vec<File>,
 }
 

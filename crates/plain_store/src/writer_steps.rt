@@ -1,25 +1,26 @@
 //! The commands of a writer.
 
-ghost use Rattle.std.specs.Prelude.{◌≡◌, ◌<◌, length, nat_lt, option_map, Ok, Err, MatchResult, IfOk, IfErr, OnOk, OnErr};
+ghost use Rattle.std.specs.Prelude.{◌≡◌, ◌<◌, length, nat_lt, option_map, Ok, Err, MatchResult, IfOk, IfErr};
 ghost use Rattle.std.specs.List.{list_any};
 ghost use Rattle.std.specs.Str.{bytes_eq};
 ghost use Rattle.store_types.specs.Chain.Refusing.{unless};
 ghost use Rattle.store_types.specs.Names.{group_of_key};
 ghost use Rattle.store_types.specs.declared.refusal.Refusal.TheVariants.{TooMany};
-ghost use Rattle.store_model.specs.Store.{in_group, session as session_at, with_session};
-ghost use Rattle.store_model.specs.Uploads.{want_room as needs_room};
+ghost use Rattle.store_model.specs.Store.{in_group};
+ghost use Rattle.store_model.specs.Uploads.{want_room as needs_room, has_file as file_there};
 ghost use Rattle.store_model.specs.WriterSteps.{base_text as text_of_base, want_newer as needs_newer, open_writer as opened, put_blob as put, finish as finished, abort as aborted};
-ghost use Rattle.plain_store.specs.Sessions.{shown_held, shown_writer, uploaded};
+ghost use Rattle.plain_store.specs.Sessions.{shown_writer};
 ghost use Rattle.plain_store.specs.Outcomes.{Does, Gives, IsFitRefusal, IsSpelled};
 ghost use Rattle.wire_commands.specs.HasText.{FitsRefusal};
 ghost use Rattle.plain_store.specs.Writers.{base_of as tested_base, upload_of as tested_upload};
 
+use crate::archives::Open;
+use crate::changes::Change;
 use crate::plain::Plain;
 use crate::session::{Held, Writer, want_free};
 use crate::stop::Stop;
 use plain_snapshots::{
-    BlobData, Content, File, PlainKey, Snapshot, count_in, file_named, insert_file,
-    insert_snapshot, latest_in,
+    BlobData, Content, File, PlainKey, Snapshot, count_in, file_named, insert_snapshot, latest_in,
 };
 use std::alloc::{AllocError, Global};
 use store_types::{Bytes, FileName, Refusal, SnapshotKey};
@@ -74,21 +75,28 @@ fn copied(base: Option<&PlainKey>) -> Result<Option<PlainKey>, AllocError>
 }
 
 /// The writer has a file of that name.
-fn has_file(w: &Writer, name: &FileName) -> bool
+fn is_uploaded(w: &Writer, name: &FileName) -> bool
     ensures { result ≡ list_any (λ f. bytes_eq f.name name.now) w.now.files.items }
 {
     w.files.iter().any(|file| file.name == *name)
 }
 
+/// The writer has an uploaded or an open file of that name.
+fn has_file(w: &Writer, name: &FileName) -> bool
+    ensures { result ≡ file_there name.now (shown_writer w.now) }
+{
+    is_uploaded(w, name) || w.begun.has_name(name)
+}
+
 /// The writer has no file of that name, and has room for one more.
-fn want_room(w: &Writer, name: &FileName) -> Result<(), Refusal>
+pub fn want_room(w: &Writer, name: &FileName) -> Result<(), Refusal>
     ensures fits { IfErr result FitsRefusal }
     ensures test { result ≡ needs_room name.now (shown_writer w.now) }
 {
     if has_file(w, name) {
         return Err(Refusal::Exists);
     }
-    if w.files.len() < 64 {
+    if w.files.len() + (w.begun.len() as usize) < 64 {
         Ok(())
     } else {
         Err(Refusal::TooMany { limit: 64 })
@@ -113,17 +121,6 @@ fn upload(alloc: Global, w: &Writer, name: &[u8], blob: &[u8]) -> Result<File, S
             content: Content::Blob(contents),
         }),
         Err(cause) => Err(Stop::Refused(Refusal::BadBlob(cause))),
-    }
-}
-
-/// The file comes to the files of the writer. At want of memory nothing has changed.
-fn take_upload(held: &mut Held, file: File) -> Result<(), AllocError>
-    ensures ok { OnOk result (shown_held held.new ≡ uploaded file (shown_held held.old)) }
-    ensures err { OnErr result (shown_held held.new ≡ shown_held held.old) }
-{
-    match held {
-        Held::Writing(w) => insert_file(&mut w.files, file),
-        _ => Ok(()),
     }
 }
 
@@ -160,27 +157,18 @@ impl Plain {
         let base = self.base_of(key.as_key())?;
         let text = base_text(alloc, base)?;
         let base = copied(base)?;
-        let files = Vec::new(alloc);
         self.set_held(
             lane,
             Held::Writing(Writer {
                 key,
                 start: moment,
                 base,
-                files,
+                pool: Vec::new(alloc),
+                begun: Open::new(alloc),
+                files: Vec::new(alloc),
             }),
         );
         Ok(Reply::Base { snapshot: text })
-    }
-
-    /// The file comes to the files of the lane's writer. At want of memory nothing has changed.
-    fn put_file(&mut self, lane: u32, file: File) -> Result<(), AllocError>
-        requires { lane < 64 }
-        ensures ok { OnOk result (self.new ≡ with_session self.old lane (uploaded file (session_at self.old lane))) }
-        ensures err { OnErr result (self.new ≡ self.old) }
-    {
-        let session = &mut self.sessions[lane as usize];
-        take_upload(&mut session.held, file)
     }
 
     /// BLOB: the lane's writer gets a file of the blob's data.
@@ -197,7 +185,7 @@ impl Plain {
     {
         let w = self.held(lane).want_writer()?;
         let file = upload(alloc, w, name, blob)?;
-        self.put_file(lane, file)?;
+        self.change(lane, Change::Upload(file))?;
         Ok(Reply::Done)
     }
 
@@ -208,6 +196,10 @@ impl Plain {
         ensures spelled { IsSpelled result }
     {
         let w = self.held(lane).want_writer()?;
+        let count = w.begun.len();
+        if count > 0 {
+            return Err(Stop::Refused(Refusal::OpenIndexes { count }));
+        }
         if file_named(b"index.json.blob", &w.files).is_none() {
             return Err(Stop::Refused(Refusal::NoFile));
         }

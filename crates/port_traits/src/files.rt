@@ -21,7 +21,8 @@ pub struct FileSource<R: Files + Drop> {
 impl<R: Files + Drop> FileSource<R> {
     /// A source over the file at this path.
     pub fn new(rt: R, path: String) -> FileSource<R>
-        ensures { ⟦<FileSource<R> as Source>⟧.faults result ≡ 0 }
+        ensures path { result.path ≡ path }
+        ensures faults { ⟦<FileSource<R> as Source>⟧.faults result ≡ 0 }
     {
         FileSource {
             rt,
@@ -88,7 +89,8 @@ impl<W: Write + Drop> FileSink<W> {
 
     /// A sink over a writer as it stands, such as standard output.
     pub fn over(writer: W) -> FileSink<W>
-        ensures { ⟦<FileSink<W> as Sink>⟧.faults result ≡ 0 }
+        ensures writer { result.writer ≡ Some writer }
+        ensures faults { ⟦<FileSink<W> as Sink>⟧.faults result ≡ 0 }
     {
         FileSink {
             writer: Some(writer),

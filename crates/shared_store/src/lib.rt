@@ -5,13 +5,14 @@ ghost use Rattle.std.specs.Prelude.{◌≡◌, ◌<◌, ◌⊎◌, true, slice_i
 ghost use Rattle.store_history.specs.Acts.{IsWellFormed};
 ghost use Rattle.core_state.specs.Answers.{IsAnswered, IsCaused, IsTold};
 ghost use Rattle.core_state.specs.Closing.{is_closing};
-ghost use Rattle.core_state.specs.History.{History, StandsFor, then_event, event_of};
+ghost use Rattle.core_state.specs.History.{History, IsClear, StandsFor, then_event, event_of};
 ghost use Rattle.core_state.specs.Records.{Records, IsTimely};
 ghost use Rattle.core_state.specs.Reserved.{Keeps};
 ghost use Rattle.core_state.specs.Unchanged.{Unchanged};
 ghost use Rattle.core_state.specs.declared.kept.Session.TheVariants.{Idle};
+ghost use Rattle.core_writer.specs.Closed.{Lists};
 ghost use Rattle.core_writer.specs.Ended.{Removes};
-ghost use Rattle.core_writer.specs.Others.{OthersStay};
+ghost use Rattle.core_writer.specs.Others.{ActLeaves};
 ghost use Rattle.core_reader.specs.Asked.{asked_path};
 ghost use Rattle.core_reader.specs.Unreadables.{TellsUnreadable};
 
@@ -33,8 +34,9 @@ pub fn apply<D: Disk, E, C: Clock>(
     requires lane { lane < 64 }
     requires room { 0 < core.old.journal.spare ⊎ 0 < slice_index core.old.journal.held lane }
     requires formed { IsWellFormed act }
-    // for every history that the core stood for, it stands for that history with this act's event more
-    ensures history { (h : History) → StandsFor D.honest D.content D.calls C.readings core.old h
+    // for every history that the core stood for, it stands for that history with this act's event more, where no two of the
+    // pieces of that one have one digest
+    ensures history { (h : History) → StandsFor D.honest D.content D.calls C.readings core.old h → IsClear (then_event h (event_of act result (D.calls core.new.parts.disk)))
         → StandsFor D.honest D.content D.calls C.readings core.new (then_event h (event_of act result (D.calls core.new.parts.disk))) }
     // on any disk it keeps this act's event behind those that it kept
     ensures records { (h : History) → Records C.readings core.old h → Records C.readings core.new (then_event h (event_of act result (D.calls core.new.parts.disk))) }
@@ -47,8 +49,10 @@ pub fn apply<D: Disk, E, C: Clock>(
     ensures unreadable { TellsUnreadable D.honest D.content core.old.parts.disk (asked_path act (slice_index_or core.old.parts.sessions.items lane Idle) core.old.parts.catalogue.items) result.entry.kind result.reply }
     // a refused act leaves catalogue and sessions as before, and the disk too unless it failed
     ensures unchanged { IfSome result.reply (Unchanged D.honest D.content core.old.parts core.new.parts) }
-    // under names that are no file's of the lane's writer all stays
-    ensures others { OthersStay D.honest D.content core.old.parts core.new.parts lane result.reply }
+    // under names that are no file's of the lane's writer all stays, but at that of a chunk that the act puts
+    ensures others { ActLeaves D.honest D.content core.old.parts core.new.parts lane act result.reply }
+    // a FINISH that is done lists the snapshot with the number of this act's entry, and no other act changes the catalogue
+    ensures listed { Lists core.old core.new lane act result }
     ensures short { act ≡ Act.Short → result.entry.kind ≡ 2 }
     // the files of a writer that has ended are gone
     ensures removed { Removes D.honest D.content core.old core.new lane act result }
@@ -62,7 +66,7 @@ pub fn apply<D: Disk, E, C: Clock>(
     match act {
         Act::Plain(Command::OpenReader { .. } | Command::Download { .. } | Command::CloseReader) =>
             reader_act(core, alloc, lane, act),
-        Act::Plain(_) | Act::Blob { .. } => writer_act(core, alloc, lane, act),
+        Act::Plain(_) | Act::Blob { .. } | Act::Chunk { .. } => writer_act(core, alloc, lane, act),
         Act::Short => short(core, alloc, lane),
         Act::End => end_act(core, lane),
     }

@@ -21,6 +21,7 @@ use Rattle.store_history.specs.Acts.{IsPlain, IsChecked, IsWellFormed, check_blo
 use Rattle.store_history.specs.History.{kind, reply}
 use Rattle.store_history.specs.LaneRun.{Position, next_at, heard_at, heard, heard_as, last_words, end_faulted, end_heard, position_after, Asks, may_want, EndsSo, Does, Runs}
 use Rattle.store_history.specs.SoFar.{goes_further, Follows, Leads}
+use Rattle.store_history.proofs.Checking.{is_checked_chunk}
 use Rattle.store_history.proofs.Events.{command_class}
 use Rattle.store_history.proofs.Growing.{leads_more}
 
@@ -68,6 +69,7 @@ part_next p is = by_left p.left is
 -- ---- the acts of commands
 
 pub plain_act : (c : Command) → IsPlain c → act_of_command c ≡ acts.Plain c
+plain_act (commands.Chunk digest blob) h = absurd h
 plain_act (commands.Blob file blob) h = absurd h
 plain_act c h = refl
 
@@ -81,7 +83,11 @@ is_checked bytes = by_result (data_of bytes) refl
     by_result (Err fault) e = tt
 
 pub is_formed : (c : Command) → c ≢ commands.Bye → IsWellFormed (act_of_command c)
+is_formed (commands.Chunk digest blob) ne = is_checked_chunk digest blob
 is_formed (commands.Blob file blob) ne = is_checked blob
+is_formed (commands.NewDynamic file) ne = tt
+is_formed (commands.Append number entries) ne = tt
+is_formed (commands.CloseIndex number count size csum) ne = tt
 is_formed commands.Bye ne = absurd (ne refl)
 is_formed (commands.OpenWriter snapshot) ne = tt
 is_formed commands.Finish ne = tt

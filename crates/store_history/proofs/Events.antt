@@ -11,6 +11,7 @@ use Rattle.wire_commands.specs.declared.reply.Reply.TheVariants.{Done, Refused}
 use Rattle.store_model.specs.declared.ending.Ending.{Ending}
 use Rattle.store_model.specs.declared.ending.Ending.TheVariants as endings
 use Rattle.store_model.specs.WriterSteps.{put_blob, checked_blob, want_data}
+use Rattle.store_model.specs.ArchiveSteps.{put_chunk, checked_chunk}
 use Rattle.store_model.specs.Store.{ended}
 use Rattle.store_model.specs.Steps.{outcome, answered, step}
 use Rattle.store_model.specs.Lanes.{Run, Next, plain, bye, broken, end, next_of}
@@ -25,12 +26,14 @@ use Rattle.store_history.specs.Acts.{act_of_command, check_blob, Class, stepping
 use Rattle.store_history.specs.History.{World, data_in, act_outcome, moved, EntryKind, kind_of, step_kind, short_kind, fault_kind, end_kind, no_kind, lane, moment, kind, reply}
 use Rattle.store_history.specs.Legal.{Right, Says}
 use Rattle.store_history.specs.LaneRun.{Position, lane_of, next_at, tells, used_up, heard_at, heard, heard_as, last_words, end_faulted, end_heard, position_after, Asks, may_want, EndsSo, Does}
+use Rattle.store_history.proofs.Checking.{chunk_checked}
 use Rattle.store_history.proofs.Placed.{run_of, at, keep_is, same_lane, tell_is, next_is}
 use Rattle.store_history.proofs.Wanting.{Goes, want_goes}
 
 -- ---- the act of a command
 
 pub command_class : (c : Command) → class_of (act_of_command c) ≡ stepping
+command_class (commands.Chunk digest blob) = refl
 command_class (commands.Blob file blob) = refl
 command_class c = refl
 
@@ -42,7 +45,8 @@ data_checked bytes =
     ] refl
 
 command_outcome : (R : Option (List Snapshot)) (w : World) (k m : ℕ) (c : Command) → act_outcome R w k m (act_of_command c) ≡ outcome w.store k m c
-unfolding act_outcome outcome put_blob
+unfolding act_outcome outcome put_blob put_chunk
+command_outcome R w k m (commands.Chunk digest blob) = ap (checked_chunk w.store k) (chunk_checked digest blob)
 command_outcome R w k m (commands.Blob file blob) = ap (checked_blob w.store k file) (data_checked blob)
 command_outcome R w k m c = refl
 
@@ -268,6 +272,9 @@ module _ (R : Option (List Snapshot)) (w : World) (ps : List Position) (k m : �
     acted (acts.Blob name checked) x v vs is does cut right =
         asked (x.entry).kind (acts.Blob name checked) x.reply (subst (λ y. Asks (next_at p) y) is does.1) cut right
         ∙ ap Some (heard_is (moved R w k m (acts.Blob name checked) (kind_of (x.entry).kind)) x)
+    acted (acts.Chunk digest checked) x v vs is does cut right =
+        asked (x.entry).kind (acts.Chunk digest checked) x.reply (subst (λ y. Asks (next_at p) y) is does.1) cut right
+        ∙ ap Some (heard_is (moved R w k m (acts.Chunk digest checked) (kind_of (x.entry).kind)) x)
 
     pub turned : (v : Event) (vs : List Event) → lane v ≡ k → moment v ≡ m → Does (class_of v.act) e p v vs
         → (kind v ≡ 5 → is_cut_off k e later ≡ cuts (class_of v.act) e)

@@ -1,8 +1,8 @@
 -- A snapshot is there once its FINISH was answered 0, and stays.
-use Rattle.std.proofs.Common.{◌≡◌, ℕ, zero, suc, Bool, true, false, List, [], ◌∷◌, cond, Option, Some, None, Result, Ok, Err, refl, sym, subst, ap, ◌∙◌, is_some, if◌then◌else◌, nat_le, nat_lt, length}
+use Rattle.std.proofs.Common.{◌≡◌, ℕ, zero, suc, Bool, true, false, List, [], ◌∷◌, cond, Option, Some, None, Result, Ok, Err, refl, sym, subst, ap, ◌∙◌, is_some, if◌then◌else◌, nat_le, nat_lt, ◌==◌, length, map}
 use Rattle.store_types.specs.declared.names.SnapshotKey.{SnapshotKey}
 use Rattle.store_types.specs.declared.refusal.Refusal.{Refusal}
-use Rattle.store_types.specs.declared.refusal.Refusal.TheVariants.{BadName, GroupBusy, TooMany, NoFile, NoSnapshot, BadRange, NoMemory}
+use Rattle.store_types.specs.declared.refusal.Refusal.TheVariants.{BadName, GroupBusy, TooMany, OpenIndexes, NoFile, NoSnapshot, BadRange, NoMemory}
 use Rattle.store_types.specs.Chain.Refusing.{◌>>=◌, unless, or_else, if_none}
 use Rattle.store_types.specs.FileNames.{is_blob_name, is_file_name, manifest_name}
 use Rattle.store_types.specs.Names.{same_key, key_lt, key_of, group_of_key}
@@ -14,6 +14,8 @@ use Rattle.wire_commands.specs.declared.reply.Reply.TheVariants.{Done, Refused}
 use Rattle.store_model.specs.Store.{Writer, none, writer, with_session, Store, Outcome, session, want_writer, want_reader, want_idle, group_holder, in_group, latest_in, snapshot_named, insert_snapshot, ended}
 use Rattle.store_model.specs.Uploads.{want_room}
 use Rattle.store_model.specs.WriterSteps.{goes_on, open_writer, want_newer, want_data, checked_blob, put_blob, snapshot_of, finish, abort}
+use Rattle.store_model.specs.WriterCalls as calls
+use Rattle.store_model.specs.ArchiveSteps.{new_dynamic, check_chunk, checked_chunk, put_chunk, named, append, close_index}
 use Rattle.store_model.specs.ReaderSteps.{open_reader, reader_files, download, close_reader}
 use Rattle.store_model.specs.Steps.{outcome, answered}
 use Rattle.store_model.specs.Weave.{fault_refusal}
@@ -74,16 +76,27 @@ unfolding Keeps checked_blob goes_on
 blob_keeps key s k name checked =
     bound key s (want_writer (session s k)) _ (λ w. bound key s (unless BadName (is_blob_name name)) _ (λ u. bound key s (want_room name w) _ (λ v. bound key s checked _ (λ contents. λ h. h))))
 
+chunk_keeps : (key : SnapshotKey) (s : Store) (k : ℕ) (checked : Result (List ℕ) Refusal) → Keeps key s (checked_chunk s k checked)
+unfolding Keeps checked_chunk goes_on
+chunk_keeps key s k checked = bound key s (want_writer (session s k)) _ (λ w. bound key s checked _ (λ piece. λ h. h))
+
 command_keeps : (key : SnapshotKey) (s : Store) (k m : ℕ) (c : Command) → Keeps key s (outcome s k m c)
-unfolding Keeps outcome open_writer goes_on put_blob finish abort open_reader download close_reader
+unfolding Keeps outcome open_writer new_dynamic put_chunk append close_index goes_on put_blob finish abort open_reader download close_reader
 command_keeps key s k m (commands.OpenWriter snapshot) =
     bound key s (want_idle (session s k)) _ (λ a. bound key s (or_else BadName (key_of snapshot)) _ (λ b. bound key s (if_none GroupBusy (group_holder s (group_of_key b))) _
     (λ c. bound key s (want_newer b.time (latest_in (group_of_key b) s.snapshots)) _
     (λ d. bound key s (unless (TooMany 4096) (nat_lt (length (in_group (group_of_key b) s.snapshots)) 4096)) _ (λ e. λ h. h)))))
+command_keeps key s k m (commands.NewDynamic file) =
+    bound key s (want_writer (session s k)) _ (λ w. bound key s (calls.new_dynamic w file m) _ (λ b. λ h. h))
+command_keeps key s k m (commands.Chunk digest blob) = chunk_keeps key s k (check_chunk digest blob)
+command_keeps key s k m (commands.Append number entries) =
+    bound key s (want_writer (session s k)) _ (λ w. bound key s (calls.append w number (map named entries)) _ (λ b. λ h. h))
+command_keeps key s k m (commands.CloseIndex number count size csum) =
+    bound key s (want_writer (session s k)) _ (λ w. bound key s (calls.close_index w number count size csum) _ (λ b. λ h. h))
 command_keeps key s k m (commands.Blob file blob) = blob_keeps key s k file (want_data blob)
 command_keeps key s k m commands.Finish =
-    bound key s (want_writer (session s k)) _ (λ w. bound key s (or_else NoFile (file_named manifest_name w.files)) _
-    (λ f. λ h. insert_keeps key (snapshot_of w) s.snapshots h))
+    bound key s (want_writer (session s k)) _ (λ w. bound key s (unless (OpenIndexes (length w.begun)) (length w.begun == 0)) _
+    (λ u. bound key s (or_else NoFile (file_named manifest_name w.files)) _ (λ f. λ h. insert_keeps key (snapshot_of w) s.snapshots h)))
 command_keeps key s k m commands.Abort = bound key s (want_writer (session s k)) _ (λ w. λ h. h)
 command_keeps key s k m (commands.OpenReader snapshot) =
     bound key s (want_idle (session s k)) _ (λ a. bound key s (or_else BadName (key_of snapshot)) _ (λ b. bound key s (or_else NoSnapshot (snapshot_named b s.snapshots)) _ (λ c. λ h. h)))
@@ -97,6 +110,7 @@ act_keeps : (R : Option (List Snapshot)) (key : SnapshotKey) (w : World) (k m : 
 unfolding Keeps act_outcome
 act_keeps R key w k m (acts.Plain c) = command_keeps key w.store k m c
 act_keeps R key w k m (acts.Blob name checked) = blob_keeps key w.store k name (data_in checked)
+act_keeps R key w k m (acts.Chunk digest checked) = chunk_keeps key w.store k (data_in checked)
 act_keeps R key w k m acts.Short = tt
 act_keeps R key w k m acts.End = λ h. h
 
@@ -127,27 +141,29 @@ fin = acts.Plain commands.Finish
 no_done : (r : Option Reply) (refusal : Refusal) → r ≡ Some Done → r ≡ Some (Refused refusal) → ⊥
 no_done r refusal done is = let clash : Some Done ≡ Some (Refused refusal) = sym done ∙ is in cc
 
-abbrev finished : Store → ℕ → Writer → Option File → Outcome
-finished s k x f = or_else NoFile f >>= (λ g. Ok (record (with_session s k none) { snapshots = insert_snapshot (snapshot_of x) s.snapshots }, Done))
+abbrev finished : Store → ℕ → Writer → Bool → Option File → Outcome
+finished s k x b f =
+    unless (OpenIndexes (length x.begun)) b >>= (λ u. or_else NoFile f >>= (λ g. Ok (record (with_session s k none) { snapshots = insert_snapshot (snapshot_of x) s.snapshots }, Done)))
 
-finish_is : (s : Store) (k : ℕ) (x : Writer) → session s k ≡ writer x → finish s k ≡ finished s k x (file_named manifest_name x.files)
+finish_is : (s : Store) (k : ℕ) (x : Writer) → session s k ≡ writer x → finish s k ≡ finished s k x (length x.begun == 0) (file_named manifest_name x.files)
 unfolding finish
 finish_is s k x is =
-    ap (λ y. want_writer y >>= (λ v. finished s k v (file_named manifest_name v.files))) is
+    ap (λ y. want_writer y >>= (λ v. finished s k v (length v.begun == 0) (file_named manifest_name v.files))) is
 
-finished_puts : (s : Store) (k : ℕ) (x : Writer) (f : Option File) → same_key x.key x.key ≡ true → (answered s (finished s k x f)).1 ≡ Done
-    → IsThere x.key ((answered s (finished s k x f)).0).snapshots
-finished_puts s k x None same h = cc
-finished_puts s k x (Some f) same h = insert_puts (snapshot_of x) s.snapshots same
+finished_puts : (s : Store) (k : ℕ) (x : Writer) (b : Bool) (f : Option File) → same_key x.key x.key ≡ true → (answered s (finished s k x b f)).1 ≡ Done
+    → IsThere x.key ((answered s (finished s k x b f)).0).snapshots
+finished_puts s k x false f same h = cc
+finished_puts s k x true None same h = cc
+finished_puts s k x true (Some f) same h = insert_puts (snapshot_of x) s.snapshots same
 
 puts_by : (R : Option (List Snapshot)) (w : World) (k m n : ℕ) (r : Option Reply) (x : Writer) → Right R w k m fin r stepping (kind_of n) → r ≡ Some Done
     → session w.store k ≡ writer x → same_key x.key x.key ≡ true → IsThere x.key ((moved R w k m fin (kind_of n)).store).snapshots
 unfolding moved act_outcome outcome
 puts_by R w k m zero r x right done is same =
-    let o = finished w.store k x (file_named manifest_name x.files) in
+    let o = finished w.store k x (length x.begun == 0) (file_named manifest_name x.files) in
     let says : Some Done ≡ Some (answered w.store o).1 = sym done ∙ right.1 ∙ ap (λ y. Some (answered w.store y).1) (finish_is w.store k x is) in
     subst (λ y. IsThere x.key ((answered w.store y).0).snapshots) (sym (finish_is w.store k x is))
-    (finished_puts w.store k x (file_named manifest_name x.files) same (let h : (answered w.store o).1 ≡ Done = cc in h))
+    (finished_puts w.store k x (length x.begun == 0) (file_named manifest_name x.files) same (let h : (answered w.store o).1 ≡ Done = cc in h))
 puts_by R w k m (suc zero) r x right done is same = absurd right
 puts_by R w k m (suc (suc zero)) r x right done is same = absurd (no_done r NoMemory done right)
 puts_by R w k m (suc (suc (suc zero))) r x right done is same = absurd right

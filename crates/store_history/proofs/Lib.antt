@@ -1,5 +1,6 @@
 pub mod Placed
 pub mod Wanting
+pub mod Checking
 pub mod Events
 pub mod Whole
 pub mod Rules

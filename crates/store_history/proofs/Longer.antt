@@ -3,12 +3,13 @@ use Rattle.std.proofs.Common.{◌≡◌, ◌≢◌, ℕ, zero, suc, ◌+◌, ◌
 use Rattle.std.specs.List.{cons_option}
 use Rattle.std.proofs.lemmas.Bool.{eq-eqb, eqb-true, ltb-true, ltb-false}
 use Rattle.std.proofs.lemmas.List.{map-append, length-map, length-append}
+use Rattle.std.proofs.lemmas.Grind.{flat_map-append}
 use Rattle.std.proofs.lemmas.List.Elements.{filter-append, filter_map-append}
 use Rattle.store_types.specs.Times.{last_moment}
 use Rattle.port_traits.specs.Readings.{Readings}
 use Rattle.store_files.specs.Archive.{Snapshot}
 use Rattle.store_history.specs.declared.act.Event.{Event}
-use Rattle.store_history.specs.History.{World, is_of, own, entry, entries, lane, moment, after, after_all}
+use Rattle.store_history.specs.History.{World, is_of, own, entry, entries, lane, moment, after, after_all, sent_by, sent}
 use Rattle.store_history.specs.Legal.{IsRight, IsLegal, later, moment_at, IsTimed, readings_left, moment_after}
 use Rattle.store_history.specs.Woven.{AreLanes}
 use Rattle.store_history.specs.Seats.{picked, has, Rises, is_by, AreOwn, AreOf}
@@ -85,6 +86,9 @@ moment_in_time c before = omega arith
 
 pub entries_more : (h : List Event) (e : Event) → entries (h ++ e ∷ []) ≡ entries h ++ entry e ∷ []
 entries_more h e = map-append entry h (e ∷ [])
+
+pub sent_more : (h : List Event) (e : Event) → sent (h ++ e ∷ []) ≡ sent h ++ sent_by e.act
+sent_more h e = flat_map-append (λ v. sent_by v.act) h (e ∷ []) ∙ ap (λ ps. sent h ++ ps) (append-nil (sent_by e.act))
 
 pub entries_length : (h : List Event) → length (entries h) ≡ length h
 entries_length h = length-map h entry

@@ -8,9 +8,9 @@ use Rattle.store_types.specs.Chain.Reading.{◌>>=◌, only_if}
 use Rattle.wire_frames.specs.Frames.{short, too_long, whole, cut, cut_body, body_limit}
 use Rattle.wire_commands.specs.declared.command.Command.{Command}
 use Rattle.wire_commands.specs.declared.command.Command.TheVariants as commands
-use Rattle.wire_commands.specs.Fields.{text_at, number_at}
+use Rattle.wire_commands.specs.Fields.{text_at, number_at, byte_at, digest_at, rows_at}
 use Rattle.wire_commands.specs.Fields as fields
-use Rattle.wire_commands.specs.CommandText.{nothing_more, one_text, text_and_offset, blob, fields_of, command_of}
+use Rattle.wire_commands.specs.CommandText.{nothing_more, one_text, text_and_offset, chunk, entry_at, append, close_index, blob, fields_of, command_of}
 use Rattle.wire_commands.specs.Inputs.{front, cut_front, body_front}
 use Rattle.store_model.specs.Lanes.{Next, bye, end, front_next, command_next, lane_next}
 use Rattle.store_history.specs.LaneRun.{Position, next_at, may_want}
@@ -30,10 +30,21 @@ unfolding IsNotBye
 bound None f h = tt
 bound (Some x) f h = h x
 
+close_not_bye : (bytes : List ℕ) → IsNotBye (close_index bytes)
+unfolding IsNotBye close_index
+close_not_bye bytes =
+    bound (byte_at bytes) _ (λ n. bound (number_at w64 n.1) _ (λ c. bound (number_at w64 c.1) _ (λ s. bound (fields.whole (digest_at s.1)) _ (λ d. tt))))
+
 fields_not_bye : (code : ℕ) (bytes : List ℕ) → 1 ≤ length bytes → IsNotBye (fields_of code bytes)
-unfolding IsNotBye fields_of one_text blob nothing_more text_and_offset
+unfolding IsNotBye fields_of one_text blob nothing_more text_and_offset chunk append
 fields_not_bye code bytes more =
     either (code == 10) (one_text commands.OpenWriter bytes) _ (bound (fields.whole (text_at bytes)) (λ t. Some (commands.OpenWriter t)) (λ t. tt))
+    (either (code == 13) (one_text commands.NewDynamic bytes) _ (bound (fields.whole (text_at bytes)) (λ t. Some (commands.NewDynamic t)) (λ t. tt))
+    (either (code == 14) (chunk bytes) _ (bound (digest_at bytes) (λ d. Some (commands.Chunk d.0 d.1)) (λ d. tt))
+    (either (code == 15) (append bytes) _
+    (bound (byte_at bytes) (λ n. fields.whole (rows_at entry_at n.1) >>= λ es. Some (commands.Append n.0 es))
+    (λ n. bound (fields.whole (rows_at entry_at n.1)) (λ es. Some (commands.Append n.0 es)) (λ es. tt)))
+    (either (code == 16) (close_index bytes) _ (close_not_bye bytes)
     (either (code == 17) (blob bytes) _ (bound (text_at bytes) (λ t. Some (commands.Blob t.0 t.1)) (λ t. tt))
     (either (code == 18) (nothing_more commands.Finish bytes) _ (either (length bytes == 0) (Some commands.Finish) None tt tt)
     (either (code == 19) (nothing_more commands.Abort bytes) _ (either (length bytes == 0) (Some commands.Abort) None tt tt)
@@ -42,7 +53,7 @@ fields_not_bye code bytes more =
     (bound (text_at bytes) (λ t. fields.whole (number_at w64 t.1) >>= λ n. Some (commands.Download t.0 n))
     (λ t. bound (fields.whole (number_at w64 t.1)) (λ n. Some (commands.Download t.0 n)) (λ n. tt)))
     (either (code == 24) (nothing_more commands.CloseReader bytes) _ (either (length bytes == 0) (Some commands.CloseReader) None tt tt)
-    (either (code == 63) (nothing_more commands.Bye bytes) None (last (length bytes == 0) refl) tt)))))))
+    (either (code == 63) (nothing_more commands.Bye bytes) None (last (length bytes == 0) refl) tt)))))))))))
   where
     last : (b : Bool) → (length bytes == 0) ≡ b → IsNotBye (if b then Some commands.Bye else None)
     last true is = let none : length bytes ≡ 0 = eqb-true (length bytes) 0 is in absurd (omega arith)

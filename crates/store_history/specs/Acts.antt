@@ -1,8 +1,10 @@
 -- The acts of a lane.
-use Rattle.std.specs.Prelude.{ℕ, List, Result, Ok, Err, IsOk}
+use Rattle.std.specs.Prelude.{ℕ, ◌≡◌, List, Result, Ok, Err, IsOk}
 use Rattle.store_types.specs.declared.refusal.Refusal.{Refusal}
-use Rattle.store_types.specs.declared.refusal.Refusal.TheVariants.{BadBlob}
+use Rattle.store_types.specs.declared.refusal.Refusal.TheVariants.{BadBlob, WrongSize, WrongDigest}
+use Rattle.store_types.specs.declared.names.Digest32.{Digest32}
 use Rattle.blob_codec.specs.Blob.{data_of}
+use Rattle.store_model.specs.ArchiveSteps.{check_chunk}
 use Rattle.wire_commands.specs.declared.command.Command.{Command}
 use Rattle.wire_commands.specs.declared.command.Command.TheVariants as commands
 use Rattle.store_history.specs.declared.act.Act.{Act}
@@ -12,6 +14,7 @@ use Rattle.store_history.specs.declared.act.Act.TheVariants as acts
 
 -- a command that is an act of its own: no upload, and no BYE, which belongs to the lane's end
 abbrev pub IsPlain : Command → Type 0
+IsPlain (commands.Chunk digest blob) = ⊥
 IsPlain (commands.Blob file blob) = ⊥
 IsPlain commands.Bye = ⊥
 IsPlain c = Unit {0}
@@ -22,9 +25,19 @@ IsChecked (Ok bytes) = IsOk (data_of bytes)
 IsChecked (Err (BadBlob fault)) = Unit {0}
 IsChecked (Err refusal) = ⊥
 
+-- what the check of an upload under a digest gives: its bytes, where they are the blob of a piece with that digest, or what is
+-- wrong with them
+abbrev pub IsCheckedChunk : Digest32 → Result (List ℕ) Refusal → Type 0
+IsCheckedChunk digest (Ok bytes) = IsOk (check_chunk digest bytes)
+IsCheckedChunk digest (Err (BadBlob fault)) = Unit {0}
+IsCheckedChunk digest (Err (WrongSize place size)) = (place ≡ 0) × (size ≡ 0)
+IsCheckedChunk digest (Err (WrongDigest found)) = Unit {0}
+IsCheckedChunk digest (Err refusal) = ⊥
+
 abbrev pub IsWellFormed : Act → Type 0
 IsWellFormed (acts.Plain c) = IsPlain c
 IsWellFormed (acts.Blob name checked) = IsChecked checked
+IsWellFormed (acts.Chunk digest checked) = IsCheckedChunk digest checked
 IsWellFormed acts.Short = Unit {0}
 IsWellFormed acts.End = Unit {0}
 
@@ -33,7 +46,12 @@ IsWellFormed acts.End = Unit {0}
 abbrev pub check_blob : List ℕ → Result (List ℕ) Refusal
 check_blob bytes = elim (data_of bytes) [ Ok piece ↦ Ok bytes | Err fault ↦ Err (BadBlob fault) ]
 
+abbrev pub checked_by : List ℕ → Result (List ℕ) Refusal → Result (List ℕ) Refusal
+checked_by bytes (Ok piece) = Ok bytes
+checked_by bytes (Err refusal) = Err refusal
+
 abbrev pub act_of_command : Command → Act
+act_of_command (commands.Chunk digest blob) = acts.Chunk digest (checked_by blob (check_chunk digest blob))
 act_of_command (commands.Blob file blob) = acts.Blob file (check_blob blob)
 act_of_command c = acts.Plain c
 

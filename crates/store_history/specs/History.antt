@@ -1,5 +1,6 @@
 -- What acts do to the plain store, and what they answer.
 use Rattle.std.specs.Prelude.{zero, suc, ℕ, ◌+◌, Bool, List, [], ◌∷◌, map, filter, ◌==◌, Option, None, Result, Ok, Err}
+use Rattle.std.specs.List.{flat_map}
 use Rattle.store_types.specs.declared.order.Entry.{Entry}
 use Rattle.store_types.specs.declared.refusal.Refusal.{Refusal}
 use Rattle.store_types.specs.declared.refusal.Refusal.TheVariants.{NoMemory}
@@ -8,6 +9,7 @@ use Rattle.wire_commands.specs.declared.reply.Reply.{Reply}
 use Rattle.wire_commands.specs.declared.reply.Reply.TheVariants.{Done}
 use Rattle.store_model.specs.Store.{Store, store_of, Outcome, ended}
 use Rattle.store_model.specs.WriterSteps.{checked_blob, want_data}
+use Rattle.store_model.specs.ArchiveSteps.{checked_chunk}
 use Rattle.store_model.specs.Steps.{outcome, answered}
 use Rattle.store_model.specs.Weave.{first_fault}
 use Rattle.store_history.specs.declared.act.Act.{Act}
@@ -63,11 +65,13 @@ kind_of _ = no_kind
 
 -- ---- the plain store in the course of a history
 
--- what a store is opened with: its finished snapshots, the last moment of its book, and its disk's count of calls
+-- what a store is opened with: its finished snapshots, the last moment of its book, its disk's count of calls, and the pieces of
+-- its chunk files
 pub record Opening : Type 0 where
   pub snapshots : List Snapshot
   pub moment : ℕ
   pub calls : ℕ
+  pub chunks : List (List ℕ)
 
 -- the store, the place of the first fault, the number of events, the last moment, and the disk's count of calls
 pub record World : Type 0 where
@@ -89,8 +93,19 @@ data_in (Err refusal) = Err refusal
 unfoldable pub act_outcome : Option (List Snapshot) → World → ℕ → ℕ → Act → Outcome
 act_outcome remote w k m (acts.Plain c) = outcome w.store k m c
 act_outcome remote w k m (acts.Blob name checked) = checked_blob w.store k name (data_in checked)
+act_outcome remote w k m (acts.Chunk digest checked) = checked_chunk w.store k (data_in checked)
 act_outcome remote w k m acts.Short = Err NoMemory
 act_outcome remote w k m acts.End = Ok (ended w.store k, Done)
+
+-- ---- the pieces that were sent
+
+-- a piece that an act sends under its digest
+abbrev pub sent_by : Act → List (List ℕ)
+sent_by (acts.Chunk digest checked) = elim (data_in checked) [ Ok piece ↦ piece ∷ [] | Err refusal ↦ [] ]
+sent_by _ = []
+
+abbrev pub sent : List Event → List (List ℕ)
+sent h = flat_map (λ e. sent_by e.act) h
 
 -- ---- after an event
 

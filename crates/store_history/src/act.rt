@@ -1,6 +1,6 @@
 //! What a lane asks of the core, and what it is answered.
 
-use store_types::{Bytes, Entry, Refusal};
+use store_types::{Bytes, Digest32, Entry, Refusal};
 use wire_commands::{Command, Reply};
 
 /// One act of a lane.
@@ -11,6 +11,12 @@ pub enum Act {
     /// An upload of a blob: its bytes, whose check found data in them, or the refusal of that check.
     Blob {
         name: Bytes,
+        checked: Result<Bytes, Refusal>,
+    },
+    /// An upload of a chunk under its digest: its blob's bytes, in which the check found a piece with that digest, or the
+    /// refusal of that check.
+    Chunk {
+        digest: Digest32,
         checked: Result<Bytes, Refusal>,
     },
     /// Want of memory outside the turn.

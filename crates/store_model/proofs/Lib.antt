@@ -7,3 +7,4 @@ pub mod Insertions
 pub mod FileInsertions
 pub mod StandsLemmas
 pub mod GroupTimes
+pub mod PiecesNamed

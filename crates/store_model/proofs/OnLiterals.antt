@@ -9,13 +9,16 @@ use Rattle.store_files.proofs.OnLiterals.{store_files_on_literals}
 use Rattle.wire_commands.proofs.OnLiterals.{wire_commands_on_literals}
 use Rattle.store_model.specs.Load as load_
 use Rattle.store_model.specs.WriterSteps as writer_
+use Rattle.store_model.specs.Archives as archives_
+use Rattle.store_model.specs.WriterCalls as calls_
+use Rattle.store_model.specs.ArchiveSteps as archive_
 use Rattle.store_model.specs.ReaderSteps as reader_
 use Rattle.store_model.specs.Steps as steps_
 use Rattle.store_model.specs.Lanes as lanes_
 use Rattle.store_model.specs.Weave as weave_
 
 unfoldable pub store_model_on_literals : ⊤
-unfolding store_types_on_literals store_files_on_literals wire_commands_on_literals writer_.goes_on writer_.open_writer writer_.checked_blob writer_.put_blob writer_.finish writer_.abort reader_.open_reader reader_.download reader_.close_reader steps_.outcome steps_.step lanes_.command_next lanes_.front_next lanes_.lane_next lanes_.next_of weave_.with_store weave_.tell weave_.answer weave_.stepped weave_.short weave_.told_fault weave_.faulted weave_.end_session weave_.ended_with weave_.unread weave_.ends weave_.entered weave_.run_from weave_.woven weave_.weave
+unfolding store_types_on_literals store_files_on_literals wire_commands_on_literals writer_.goes_on writer_.open_writer writer_.checked_blob writer_.put_blob writer_.finish writer_.abort archives_.uuid_of archives_.free_from archives_.piece_named archives_.pieces_named calls_.new_dynamic calls_.append calls_.close_index archive_.new_dynamic archive_.check_chunk archive_.checked_chunk archive_.put_chunk archive_.append archive_.close_index reader_.open_reader reader_.download reader_.close_reader steps_.outcome steps_.step lanes_.command_next lanes_.front_next lanes_.lane_next lanes_.next_of weave_.with_store weave_.tell weave_.answer weave_.stepped weave_.short weave_.told_fault weave_.faulted weave_.end_session weave_.ended_with weave_.unread weave_.ends weave_.entered weave_.run_from weave_.woven weave_.weave
 store_model_on_literals = tt
 
 -- digests

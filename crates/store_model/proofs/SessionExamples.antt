@@ -167,3 +167,41 @@ closed : alone (abort ++ open_writer ++ put_manifest ++ close_reader ++ abort ++
     ++ hex (codes "01000000 00 02000000 03 02 01000000 00 02000000 03 00")) ∷ []
 unfolding store_model_on_literals
 closed = refl
+
+-- ---- a dynamic archive: pieces that are none, an offset too low, and a FINISH while it is open
+
+abbrev u8_of : ℕ → List ℕ
+u8_of n = n ∷ []
+
+abbrev u64_of : ℕ → List ℕ
+u64_of n = n ∷ replicate 7 0
+
+abbrev new_dynamic : List ℕ
+new_dynamic = hex (codes "0b000000 0d 09") ++ codes "root.didx"
+
+abbrev chunk : ℕ → List ℕ → List ℕ → List ℕ
+chunk size digest piece = u8_of size ++ hex (codes "000000 0e") ++ digest ++ blob piece
+
+abbrev close_index : ℕ → ℕ → List ℕ → List ℕ
+close_index count size csum = hex (codes "32000000 10 00") ++ u64_of count ++ u64_of size ++ csum
+
+abbrev append_two : ℕ → List ℕ
+append_two offset = hex (codes "54000000 0f 00 0200") ++ sha256 (codes "abc") ++ u64_of 0 ++ sha256 (codes "de") ++ u64_of offset
+
+abbrev two_pieces_csum : List ℕ
+two_pieces_csum = sha256 (u64_of 3 ++ sha256 (codes "abc") ++ u64_of 5 ++ sha256 (codes "de"))
+
+archives : alone (open_writer ++ new_dynamic
+    ++ close_index 1 0 (sha256 []) ++ close_index 0 0 (sha256 [])
+    ++ hex (codes "0b000000 0d 09") ++ codes "data.didx"
+    ++ chunk 48 (sha256 (codes "abc")) (codes "abc") ++ chunk 48 (sha256 (codes "abc")) (codes "abc")
+    ++ chunk 48 (sha256 (codes "abc")) (codes "abd") ++ chunk 45 (sha256 []) [] ++ append_two 2
+    ++ chunk 47 (sha256 (codes "de")) (codes "de") ++ append_two 2 ++ append_two 3 ++ finish
+    ++ close_index 2 5 (sha256 []) ++ close_index 2 5 two_pieces_csum) 16
+    ≡ (hex (codes "02000000 0000 02000000 0000")
+    ++ hex (codes "22000000 10 01") ++ replicate 32 0 ++ hex (codes "01000000 00 02000000 0000 01000000 00 01000000 00")
+    ++ hex (codes "21000000 0c") ++ sha256 (codes "abd") ++ hex (codes "0d000000 0d 00000000 0000000000000000 05000000 0e 01000000")
+    ++ hex (codes "01000000 00 0d000000 0f 01000000 0300000000000000 01000000 00 02000000 11 01")
+    ++ hex (codes "22000000 10 03") ++ two_pieces_csum ++ hex (codes "01000000 00")) ∷ []
+unfolding store_model_on_literals digests_on_literals
+archives = refl

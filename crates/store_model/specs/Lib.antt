@@ -1,9 +1,13 @@
 pub mod Store
 pub mod Uploads
+pub mod Archives
 pub mod WriterSteps
+pub mod WriterCalls
 pub mod ReaderSteps
 pub mod Steps
 pub mod Lanes
 pub mod Weave
 pub mod Stands
 pub mod Load
+pub mod ArchiveSteps
+pub mod Clash

@@ -1,15 +1,20 @@
 -- What a command does to the plain store, and what is replied.
 use Rattle.std.specs.Prelude.{ℕ, Ok, Err}
 use Rattle.wire_commands.specs.declared.command.Command.{Command}
-use Rattle.wire_commands.specs.declared.command.Command.TheVariants.{OpenWriter, Blob, Finish, Abort, OpenReader, Download, CloseReader, Bye}
+use Rattle.wire_commands.specs.declared.command.Command.TheVariants.{OpenWriter, NewDynamic, Chunk, Append, CloseIndex, Blob, Finish, Abort, OpenReader, Download, CloseReader, Bye}
 use Rattle.wire_commands.specs.declared.reply.Reply.{Reply}
 use Rattle.wire_commands.specs.declared.reply.Reply.TheVariants.{Done, Refused}
 use Rattle.store_model.specs.Store.{Store, Outcome, ended}
 use Rattle.store_model.specs.WriterSteps.{open_writer, put_blob, finish, abort}
+use Rattle.store_model.specs.ArchiveSteps.{new_dynamic, put_chunk, append, close_index}
 use Rattle.store_model.specs.ReaderSteps.{open_reader, download, close_reader}
 
 unfoldable pub outcome : Store → ℕ → ℕ → Command → Outcome
 outcome s lane moment (OpenWriter snapshot) = open_writer s lane moment snapshot
+outcome s lane moment (NewDynamic file) = new_dynamic s lane moment file
+outcome s lane moment (Chunk digest blob) = put_chunk s lane digest blob
+outcome s lane moment (Append number entries) = append s lane number entries
+outcome s lane moment (CloseIndex number count size csum) = close_index s lane number count size csum
 outcome s lane moment (Blob file blob) = put_blob s lane file blob
 outcome s lane moment Finish = finish s lane
 outcome s lane moment Abort = abort s lane

@@ -1,8 +1,8 @@
 -- The commands of a writer, with their refusals in order.
-use Rattle.std.specs.Prelude.{ℕ, List, [], length, nat_lt, Option, Some, None, Result, Ok, Err, take, drop}
+use Rattle.std.specs.Prelude.{ℕ, List, [], length, ◌==◌, nat_lt, Option, Some, None, Result, Ok, Err, take, drop}
 use Rattle.store_types.specs.declared.names.SnapshotKey.{SnapshotKey}
 use Rattle.store_types.specs.declared.refusal.Refusal.{Refusal}
-use Rattle.store_types.specs.declared.refusal.Refusal.TheVariants.{BadName, GroupBusy, NotNewer, TooMany, NoFile, BadBlob}
+use Rattle.store_types.specs.declared.refusal.Refusal.TheVariants.{BadName, GroupBusy, NotNewer, TooMany, NoFile, BadBlob, OpenIndexes}
 use Rattle.store_types.specs.Chain.Refusing.{◌>>=◌, unless, or_else, if_none}
 use Rattle.store_types.specs.FileNames.{is_blob_name, manifest_name}
 use Rattle.store_types.specs.Names.{key_of, key_text, group_of_key}
@@ -75,10 +75,11 @@ put_blob s lane name bytes = checked_blob s lane name (want_data bytes)
 abbrev pub snapshot_of : Writer → Snapshot
 snapshot_of w = record { key = w.key; files = w.files }
 
--- the manifest is among the uploads
+-- no archive is open, and the manifest is among the uploads
 unfoldable pub finish : Store → ℕ → Outcome
 finish s lane = do
   w ← want_writer (session s lane)
+  _ ← unless (OpenIndexes (length w.begun)) (length w.begun == 0)
   _ ← or_else NoFile (file_named manifest_name w.files)
   Ok (record (with_session s lane none) { snapshots = insert_snapshot (snapshot_of w) s.snapshots }, Done)
 

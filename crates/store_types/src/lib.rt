@@ -1,6 +1,7 @@
 //! Names, digests, refusals and entries of the order: what every definition of the store speaks of.
 #![tactic(auto)]
 
+mod append;
 mod grammar;
 pub mod laws;
 mod names;
@@ -11,6 +12,7 @@ mod rows;
 mod tests;
 mod times;
 
+pub use append::AppendEntry;
 pub use names::{BadName, Digest32, FileName, GroupKey, Keep, Kind, SnapshotKey};
 pub use order::{Entry, LAST_MOMENT, Moment};
 pub use refusal::{BadBlob, ChunkFault, CloseFault, Refusal, SessionState};

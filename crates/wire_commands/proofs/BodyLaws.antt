@@ -3,7 +3,7 @@ use Rattle.std.proofs.Common.{◌≡◌, ℕ, List, [], ◌∷◌, ◌++◌, len
 use Rattle.store_types.specs.Chain.Reading.{◌>>=◌}
 use Rattle.wire_frames.specs.Frames.{AreBytes}
 use Rattle.wire_commands.specs.Fields.{Read, whole}
-use Rattle.wire_commands.proofs.FieldLaws.{found, both_field, IsField, bind_some, if_some, nothing_left, whole_some, again_alone}
+use Rattle.wire_commands.proofs.FieldLaws.{found, both, both_field, IsField, bind_some, if_some, nothing_left, whole_some, again_alone}
 
 -- What the fields behind a number make is spelled so.
 abbrev pub Spells : {A : Type 0} → (A → List ℕ) → (A → Type 0) → List ℕ → ℕ → Option A → Type 0
@@ -82,6 +82,19 @@ pub two_again : {A B C : Type 0} {first : List ℕ → Read A} {second : List �
     → (first (front x ++ back y) >>= (λ p. whole (second p.1) >>= (λ q. Some (make p.0 q)))) ≡ Some (make x y)
 two_again {A} {B} {C} {first} {second} {front} {back} f s make x y x_fits y_fits =
     both_whole (first (front x ++ back y)) second make ∙ one_again (both_field f s) (λ (p : A × B). make p.0 p.1) (x, y) (x_fits, y_fits)
+
+-- fields in a row, as a field that has both of the first two
+pub two_first : {A B C : Type 0} (first : List ℕ → Read A) (second : List ℕ → Read B) (go_on : A → B → List ℕ → Option C) (bytes : List ℕ)
+    → (first bytes >>= (λ x. second x.1 >>= (λ y. go_on x.0 y.0 y.1))) ≡ (both first second bytes >>= (λ p. go_on (p.0).0 (p.0).1 p.1))
+two_first {A} {B} {C} first second go_on bytes = outer (first bytes)
+  where
+    inner : (x : A) (r : Read B) → (r >>= (λ y. go_on x y.0 y.1)) ≡ ((r >>= (λ y. found {A = A × B} (x, y.0) y.1)) >>= (λ p. go_on (p.0).0 (p.0).1 p.1))
+    inner x None = refl
+    inner x (Some y) = refl
+
+    outer : (r : Read A) → (r >>= (λ x. second x.1 >>= (λ y. go_on x.0 y.0 y.1))) ≡ ((r >>= (λ x. second x.1 >>= (λ y. found {A = A × B} (x.0, y.0) y.1))) >>= (λ p. go_on (p.0).0 (p.0).1 p.1))
+    outer None = refl
+    outer (Some x) = inner x.0 (second x.1)
 
 -- a field, and all that follows it
 pub rest_spells : {A C : Type 0} {read : List ℕ → Read A} {part : A → List ℕ} {PartFits : A → Type 0} (spelled : C → List ℕ) (Fits : C → Type 0) → IsField read part PartFits

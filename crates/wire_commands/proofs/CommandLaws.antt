@@ -1,23 +1,63 @@
 -- A command that is read is spelled so, and one that is spelled is read again.
-use Rattle.std.proofs.Common.{◌≡◌, ℕ, suc, ◌≤◌, Bool, List, [], ◌∷◌, length, leb, Option, Some, None, Result, Ok, Err, IfOk, sym, refl, ap, subst, ◌∙◌}
+use Rattle.std.proofs.Common.{◌≡◌, ℕ, suc, ◌^◌, ◌<◌, ◌≤◌, Bool, List, [], ◌∷◌, ◌++◌, length, leb, Option, Some, None, Result, Ok, Err, IfOk, sym, refl, ap, subst, ◌∙◌}
 use Rattle.std.specs.Result.{result_ok}
 use Rattle.std.proofs.lemmas.Bool.{leb-true, le-leb}
 use Rattle.store_types.specs.Chain.Reading.{◌>>=◌, only_if}
 use Rattle.wire_frames.specs.Frames.{body_limit, AreBytes}
 use Rattle.wire_commands.specs.declared.command.Command.{Command}
-use Rattle.wire_commands.specs.declared.command.Command.TheVariants.{OpenWriter, Blob, Finish, Abort, OpenReader, Download, CloseReader, Bye}
-use Rattle.wire_commands.specs.Fields.{byte_at}
-use Rattle.wire_commands.specs.CommandText.{command_text, nothing_more, one_text, text_and_offset, blob, fields_of, command_of}
+use Rattle.wire_commands.specs.declared.command.Command.TheVariants.{OpenWriter, NewDynamic, Chunk, Append, CloseIndex, Blob, Finish, Abort, OpenReader, Download, CloseReader, Bye}
+use Rattle.std.specs.Int.{w64}
+use Rattle.store_types.specs.declared.names.Digest32.{Digest32}
+use Rattle.wire_commands.specs.Fields.{Read, u64, byte_at, number_at, digest_at, whole}
+use Rattle.wire_commands.specs.CommandText.{command_text, nothing_more, one_text, text_and_offset, chunk, append, close_index, blob, fields_of, command_of}
 use Rattle.wire_commands.specs.HasText.{HasText, FitsCommand, CommandsAreReadAgain, CommandsHaveOneText}
-use Rattle.wire_commands.proofs.FieldLaws.{u64_field, text_field}
+use Rattle.wire_commands.proofs.FieldLaws.{IsField, both, both_field, byte_field, u64_field, digest_field, text_field}
 use Rattle.wire_commands.proofs.RefusalFields.{either_at, only_if_some}
-use Rattle.wire_commands.proofs.BodyLaws.{Spells, none_spells, nothing_spells, one_spells, one_again, two_spells, two_again, rest_spells, rest_again}
+use Rattle.wire_commands.proofs.BodyLaws.{Spells, none_spells, nothing_spells, one_spells, one_again, two_first, two_spells, two_again, rest_spells, rest_again}
+use Rattle.wire_commands.proofs.RowLaws.{rows_field}
+use Rattle.wire_commands.proofs.EntryLaws.{entry_field}
+
+-- ---- the four fields of a CLOSE_INDEX, as one of the first three and one
+
+abbrev three_at : List ℕ → Read ((ℕ × ℕ) × ℕ)
+three_at = both (both byte_at (number_at w64)) (number_at w64)
+
+three_field : IsField three_at (λ p. ((p.0).0 ∷ [] ++ u64 (p.0).1) ++ u64 p.1) (λ p. (((p.0).0 < 256) × ((p.0).1 < 2 ^ 64)) × (p.1 < 2 ^ 64))
+three_field = both_field (both_field byte_field u64_field) u64_field
+
+abbrev make_close : (ℕ × ℕ) × ℕ → Digest32 → Command
+make_close p csum = CloseIndex (p.0).0 (p.0).1 p.1 csum
+
+close_is : (bytes : List ℕ) → close_index bytes ≡ (three_at bytes >>= (λ p. whole (digest_at p.1) >>= (λ csum. Some (make_close p.0 csum))))
+unfolding close_index
+close_is bytes =
+    let last : (ℕ × ℕ) × ℕ → List ℕ → Option Command = λ p rest. whole (digest_at rest) >>= (λ csum. Some (make_close p csum)) in
+    two_first byte_at (number_at w64) (λ number count rest. number_at w64 rest >>= (λ size. last ((number, count), size.0) size.1)) bytes
+    ∙ two_first (both byte_at (number_at w64)) (number_at w64) (λ p size rest. last (p, size) rest) bytes
+
+close_spells : (bytes : List ℕ) → AreBytes bytes → Spells command_text FitsCommand bytes 16 (close_index bytes)
+unfolding command_text
+close_spells bytes fits =
+    subst (Spells command_text FitsCommand bytes 16) (sym (close_is bytes))
+    (two_spells command_text FitsCommand three_field digest_field make_close bytes 16 fits (λ p. refl) (λ p h. ((h.0).0.0, (h.0).0.1, (h.0).1, h.1)))
+
+close_again : (number count size : ℕ) (csum : Digest32) → FitsCommand (CloseIndex number count size csum)
+    → close_index (number ∷ u64 count ++ u64 size ++ csum.0) ≡ Some (CloseIndex number count size csum)
+close_again number count size csum fits =
+    close_is (number ∷ u64 count ++ u64 size ++ csum.0)
+    ∙ two_again three_field digest_field make_close ((number, count), size) csum ((fits.0, fits.1), fits.2) fits.3
+
+-- ---- all commands
 
 fields_spell : (n : ℕ) (bytes : List ℕ) → AreBytes bytes → Spells command_text FitsCommand bytes n (fields_of n bytes)
-unfolding fields_of command_text nothing_more one_text text_and_offset blob
+unfolding fields_of command_text nothing_more one_text text_and_offset chunk append blob
 fields_spell n bytes fits =
     let P : ℕ → Option Command → Type 0 = Spells command_text FitsCommand bytes in
     either_at P n 10 (one_text OpenWriter bytes) _ (one_spells command_text FitsCommand text_field OpenWriter bytes 10 fits (λ t. refl) (λ t h. h))
+    (either_at P n 13 (one_text NewDynamic bytes) _ (one_spells command_text FitsCommand text_field NewDynamic bytes 13 fits (λ t. refl) (λ t h. h))
+    (either_at P n 14 (chunk bytes) _ (rest_spells command_text FitsCommand digest_field Chunk bytes 14 fits (λ d rest. refl) (λ d rest h. h))
+    (either_at P n 15 (append bytes) _ (two_spells command_text FitsCommand byte_field (rows_field entry_field) Append bytes 15 fits (λ p. refl) (λ p h. (h.0, (h.1).0, (h.1).1)))
+    (either_at P n 16 (close_index bytes) _ (close_spells bytes fits)
     (either_at P n 17 (blob bytes) _ (rest_spells command_text FitsCommand text_field Blob bytes 17 fits (λ t rest. refl) (λ t rest h. h))
     (either_at P n 18 (nothing_more Finish bytes) _ (nothing_spells command_text FitsCommand bytes 18 Finish tt refl)
     (either_at P n 19 (nothing_more Abort bytes) _ (nothing_spells command_text FitsCommand bytes 19 Abort tt refl)
@@ -25,7 +65,7 @@ fields_spell n bytes fits =
     (either_at P n 21 (text_and_offset Download bytes) _ (two_spells command_text FitsCommand text_field u64_field Download bytes 21 fits (λ p. refl) (λ p h. h))
     (either_at P n 24 (nothing_more CloseReader bytes) _ (nothing_spells command_text FitsCommand bytes 24 CloseReader tt refl)
     (either_at P n 63 (nothing_more Bye bytes) None (nothing_spells command_text FitsCommand bytes 63 Bye tt refl)
-    (none_spells command_text FitsCommand bytes n))))))))
+    (none_spells command_text FitsCommand bytes n))))))))))))
 
 -- the command of a body of any length
 abbrev command_in : List ℕ → Option Command
@@ -36,8 +76,12 @@ unfolding command_of
 within_limit body h = ap (λ (b : Bool). only_if b >>= (λ u. command_in body)) (le-leb (length body) body_limit h)
 
 fields_again : (c : Command) → FitsCommand c → command_in (command_text c) ≡ Some c
-unfolding command_text fields_of nothing_more one_text text_and_offset blob
+unfolding command_text fields_of nothing_more one_text text_and_offset chunk append blob
 fields_again (OpenWriter snapshot) fits = one_again text_field OpenWriter snapshot fits
+fields_again (NewDynamic file) fits = one_again text_field NewDynamic file fits
+fields_again (Chunk digest content) fits = rest_again digest_field Chunk digest content fits
+fields_again (Append number entries) fits = two_again byte_field (rows_field entry_field) Append number entries fits.0 (fits.1, fits.2)
+fields_again (CloseIndex number count size csum) fits = close_again number count size csum fits
 fields_again (Blob file content) fits = rest_again text_field Blob file content fits
 fields_again Finish fits = refl
 fields_again Abort fits = refl

@@ -1,5 +1,6 @@
 -- Frames, commands, replies and refusals, computed.
 use Rattle.std.specs.Prelude.{◌≡◌, ℕ, List, [], ◌∷◌, ◌++◌, codes, refl, Some, None}
+use Rattle.store_types.specs.declared.append.AppendEntry.{AppendEntry}
 use Rattle.store_types.specs.declared.names.Digest32.{Digest32}
 use Rattle.store_types.specs.declared.refusal.SessionState.TheVariants.{Idle, Writer, Reader}
 use Rattle.store_types.specs.declared.refusal.BadBlob.TheVariants as blobs
@@ -8,8 +9,8 @@ use Rattle.store_types.specs.declared.refusal.ChunkFault.TheVariants.{Nothing, N
 use Rattle.store_types.specs.declared.refusal.Refusal.{Refusal}
 use Rattle.store_types.specs.declared.refusal.Refusal.TheVariants.{BadFrame, TooLong, WrongState, BadName, GroupBusy, SnapshotBusy, NotNewer, NoSnapshot, NoFile, Exists, BadBlob, WrongDigest, WrongSize, UnknownChunk, BadOffset, BadClose, OpenIndexes, BadManifest, ManifestMismatch, NotAllowed, TooMany, BadRange, Damaged, Unreadable, CollectorBusy, DiskFault, Halted, NoMemory, NoRemote, RemoteFault}
 use Rattle.wire_frames.specs.Frames.{frame}
-use Rattle.wire_commands.specs.declared.command.Command.TheVariants.{OpenWriter, Blob, Finish, Abort, OpenReader, Download, CloseReader, Bye}
-use Rattle.wire_commands.specs.declared.reply.Reply.TheVariants.{Done, Base, Part, Refused}
+use Rattle.wire_commands.specs.declared.command.Command.TheVariants.{OpenWriter, NewDynamic, Chunk, Append, CloseIndex, Blob, Finish, Abort, OpenReader, Download, CloseReader, Bye}
+use Rattle.wire_commands.specs.declared.reply.Reply.TheVariants.{Done, Base, Part, Number, Refused}
 use Rattle.wire_commands.specs.CommandText.{command_text, command_of}
 use Rattle.wire_commands.specs.ReplyText.{reply_text}
 use Rattle.wire_commands.specs.ReplyReading.{reply_of}
@@ -31,6 +32,26 @@ manifest_blob = hex (codes "42ab3807be8370a1 b2940845") ++ codes "{\"backup-id\"
 abbrev digits_blob : List ℕ
 digits_blob = hex (codes "42ab3807be8370a1 2639f4cb 313233343536373839")
 
+-- the SHA-256 of abc, of de, and of nothing
+abbrev abc : Digest32
+abc = record { 0 = hex (codes "ba7816bf8f01cfea414140de5dae2223b00361a396177a9cb410ff61f20015ad") }
+
+abbrev de : Digest32
+de = record { 0 = hex (codes "959a45d44e6fcf58361ed004681556fe50129f2109e817dec098c00c9e5d2578") }
+
+abbrev nothing_digest : Digest32
+nothing_digest = record { 0 = hex (codes "e3b0c44298fc1c149afbf4c8996fb92427ae41e4649b934ca495991b7852b855") }
+
+abbrev archive : List ℕ
+archive = codes "root.didx"
+
+-- the blob of abc, 15 bytes
+abbrev abc_blob : List ℕ
+abc_blob = hex (codes "42ab3807be8370a1 c2412435 616263")
+
+abbrev piece : Digest32 → ℕ → AppendEntry
+piece digest offset = record { digest = digest; offset = offset }
+
 -- ---- commands
 
 bye : frame (command_text Bye) ≡ hex (codes "01000000 3f")
@@ -40,6 +61,26 @@ bye = refl
 open_writer : frame (command_text (OpenWriter snapshot)) ≡ hex (codes "1d000000 0a 1b") ++ snapshot
 unfolding wire_commands_on_literals
 open_writer = refl
+
+new_dynamic : frame (command_text (NewDynamic archive)) ≡ hex (codes "0b000000 0d 09") ++ archive
+unfolding wire_commands_on_literals
+new_dynamic = refl
+
+chunk : frame (command_text (Chunk abc abc_blob)) ≡ hex (codes "30000000 0e ba7816bf8f01cfea414140de5dae2223b00361a396177a9cb410ff61f20015ad 42ab3807be8370a1 c2412435 616263")
+unfolding wire_commands_on_literals
+chunk = refl
+
+append : frame (command_text (Append 0 (piece abc 0 ∷ piece de 3 ∷ []))) ≡ hex (codes "54000000 0f 00 0200 ba7816bf8f01cfea414140de5dae2223b00361a396177a9cb410ff61f20015ad 0000000000000000 959a45d44e6fcf58361ed004681556fe50129f2109e817dec098c00c9e5d2578 0300000000000000")
+unfolding wire_commands_on_literals
+append = refl
+
+append_nothing : frame (command_text (Append 15 [])) ≡ hex (codes "04000000 0f 0f 0000")
+unfolding wire_commands_on_literals
+append_nothing = refl
+
+close_index : frame (command_text (CloseIndex 0 0 0 nothing_digest)) ≡ hex (codes "32000000 10 00 0000000000000000 0000000000000000 e3b0c44298fc1c149afbf4c8996fb92427ae41e4649b934ca495991b7852b855")
+unfolding wire_commands_on_literals
+close_index = refl
 
 upload : frame (command_text (Blob manifest manifest_blob)) ≡ hex (codes "67000000 11 0f") ++ manifest ++ manifest_blob
 unfolding wire_commands_on_literals
@@ -73,6 +114,18 @@ upload_read : command_of (hex (codes "11 0f") ++ manifest ++ manifest_blob) ≡ 
 unfolding wire_commands_on_literals
 upload_read = refl
 
+chunk_read : command_of (hex (codes "0e ba7816bf8f01cfea414140de5dae2223b00361a396177a9cb410ff61f20015ad 42ab3807be8370a1 c2412435 616263")) ≡ Some (Chunk abc abc_blob)
+unfolding wire_commands_on_literals
+chunk_read = refl
+
+append_read : command_of (hex (codes "0f 00 0200 ba7816bf8f01cfea414140de5dae2223b00361a396177a9cb410ff61f20015ad 0000000000000000 959a45d44e6fcf58361ed004681556fe50129f2109e817dec098c00c9e5d2578 0300000000000000")) ≡ Some (Append 0 (piece abc 0 ∷ piece de 3 ∷ []))
+unfolding wire_commands_on_literals
+append_read = refl
+
+close_index_read : command_of (hex (codes "10 0f 0200000000000000 0500000000000000 e3b0c44298fc1c149afbf4c8996fb92427ae41e4649b934ca495991b7852b855")) ≡ Some (CloseIndex 15 2 5 nothing_digest)
+unfolding wire_commands_on_literals
+close_index_read = refl
+
 -- an empty text, and nothing behind it
 empty_upload : command_of (hex (codes "11 00")) ≡ Some (Blob [] [])
 unfolding wire_commands_on_literals
@@ -98,6 +151,23 @@ text_and_more = refl
 cut_offset : command_of (hex (codes "15 01 61 00000000000000")) ≡ None
 unfolding wire_commands_on_literals
 cut_offset = refl
+
+-- a digest that is cut, a count of more entries than there are, and of fewer, and a byte behind a checksum
+cut_digest : command_of (hex (codes "0e ba7816bf8f01cfea414140de5dae2223b00361a396177a9cb410ff61f20015")) ≡ None
+unfolding wire_commands_on_literals
+cut_digest = refl
+
+too_few_entries : command_of (hex (codes "0f 00 0200 ba7816bf8f01cfea414140de5dae2223b00361a396177a9cb410ff61f20015ad 0000000000000000")) ≡ None
+unfolding wire_commands_on_literals
+too_few_entries = refl
+
+too_many_entries : command_of (hex (codes "0f 00 0000 ba7816bf8f01cfea414140de5dae2223b00361a396177a9cb410ff61f20015ad 0000000000000000")) ≡ None
+unfolding wire_commands_on_literals
+too_many_entries = refl
+
+more_behind : command_of (hex (codes "10 00 0000000000000000 0000000000000000 e3b0c44298fc1c149afbf4c8996fb92427ae41e4649b934ca495991b7852b855 00")) ≡ None
+unfolding wire_commands_on_literals
+more_behind = refl
 
 no_code : command_of [] ≡ None
 unfolding wire_commands_on_literals
@@ -160,6 +230,10 @@ a_base : frame (reply_text (Base snapshot)) ≡ hex (codes "1d000000 00 1b") ++ 
 unfolding wire_commands_on_literals
 a_base = refl
 
+a_number : frame (reply_text (Number 0)) ≡ hex (codes "02000000 0000")
+unfolding wire_commands_on_literals
+a_number = refl
+
 a_part : frame (reply_text (Part 21 digits_blob)) ≡ hex (codes "1e000000 00 1500000000000000") ++ digits_blob
 unfolding wire_commands_on_literals
 a_part = refl
@@ -192,6 +266,10 @@ base_read : reply_of 10 (hex (codes "00 1b") ++ snapshot) ≡ Some (Base snapsho
 unfolding wire_commands_on_literals
 base_read = refl
 
+number_read : reply_of 13 (hex (codes "00 0f")) ≡ Some (Number 15)
+unfolding wire_commands_on_literals
+number_read = refl
+
 part_read : reply_of 21 (hex (codes "00 1500000000000000") ++ digits_blob) ≡ Some (Part 21 digits_blob)
 unfolding wire_commands_on_literals
 part_read = refl
@@ -214,13 +292,6 @@ refused_anywhere = refl
 -- The refusal has this text, which is read as it under any code.
 abbrev IsSpelled : Refusal → List ℕ → Type 0
 IsSpelled r bytes = (reply_text (Refused r) ≡ bytes) × (reply_of 10 bytes ≡ Some (Refused r))
-
--- the SHA-256 of abc, and of nothing
-abbrev abc : Digest32
-abc = record { 0 = hex (codes "ba7816bf8f01cfea414140de5dae2223b00361a396177a9cb410ff61f20015ad") }
-
-abbrev nothing_digest : Digest32
-nothing_digest = record { 0 = hex (codes "e3b0c44298fc1c149afbf4c8996fb92427ae41e4649b934ca495991b7852b855") }
 
 r1 : IsSpelled (BadFrame 97) (hex (codes "01 6100000000000000"))
 unfolding wire_commands_on_literals

@@ -1,9 +1,9 @@
 -- A field that is read is the field that was written, and what was written is read again.
 use Rattle.std.proofs.Common.{◌≡◌, ℕ, suc, ◌+◌, ◌^◌, ◌<◌, ◌≤◌, Bool, true, false, cond, eqb, ltb, List, [], ◌∷◌, ◌++◌, length, take, drop, Option, Some, None, refl, sym, ap, subst, ◌∙◌, append_assoc, arith, inl, inr, append-nil}
-use Rattle.std.specs.Int.{Width, w32, w64, byte_len, from_le_bytes, to_le_bytes}
+use Rattle.std.specs.Int.{Width, w16, w32, w64, byte_len, from_le_bytes, to_le_bytes}
 use Rattle.std.proofs.lemmas.Bool.{cases_lt, ltb-false, le-ltb, eqb-true}
 use Rattle.std.proofs.lemmas.List.{take_at, drop_at, take-append-drop, length-append, length-take, get_or-drop, get_or-take, get_or_past, nil_from_length}
-use Rattle.std.proofs.lemmas.Nat.{le_bytes_4, le_bytes_8, from_le_bytes-to_le_bytes_4, from_le_bytes-to_le_bytes_8}
+use Rattle.std.proofs.lemmas.Nat.{le_bytes_2, le_bytes_4, le_bytes_8, from_le_bytes-to_le_bytes_2, from_le_bytes-to_le_bytes_4, from_le_bytes-to_le_bytes_8}
 use Rattle.store_types.specs.Chain.Reading.{◌>>=◌}
 use Rattle.wire_frames.specs.Frames.{AreBytes}
 use Rattle.wire_commands.specs.Fields.{Read, text, whole, byte_at, bytes_at, number_at, digest_at, text_at}
@@ -110,6 +110,14 @@ pub record IsWide (w : Width) (limit : ℕ) : Type 0 where
   pub again : (n : ℕ) → n < limit → from_le_bytes w (to_le_bytes w n) ≡ n
   pub below : (bytes : List ℕ) → AreBytes bytes → from_le_bytes w bytes < limit
 
+wide16 : IsWide w16 (2 ^ 16)
+wide16 = record {
+  len = λ n. refl;
+  back = λ bytes len fits. le_bytes_2 bytes _ len fits refl;
+  again = λ n lt. from_le_bytes-to_le_bytes_2 n lt;
+  below = λ bytes fits. omega (arith, fits 0, fits 1);
+}
+
 wide32 : IsWide w32 (2 ^ 32)
 wide32 = record {
   len = λ n. refl;
@@ -136,6 +144,9 @@ number_takes w limit wide bytes fits n rest e =
 
 number_again : (w : Width) (limit : ℕ) → IsWide w limit → (n : ℕ) (rest : List ℕ) → n < limit → number_at w (to_le_bytes w n ++ rest) ≡ Some (n, rest)
 number_again w limit wide n rest lt = rw (bytes_again (byte_len w) (to_le_bytes w n) rest (wide.len n), wide.again n lt) refl
+
+pub u16_field : IsField (number_at w16) (to_le_bytes w16) (λ n. n < 2 ^ 16)
+u16_field = record { takes = number_takes w16 (2 ^ 16) wide16; again = number_again w16 (2 ^ 16) wide16 }
 
 pub u32_field : IsField (number_at w32) (to_le_bytes w32) (λ n. n < 2 ^ 32)
 u32_field = record { takes = number_takes w32 (2 ^ 32) wide32; again = number_again w32 (2 ^ 32) wide32 }

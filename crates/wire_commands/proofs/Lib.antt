@@ -1,6 +1,8 @@
 pub mod FieldLaws
+pub mod RowLaws
 pub mod RefusalFields
 pub mod BodyLaws
+pub mod EntryLaws
 pub mod RefusalLaws
 pub mod CommandLaws
 pub mod ReplyLaws

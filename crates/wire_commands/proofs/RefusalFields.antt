@@ -33,7 +33,7 @@ none_takes spelled Fits bytes x rest e = absurd cc
 value_takes : {A : Type 0} (spelled : A → List ℕ) (Fits : A → Type 0) (x : A) (rest : List ℕ) → AreBytes rest → Fits x → Takes spelled Fits (spelled x ++ rest) (Some (x, rest))
 value_takes spelled Fits x rest bytes fits y s e = taken_is spelled Fits (spelled x ++ rest) x y rest s e (refl, bytes, fits)
 
-made_some : {A B : Type 0} (make : A → B) (r : Read A) (y : B) (s : List ℕ) → made make r ≡ found y s → (x : A × List ℕ) × (r ≡ Some x) × (found (make x.0) x.1 ≡ found y s)
+pub made_some : {A B : Type 0} (make : A → B) (r : Read A) (y : B) (s : List ℕ) → made make r ≡ found y s → (x : A × List ℕ) × (r ≡ Some x) × (found (make x.0) x.1 ≡ found y s)
 made_some make None y s e = absurd cc
 made_some make (Some x) y s e = (x, refl, e)
 
@@ -47,7 +47,7 @@ made_takes {A} {B} {read} {part} spelled Fits field make n rest bytes same fits 
     let whole : n ∷ rest ≡ spelled (make r.0.0) ++ r.0.1 = ap (λ (t : List ℕ). n ∷ t) taken.0 ∙ ap (λ (t : List ℕ). t ++ r.0.1) (same r.0.0) in
     taken_is spelled Fits (n ∷ rest) (make r.0.0) y r.0.1 s r.2 (whole, taken.1, fits r.0.0 taken.2)
 
-made_again : {A B : Type 0} {read : List ℕ → Read A} {part : A → List ℕ} {PartFits : A → Type 0} → IsField read part PartFits
+pub made_again : {A B : Type 0} {read : List ℕ → Read A} {part : A → List ℕ} {PartFits : A → Type 0} → IsField read part PartFits
     → (make : A → B) (x : A) (rest : List ℕ) → PartFits x → made make (read (part x ++ rest)) ≡ Some (make x, rest)
 made_again field make x rest fits = rw (field.again x rest fits) refl
 

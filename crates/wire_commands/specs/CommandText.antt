@@ -1,14 +1,22 @@
 -- The one spelling of each command, and the command that a body spells.
 use Rattle.std.specs.Prelude.{ℕ, List, [], ◌∷◌, ◌++◌, length, ◌==◌, nat_le, if◌then◌else◌, Option, Some, None}
 use Rattle.std.specs.Int.{w64}
+use Rattle.store_types.specs.declared.append.AppendEntry.{AppendEntry}
 use Rattle.store_types.specs.Chain.Reading.{◌>>=◌, only_if}
 use Rattle.wire_frames.specs.Frames.{body_limit}
 use Rattle.wire_commands.specs.declared.command.Command.{Command}
-use Rattle.wire_commands.specs.declared.command.Command.TheVariants.{OpenWriter, Blob, Finish, Abort, OpenReader, Download, CloseReader, Bye}
-use Rattle.wire_commands.specs.Fields.{u64, text, whole, byte_at, number_at, text_at}
+use Rattle.wire_commands.specs.declared.command.Command.TheVariants.{OpenWriter, NewDynamic, Chunk, Append, CloseIndex, Blob, Finish, Abort, OpenReader, Download, CloseReader, Bye}
+use Rattle.wire_commands.specs.Fields.{Read, u64, text, rows, whole, byte_at, number_at, digest_at, text_at, rows_at}
+
+abbrev pub entry_text : AppendEntry → List ℕ
+entry_text e = e.digest.0 ++ u64 e.offset
 
 unfoldable pub command_text : Command → List ℕ
 command_text (OpenWriter snapshot) = 10 ∷ text snapshot
+command_text (NewDynamic file) = 13 ∷ text file
+command_text (Chunk digest blob) = 14 ∷ digest.0 ++ blob
+command_text (Append number entries) = 15 ∷ number ∷ rows entry_text entries
+command_text (CloseIndex number count size csum) = 16 ∷ number ∷ u64 count ++ u64 size ++ csum.0
 command_text (Blob file blob) = 17 ∷ text file ++ blob
 command_text Finish = 18 ∷ []
 command_text Abort = 19 ∷ []
@@ -16,6 +24,11 @@ command_text (OpenReader snapshot) = 20 ∷ text snapshot
 command_text (Download file offset) = 21 ∷ text file ++ u64 offset
 command_text CloseReader = 24 ∷ []
 command_text Bye = 63 ∷ []
+
+-- the entries that stand between the head of a text and its rest
+abbrev pub entries_of : Command → List AppendEntry
+entries_of (Append number entries) = entries
+entries_of _ = []
 
 -- ---- reading
 
@@ -36,6 +49,31 @@ text_and_offset make bytes = do
   offset ← whole (number_at w64 t.1)
   Some (make t.0 offset)
 
+unfoldable pub chunk : Reader
+chunk bytes = do
+  digest ← digest_at bytes
+  Some (Chunk digest.0 digest.1)
+
+abbrev pub entry_at : List ℕ → Read AppendEntry
+entry_at bytes = do
+  digest ← digest_at bytes
+  offset ← number_at w64 digest.1
+  Some (record { digest = digest.0; offset = offset.0 }, offset.1)
+
+unfoldable pub append : Reader
+append bytes = do
+  number ← byte_at bytes
+  entries ← whole (rows_at entry_at number.1)
+  Some (Append number.0 entries)
+
+unfoldable pub close_index : Reader
+close_index bytes = do
+  number ← byte_at bytes
+  count ← number_at w64 number.1
+  size ← number_at w64 count.1
+  csum ← whole (digest_at size.1)
+  Some (CloseIndex number.0 count.0 size.0 csum)
+
 unfoldable pub blob : Reader
 blob bytes = do
   file ← text_at bytes
@@ -45,6 +83,10 @@ blob bytes = do
 unfoldable pub fields_of : ℕ → Reader
 fields_of code bytes =
     if code == 10 then one_text OpenWriter bytes else
+    if code == 13 then one_text NewDynamic bytes else
+    if code == 14 then chunk bytes else
+    if code == 15 then append bytes else
+    if code == 16 then close_index bytes else
     if code == 17 then blob bytes else
     if code == 18 then nothing_more Finish bytes else
     if code == 19 then nothing_more Abort bytes else

@@ -1,8 +1,12 @@
 -- The fields of a body: how each is spelled, and how it is read from the front.
-use Rattle.std.specs.Prelude.{ℕ, List, [], ◌∷◌, length, take, drop, ◌==◌, nat_lt, if◌then◌else◌, Option, Some, None}
-use Rattle.std.specs.Int.{Width, w32, w64, byte_len, to_le_bytes, from_le_bytes}
+use Rattle.std.specs.Prelude.{ℕ, zero, suc, List, [], ◌∷◌, ◌++◌, length, take, drop, ◌==◌, nat_lt, if◌then◌else◌, Option, Some, None}
+use Rattle.std.specs.Int.{Width, w16, w32, w64, byte_len, to_le_bytes, from_le_bytes}
+use Rattle.std.specs.List.{flat_map}
 use Rattle.store_types.specs.declared.names.Digest32.{Digest32}
 use Rattle.store_types.specs.Chain.Reading.{◌>>=◌}
+
+abbrev pub u16 : ℕ → List ℕ
+u16 n = to_le_bytes w16 n
 
 abbrev pub u32 : ℕ → List ℕ
 u32 n = to_le_bytes w32 n
@@ -13,6 +17,10 @@ u64 n = to_le_bytes w64 n
 -- one byte of length, and that many bytes
 abbrev pub text : List ℕ → List ℕ
 text t = length t ∷ t
+
+-- values behind their count in two bytes
+abbrev pub rows : {A : Type 0} → (A → List ℕ) → List A → List ℕ
+rows spelled xs = u16 (length xs) ++ flat_map spelled xs
 
 -- ---- reading: a value, and the bytes after it
 
@@ -45,3 +53,16 @@ abbrev pub text_at : List ℕ → Read (List ℕ)
 text_at bytes = do
   n ← byte_at bytes
   bytes_at n.0 n.1
+
+-- n values one after another
+unfoldable pub many_at : {A : Type 0} → (List ℕ → Read A) → ℕ → List ℕ → Read (List A)
+many_at read zero bytes = Some ([], bytes)
+many_at read (suc n) bytes = do
+  first ← read bytes
+  others ← many_at read n first.1
+  Some (first.0 ∷ others.0, others.1)
+
+abbrev pub rows_at : {A : Type 0} → (List ℕ → Read A) → List ℕ → Read (List A)
+rows_at read bytes = do
+  count ← number_at w16 bytes
+  many_at read count.0 count.1

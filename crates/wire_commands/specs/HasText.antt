@@ -1,5 +1,6 @@
 -- What has a spelling: texts of at most 255 bytes, digests of 32, and numbers and counts within their fields.
-use Rattle.std.specs.Prelude.{◌≡◌, ℕ, ◌<◌, ◌≤◌, ◌^◌, ◌↔◌, List, [], length, ⊤, Some, IsTrue}
+use Rattle.std.specs.Prelude.{◌≡◌, ℕ, ◌<◌, ◌≤◌, ◌^◌, ◌↔◌, List, [], length, ⊤, Some, IsTrue, All}
+use Rattle.store_types.specs.declared.append.AppendEntry.{AppendEntry}
 use Rattle.store_types.specs.declared.names.Digest32.{Digest32}
 use Rattle.store_types.specs.declared.refusal.BadBlob.{BadBlob as BlobCause}
 use Rattle.store_types.specs.declared.refusal.BadBlob.TheVariants as blobs
@@ -11,9 +12,9 @@ use Rattle.store_types.specs.declared.refusal.Refusal.{Refusal}
 use Rattle.store_types.specs.declared.refusal.Refusal.TheVariants.{BadFrame, TooLong, GroupBusy, SnapshotBusy, NotNewer, BadBlob, WrongDigest, WrongSize, UnknownChunk, BadOffset, BadClose, OpenIndexes, BadManifest, ManifestMismatch, TooMany, BadRange, Damaged, Unreadable, CollectorBusy, Halted}
 use Rattle.wire_frames.specs.Frames.{body_limit, AreBytes}
 use Rattle.wire_commands.specs.declared.command.Command.{Command}
-use Rattle.wire_commands.specs.declared.command.Command.TheVariants.{OpenWriter, Blob, OpenReader, Download}
+use Rattle.wire_commands.specs.declared.command.Command.TheVariants.{OpenWriter, NewDynamic, Chunk, Append, CloseIndex, Blob, OpenReader, Download}
 use Rattle.wire_commands.specs.declared.reply.Reply.{Reply}
-use Rattle.wire_commands.specs.declared.reply.Reply.TheVariants.{Base, Part, Refused}
+use Rattle.wire_commands.specs.declared.reply.Reply.TheVariants.{Base, Part, Number, Refused}
 use Rattle.wire_commands.specs.CommandText.{command_text, command_of}
 use Rattle.wire_commands.specs.ReplyText.{reply_text, answers_code}
 use Rattle.wire_commands.specs.ReplyReading.{reply_of}
@@ -24,8 +25,15 @@ IsText t = length t < 256
 abbrev pub IsDigest : Digest32 → Type 0
 IsDigest d = length d.0 ≡ 32
 
+abbrev pub FitsEntry : AppendEntry → Type 0
+FitsEntry e = IsDigest e.digest × (e.offset < 2 ^ 64)
+
 abbrev pub FitsCommand : Command → Type 0
 FitsCommand (OpenWriter snapshot) = IsText snapshot
+FitsCommand (NewDynamic file) = IsText file
+FitsCommand (Chunk digest blob) = IsDigest digest
+FitsCommand (Append number entries) = (number < 256) × (length entries < 2 ^ 16) × All FitsEntry entries
+FitsCommand (CloseIndex number count size csum) = (number < 256) × (count < 2 ^ 64) × (size < 2 ^ 64) × IsDigest csum
 FitsCommand (Blob file blob) = IsText file
 FitsCommand (OpenReader snapshot) = IsText snapshot
 FitsCommand (Download file offset) = IsText file × (offset < 2 ^ 64)
@@ -81,6 +89,7 @@ FitsRefusal _ = ⊤
 abbrev pub FitsReply : Reply → Type 0
 FitsReply (Base snapshot) = IsText snapshot
 FitsReply (Part total bytes) = total < 2 ^ 64
+FitsReply (Number n) = n < 256
 FitsReply (Refused refusal) = FitsRefusal refusal
 FitsReply _ = ⊤
 

@@ -1,7 +1,7 @@
 -- The one spelling of each reply, and which form the reply to a command has.
 use Rattle.std.specs.Prelude.{ℕ, Bool, true, false, List, [], ◌∷◌, ◌++◌, ◌==◌, if◌then◌else◌, Option, Some, None}
 use Rattle.wire_commands.specs.declared.reply.Reply.{Reply}
-use Rattle.wire_commands.specs.declared.reply.Reply.TheVariants.{Done, Base, Part, Refused}
+use Rattle.wire_commands.specs.declared.reply.Reply.TheVariants.{Done, Base, Part, Number, Refused}
 use Rattle.wire_commands.specs.Fields.{u64, text}
 use Rattle.wire_commands.specs.RefusalText.{refusal_text}
 
@@ -9,6 +9,7 @@ unfoldable pub reply_text : Reply → List ℕ
 reply_text Done = 0 ∷ []
 reply_text (Base snapshot) = 0 ∷ text snapshot
 reply_text (Part total bytes) = 0 ∷ u64 total ++ bytes
+reply_text (Number n) = 0 ∷ n ∷ []
 reply_text (Refused refusal) = refusal_text refusal
 
 -- the forms of replies that are no refusals
@@ -16,11 +17,16 @@ pub data Form : Type 0 where
   empty : Form
   base : Form
   part : Form
+  number : Form
 
 -- the form of the reply to a command of the code, where there is such a command
 abbrev pub reply_form : ℕ → Option Form
 reply_form code =
     if code == 10 then Some base else
+    if code == 13 then Some number else
+    if code == 14 then Some empty else
+    if code == 15 then Some empty else
+    if code == 16 then Some empty else
     if code == 17 then Some empty else
     if code == 18 then Some empty else
     if code == 19 then Some empty else
@@ -35,6 +41,7 @@ has_form form (Refused refusal) = true
 has_form empty Done = true
 has_form base (Base snapshot) = true
 has_form part (Part total bytes) = true
+has_form number (Number n) = true
 has_form _ _ = false
 
 -- a reply to a command of the code; a refusal is one under any code

@@ -3,12 +3,14 @@
 ghost use Rattle.std.specs.Prelude.{◌≡◌, ◌≤◌, ◌++◌, length, IsSome, IfOk, OnErr};
 ghost use Rattle.std.specs.Result.{result_ok};
 ghost use Rattle.wire_commands.specs.HasText.{HasText, FitsCommand};
-ghost use Rattle.wire_commands.specs.CommandText.{command_text, command_of, fields_of, nothing_more, one_text, text_and_offset, blob};
+ghost use Rattle.std.specs.List.{flat_map};
+ghost use Rattle.wire_commands.specs.CommandText.{entry_text, entries_of, command_text, command_of, fields_of, nothing_more, one_text, text_and_offset, chunk, append, close_index, blob};
 
-use crate::fields::{byte_at, copied, only_text, text_at, u64_at, whole};
+use crate::entries::{ENTRY_SIZE, entries_in, push_entries};
+use crate::fields::{byte_at, copied, digest_at, only_text, text_at, u64_at, whole};
 use crate::head::{Head, Spelling};
 use std::alloc::{AllocError, Global};
-use store_types::Bytes;
+use store_types::{AppendEntry, Bytes, Digest32, Rows};
 use thiserror::Error;
 use wire_frames::BODY_LIMIT;
 
@@ -16,17 +18,49 @@ use wire_frames::BODY_LIMIT;
 #[derive(Debug, Drop)]
 pub enum Command {
     /// 10: a writer of the snapshot.
-    OpenWriter { snapshot: Bytes },
+    OpenWriter {
+        snapshot: Bytes,
+    },
+    /// 13: a dynamic index is begun, as the file of this name.
+    NewDynamic {
+        file: Bytes,
+    },
+    /// 14: an upload of a piece, as a blob, under its digest.
+    Chunk {
+        digest: Digest32,
+        blob: Bytes,
+    },
+    /// 15: pieces behind those of the index of this number.
+    Append {
+        number: u8,
+        entries: Rows<AppendEntry>,
+    },
+    /// 16: the index of this number is complete: how many pieces it has, the size of the archive in
+    /// bytes, and the index's checksum.
+    CloseIndex {
+        number: u8,
+        count: u64,
+        size: u64,
+        csum: Digest32,
+    },
     /// 17: an upload of a blob, as the file of this name.
-    Blob { file: Bytes, blob: Bytes },
+    Blob {
+        file: Bytes,
+        blob: Bytes,
+    },
     /// 18: the writer's files become a finished snapshot.
     Finish,
     /// 19: the writer ends, and its files are removed.
     Abort,
     /// 20: a reader of the snapshot.
-    OpenReader { snapshot: Bytes },
+    OpenReader {
+        snapshot: Bytes,
+    },
     /// 21: a part of a file of the reader's snapshot, from an offset in bytes.
-    Download { file: Bytes, offset: u64 },
+    Download {
+        file: Bytes,
+        offset: u64,
+    },
     /// 24: the reader ends.
     CloseReader,
     /// 63: the lane's end.
@@ -40,7 +74,7 @@ pub enum Command {
 pub struct BadFrame;
 
 impl Command {
-    /// The command that a body spells. Only a command with texts takes memory, so what is no
+    /// The command that a body spells. Only a command with a text, a blob or entries takes memory, so what is no
     /// command is always told.
     pub fn read(alloc: Global, body: &[u8]) -> Result<Result<Command, BadFrame>, AllocError>
         ensures command { IfOk result (λ read. result_ok read ≡ command_of body.now) }
@@ -56,20 +90,50 @@ impl Command {
         ensures { IfOk result (λ text. text.items ≡ command_text self.now) }
     {
         let Spelling { head, rest } = self.spelling();
-        let head = head.as_slice();
-        let mut text = Vec::with_capacity(alloc, head.len() + rest.len())?;
+        let (head, entries) = (head.as_slice(), self.entries());
+        let size = head.len() + ENTRY_SIZE * entries.len() + rest.len();
+        let mut text = Vec::with_capacity(alloc, size)?;
         text.extend_from_slice(head)?;
+        push_entries(&mut text, entries)?;
         text.extend_from_slice(rest)?;
         Ok(text)
+    }
+
+    /// What stands between the head and the rest: the entries of an APPEND.
+    fn entries(&self) -> &[AppendEntry]
+        ensures { result.now ≡ entries_of self.now }
+    {
+        match self {
+            Command::Append { entries, .. } => entries.as_slice(),
+            _ => &[],
+        }
     }
 
     #[tactic(auto, unfolding(crate::specs::CommandText::command_text))]
     fn spelling(&self) -> Spelling<'_>
         requires { FitsCommand self.now }
-        ensures { result.head ++ result.rest.now ≡ command_text self.now }
+        ensures { result.head ++ flat_map entry_text (entries_of self.now) ++ result.rest.now ≡ command_text self.now }
     {
         match self {
             Command::OpenWriter { snapshot } => Spelling::of(Head::new(10).text(snapshot)),
+            Command::NewDynamic { file } => Spelling::of(Head::new(13).text(file)),
+            Command::Chunk { digest, blob } => Spelling {
+                head: Head::new(14).bytes(&digest.0),
+                rest: blob.as_slice(),
+            },
+            Command::Append { number, entries } => {
+                let count = entries.as_slice().len() as u16;
+                Spelling::of(Head::new(15).byte(*number).u16(count))
+            }
+            Command::CloseIndex {
+                number,
+                count,
+                size,
+                csum,
+            } => {
+                let head = Head::new(16).byte(*number).u64(*count).u64(*size);
+                Spelling::of(head.bytes(&csum.0))
+            }
             Command::Blob { file, blob } => Spelling {
                 head: Head::new(17).text(file),
                 rest: blob.as_slice(),
@@ -108,6 +172,10 @@ fn with_code(alloc: Global, code: u8, fields: &[u8]) -> Result<Option<Command>, 
 {
     match code {
         10 => open_writer(alloc, fields),
+        13 => new_dynamic(alloc, fields),
+        14 => chunk(alloc, fields),
+        15 => append(alloc, fields),
+        16 => Ok(close_index(fields)),
         17 => blob(alloc, fields),
         18 => Ok(nothing_more(Command::Finish, fields)),
         19 => Ok(nothing_more(Command::Abort, fields)),
@@ -146,6 +214,55 @@ fn open_reader(alloc: Global, fields: &[u8]) -> Result<Option<Command>, AllocErr
 {
     let snapshot = only_text(alloc, fields)?;
     Ok(snapshot.map(|snapshot| Command::OpenReader { snapshot }))
+}
+
+#[tactic(auto, unfolding(crate::specs::CommandText::one_text))]
+fn new_dynamic(alloc: Global, fields: &[u8]) -> Result<Option<Command>, AllocError>
+    ensures command { IfOk result (λ c. c ≡ one_text Command.NewDynamic fields.now) }
+    ensures memory { OnErr result ((1 ≤ length fields.now) × IsSome (one_text Command.NewDynamic fields.now)) }
+{
+    let file = only_text(alloc, fields)?;
+    Ok(file.map(|file| Command::NewDynamic { file }))
+}
+
+#[tactic(auto, unfolding(crate::specs::CommandText::chunk))]
+fn chunk(alloc: Global, fields: &[u8]) -> Result<Option<Command>, AllocError>
+    ensures command { IfOk result (λ c. c ≡ chunk fields.now) }
+    ensures memory { OnErr result ((1 ≤ length fields.now) × IsSome (chunk fields.now)) }
+{
+    let Some((digest, blob)) = digest_at(fields) else {
+        return Ok(None);
+    };
+    let blob = copied(alloc, blob)?;
+    Ok(Some(Command::Chunk { digest, blob }))
+}
+
+#[tactic(auto, unfolding(crate::specs::CommandText::append))]
+fn append(alloc: Global, fields: &[u8]) -> Result<Option<Command>, AllocError>
+    ensures command { IfOk result (λ c. c ≡ append fields.now) }
+    ensures memory { OnErr result ((1 ≤ length fields.now) × IsSome (append fields.now)) }
+{
+    let Some((number, rest)) = byte_at(fields) else {
+        return Ok(None);
+    };
+    let entries = entries_in(alloc, rest)?;
+    Ok(entries.map(|entries| Command::Append { number, entries }))
+}
+
+#[tactic(auto, unfolding(crate::specs::CommandText::close_index))]
+fn close_index(fields: &[u8]) -> Option<Command>
+    ensures { result ≡ close_index fields.now }
+{
+    let (number, rest) = byte_at(fields)?;
+    let (count, rest) = u64_at(rest)?;
+    let (size, rest) = u64_at(rest)?;
+    let csum = whole(digest_at(rest))?;
+    Some(Command::CloseIndex {
+        number,
+        count,
+        size,
+        csum,
+    })
 }
 
 #[tactic(auto, unfolding(crate::specs::CommandText::blob))]

@@ -1,7 +1,7 @@
 //! The fields of a body, read from its front: a value, and the bytes that follow it.
 
 ghost use Rattle.std.specs.Prelude.{◌≡◌, ◌≤◌, length, IsSome, IfOk, OnErr};
-ghost use Rattle.std.specs.Int.{w32, w64};
+ghost use Rattle.std.specs.Int.{w16, w32, w64};
 ghost use Rattle.std.specs.Option.{option_map};
 ghost use Rattle.wire_commands.specs.Fields as spec;
 
@@ -15,6 +15,13 @@ pub fn byte_at(bytes: &[u8]) -> Option<(u8, &[u8])>
         [] => None,
         [byte, rest @ ..] => Some((*byte, rest)),
     }
+}
+
+pub fn u16_at(bytes: &[u8]) -> Option<(u16, &[u8])>
+    ensures { option_map (λ x. (x.0, x.1.now)) result ≡ spec.number_at w16 bytes.now }
+{
+    let (number, rest) = bytes.split_first_chunk::<2>()?;
+    Some((u16::from_le_bytes(*number), rest))
 }
 
 pub fn u32_at(bytes: &[u8]) -> Option<(u32, &[u8])>

@@ -52,6 +52,13 @@ impl Head {
         self.bytes(&[byte])
     }
 
+    pub fn u16(self, number: u16) -> Head
+        requires { length self + 2 ≤ HEAD_LIMIT }
+        ensures { result ≡ self ++ spec.u16 number }
+    {
+        self.bytes(&number.to_le_bytes())
+    }
+
     pub fn u32(self, number: u32) -> Head
         requires { length self + 4 ≤ HEAD_LIMIT }
         ensures { result ≡ self ++ spec.u32 number }

@@ -3,10 +3,11 @@
 //! The body of a command is its code in one byte and its fields, and nothing else. The body of a
 //! reply is 0 and its fields, or the number of a refusal and the refusal's fields. A field is a
 //! number, unsigned and little-endian, a digest of 32 bytes, a text behind its length in one byte,
-//! or, as the last, all the bytes that are left.
+//! entries behind their count in two bytes, or, as the last, all the bytes that are left.
 #![tactic(auto)]
 
 mod command;
+mod entries;
 mod fields;
 mod head;
 pub mod laws;

@@ -8,7 +8,7 @@ ghost use Rattle.wire_commands.specs.HasText.{FitsReply, ReplyHasText};
 ghost use Rattle.wire_commands.specs.ReplyText.{reply_text, reply_form};
 ghost use Rattle.wire_commands.specs.ReplyReading.{part_in, accepted, reply_from, reply_of};
 
-use crate::fields::{byte_at, copied, only_text, u64_at};
+use crate::fields::{byte_at, copied, only_text, u64_at, whole};
 use crate::head::{Head, Spelling};
 use crate::refusal;
 use port_traits::{Failed, Sink};
@@ -25,6 +25,8 @@ pub enum Reply {
     Base { snapshot: Bytes },
     /// The size of a file in bytes, and a part of it.
     Part { total: u64, bytes: Bytes },
+    /// The number of a new index, 0 to 15.
+    Number(u8),
     /// The command was refused.
     Refused(Refusal),
 }
@@ -71,6 +73,7 @@ impl Reply {
                 head: Head::new(0).u64(*total),
                 rest: bytes.as_slice(),
             },
+            Reply::Number(number) => Spelling::of(Head::new(0).byte(*number)),
             Reply::Refused(refusal) => Spelling::of(refusal::head(refusal)),
         }
     }
@@ -117,8 +120,9 @@ fn accepted(alloc: Global, code: u8, fields: &[u8]) -> Result<Option<Reply>, All
             let snapshot = only_text(alloc, fields)?;
             Ok(snapshot.map(|snapshot| Reply::Base { snapshot }))
         }
+        13 => Ok(whole(byte_at(fields)).map(Reply::Number)),
         21 => part(alloc, fields),
-        17 | 18 | 19 | 20 | 24 | 63 if fields.is_empty() => Ok(Some(Reply::Done)),
+        14 | 15 | 16 | 17 | 18 | 19 | 20 | 24 | 63 if fields.is_empty() => Ok(Some(Reply::Done)),
         _ => Ok(None),
     }
 }

@@ -149,6 +149,59 @@ const ABORTED_FAULTS: [Fault; 3] = [
     },
 ];
 
+/// With the chunk of `abc`.
+const WITH_CHUNK: Files = &[(
+    ".chunks/ba78/ba7816bf8f01cfea414140de5dae2223b00361a396177a9cb410ff61f20015ad",
+    15,
+)];
+
+const WITH_INDEX: Files = &[
+    (
+        ".chunks/ba78/ba7816bf8f01cfea414140de5dae2223b00361a396177a9cb410ff61f20015ad",
+        15,
+    ),
+    ("host/a/2020-01-15T06:30:03Z/root.didx", 4136),
+];
+
+/// CHUNK asks whether the chunk's file is there and puts it, once; CLOSE_INDEX puts the index, and ABORT removes it.
+const STORED_FAULTS: [Fault; 5] = [
+    Fault {
+        told: 12,
+        behind: b"\x01\0\0\0\x1a\x09\0\0\0\x1b\x02\0\0\0\0\0\0\0\x09\0\0\0\x1b\x02\0\0\0\0\0\0\0\x09\0\0\0\x1b\x02\0\0\0\0\0\0\0\x09\0\0\0\x1b\x02\0\0\0\0\0\0\0",
+        status: Status::DiskFault,
+        kinds: &[0, 0, 5, 5, 5, 5, 5, 6],
+        files: NOTHING,
+    },
+    Fault {
+        told: 12,
+        behind: b"\x01\0\0\0\x1a\x09\0\0\0\x1b\x02\0\0\0\0\0\0\0\x09\0\0\0\x1b\x02\0\0\0\0\0\0\0\x09\0\0\0\x1b\x02\0\0\0\0\0\0\0\x09\0\0\0\x1b\x02\0\0\0\0\0\0\0",
+        status: Status::DiskFault,
+        kinds: &[0, 0, 5, 5, 5, 5, 5, 6],
+        files: NOTHING,
+    },
+    Fault {
+        told: 27,
+        behind: b"\x01\0\0\0\x1a\x09\0\0\0\x1b\x05\0\0\0\0\0\0\0",
+        status: Status::DiskFault,
+        kinds: &[0, 0, 0, 0, 0, 5, 5, 6],
+        files: WITH_CHUNK,
+    },
+    Fault {
+        told: 32,
+        behind: b"\x01\0\0\0\x1a",
+        status: Status::DiskFault,
+        kinds: &[0, 0, 0, 0, 0, 0, 5, 6],
+        files: WITH_INDEX,
+    },
+    Fault {
+        told: 37,
+        behind: b"",
+        status: Status::Ok,
+        kinds: &[0, 0, 0, 0, 0, 0, 0, 6],
+        files: WITH_CHUNK,
+    },
+];
+
 /// The disk's call with this number, from 0, fails.
 fn try_disk(
     rt: &impl Abort,
@@ -191,6 +244,9 @@ fn each_call_of_the_disk_fails(rt: HostRuntime) -> Result<(), Fail> {
     }
     for (call, fault) in ABORTED_FAULTS.iter().enumerate() {
         try_disk(&rt, alloc, &ABORTED, call as u64, fault)?;
+    }
+    for (call, fault) in STORED_FAULTS.iter().enumerate() {
+        try_disk(&rt, alloc, &STORED, call as u64, fault)?;
     }
     Ok(())
 }

@@ -12,10 +12,13 @@ use Rattle.core_state.proofs.Caused.{short_caused, no_end_caused}
 use Rattle.core_state.proofs.Recorded.{records_more, short_timely, step_kind, wanting_kind, end_kind, tells_reply, end_tells_reply}
 use Rattle.core_state.proofs.Unchanging.{refused_parts, short_unchanged}
 use Rattle.core_state.proofs.Reserves.{short_keeps, no_end_keeps, end_keeps}
-use Rattle.core_writer.proofs.OtherNames.{others_unmoved}
+use Rattle.core_writer.proofs.OtherNames.{acts_stay, acts_unmoved}
+use Rattle.core_writer.proofs.ListedLemmas.{refused_lists}
+use Rattle.core_writer.specs.Closed.{Lists}
 use Rattle.core_writer.specs.Ended.{HasEnded}
-use Rattle.shared_store.proofs.Asking.{short_closes, end_closes}
+use Rattle.shared_store.proofs.Asking.{readers_list, short_closes, end_closes}
 use Rattle.core_reader.specs.Asked.{asked_path}
+use Rattle.core_reader.specs.ReaderActs.{IsReaders}
 use Rattle.core_reader.proofs.Unreadables.{tells_no_reader}
 use Rattle.shared_store.proofs.apply.Goals as goal
 
@@ -26,7 +29,7 @@ steps : stepping ≡ ending → ⊥
 steps e = cc
 
 pub returns-in-Short-clause-history : goal.returns-in-Short-clause-history
-returns-in-Short-clause-history g c = let d = g.D.Disk in λ h s.
+returns-in-Short-clause-history g c = let d = g.D.Disk in λ h s clear.
     short_stands d.honest d.content d.calls g.C.Clock.readings _ _ h c.args.lane c.args.act _ s c.requires.lane c.requires.formed (λ e. apart (sym (ap class_of c.in-Short.is) ∙ e)) c.short.ensures
 
 pub returns-in-Short-clause-answers : goal.returns-in-Short-clause-answers
@@ -64,7 +67,25 @@ returns-in-Short-clause-unchanged g c = let d = g.D.Disk in short_unchanged d.ho
 
 pub returns-in-Short-clause-others : goal.returns-in-Short-clause-others
 returns-in-Short-clause-others g c = let d = g.D.Disk in
-    others_unmoved d.honest d.content _ _ c.args.lane _ (refused_parts d.calls g.C.Clock.readings _ _ c.args.lane _ (short c.short.ensures))
+    acts_unmoved d.honest d.content _ _ c.args.lane c.args.act _ (refused_parts d.calls g.C.Clock.readings _ _ c.args.lane _ (short c.short.ensures))
+
+pub returns-in-End-clause-others : goal.returns-in-End-clause-others
+returns-in-End-clause-others g c = let d = g.D.Disk in
+    acts_stay d.honest d.content (c.args.core.now).parts (c.end_act.new.core).parts c.args.lane c.args.act _ c.end_act.ensures.others
+
+pub returns-in-Plain-OpenReader-clause-listed : goal.returns-in-Plain-OpenReader-clause-listed
+returns-in-Plain-OpenReader-clause-listed g c =
+    let old = (c.args.core.now).parts in
+    let reads : IsReaders c.args.act = search rules in
+    c.reader_act.ensures.catalogue
+    ∙ sym (readers_list c.args.act c.reader_act.result.reply c.reader_act.result.place (slice_index_or old.sessions.items c.args.lane Idle) old.catalogue.items reads)
+
+pub returns-in-Short-clause-listed : goal.returns-in-Short-clause-listed
+returns-in-Short-clause-listed g c = refused_lists g.D.Disk.calls g.C.Clock.readings _ _ c.args.lane c.args.act _ (short c.short.ensures)
+
+pub returns-in-End-clause-listed : goal.returns-in-End-clause-listed
+returns-in-End-clause-listed g c =
+    subst (λ a. Lists c.args.core.now c.end_act.new.core c.args.lane a c.end_act.result) (sym c.in-End.is) c.end_act.ensures.listed
 
 pub returns-in-Short-clause-removed : goal.returns-in-Short-clause-removed
 returns-in-Short-clause-removed g c = λ ended none. absurd (subst (λ a. HasEnded a c.short.result) c.in-Short.is ended)

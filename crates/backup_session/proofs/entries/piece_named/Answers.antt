@@ -1,5 +1,5 @@
-use Rattle.std.proofs.Common.{◌≡◌, None, sym, ◌∙◌, rules}
-use Rattle.std.specs.FinMap.{get, get-entries}
+use Rattle.std.proofs.Common.{◌≡◌, None, Some, sym, ◌∙◌, rules}
+use Rattle.std.specs.FinMap.{get, entries, get-entries}
 use Rattle.backup_session.proofs.Pools.{entry_unknown, entry_misplaced, entry_named}
 use Rattle.backup_session.proofs.entries.piece_named.Goals as goal
 

@@ -2,7 +2,7 @@ use Rattle.std.proofs.Common.{◌≡◌, List, Ok, Err, map, length, sym, ap, su
 use Rattle.std.specs.Prelude.{Result, MatchResult, IfOk}
 use Rattle.std.specs.FinMap.{entries}
 use Rattle.store_types.specs.declared.refusal.Refusal.{Refusal}
-use Rattle.backup_session.specs.Archives.{want_entries}
+use Rattle.store_model.specs.Archives.{want_entries}
 use Rattle.dynamic_index.specs.Writing.{Known, known_of}
 use Rattle.backup_session.proofs.StateSteps.{for_refused, for_passed, entries_room, fits_told}
 use Rattle.backup_session.proofs.entries.pieces_for.Goals as goal

@@ -1,10 +1,10 @@
-use Rattle.std.proofs.Common.{◌≡◌, ◌+◌, ◌<◌, ◌++◌, Ok, length, map, drop, sym, ap, ap₂, ◌∙◌, arith}
+use Rattle.std.proofs.Common.{◌≡◌, ◌+◌, ◌<◌, ◌++◌, [], ◌∷◌, List, Ok, Err, length, map, drop, sym, ap, ap₂, ◌∙◌, arith}
 use Rattle.std.specs.FinMap.{entries}
 use Rattle.std.proofs.lemmas.List.{map-append}
 use Rattle.store_types.specs.Chain.Refusing.{◌>>=◌}
 use Rattle.store_files.specs.Archive.{dynamic}
-use Rattle.backup_session.specs.Archives.{pieces_named}
-use Rattle.dynamic_index.specs.Writing.{known_of}
+use Rattle.store_model.specs.Archives.{pieces_named}
+use Rattle.dynamic_index.specs.Writing.{Known, known_of}
 use Rattle.backup_session.specs.Steps.{known_in}
 use Rattle.backup_session.proofs.Naming.{named_more, named_refused, named_none, behind_more}
 use Rattle.backup_session.proofs.Lifting.{own_default, drop_end, nothing_more}

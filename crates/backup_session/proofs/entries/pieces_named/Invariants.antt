@@ -2,7 +2,7 @@ use Rattle.std.proofs.Common.{◌≡◌, ◌≤◌, ◌+◌, ◌*◌, ◌++◌, 
 use Rattle.std.specs.FinMap.{entries}
 use Rattle.store_types.specs.Chain.Refusing.{◌>>=◌}
 use Rattle.store_files.specs.Archive.{dynamic}
-use Rattle.backup_session.specs.Archives.{pieces_named}
+use Rattle.store_model.specs.Archives.{pieces_named}
 use Rattle.dynamic_index.specs.Writing.{known_of}
 use Rattle.backup_session.specs.Steps.{known_in}
 use Rattle.backup_session.proofs.entries.pieces_named.Given as goal

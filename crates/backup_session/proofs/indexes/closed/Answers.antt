@@ -1,4 +1,5 @@
-use Rattle.std.proofs.Common.{◌≡◌, ℕ, List, Ok, rules, ap, ap₂, ◌∙◌}
+use Rattle.std.proofs.Common.{◌≡◌, ℕ, List, Ok, rules, sym, ap, ap₂, ◌∙◌}
+use Rattle.store_types.specs.declared.names.Digest32.{Digest32}
 use Rattle.manifest.specs.declared.facts.FileFact.{FileFact}
 use Rattle.backup_session.specs.Steps.{want_close}
 use Rattle.backup_session.proofs.Numbers.{close_given}

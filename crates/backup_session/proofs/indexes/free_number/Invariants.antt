@@ -1,5 +1,5 @@
 use Rattle.std.proofs.Common.{◌≡◌, ◌-◌}
-use Rattle.backup_session.specs.Archives.{free_from, free_number}
+use Rattle.store_model.specs.Archives.{free_from, free_number}
 use Rattle.backup_session.specs.Kept.{opens_of}
 use Rattle.backup_session.specs.Steps.{numbers}
 use Rattle.backup_session.proofs.indexes.free_number.Given as goal

@@ -4,6 +4,7 @@ use Rattle.store_history.specs.History.{act_outcome}
 use Rattle.core_state.specs.History.{world}
 use Rattle.core_state.specs.declared.kept.Session.TheVariants.{Idle}
 use Rattle.core_state.proofs.Answered.{refused_stands, done_stands}
+use Rattle.core_state.proofs.Chunks.{adds_same}
 use Rattle.core_state.proofs.Answering.{refused_answered, done_answered, refused_told, where_some, where_none, refused_same}
 use Rattle.core_state.proofs.Caused.{refused_caused, done_caused}
 use Rattle.core_state.proofs.Recorded.{refused_timely, settled_timely}
@@ -12,7 +13,7 @@ use Rattle.core_state.proofs.Unchanging.{refused_parts, refused_unchanged, done_
 use Rattle.core_state.proofs.Reserves.{refused_keeps, done_keeps, closing_kind, closing_before}
 use Rattle.core_reader.specs.Asked.{asked_path}
 use Rattle.core_reader.proofs.Unreadables.{tells_refused, tells_done}
-use Rattle.core_reader.proofs.ActLemmas.{readers_formed, readers_step}
+use Rattle.core_reader.proofs.ActLemmas.{readers_formed, readers_step, readers_safe}
 use Rattle.core_reader.proofs.act.reader_act.Goals as goal
 
 pub returns-in-Answered-clause-history : goal.returns-in-Answered-clause-history
@@ -26,7 +27,9 @@ returns-in-At-clause-history g c = let d = g.D.Disk in λ h s.
     (λ st. act_outcome h.remote (record (world h) { store = st }) c.args.lane c.in-At.moment c.args.act) _ _ s c.requires.lane
     (readers_formed c.args.act c.requires.kind) (readers_step c.args.act c.requires.kind) refl
     (record { ready = c.in-At.ensures.begun; journal = refl; clock = refl; fault = refl; later = c.perform-outcome.ensures.calls })
-    (c.perform-outcome.ensures.act h.remote (world h) c.in-At.moment) c.settle.ensures
+    (λ _. c.perform-outcome.ensures.act h.remote (world h) c.in-At.moment)
+    (adds_same d.honest d.content c.begin.new.core.parts c.perform-outcome.new.parts c.args.act _ c.perform-outcome.ensures.content) c.settle.ensures
+    (λ _ _. readers_safe _ c.args.act c.requires.kind)
 
 pub returns-in-Answered-clause-answers : goal.returns-in-Answered-clause-answers
 returns-in-Answered-clause-answers g c = let d = g.D.Disk in
@@ -85,6 +88,13 @@ pub returns-in-At-clause-content : goal.returns-in-At-clause-content
 returns-in-At-clause-content g c = let d = g.D.Disk in λ h.
     let before = (c.in-At.ensures.begun.begun).parts in
     ap (λ p. d.content p.disk) c.settle.ensures.parts ∙ c.perform-outcome.ensures.content (subst (λ p. d.honest p.disk) (sym before) h) ∙ ap (λ p. d.content p.disk) before
+
+pub returns-in-Answered-clause-catalogue : goal.returns-in-Answered-clause-catalogue
+returns-in-Answered-clause-catalogue g c = ap (λ p. p.catalogue.items) (refused_parts g.D.Disk.calls g.C.Clock.readings _ _ c.args.lane _ c.in-Answered.ensures.begun)
+
+pub returns-in-At-clause-catalogue : goal.returns-in-At-clause-catalogue
+returns-in-At-clause-catalogue g c =
+    ap (λ p. p.catalogue.items) c.settle.ensures.parts ∙ c.perform-outcome.ensures.catalogue ∙ ap (λ p. p.catalogue.items) (c.in-At.ensures.begun.begun).parts
 
 pub returns-in-Answered-clause-memory : goal.returns-in-Answered-clause-memory
 returns-in-Answered-clause-memory g c = λ closing. c.in-Answered.ensures.memory closing

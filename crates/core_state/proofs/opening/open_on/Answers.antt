@@ -9,4 +9,4 @@ returns-in-Ok-clause-opened g c = let d = g.D.Disk in λ R honest stands.
 
 pub returns-in-Ok-clause-records : goal.returns-in-Ok-clause-records
 returns-in-Ok-clause-records g c = λ R.
-    opened_records g.C.Clock.readings _ (g.D.Disk.calls c.args.disk) R c.in-Ok.ensures.0 c.in-Ok.ensures.1 refl refl
+    opened_records g.C.Clock.readings _ (g.D.Disk.content c.args.disk) (g.D.Disk.calls c.args.disk) R c.in-Ok.ensures.0 c.in-Ok.ensures.1 refl refl

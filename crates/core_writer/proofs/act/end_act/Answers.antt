@@ -5,6 +5,8 @@ use Rattle.core_state.specs.Holds.{Shows, Holds}
 use Rattle.core_state.specs.History.{world}
 use Rattle.core_state.specs.Settles.{reply_by}
 use Rattle.core_state.proofs.Answering.{untouched, ended_answered, end_failed_answered, ended_told, end_failed_told, where_some, where_none}
+use Rattle.store_history.specs.declared.act.Act.TheVariants.{End}
+use Rattle.core_writer.proofs.ChunkNames.{gone_adds}
 use Rattle.core_state.proofs.Ended.{ended_stands, end_failed_stands, end_halted_stands}
 use Rattle.core_state.proofs.Caused.{ended_caused, end_failed_caused}
 use Rattle.core_state.proofs.Recorded.{entered_timely}
@@ -41,7 +43,7 @@ returns-in-Ok-clause-history g c = let d = g.D.Disk in λ h s.
     subst (λ p. Holds d.honest d.content p (world h).store) (sym b.parts) (record { honest = s.honest; shows = s.shows; files = s.files (sym s.fault ∙ sym b.fault ∙ fault) }) in
     ended_stands d.honest d.content d.calls g.C.Clock.readings _ c.begin_end-moment.new.core _ _ h c.args.lane c.begin_end-moment.result _ s c.requires.lane
     (record { begun = b; journal = refl; clock = refl; fault = refl; later = c.end.ensures.calls })
-    (c.in-Ok.ensures.act (world h).store held) c.enter-in-Ok.ensures
+    (c.in-Ok.ensures.act (world h).store held) (λ _. gone_adds _ _ _ End (c.in-Ok.ensures.removed held.honest)) c.enter-in-Ok.ensures
 
 pub returns-in-Err-clause-history : goal.returns-in-Err-clause-history
 returns-in-Err-clause-history g c = let d = g.D.Disk in λ h s.

@@ -2,29 +2,32 @@ use Rattle.std.proofs.Common.{◌∙◌, refl, sym, ap}
 use Rattle.store_history.specs.History.{act_outcome}
 use Rattle.core_state.specs.History.{world}
 use Rattle.core_state.proofs.Answered.{refused_stands, done_stands}
+use Rattle.core_state.proofs.Chunks.{clear_safe}
 use Rattle.core_state.proofs.Answering.{refused_answered, done_answered, refused_told, settled_told, where_some, where_none, refused_same}
 use Rattle.core_state.proofs.Caused.{refused_caused, done_caused}
 use Rattle.core_state.proofs.Recorded.{refused_timely, settled_timely}
 use Rattle.core_state.proofs.Reserves.{refused_keeps, done_keeps}
 use Rattle.core_state.proofs.Unchanging.{refused_parts, refused_unchanged, done_unchanged}
-use Rattle.core_writer.proofs.OtherNames.{others_unmoved, others_between}
+use Rattle.core_writer.proofs.OtherNames.{acts_unmoved, acts_between}
 use Rattle.core_writer.proofs.ActLemmas.{writers_formed, writers_step, ended_is, refused_ends, some_same}
 use Rattle.core_writer.proofs.EndingLemmas.{gone_between}
+use Rattle.core_writer.proofs.ListedLemmas.{refused_lists}
 use Rattle.core_state.proofs.Reserves.{refused_keeps, done_keeps, closing_kind, closing_before}
 use Rattle.core_writer.proofs.act.writer_act.Goals as goal
 
 pub returns-in-Answered-clause-history : goal.returns-in-Answered-clause-history
-returns-in-Answered-clause-history g c = let d = g.D.Disk in λ h s.
+returns-in-Answered-clause-history g c = let d = g.D.Disk in λ h s clear.
     refused_stands d.honest d.content d.calls g.C.Clock.readings _ _ h c.args.lane c.args.act _ s c.requires.lane
     (writers_formed c.args.act c.requires.kind) (writers_step c.args.act c.requires.kind) c.in-Answered.ensures.begun
 
 pub returns-in-At-clause-history : goal.returns-in-At-clause-history
-returns-in-At-clause-history g c = let d = g.D.Disk in λ h s.
+returns-in-At-clause-history g c = let d = g.D.Disk in λ h s clear.
     done_stands d.honest d.content d.calls g.C.Clock.readings _ c.begin.new.core _ _ h c.args.lane c.in-At.moment c.args.act
     (λ st. act_outcome h.remote (record (world h) { store = st }) c.args.lane c.in-At.moment c.args.act) _ _ s c.requires.lane
     (writers_formed c.args.act c.requires.kind) (writers_step c.args.act c.requires.kind) refl
     (record { ready = c.in-At.ensures.begun; journal = refl; clock = refl; fault = refl; later = c.perform-outcome.ensures.calls })
-    (c.perform-outcome.ensures.act h.remote (world h)) c.settle.ensures
+    (c.perform-outcome.ensures.act h.remote (world h)) c.perform-outcome.ensures.chunks c.settle.ensures
+    (clear_safe _ h _ (writers_formed c.args.act c.requires.kind) clear)
 
 pub returns-in-Answered-clause-answers : goal.returns-in-Answered-clause-answers
 returns-in-Answered-clause-answers g c = let d = g.D.Disk in
@@ -67,11 +70,14 @@ returns-in-At-clause-unchanged g c = let d = g.D.Disk in
 
 pub returns-in-Answered-clause-others : goal.returns-in-Answered-clause-others
 returns-in-Answered-clause-others g c = let d = g.D.Disk in
-    others_unmoved d.honest d.content _ _ c.args.lane _ (refused_parts d.calls g.C.Clock.readings _ _ c.args.lane _ c.in-Answered.ensures.begun)
+    acts_unmoved d.honest d.content _ _ c.args.lane c.args.act _ (refused_parts d.calls g.C.Clock.readings _ _ c.args.lane _ c.in-Answered.ensures.begun)
 
 pub returns-in-At-clause-others : goal.returns-in-At-clause-others
 returns-in-At-clause-others g c = let d = g.D.Disk in
-    others_between d.honest d.content _ c.begin.new.core.parts _ _ c.args.lane _ _ (c.in-At.ensures.begun.begun).parts c.settle.ensures.parts c.settle.ensures.reply_is c.perform-outcome.ensures.others
+    acts_between d.honest d.content _ c.begin.new.core.parts _ _ c.args.lane c.args.act _ _ (c.in-At.ensures.begun.begun).parts c.settle.ensures.parts c.settle.ensures.reply_is c.perform-outcome.ensures.others
+
+pub returns-in-Answered-clause-listed : goal.returns-in-Answered-clause-listed
+returns-in-Answered-clause-listed g c = refused_lists g.D.Disk.calls g.C.Clock.readings _ _ c.args.lane c.args.act _ c.in-Answered.ensures.begun
 
 pub returns-in-Answered-clause-removed : goal.returns-in-Answered-clause-removed
 returns-in-Answered-clause-removed g c = λ ended none.

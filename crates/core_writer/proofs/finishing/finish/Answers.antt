@@ -1,15 +1,15 @@
 use Rattle.std.proofs.Common.{◌≡◌, ◌<◌, ◌∙◌, ap, refl, sym, set, length, arith, rules, Some, None, Err}
 use Rattle.std.specs.FinMap.{get}
 use Rattle.std.specs.List.{list_all}
-use Rattle.store_types.specs.declared.refusal.Refusal.TheVariants.{NoFile}
+use Rattle.store_types.specs.declared.refusal.Refusal.TheVariants.{NoFile, OpenIndexes}
 use Rattle.core_state.specs.declared.kept.Session.TheVariants.{Writer, Idle}
 use Rattle.core_state.specs.Named.{is_named, is_named_snapshot}
 use Rattle.core_state.proofs.Acting.{does_refused}
 use Rattle.core_state.proofs.NamedLemmas.{list_all-set, list_all-at}
 use Rattle.core_state.proofs.Sessions.{at_lane, writer_found}
 use Rattle.core_writer.specs.Closed.{kept_manifest, closed}
-use Rattle.core_writer.proofs.FinishLemmas.{not_writing, no_file, does_finish, named_closed}
-use Rattle.core_state.proofs.Texts.{no_file_has_text, done_has_text}
+use Rattle.core_writer.proofs.FinishLemmas.{not_writing, open_indexes, none_open, some_open, no_file, does_finish, named_closed}
+use Rattle.core_state.proofs.Texts.{no_file_has_text, open_indexes_has_text, done_has_text}
 use Rattle.core_state.specs.Replies.{refuses_finish}
 use Rattle.core_state.proofs.Unchanging.{leaves_same}
 use Rattle.core_writer.specs.Ended.{stored_files}
@@ -30,7 +30,7 @@ returns-in_default-manifest_of-clause-act g c = let d = g.D.Disk in λ moment s 
     let here = at_lane old.sessions.items s c.args.lane c.index-session.result.now (h.shows).sessions ((h.shows).sound).lanes c.requires c.index-session.ensures in
     let f = writer_found s c.args.lane c.index-session.result.now c.in-Writer.w here c.in-Writer.is in
     let none : kept_manifest c.in-Writer.w ≡ None = search rules in
-    does_refused d.honest d.content old _ s _ NoFile refl refl refl (no_file s c.args.lane moment f.0 f.1 (ap kept_manifest f.2 ∙ none)) h
+    does_refused d.honest d.content old _ s _ NoFile refl refl refl (no_file s c.args.lane moment f.0 f.1 (none_open f.0 c.in-Writer.w c.open_indexes-count.result f.2 c.open_indexes-count.ensures c.if-count-gt0.false) (ap kept_manifest f.2 ∙ none)) h
 
 pub invariant_of-parts-2-clause-named : goal.invariant_of-parts-2-clause-named
 invariant_of-parts-2-clause-named g c =
@@ -52,6 +52,7 @@ returns-clause-act g c = let d = g.D.Disk in λ moment s h.
     let f = writer_found s c.args.lane c.index-session.result.now c.in-Writer.w here c.in-Writer.is in
     let manifest : kept_manifest c.in-Writer.w ≡ Some (c.in-Some.path.now, c.in-Some.text.now) = search rules in
     does_finish d.honest d.content old _ s c.args.lane moment c.args.number c.index_mut.result.now f.0 c.in-Some.path.now c.in-Some.text.now c.requires f.1
+    (none_open f.0 c.in-Writer.w c.open_indexes-count.result f.2 c.open_indexes-count.ensures c.if-count-gt0.false)
     (here2 ∙ sym here ∙ c.in-Writer.is ∙ ap (λ x. Writer x) (sym f.2)) (ap kept_manifest f.2 ∙ manifest)
     c.put_manifest.ensures.serves.kept c.in_ok-put_manifest.ensures.put
     (c.close.ensures.catalogue ∙ ap (closed c.args.number c.index_mut.result.now) c.reserve.ensures.items)
@@ -83,3 +84,15 @@ returns-clause-others g c = let d = g.D.Disk in λ ok h q before after.
     let manifest : kept_manifest c.in-Writer.w ≡ Some (c.in-Some.path.now, c.in-Some.text.now) = search rules in
     ap (λ m. get m q) (c.in_ok-put_manifest.ensures.put h)
     ∙ closed_elsewhere c.in-Writer.w c.in-Some.path.now c.in-Some.text.now (d.content old.disk) q manifest (ap (λ x. stand_at q (stored_files x)) (sym (here ∙ c.in-Writer.is)) ∙ before)
+
+pub returns-then-count-gt0-clause-text : goal.returns-then-count-gt0-clause-text
+returns-then-count-gt0-clause-text g c = open_indexes_has_text c.open_indexes-count.result c.open_indexes-count.type_inv
+
+pub returns-then-count-gt0-clause-act : goal.returns-then-count-gt0-clause-act
+returns-then-count-gt0-clause-act g c = let d = g.D.Disk in λ moment s h.
+    let old = c.args.parts.now in
+    let here = at_lane old.sessions.items s c.args.lane c.index-session.result.now (h.shows).sessions ((h.shows).sound).lanes c.requires c.index-session.ensures in
+    let f = writer_found s c.args.lane c.index-session.result.now c.in-Writer.w here c.in-Writer.is in
+    let some = some_open f.0 c.in-Writer.w c.open_indexes-count.result f.2 c.open_indexes-count.ensures c.if-count-gt0.true in
+    does_refused d.honest d.content old _ s _ (OpenIndexes c.open_indexes-count.result) refl refl refl
+    (open_indexes s c.args.lane moment f.0 f.1 some.0 ∙ ap (λ k. Err (OpenIndexes k)) (sym some.1)) h

@@ -1,4 +1,6 @@
 use Rattle.std.proofs.Common.{Some, sym, subst}
+use Rattle.store_history.specs.Acts.{IsWellFormed}
+use Rattle.store_history.proofs.Ending.{is_formed}
 use Rattle.lane.specs.declared.ending.Last.{Last}
 use Rattle.lane.specs.Causes.{HasCauses}
 use Rattle.lane.specs.Turns.{ending_of}
@@ -22,3 +24,6 @@ pub returns-clause-causes : goal.returns-clause-causes
 returns-clause-causes g c =
     subst (λ (l : Last). HasCauses (g.S.Source.faults c.args.port.now.source) (g.S.Source.faults c.args.port.now.source) (g.K.Sink.faults c.args.port.now.sink) (g.K.Sink.faults c.do_act-ending.new.sink) c.advance.new.self.taken (Some l.ending))
     (sym c.untold.ensures) (c.in_ok-ending.ensures.causes (g.S.Source.faults c.args.port.now.source) c.advance.new.self.taken)
+
+pub do_act-ending-requires-clause-formed : goal.do_act-ending-requires-clause-formed
+do_act-ending-requires-clause-formed g c = subst (λ a. IsWellFormed a) (sym c.act_of-act.ensures) (is_formed c.args.command c.requires.ahead.other)

@@ -1,5 +1,6 @@
-use Rattle.std.proofs.Common.{List, [], None, length, sym, subst, ap, ◌∙◌, arith}
+use Rattle.std.proofs.Common.{◌≡◌, ◌≤◌, List, [], None, length, sym, subst, ap, ◌∙◌, arith}
 use Rattle.std.specs.FinMap.{entries}
+use Rattle.known_chunks.specs.Lengths.{Lengths}
 use Rattle.manifest.specs.declared.facts.FileFact.{FileFact}
 use Rattle.backup_session.specs.declared.state.Begun.{Begun}
 use Rattle.backup_session.specs.Session.{Pool, Open, Writing}

@@ -1,4 +1,4 @@
-use Rattle.backup_session.specs.WriterCalls as plain
+use Rattle.store_model.specs.WriterCalls as plain
 use Rattle.backup_session.specs.Session.{settled}
 use Rattle.backup_session.specs.Steps as steps
 use Rattle.backup_session.specs.Kept.{session_of}

@@ -59,7 +59,7 @@ returns-in_err-part-clause-does c =
     let there = sym asked ∙ ap (option_map (λ f. f.now)) c.in-Some.is in
     let text = c.in_ok-text.ensures ∙ ap (λ (g : File). file_text g.content) c.file.view_is in
     let is : c.from_residual-in_err-part.result ≡ Err c.in_err-part.field-0.0 = search rules in
-    does_stop _ _ c.in_err-part.field-0.0 (part_from c.in_ok-text.text.items c.args.offset) _ is c.in_err-part.ensures.gives
+    does_stop (λ x. x) _ _ c.in_err-part.field-0.0 (part_from c.in_ok-text.text.items c.args.offset) _ is c.in_err-part.ensures.gives
     (λ r h. no_part s c.args.lane name c.args.offset x f reads good there r (ap (λ t. part_from t c.args.offset) (sym text) ∙ h))
 
 pub returns-in_err-part-clause-spelled : goal.returns-in_err-part-clause-spelled

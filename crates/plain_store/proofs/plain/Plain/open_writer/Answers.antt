@@ -49,8 +49,8 @@ returns-clause-does c =
     let idle : want_idle (session s c.args.lane) ≡ Ok tt = search rules in
     let named : key_of c.args.snapshot.now ≡ Some c.in-Ok.key = search rules in
     let tested = ap (base_of s) (sym c.as_key.ensures) ∙ c.in_ok-base.ensures.test in
-    open_goes s c.args.lane c.args.moment c.args.snapshot.now c.in-Ok.key idle named _ c.in_ok-base-2.base c.new-files.result.items c.in_ok-text.text c.set_held.new.self
-    tested c.new-files.ensures.items c.in_ok-base-2.ensures c.in_ok-text.ensures.text c.set_held.ensures
+    open_goes s c.args.lane c.args.moment c.args.snapshot.now c.in-Ok.key idle named _ c.in_ok-base-2.base c.new.result.items c.new-2.result c.new-3.result.items c.in_ok-text.text c.set_held.new.self
+    tested c.new.ensures.items c.new-2.ensures c.new-3.ensures.items c.in_ok-base-2.ensures c.in_ok-text.ensures.text c.set_held.ensures
 
 pub returns-clause-spelled : goal.returns-clause-spelled
 returns-clause-spelled c = base_spelled c.in_ok-text.text c.in_ok-text.ensures.short

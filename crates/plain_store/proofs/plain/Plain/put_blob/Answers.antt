@@ -2,11 +2,14 @@ use Rattle.std.proofs.Common.{◌≡◌, ◌∙◌, ap, sym, Ok, Err, rules}
 use Rattle.store_model.specs.Store.{session, with_session, want_writer}
 use Rattle.wire_commands.specs.declared.reply.Reply.TheVariants.{Done}
 use Rattle.plain_store.specs.declared.stop.Stop.TheVariants.{Refused}
-use Rattle.plain_store.specs.Sessions.{shown_writer, uploaded}
+use Rattle.plain_store.specs.declared.changes.Change.TheVariants.{Upload}
+use Rattle.plain_store.specs.Sessions.{shown_writer}
+use Rattle.plain_store.specs.Changes.{changed_in}
 use Rattle.plain_store.specs.Writers.{upload_of}
 use Rattle.plain_store.proofs.Spelled.{done_spelled}
 use Rattle.plain_store.proofs.Stopping.{does_refuse, refusal_fits, does_stop, stop_fits}
 use Rattle.plain_store.proofs.WriterLemmas.{is_writer, put_not_writer, put_refused, put_goes}
+use Rattle.plain_store.proofs.ArchiveLemmas.{fits_anyway}
 use Rattle.plain_store.proofs.plain.Plain.put_blob.Goals as goal
 
 pub returns-in_err-w-clause-does : goal.returns-in_err-w-clause-does
@@ -25,7 +28,7 @@ returns-in_err-file-clause-does c =
     let w = shown_writer c.in_ok-w.w.now in
     let is : c.from_residual-in_err-file.result ≡ Err c.in_err-file.field-0.0 = search rules in
     let writes = ap want_writer (sym c.held.ensures) ∙ c.in_ok-w.ensures.test in
-    does_stop _ _ c.in_err-file.field-0.0 (upload_of w c.args.name.now c.args.blob.now) _ is c.in_err-file.ensures.gives
+    does_stop (λ x. x) _ _ c.in_err-file.field-0.0 (upload_of w c.args.name.now c.args.blob.now) _ is c.in_err-file.ensures.gives
     (put_refused c.args.self.now c.args.lane c.args.name.now c.args.blob.now w writes)
 
 pub returns-in_err-file-clause-spelled : goal.returns-in_err-file-clause-spelled
@@ -39,8 +42,11 @@ returns-clause-does c =
     let s = c.args.self.now in
     let writes = ap want_writer (sym c.held.ensures) ∙ c.in_ok-w.ensures.test in
     put_goes s c.args.lane c.args.name.now c.args.blob.now w writes c.in_ok-file.file c.in_ok-file.ensures.gives
-    ∙ ap (λ x. Ok (with_session s c.args.lane (uploaded c.in_ok-file.file x), Done)) (sym (is_writer (session s c.args.lane) w writes))
-    ∙ ap (λ a. Ok (a, Done)) (sym c.in_ok-put_file.ensures.ok)
+    ∙ ap (λ x. Ok (with_session s c.args.lane (changed_in (Upload c.in_ok-file.file) x), Done)) (sym (is_writer (session s c.args.lane) w writes))
+    ∙ ap (λ a. Ok (a, Done)) (sym c.in_ok-change.ensures.ok)
 
 pub returns-clause-spelled : goal.returns-clause-spelled
 returns-clause-spelled c = done_spelled
+
+pub change-requires-clause-fits : goal.change-requires-clause-fits
+change-requires-clause-fits c = fits_anyway (Upload c.in_ok-file.file) (session c.args.self.now c.args.lane) (λ w. tt)

@@ -1,0 +1,172 @@
+-- Chunk files and the pieces of a history.
+use Rattle.std.proofs.Common.{◌≡◌, ◌⊎◌, inl, inr, ⊎_elim, ℕ, zero, suc, ◌+◌, ◌<◌, ◌≤◌, Bool, true, false, ◌&&◌, cond, if◌then◌else◌, List, [], ◌∷◌, ◌++◌, length, drop, get_or, append_assoc, Option, Some, None, Result, Ok, Err, refl, sym, ap, subst, ◌∙◌, arith, nat_le}
+use Rattle.std.specs.Int.{w32, to_be_bytes}
+use Rattle.std.specs.List.{All, Contains, filter_map, cons_option}
+use Rattle.std.specs.Ordering.{eq_by_cmp}
+use Rattle.std.specs.Str.{bytes_eq}
+use Rattle.std.specs.FinMap.{FinMap, get, find, entries, get-entries}
+use Rattle.std.proofs.lemmas.Bool.{and_from, le-leb, cases_lt}
+use Rattle.std.proofs.lemmas.List.Elements.{All-append, Contains-append_left, Contains-append_right, Contains-push}
+use Rattle.std.proofs.lemmas.Map.Text.{is_eq-slice_cmp}
+use Rattle.std.proofs.lemmas.Slice.Eq.{bytes_eq-Decides}
+use Rattle.sha2.specs.Sha256.{sha256, digest_bytes}
+use Rattle.sha2.proofs.Facts256.{length-sha256}
+use Rattle.store_types.specs.declared.names.Digest32.{Digest32}
+use Rattle.store_types.specs.declared.refusal.Refusal.{Refusal}
+use Rattle.store_types.specs.Names.{text_cmp}
+use Rattle.blob_codec.specs.Blob.{blob, data_limit}
+use Rattle.disk_trait.specs.Files.{Files}
+use Rattle.disk_trait.specs.declared.disk.DiskError.{DiskError}
+use Rattle.disk_trait.specs.declared.disk.DiskError.TheVariants.{NoMemory, Failed}
+use Rattle.wire_commands.specs.declared.reply.Reply.{Reply}
+use Rattle.store_model.specs.Stands.{chunk_name, IsDigest, HasWholeChunks}
+use Rattle.store_model.specs.Clash.{NoClash, is_chunk, chunk_piece, chunk_pieces}
+use Rattle.store_history.specs.declared.act.Act.{Act}
+use Rattle.store_history.specs.declared.act.Act.TheVariants as acts
+use Rattle.store_history.specs.declared.act.Event.{Event}
+use Rattle.store_history.specs.Acts.{IsWellFormed, IsCheckedChunk}
+use Rattle.store_history.specs.History.{data_in, sent_by, sent}
+use Rattle.store_history.proofs.Checking.{checked_digest}
+use Rattle.store_history.proofs.Longer.{sent_more}
+use Rattle.core_state.specs.declared.parts.Parts.{Parts}
+use Rattle.core_state.specs.Chunks.{HasChunk, MayStand, IsSafe, HoldsOnly, AddsChunks, Adds}
+use Rattle.core_state.specs.History.{History, then_event, pieces_of, IsClear}
+
+-- ---- digests
+
+-- each byte of a word is one
+word_at : (n i d : ℕ) → i < 4 → get_or (to_be_bytes w32 n) i d < 256
+word_at n zero d lt = omega arith
+word_at n (suc zero) d lt = omega arith
+word_at n (suc (suc zero)) d lt = omega arith
+word_at n (suc (suc (suc zero))) d lt = omega arith
+word_at n (suc (suc (suc (suc i)))) d lt = absurd (omega (arith, lt))
+
+digest_bytes_small : (h : List ℕ) (n : ℕ) → All (λ b. b < 256) (digest_bytes h n)
+unfolding digest_bytes
+digest_bytes_small h zero = λ i d lt. absurd (omega (arith, lt))
+digest_bytes_small h (suc n) =
+    All-append (λ b. b < 256) (digest_bytes h n) _ (digest_bytes_small h n) (λ i d lt. word_at _ i d lt)
+
+pub is_digest : (p : List ℕ) → IsDigest (sha256 p)
+unfolding sha256
+is_digest p = (length-sha256 p, digest_bytes_small _ 8)
+
+-- ---- the pieces at opening
+
+-- what stands behind a blob's first bytes
+behind : (p : List ℕ) → drop 12 (blob p) ≡ p
+unfolding blob
+behind p = refl
+
+same_text : (a b : List ℕ) → bytes_eq a b ≡ true → a ≡ b
+same_text a b e = (bytes_eq-Decides a b).0 e
+
+eq_refl : (a : List ℕ) → bytes_eq a a ≡ true
+eq_refl a = (bytes_eq-Decides a a).1 refl
+
+contains_first : {A : Type 0} (x : A) (xs : List A) → Contains (x ∷ xs) x
+contains_first x xs = (0, omega arith, refl)
+
+contains_later : {A : Type 0} (y x : A) (xs : List A) → Contains xs x → Contains (y ∷ xs) x
+contains_later y x xs c = Contains-append_right (y ∷ []) xs x c
+
+find_contains : (es : List (List ℕ × List ℕ)) (q v : List ℕ) → find text_cmp q es ≡ Some v → Contains es (q, v)
+find_contains [] q v e = cc
+find_contains (x ∷ es) q v e = by_test (λ t. find_contains es q v t) (eq_by_cmp text_cmp q x.0) refl e
+  where
+    by_test : (find text_cmp q es ≡ Some v → Contains es (q, v)) → (b : Bool) → eq_by_cmp text_cmp q x.0 ≡ b → cond b (Some x.1) (find text_cmp q es) ≡ Some v → Contains (x ∷ es) (q, v)
+    by_test later true is e =
+        let name : q ≡ x.0 = same_text q x.0 (sym (is_eq-slice_cmp q x.0) ∙ is) in
+        let text : x.1 ≡ v = some_same x.1 v e in
+        subst (λ y. Contains (x ∷ es) y) (ap (λ n. (n, x.1)) (sym name) ∙ ap (λ t. (q, t)) text) (contains_first x es)
+      where
+        some_same : (a b : List ℕ) → Some a ≡ Some b → a ≡ b
+        some_same a b e = cc
+    by_test later false is e = contains_later x (q, v) es (later e)
+
+entry_there : (m : Files) (q v : List ℕ) → get m q ≡ Some v → Contains (entries m) (q, v)
+entry_there m q v e = find_contains (entries m) q v (sym (get-entries m q) ∙ e)
+
+mapped : (files : List (List ℕ × List ℕ)) (x : List ℕ × List ℕ) (p : List ℕ) → chunk_piece x ≡ Some p → Contains files x → Contains (filter_map chunk_piece files) p
+mapped files x p is (k, lt, at) = by_place files k lt at
+  where
+    put_later : (o : Option (List ℕ)) (ps : List (List ℕ)) → Contains ps p → Contains (cons_option o ps) p
+    put_later None ps c = c
+    put_later (Some y) ps c = contains_later y p ps c
+
+    by_place : (files : List (List ℕ × List ℕ)) (k : ℕ) → k < length files → get_or files k x ≡ x → Contains (filter_map chunk_piece files) p
+    by_place [] k lt at = absurd (omega (arith, lt))
+    by_place (f ∷ fs) zero lt at =
+        subst (λ o. Contains (cons_option o (filter_map chunk_piece fs)) p) (sym (ap chunk_piece at ∙ is)) (contains_first p (filter_map chunk_piece fs))
+    by_place (f ∷ fs) (suc k) lt at = put_later (chunk_piece f) (filter_map chunk_piece fs) (by_place fs k (omega (arith, lt)) at)
+
+chunk_is : (p : List ℕ) → length p ≤ data_limit → chunk_piece (chunk_name (sha256 p), blob p) ≡ Some p
+chunk_is p fits =
+    ap (λ q. if is_chunk q (chunk_name (sha256 p), blob p) then Some q else None) (behind p)
+    ∙ ap (λ b. if b then Some p else None) passes
+  where
+    passes : is_chunk p (chunk_name (sha256 p), blob p) ≡ true
+    passes = and_from _ _ (and_from _ _ (le-leb (length p) data_limit fits) (eq_refl (blob p))) (eq_refl (chunk_name (sha256 p)))
+
+pub opened_only : (m : Files) → HasWholeChunks m → HoldsOnly m (chunk_pieces m)
+opened_only m whole p there =
+    let (q, piece, is, digest) = whole (sha256 p) (blob p) (is_digest p) there in
+    let same : p ≡ q = sym (behind p) ∙ ap (drop 12) is ∙ behind q in
+    mapped (entries m) (chunk_name (sha256 p), blob p) p (chunk_is p (subst (λ x. length x ≤ data_limit) (sym same) piece.1)) (entry_there m _ _ there)
+
+-- ---- one event more
+
+pub pieces_more : (h : History) (e : Event) → pieces_of (then_event h e) ≡ pieces_of h ++ sent_by e.act
+pieces_more h e = ap (λ ps. (h.opening).chunks ++ ps) (sent_more h.events e) ∙ sym (append_assoc (h.opening).chunks (sent h.events) (sent_by e.act))
+
+clear_front : (ps qs : List (List ℕ)) → NoClash (ps ++ qs) → NoClash ps
+clear_front ps qs clear = λ p q a b e. clear p q (Contains-append_left ps qs p a) (Contains-append_left ps qs q b) e
+
+-- it was so before
+pub clear_before : (h : History) (e : Event) → IsClear (then_event h e) → IsClear h
+clear_before h e clear = clear_front (pieces_of h) (sent_by e.act) (subst NoClash (pieces_more h e) clear)
+
+pub only_same : (m : Files) (ps qs : List (List ℕ)) → HoldsOnly m ps → HoldsOnly m (ps ++ qs)
+only_same m ps qs only = λ p there. Contains-append_left ps qs p (only p there)
+
+pub only_added : (m n : Files) (ps : List (List ℕ)) (act : Act) → HoldsOnly m ps → AddsChunks m n act → HoldsOnly n (ps ++ sent_by act)
+only_added m n ps act only adds = λ p there.
+    ⊎_elim (λ before. Contains-append_left ps (sent_by act) p (only p before)) (λ now. Contains-append_right ps (sent_by act) p now) (adds p there)
+
+-- ---- a chunk may be put
+
+abbrev sent_of : Result (List ℕ) Refusal → List (List ℕ)
+sent_of r = elim r [ Ok piece ↦ piece ∷ [] | Err refusal ↦ [] ]
+
+may_stand : (m : Files) (ps : List (List ℕ)) (digest : Digest32) (r : Result (List ℕ) Refusal) → HasWholeChunks m → HoldsOnly m ps
+    → ((p : List ℕ) → r ≡ Ok p → sha256 p ≡ digest.0) → NoClash (ps ++ sent_of r) → MayStand m digest r
+may_stand m ps digest (Err refusal) whole only named clear = tt
+may_stand m ps digest (Ok p) whole only named clear = λ found at.
+    let name : sha256 p ≡ digest.0 = named p refl in
+    let (q, piece, is, of) = whole (sha256 p) found (is_digest p) (ap (λ d. get m (chunk_name d)) name ∙ at) in
+    let there : HasChunk m q = ap (λ d. get m (chunk_name d)) (of ∙ name) ∙ at ∙ ap (λ b. Some b) is in
+    let same : q ≡ p = clear q p (Contains-append_left ps (p ∷ []) q (only q there)) (Contains-push ps p) of in
+    is ∙ ap blob same
+
+pub safe : (m : Files) (ps : List (List ℕ)) (act : Act) → HasWholeChunks m → HoldsOnly m ps → IsWellFormed act → NoClash (ps ++ sent_by act) → IsSafe m act
+safe m ps (acts.Plain c) whole only formed clear = tt
+safe m ps (acts.Blob name checked) whole only formed clear = tt
+safe m ps acts.Short whole only formed clear = tt
+safe m ps acts.End whole only formed clear = tt
+safe m ps (acts.Chunk digest (Err refusal)) whole only formed clear = tt
+safe m ps (acts.Chunk digest (Ok bytes)) whole only formed clear =
+    may_stand m ps digest (data_in (Ok bytes)) whole only (λ p is. checked_digest digest bytes p formed is) clear
+
+-- where the longer history has no two pieces of one digest
+pub clear_safe : (m : Files) (h : History) (e : Event) → IsWellFormed e.act → IsClear (then_event h e) → HasWholeChunks m → HoldsOnly m (pieces_of h) → IsSafe m e.act
+clear_safe m h e formed clear whole only = safe m (pieces_of h) e.act whole only formed (subst NoClash (pieces_more h e) clear)
+
+-- ---- an act that puts no chunk
+
+-- an honest disk reads as before
+pub adds_same : {D : Type 0} (honest : D → Type 0) (content : D → Files) (old new : Parts D) (act : Act) (result : Result Reply DiskError)
+    → (honest old.disk → content new.disk ≡ content old.disk) → Adds honest content old new act result
+adds_same honest content old new act (Ok reply) same = λ s h p there. inl (subst (λ m. HasChunk m p) (same h.honest) there)
+adds_same honest content old new act (Err NoMemory) same = λ s h p there. inl (subst (λ m. HasChunk m p) (same h.honest) there)
+adds_same honest content old new act (Err Failed) same = λ s h. tt

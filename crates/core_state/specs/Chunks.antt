@@ -1,0 +1,56 @@
+-- Chunk files and pieces: when an act may put a chunk, and which pieces chunk files may have.
+use Rattle.std.specs.Prelude.{◌≡◌, ◌⊎◌, ℕ, List, Some, Result, Ok, Err}
+use Rattle.std.specs.List.{Contains}
+use Rattle.std.specs.FinMap.{get}
+use Rattle.sha2.specs.Sha256.{sha256}
+use Rattle.store_types.specs.declared.names.Digest32.{Digest32}
+use Rattle.store_types.specs.declared.refusal.Refusal.{Refusal}
+use Rattle.blob_codec.specs.Blob.{blob}
+use Rattle.disk_trait.specs.Files.{Files}
+use Rattle.disk_trait.specs.declared.disk.DiskError.{DiskError}
+use Rattle.disk_trait.specs.declared.disk.DiskError.TheVariants.{NoMemory, Failed}
+use Rattle.wire_commands.specs.declared.reply.Reply.{Reply}
+use Rattle.store_model.specs.Store.{Store}
+use Rattle.store_model.specs.Stands.{chunk_name}
+use Rattle.store_history.specs.declared.act.Act.{Act}
+use Rattle.store_history.specs.declared.act.Act.TheVariants.{Chunk}
+use Rattle.store_history.specs.History.{data_in, sent_by}
+use Rattle.core_state.specs.declared.parts.Parts.{Parts}
+use Rattle.core_state.specs.Holds.{Holds}
+
+-- the chunk file of the piece is there
+abbrev pub HasChunk : Files → List ℕ → Type 0
+HasChunk m p = get m (chunk_name (sha256 p)) ≡ Some (blob p)
+
+-- ---- putting a chunk
+
+-- what stands at the digest's name, if anything, is the piece's blob
+abbrev pub MayStand : Files → Digest32 → Result (List ℕ) Refusal → Type 0
+MayStand m digest (Ok p) = (found : List ℕ) → get m (chunk_name digest.0) ≡ Some found → found ≡ blob p
+MayStand m digest (Err refusal) = Unit {0}
+
+-- no other piece's chunk stands where the act puts one
+abbrev pub IsSafe : Files → Act → Type 0
+IsSafe m (Chunk digest checked) = MayStand m digest (data_in checked)
+IsSafe m _ = Unit {0}
+
+-- ---- which chunk files there are
+
+-- each is one of these pieces'
+abbrev pub HoldsOnly : Files → List (List ℕ) → Type 0
+HoldsOnly m pieces = (p : List ℕ) → HasChunk m p → Contains pieces p
+
+-- each was there before, or is of the piece that the act sent
+abbrev pub AddsChunks : Files → Files → Act → Type 0
+AddsChunks m n act = (p : List ℕ) → HasChunk n p → HasChunk m p ⊎ Contains (sent_by act) p
+
+-- after a fault of the disk nothing is said
+abbrev pub AddsUnless : Files → Files → Act → Result Reply DiskError → Type 0
+AddsUnless m n act (Ok reply) = AddsChunks m n act
+AddsUnless m n act (Err NoMemory) = AddsChunks m n act
+AddsUnless m n act (Err Failed) = Unit {0}
+
+-- for every store that the parts stood for
+abbrev pub Adds : {D : Type 0} → (D → Type 0) → (D → Files) → Parts D → Parts D → Act → Result Reply DiskError → Type 0
+Adds honest content old new act result =
+    (s : Store) → Holds honest content old s → AddsUnless (content old.disk) (content new.disk) act result

@@ -1,0 +1,28 @@
+-- A chunk that a lane's writer notes, by what the core keeps.
+use Rattle.std.specs.Prelude.{◌≡◌, ℕ, List, None}
+use Rattle.backup_session.specs.Session.{IsPool, length_at, settled}
+use Rattle.backup_session.specs.Steps as rows
+use Rattle.core_state.specs.declared.kept.Session.{Session}
+use Rattle.core_state.specs.declared.kept.Session.TheVariants.{Idle, Writer, Reader}
+use Rattle.core_state.specs.declared.kept.Writing.{Writing}
+
+-- no file of the writer is pending, and it may not name the digest's chunk
+pub record IsUnknown (digest : List ℕ) (w : Writing) : Type 0 where
+  pub settled : (w.session).pending ≡ None
+  pub pool : IsPool ((w.session).writer).pool
+  pub unknown : length_at ((w.session).writer).pool digest ≡ None
+
+-- the session has such a writer
+abbrev pub MayNote : List ℕ → Session → Type 0
+MayNote digest Idle = ⊥
+MayNote digest (Writer w) = IsUnknown digest w
+MayNote digest (Reader r) = ⊥
+
+-- the writer may name the chunk
+abbrev pub noted : Writing → List ℕ → ℕ → Writing
+noted w digest len = record w { session = settled (rows.chunk (w.session).writer digest len) }
+
+abbrev pub with_noted : List ℕ → ℕ → Session → Session
+with_noted digest len Idle = Idle
+with_noted digest len (Writer w) = Writer (noted w digest len)
+with_noted digest len (Reader r) = Reader r

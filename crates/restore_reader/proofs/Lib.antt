@@ -1,0 +1,4 @@
+mod Apart
+mod Bytes
+mod Tables
+mod Plainly

@@ -1,0 +1,56 @@
+-- What a reader's calls answer and leave.
+use Rattle.std.specs.Prelude.{ℕ, ◌+◌, Bool, List, [], ◌∷◌, ◌++◌, nat_le, if◌then◌else◌, Option, Result, Ok}
+use Rattle.std.specs.List.{list_any, find}
+use Rattle.std.specs.Str.{bytes_eq}
+use Rattle.store_types.specs.declared.names.SnapshotKey.{SnapshotKey}
+use Rattle.store_types.specs.declared.refusal.Refusal.{Refusal}
+use Rattle.store_types.specs.declared.refusal.Refusal.TheVariants.{NotAllowed, TooMany, BadRange}
+use Rattle.store_types.specs.Chain.Refusing.{◌>>=◌, unless, or_else}
+use Rattle.store_files.specs.DynamicIndex.{Ended}
+use Rattle.dynamic_index.specs.Pieces.{last_end}
+use Rattle.restore_reader.specs.declared.ranges.Part.{Part}
+use Rattle.restore_reader.specs.Session.{Noted, Reading}
+use Rattle.restore_reader.specs.Plan.{parts_in}
+
+abbrev pub opened : SnapshotKey → Reading
+opened key = record { key = key; noted = [] }
+
+-- ---- downloads
+
+abbrev pub is_downloaded : Reading → List ℕ → Bool
+is_downloaded r name = list_any (λ x. bytes_eq name x.name) r.noted
+
+-- an archive that was downloaded before stays as it was
+abbrev pub downloaded : Reading → List ℕ → List Ended → Reading
+downloaded r name entries =
+    if is_downloaded r name then r else record r { noted = r.noted ++ record { name = name; entries = entries } ∷ [] }
+
+-- ---- chunks
+
+abbrev pub has_digest : List ℕ → Noted → Bool
+has_digest digest x = list_any (λ e. bytes_eq e.digest digest) x.entries
+
+-- an entry of a downloaded archive has the digest
+abbrev pub is_allowed : Reading → List ℕ → Bool
+is_allowed r digest = list_any (has_digest digest) r.noted
+
+-- ---- ranges
+
+abbrev pub range_limit : ℕ
+range_limit = 4_194_304
+
+-- a range of content of this size
+abbrev pub want_range : ℕ → ℕ → ℕ → Result (Unit {0}) Refusal
+want_range size offset len = do
+  _ ← unless (TooMany range_limit) (nat_le len range_limit)
+  unless (BadRange size) (nat_le (offset + len) size)
+
+abbrev pub noted_as : Reading → List ℕ → Option Noted
+noted_as r name = find (λ x. bytes_eq name x.name) r.noted
+
+-- the content's size is where the last piece ends
+unfoldable pub range_plan : Reading → List ℕ → ℕ → ℕ → Result (List Part) Refusal
+range_plan r name offset len = do
+  x ← or_else NotAllowed (noted_as r name)
+  _ ← want_range (last_end 0 x.entries) offset len
+  Ok (parts_in offset (offset + len) 0 x.entries)

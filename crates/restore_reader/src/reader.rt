@@ -1,0 +1,161 @@
+//! A reader's calls.
+
+ghost use Rattle.std.specs.Prelude.{◌≡◌, List, [], option_map, Some, IfOk, OnOk, OnErr};
+ghost use Rattle.std.specs.List.{list_any, find};
+ghost use Rattle.std.specs.Str.{bytes_eq};
+ghost use Rattle.store_files.specs.Archive.{Archive, archive, ends_from, File};
+ghost use Rattle.store_model.specs.Store.{Reader as PlainReader};
+ghost use Rattle.store_model.specs.ReaderSteps.{note};
+ghost use Rattle.restore_reader.specs.Session.{ends_of, FitsIndex};
+ghost use Rattle.restore_reader.specs.Answers.{Tells, ReadsNoted, TellsPlainly};
+ghost use Rattle.restore_reader.specs.Shown.{content_at, pieces_at, Shows};
+ghost use Rattle.restore_reader.specs.Shown as plain;
+ghost use Rattle.restore_reader.specs.Steps as steps;
+
+use crate::index::Index;
+use crate::ranges::{Part, want_range};
+use std::alloc::{AllocError, Global};
+use std::marker::Model;
+use store_types::{Digest32, FileName, Refusal, SnapshotKey};
+
+/// A snapshot that is being read, as contracts see it: its key, and the archives that were downloaded, each by where its
+/// pieces end and by their digests.
+#[derive(Drop)]
+pub struct Reader {
+    key: SnapshotKey,
+    indexes: Vec<Index>,
+}
+
+impl Model for Reader {
+    ghost use Rattle.restore_reader.specs.Session.{Reading};
+
+    ghost Value = { Reading };
+
+    ghost view = { λ r. record { key = r.key; noted = r.indexes.items } };
+}
+
+/// A reader of a snapshot, with nothing downloaded. It takes no memory.
+pub fn open_reader(alloc: Global, key: SnapshotKey) -> Reader
+    ensures opened { result ≡ steps.opened key }
+    ensures plain { (files : List File) → Shows result files (record { key = key; noted = [] }) }
+{
+    Reader {
+        key,
+        indexes: Vec::new(alloc),
+    }
+}
+
+/// The archive of this name.
+fn index_named<'a>(indexes: &'a [Index], name: &FileName) -> Option<&'a Index>
+    ensures { option_map (λ x. x.now) result ≡ find (λ x. bytes_eq name.now x.name) indexes.now }
+{
+    indexes.iter().find(|index| *name == *index.name())
+}
+
+/// An archive among these names the digest.
+fn names_digest(indexes: &[Index], digest: &Digest32) -> bool
+    ensures { result ≡ list_any (steps.has_digest digest.now.0) indexes.now }
+{
+    indexes.iter().any(|index| index.has(digest))
+}
+
+impl Reader {
+    /// The snapshot's key.
+    pub fn key(&self) -> &SnapshotKey
+        ensures { result.now ≡ self.now.key }
+    {
+        &self.key
+    }
+
+    /// The archive of this name was downloaded. It takes no memory.
+    pub fn is_downloaded(&self, name: &FileName) -> bool
+        ensures { result ≡ steps.is_downloaded self.now name.now }
+    {
+        self.indexes.iter().any(|index| *name == *index.name())
+    }
+
+    /// An archive was downloaded. Of each piece, in order, its digest and the offset in the archive at which it ends are
+    /// given. Of an archive that was downloaded before nothing is taken. At want of memory nothing has changed.
+    pub fn downloaded(
+        &mut self,
+        alloc: Global,
+        name: FileName,
+        entries: &[(Digest32, u64)],
+    ) -> Result<(), AllocError>
+        requires { FitsIndex (ends_of entries.now) }
+        ensures ok { OnOk result (self.new ≡ steps.downloaded self.old name (ends_of entries.now)) }
+        ensures err { OnErr result (self.new ≡ self.old) }
+        ensures plain { OnOk result ((files : List File) → (a : Archive) → (r : PlainReader) → Shows self.old files r → content_at files name ≡ Some (archive a) → ends_of entries.now ≡ ends_from 0 a.pieces →
+            Shows self.new files (note name (archive a) r)) }
+    {
+        self.note(alloc, name, entries)
+    }
+
+    // Notes an archive, unless one of the name is noted.
+    fn note(
+        &mut self,
+        alloc: Global,
+        name: FileName,
+        entries: &[(Digest32, u64)],
+    ) -> Result<(), AllocError>
+        requires { FitsIndex (ends_of entries.now) }
+        ensures ok { OnOk result (self.new ≡ steps.downloaded self.old name (ends_of entries.now)) }
+        ensures err { OnErr result (self.new ≡ self.old) }
+    {
+        if self.is_downloaded(&name) {
+            return Ok(());
+        }
+        let index = Index::new(alloc, name, entries)?;
+        self.indexes.push(index)?;
+        Ok(())
+    }
+
+    /// An archive that was downloaded names the digest. It takes no memory.
+    pub fn allowed(&self, digest: &Digest32) -> bool
+        ensures value { result ≡ steps.is_allowed self.now digest.now.0 }
+        ensures plain { (files : List File) → (r : PlainReader) → Shows self.now files r → result ≡ plain.is_allowed files r digest.now }
+    {
+        names_digest(&self.indexes, digest)
+    }
+
+    /// The parts of chunks that make a range of an archive's content: so many bytes from an offset on.
+    ///
+    /// The refusals, in the order in which they are tested: the archive was not downloaded; the range has more than
+    /// 4,194,304 bytes; it goes beyond the content, whose size the refusal has.
+    pub fn range_plan(
+        &self,
+        alloc: Global,
+        name: &FileName,
+        offset: u64,
+        length: u32,
+    ) -> Result<Result<Vec<Part>, Refusal>, AllocError>
+        ensures does { IfOk result (Tells (λ parts. parts.items) (steps.range_plan self.now name.now offset length)) }
+        // whatever pieces have these digests and lengths, the parts are the range of what they make
+        ensures bytes { IfOk result (λ told. IfOk told (λ parts. ReadsNoted parts.items (steps.noted_as self.now name.now) offset length)) }
+        ensures plain { IfOk result (λ told. (files : List File) → (r : PlainReader) → Shows self.now files r →
+            TellsPlainly (λ parts. parts.items) (pieces_at files name.now) (plain.range files r name.now offset length) told) }
+    {
+        self.plan(alloc, name, offset, length)
+    }
+
+    // The parts of a range, or the first refusal.
+    fn plan(
+        &self,
+        alloc: Global,
+        name: &FileName,
+        offset: u64,
+        length: u32,
+    ) -> Result<Result<Vec<Part>, Refusal>, AllocError>
+        ensures does { IfOk result (Tells (λ parts. parts.items) (steps.range_plan self.now name.now offset length)) }
+        ensures bytes { IfOk result (λ told. IfOk told (λ parts. ReadsNoted parts.items (steps.noted_as self.now name.now) offset length)) }
+    {
+        let Some(index) = index_named(&self.indexes, name) else {
+            return Ok(Err(Refusal::NotAllowed));
+        };
+        if let Err(refusal) = want_range(index.size(), offset, length) {
+            return Ok(Err(refusal));
+        }
+        let parts = index.parts(alloc, offset, offset + length as u64)?;
+        Ok(Ok(parts))
+    }
+}

@@ -1,0 +1,3 @@
+pub mod PathLengths
+pub mod Placing
+pub mod Losing

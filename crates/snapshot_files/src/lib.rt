@@ -1,0 +1,17 @@
+//! The files of snapshots in the datastore folder. A file of a snapshot stands at `<type>/<id>/<time>/<file name>`.
+//!
+//! A snapshot is finished where its manifest stands: the manifest is put last, and goes first.
+#![tactic(auto)]
+
+mod forgetting;
+mod path;
+mod putting;
+mod reading;
+
+pub use forgetting::{forget, remove_files};
+pub use path::{FilePath, path_of};
+pub use putting::{finish, put_file};
+pub use reading::read_part;
+
+#[cfg(test)]
+mod tests;

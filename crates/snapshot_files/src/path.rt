@@ -1,0 +1,89 @@
+//! Where the files of snapshots stand.
+
+ghost use Rattle.std.specs.Prelude.{◌≡◌, map, IfOk};
+ghost use Rattle.store_types.specs.FileNames.{manifest_name};
+ghost use Rattle.store_types.specs.Names.{IsKey};
+ghost use Rattle.store_model.specs.Uploads.{file_path};
+
+use std::alloc::{AllocError, Global};
+use std::marker::Model;
+use store_types::{Bytes, FileName, SnapshotKey};
+
+/// The name of a snapshot's file in the datastore folder. There is room for a temporary name's ending within the 255
+/// bytes that a name may have.
+#[derive(Debug, Drop)]
+pub struct FilePath {
+    text: String,
+}
+
+impl Model for FilePath {
+    ghost use Rattle.std.specs.Prelude.{ℕ, ◌≤◌, List, length, string_bytes};
+
+    ghost Value = { List ℕ };
+
+    ghost view = { λ p. string_bytes p.text };
+
+    ghost invariant = { λ p. length (string_bytes p.text) ≤ 251 };
+}
+
+impl FilePath {
+    ghost use Rattle.std.specs.Prelude.{◌≤◌, length, string_bytes};
+
+    fn from_string(text: String) -> FilePath
+        requires { length (string_bytes text) ≤ 251 }
+        ensures { result ≡ string_bytes text }
+    {
+        FilePath { text }
+    }
+
+    pub fn as_str(&self) -> &str
+        ensures text { result.now ≡ self.now }
+        ensures short { length result.now ≤ 251 }
+    {
+        self.text.as_str()
+    }
+
+    /// The name's bytes. It takes no memory.
+    pub fn into_bytes(self) -> Bytes
+        ensures { result ≡ self }
+    {
+        let FilePath { text } = self;
+        Bytes::from_vec(text.into_bytes())
+    }
+}
+
+/// Where a snapshot's file stands: `<type>/<id>/<time>/<file name>`.
+pub fn path_of(alloc: Global, key: &SnapshotKey, name: &FileName) -> Result<FilePath, AllocError>
+    requires { IsKey key.now }
+    ensures { IfOk result (λ path. path ≡ file_path key.now name.now) }
+{
+    let mut text = key.print(alloc)?;
+    text.push_str("/")?;
+    text.push_str(name.as_str())?;
+    Ok(FilePath::from_string(text))
+}
+
+/// Where a snapshot's manifest stands.
+pub fn manifest_path_of(alloc: Global, key: &SnapshotKey) -> Result<FilePath, AllocError>
+    requires { IsKey key.now }
+    ensures { IfOk result (λ path. path ≡ file_path key.now manifest_name) }
+{
+    let name = FileName::manifest(alloc)?;
+    path_of(alloc, key, &name)
+}
+
+/// Where the snapshot's files of these names stand.
+pub fn paths_of(
+    alloc: Global,
+    key: &SnapshotKey,
+    names: &[FileName],
+) -> Result<Vec<FilePath>, AllocError>
+    requires { IsKey key.now }
+    ensures { IfOk result (λ paths. paths.items ≡ map (file_path key.now) names.now) }
+{
+    let mut paths = Vec::new(alloc);
+    for name in names {
+        paths.push(path_of(alloc, key, name)?)?;
+    }
+    Ok(paths)
+}
