@@ -3,6 +3,7 @@ mod Numbers
 mod Naming
 pub mod Pools
 mod FileLemmas
+mod FinishChecks
 mod StateSteps
 mod Squares
 mod Plainly

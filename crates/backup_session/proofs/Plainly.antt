@@ -5,8 +5,8 @@ use Rattle.std.specs.List.{AllByRecursion}
 use Rattle.store_types.specs.declared.refusal.Refusal.{Refusal}
 use Rattle.store_model.specs.Store.{Writer}
 use Rattle.backup_session.specs.Session.{Writing, Session}
-use Rattle.backup_session.specs.Shown.{IsOpen, shown, Shows}
-use Rattle.backup_session.specs.Answers.{Leaves, Does, LeavesShown, DoesPlainly}
+use Rattle.backup_session.specs.Shown.{IsOpen, shown}
+use Rattle.backup_session.specs.Answers.{Does, LeavesShown, DoesPlainly}
 
 -- the steps answer alike, and what the plain one leaves is shown by what the other leaves
 abbrev pub Agrees : {B : Type 0} → Result (Writing × B) Refusal → Result (Writer × B) Refusal → Type 0

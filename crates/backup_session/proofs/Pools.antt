@@ -1,26 +1,29 @@
 -- The pool, as a finite map's entries.
-use Rattle.std.proofs.Common.{◌≡◌, ℕ, ◌≤◌, Bool, true, false, cond, List, [], ◌∷◌, ◌++◌, map, length, Some, None, Ok, Err, refl, sym, ap, ap₂, subst, eq-eqb, ◌∙◌, arith}
+use Rattle.std.proofs.Common.{◌≡◌, ℕ, ◌≤◌, Bool, true, false, cond, List, [], ◌∷◌, ◌++◌, map, length, Some, None, Ok, Err, refl, sym, ap, ap₂, subst, eq-eqb, ◌∙◌, append_assoc, arith}
 use Rattle.std.specs.Prelude.{◌==◌, Option, Result, is_some}
 use Rattle.std.specs.Option.{option_map}
-use Rattle.std.specs.FinMap.{FinMap, find, put, get, insert, remove, entries, empty, from_entries, get-entries, len-entries, len-empty, get-insert, get-remove, get-from_entries, entries-insert, from_entries_push, same_map, nat_cmp-IsAntisymmetric, slice_cmp-IsAntisymmetric}
+use Rattle.std.specs.List.{AllByRecursion}
+use Rattle.std.specs.FinMap.{find, put, get, insert, remove, entries, empty, from_entries, get-entries, len-entries, len-empty, get-insert, get-remove, get-from_entries, entries-insert, from_entries_push, same_map, nat_cmp-IsAntisymmetric, slice_cmp-IsAntisymmetric}
 use Rattle.std.specs.Cmp.Lexicographic.{nat_list_cmp_total}
 use Rattle.std.specs.Ordering.{eq_by_cmp}
 use Rattle.std.specs.Str.{bytes_eq}
 use Rattle.std.proofs.lemmas.Map.Text.{is_eq-slice_cmp}
 use Rattle.std.proofs.lemmas.Bool.{eqb-true}
 use Rattle.std.proofs.lemmas.Slice.Eq.{bytes_eq-Decides}
+use Rattle.std.proofs.lemmas.List.{append-nil}
 use Rattle.sha2.specs.Sha256.{sha256}
 use Rattle.store_types.specs.declared.names.Digest32.{Digest32}
 use Rattle.store_types.specs.Names.{text_cmp}
 use Rattle.store_types.specs.declared.refusal.Refusal.{Refusal}
-use Rattle.store_types.specs.declared.refusal.Refusal.TheVariants.{UnknownChunk, BadOffset}
+use Rattle.store_types.specs.declared.refusal.Refusal.TheVariants.{UnknownChunk, BadOffset, WrongSize}
 use Rattle.store_types.specs.Chain.Refusing.{◌>>=◌, unless, or_else}
-use Rattle.store_files.specs.Archive.{dynamic, piece_with}
-use Rattle.store_model.specs.Archives.{piece_named}
+use Rattle.store_files.specs.Archive.{Layout, piece_with}
+use Rattle.store_model.specs.Archives.{fits_layout, piece_named}
 use Rattle.dynamic_index.specs.Writing.{Known}
 use Rattle.dynamic_index.specs.Writing as indexes
 use Rattle.known_chunks.specs.Lengths.{Lengths}
-use Rattle.backup_session.specs.Session.{Pool, IsPool, lengths_in, length_at, with_length, without_length}
+use Rattle.known_chunks.specs.Lengths as chunks
+use Rattle.backup_session.specs.Session.{Pool, IsPool, IsLength, lengths_in, length_at, with_length, with_lengths, without_length}
 use Rattle.backup_session.specs.Steps.{known_in}
 use Rattle.backup_session.specs.Shown.{known_of, lengths_of, pool_of}
 use Rattle.backup_session.specs.Kept.{HasLengths}
@@ -68,6 +71,30 @@ pub with_length-new : (m : Lengths) (digest : List ℕ) (len : ℕ) → get m di
 with_length-new m digest len e =
     ap (λ o. cond (is_some o) (entries m) (put text_cmp digest len (entries m))) (sym (get-entries m digest) ∙ e)
     ∙ sym (entries-insert nat_list_cmp_total m digest len)
+
+-- ---- several lengths more
+
+has_lengths-one : (m : Lengths) (k : List ℕ × ℕ) → HasLengths (entries m) → IsLength k → HasLengths (entries (chunks.with_length m k))
+has_lengths-one m k has fits = by_test (is_some (get m k.0))
+  where
+    by_test : (b : Bool) → HasLengths (entries (cond b m (insert m k.0 k.1)))
+    by_test true = has
+    by_test false = has_lengths-insert m k.0 k.1 has fits
+
+pub has_lengths-all : (m : Lengths) (ks : Pool) → HasLengths (entries m) → AllByRecursion IsLength ks → HasLengths (entries (chunks.with_lengths m ks))
+has_lengths-all m [] has all = has
+has_lengths-all m (k ∷ ks) has all = has_lengths-all (chunks.with_length m k) ks (has_lengths-one m k has all.0) all.1
+
+entries_one : (m : Lengths) (k : List ℕ × ℕ) → entries (chunks.with_length m k) ≡ with_length (entries m) k.0 k.1
+entries_one m k = by_found (get m k.0) refl
+  where
+    by_found : (o : Option ℕ) → get m k.0 ≡ o → entries (chunks.with_length m k) ≡ with_length (entries m) k.0 k.1
+    by_found None e = ap (λ o. entries (cond (is_some o) m (insert m k.0 k.1))) e ∙ sym (with_length-new m k.0 k.1 e)
+    by_found (Some n) e = ap (λ o. entries (cond (is_some o) m (insert m k.0 k.1))) e ∙ sym (with_length-there m k.0 k.1 n e)
+
+pub entries_all : (m : Lengths) (ks : Pool) → entries (chunks.with_lengths m ks) ≡ with_lengths (entries m) ks
+entries_all m [] = refl
+entries_all m (k ∷ ks) = entries_all (chunks.with_length m k) ks ∙ ap (λ (p : Pool). with_lengths p ks) (entries_one m k)
 
 -- ---- one length less
 
@@ -176,24 +203,34 @@ pool_of-more pieces piece = ap (λ es. entries (from_entries {R = text_cmp} es))
         ap entries (stays (map known_of pieces) (sha256 piece) (length piece) n e)
         ∙ sym (with_length-there (lengths_of pieces) (sha256 piece) (length piece) n (is_there ∙ e))
 
+-- several pieces more
+pub pool_of-all : (pieces more : List (List ℕ)) → pool_of (pieces ++ more) ≡ with_lengths (pool_of pieces) (map known_of more)
+pool_of-all pieces [] = ap pool_of (append-nil pieces)
+pool_of-all pieces (p ∷ ps) =
+    ap pool_of (sym (append_assoc pieces (p ∷ []) ps)) ∙ pool_of-all (pieces ++ p ∷ []) ps
+    ∙ ap (λ (l : Pool). with_lengths l (map known_of ps)) (pool_of-more pieces p)
+
 -- ---- one entry of an APPEND
 
-module _ (m : Lengths) (place end : ℕ) (entry : Digest32 × ℕ) where
+module _ (m : Lengths) (layout : Layout) (place end : ℕ) (entry : Digest32 × ℕ) where
   known_is : (o : Option ℕ) → get m (entry.0).0 ≡ o → known_in (entries m) entry.0 ≡ option_map (λ len. ((entry.0).0, len)) o
   known_is o e = ap (λ x. option_map (λ len. ((entry.0).0, len)) x) (sym (get-entries m (entry.0).0) ∙ e)
 
-  tests : Option Known → Bool → Result Known Refusal
-  tests o at = or_else (UnknownChunk place) o >>= λ piece. unless (BadOffset place end) at >>= λ _. Ok piece
+  fitting : Known → Bool → Result Known Refusal
+  fitting piece fits = unless (WrongSize place piece.1) fits >>= λ _. Ok piece
 
-  tested : piece_named (known_in (entries m)) (λ k. k.1) dynamic place end entry ≡ tests (known_in (entries m) entry.0) (entry.1 == end)
-  unfolding piece_named tests
+  tests : Option Known → Bool → Result Known Refusal
+  tests o at = or_else (UnknownChunk place) o >>= λ piece. unless (BadOffset place end) at >>= λ _. fitting piece (fits_layout layout end piece.1)
+
+  tested : piece_named (known_in (entries m)) (λ k. k.1) layout place end entry ≡ tests (known_in (entries m) entry.0) (entry.1 == end)
+  unfolding piece_named tests fitting
   tested = refl
 
-  pub entry_unknown : get m (entry.0).0 ≡ None → piece_named (known_in (entries m)) (λ k. k.1) dynamic place end entry ≡ Err (UnknownChunk place)
+  pub entry_unknown : get m (entry.0).0 ≡ None → piece_named (known_in (entries m)) (λ k. k.1) layout place end entry ≡ Err (UnknownChunk place)
   unfolding tests
   entry_unknown e = tested ∙ ap (λ o. tests o (entry.1 == end)) (known_is None e)
 
-  pub entry_misplaced : (n : ℕ) → get m (entry.0).0 ≡ Some n → (entry.1 ≡ end → ⊥) → piece_named (known_in (entries m)) (λ k. k.1) dynamic place end entry ≡ Err (BadOffset place end)
+  pub entry_misplaced : (n : ℕ) → get m (entry.0).0 ≡ Some n → (entry.1 ≡ end → ⊥) → piece_named (known_in (entries m)) (λ k. k.1) layout place end entry ≡ Err (BadOffset place end)
   unfolding tests
   entry_misplaced n e apart = tested ∙ ap₂ tests (known_is (Some n) e) (not_equal (entry.1 == end) refl)
     where
@@ -201,6 +238,17 @@ module _ (m : Lengths) (place end : ℕ) (entry : Digest32 × ℕ) where
       not_equal true is = absurd (apart (eqb-true entry.1 end is))
       not_equal false is = is
 
-  pub entry_named : (n : ℕ) → get m (entry.0).0 ≡ Some n → entry.1 ≡ end → piece_named (known_in (entries m)) (λ k. k.1) dynamic place end entry ≡ Ok (indexes.known_of (entry.0, n))
+  placed : (n : ℕ) (b : Bool) → get m (entry.0).0 ≡ Some n → entry.1 ≡ end → fits_layout layout end n ≡ b
+      → piece_named (known_in (entries m)) (λ k. k.1) layout place end entry ≡ fitting ((entry.0).0, n) b
   unfolding tests
-  entry_named n e at = tested ∙ ap₂ tests (known_is (Some n) e) (eq-eqb entry.1 end at)
+  placed n b e at fits = tested ∙ ap₂ tests (known_is (Some n) e) (eq-eqb entry.1 end at) ∙ ap (fitting ((entry.0).0, n)) fits
+
+  pub entry_unfit : (n : ℕ) → get m (entry.0).0 ≡ Some n → entry.1 ≡ end → fits_layout layout end n ≡ false
+      → piece_named (known_in (entries m)) (λ k. k.1) layout place end entry ≡ Err (WrongSize place n)
+  unfolding fitting
+  entry_unfit n e at fits = placed n false e at fits
+
+  pub entry_named : (n : ℕ) → get m (entry.0).0 ≡ Some n → entry.1 ≡ end → fits_layout layout end n ≡ true
+      → piece_named (known_in (entries m)) (λ k. k.1) layout place end entry ≡ Ok (indexes.known_of (entry.0, n))
+  unfolding fitting
+  entry_named n e at fits = placed n true e at fits

@@ -1,32 +1,34 @@
 -- The steps of a session, where their tests answer so.
-use Rattle.std.proofs.Common.{◌≡◌, ℕ, ◌+◌, ◌≤◌, ◌<◌, Bool, true, false, ◌||◌, List, [], ◌∷◌, length, get_or, map, Some, None, Ok, Err, refl, sym, ap, ap₂, subst, ◌∙◌, arith}
+use Rattle.std.proofs.Common.{◌≡◌, ℕ, ◌+◌, ◌≤◌, ◌<◌, Bool, true, false, ◌||◌, List, [], ◌∷◌, length, get_or, Some, None, Ok, Err, refl, sym, ap, ap₂, subst, ◌∙◌, arith}
 use Rattle.std.specs.Prelude.{◌==◌, Option, Result, MatchResult, IfOk, nat_lt, nat_le, not}
 use Rattle.std.specs.Option.{option_map}
-use Rattle.std.specs.FinMap.{entries}
-use Rattle.std.specs.List.{find, list_any, AllByRecursion, remove}
+use Rattle.std.specs.List.{find, list_any, AllByRecursion}
 use Rattle.std.specs.Str.{bytes_eq}
-use Rattle.std.proofs.lemmas.Bool.{leb-true, ltb-true}
+use Rattle.std.proofs.lemmas.Bool.{leb-true, ltb-true, eqb-true}
 use Rattle.std.proofs.lemmas.List.{length-map}
 use Rattle.store_types.specs.declared.names.Digest32.{Digest32}
 use Rattle.store_types.specs.declared.refusal.Refusal.{Refusal}
-use Rattle.store_types.specs.declared.refusal.Refusal.TheVariants.{BadName, NoFile, Exists, TooMany}
-use Rattle.store_types.specs.FileNames.{is_dynamic_name}
+use Rattle.store_types.specs.declared.refusal.Refusal.TheVariants.{BadName, NoFile, Exists, WrongSize, TooMany}
+use Rattle.store_types.specs.FileNames.{is_fixed_name, is_dynamic_name}
 use Rattle.store_types.specs.Chain.Refusing.{◌>>=◌, unless, or_else}
-use Rattle.store_files.specs.Archive.{dynamic}
+use Rattle.store_files.specs.Archive.{Layout, fixed}
 use Rattle.store_files.specs.Cells.{entry_limit}
-use Rattle.store_files.specs.DynamicIndex.{DynamicIndex, dynamic_text}
-use Rattle.store_model.specs.Archives.{want_entries, want_number, pieces_named, change_first, without_first, free_number}
+use Rattle.store_files.specs.FixedIndex.{is_chunk_size, piece_count, piece_len}
+use Rattle.store_model.specs.Archives.{want_sizes, want_entries, pieces_named, change_first, without_first, free_number}
 use Rattle.manifest.specs.declared.facts.FileFact.{FileFact}
-use Rattle.known_chunks.specs.Lengths.{Lengths}
-use Rattle.dynamic_index.specs.Pieces.{size_of}
-use Rattle.dynamic_index.specs.Writing.{Known, FitsPieces}
+use Rattle.dynamic_index.specs.Writing.{Known}
+use Rattle.fixed_index.specs.Writing.{FitsSizes, FitsFrom}
+use Rattle.fixed_index.specs.Writing.{end_of as fixed_end_of}
+use Rattle.backup_session.specs.declared.index.OpenIndex.{OpenIndex}
+use Rattle.backup_session.specs.declared.index.OpenIndex.TheVariants.{Dynamic, Fixed}
 use Rattle.backup_session.specs.declared.state.Begun.{Begun}
-use Rattle.backup_session.specs.Session.{Pool, length_at, Open, Writing}
+use Rattle.backup_session.specs.Indexes.{layout_of, count_of, end_of, text_of, FitsPieces}
+use Rattle.backup_session.specs.Session.{Pool, IsLength, length_at, Open, Writing}
 use Rattle.backup_session.specs.Steps as steps
 use Rattle.backup_session.specs.Kept.{open_of, opens_of, HasLengths}
-use Rattle.backup_session.proofs.Naming.{named_found}
+use Rattle.backup_session.proofs.Naming.{FitsAt, named_found, named_fits}
 use Rattle.backup_session.proofs.Numbers.{name_open}
-use Rattle.backup_session.proofs.Places.{First, place_none, place_first, first_found, find-map}
+use Rattle.backup_session.proofs.Places.{First, first_found, find-map}
 
 -- ---- room
 
@@ -70,16 +72,16 @@ pub append_done : (w : Writing) (number : ℕ) (es : List (Digest32 × ℕ)) (b 
 append_done w number es b known e f =
     append_by w number es (Some b) e ∙ ap (λ x. x >>= λ ks. Ok (record w { begun = change_first (steps.has_number number) (steps.grown ks) w.begun }, tt)) f
 
-pub for_refused : (pool : Pool) (x : DynamicIndex) (es : List (Digest32 × ℕ)) (r : Refusal) → want_entries (length x.entries) (length es) ≡ Err r → steps.pieces_for pool x es ≡ Err r
+pub for_refused : (pool : Pool) (x : OpenIndex) (es : List (Digest32 × ℕ)) (r : Refusal) → want_entries (count_of x) (length es) ≡ Err r → steps.pieces_for pool x es ≡ Err r
 unfolding steps.pieces_for
-for_refused pool x es r e = ap (λ t. t >>= λ _. pieces_named (steps.known_in pool) (λ k. k.1) dynamic 0 (size_of x) es) e
+for_refused pool x es r e = ap (λ t. t >>= λ _. pieces_named (steps.known_in pool) (λ k. k.1) (layout_of x) 0 (end_of x) es) e
 
-pub for_passed : (pool : Pool) (x : DynamicIndex) (es : List (Digest32 × ℕ)) (u : Unit {0}) (start : ℕ) → want_entries (length x.entries) (length es) ≡ Ok u → start ≡ size_of x
-    → pieces_named (steps.known_in pool) (λ k. k.1) dynamic 0 start es ≡ steps.pieces_for pool x es
+pub for_passed : (pool : Pool) (x : OpenIndex) (es : List (Digest32 × ℕ)) (u : Unit {0}) (layout : Layout) (start : ℕ) → want_entries (count_of x) (length es) ≡ Ok u
+    → layout ≡ layout_of x → start ≡ end_of x → pieces_named (steps.known_in pool) (λ k. k.1) layout 0 start es ≡ steps.pieces_for pool x es
 unfolding steps.pieces_for
-for_passed pool x es u start e at =
-    ap (λ n. pieces_named (steps.known_in pool) (λ k. k.1) dynamic 0 n es) at
-    ∙ sym (ap (λ t. t >>= λ _. pieces_named (steps.known_in pool) (λ k. k.1) dynamic 0 (size_of x) es) e)
+for_passed pool x es u layout start e cut at =
+    ap₂ (λ l n. pieces_named (steps.known_in pool) (λ k. k.1) l 0 n es) cut at
+    ∙ sym (ap (λ t. t >>= λ _. pieces_named (steps.known_in pool) (λ k. k.1) (layout_of x) 0 (end_of x) es) e)
 
 pub entries_room : (pieces es : ℕ) (u : Unit {0}) → want_entries pieces es ≡ Ok u → pieces + es ≤ entry_limit
 entries_room pieces es u is = by_tests (nat_le es 4096) (nat_le (pieces + es) entry_limit) refl is
@@ -89,19 +91,33 @@ entries_room pieces es u is = by_tests (nat_le es 4096) (nat_le (pieces + es) en
     by_tests true false e go = cc
     by_tests true true e go = leb-true (pieces + es) entry_limit e
 
-InRange : Known → Type 0
-InRange k = (1 ≤ k.1) × (k.1 ≤ 16_777_216)
+-- pieces that a fixed archive takes
+fits_fixed : (size cut end : ℕ) (ks : List Known) → FitsAt (λ k. k.1) (fixed size cut) end ks → AllByRecursion IsLength ks → FitsFrom size cut end ks
+fits_fixed size cut end [] fits all = tt
+fits_fixed size cut end (k ∷ ks) fits all =
+    let exact : k.1 ≡ piece_len size cut end = eqb-true k.1 (piece_len size cut end) fits.0 in
+    let some : 1 ≤ k.1 = (all.0).0 in (
+      omega (arith, exact, some),
+      exact,
+      fits_fixed size cut (end + k.1) ks fits.1 all.1,
+    )
 
-pub fits_told : {V E : Type 0} (items : V → List Known) (pool : Pool) (x : DynamicIndex) (es : List (Digest32 × ℕ)) (start : ℕ) → HasLengths pool
-    → length x.entries + length es ≤ entry_limit → (result : Result (Result V Refusal) E)
-    → IfOk result (λ told. MatchResult told (λ v. pieces_named (steps.known_in pool) (λ k. k.1) dynamic 0 start es ≡ Ok (items v)) (λ r. pieces_named (steps.known_in pool) (λ k. k.1) dynamic 0 start es ≡ Err r))
+fits_index : (x : OpenIndex) (ks : List Known) → count_of x + length ks ≤ entry_limit → FitsAt (λ k. k.1) (layout_of x) (end_of x) ks → AllByRecursion IsLength ks → FitsPieces x ks
+fits_index (Dynamic x) ks room fits all = record { room = room; lengths = all }
+fits_index (Fixed x) ks room fits all = fits_fixed x.size x.chunk_size (fixed_end_of x) ks fits all
+
+pub fits_told : {V E : Type 0} (items : V → List Known) (pool : Pool) (x : OpenIndex) (es : List (Digest32 × ℕ)) (layout : Layout) (start : ℕ) → HasLengths pool
+    → count_of x + length es ≤ entry_limit → layout ≡ layout_of x → start ≡ end_of x → (result : Result (Result V Refusal) E)
+    → IfOk result (λ told. MatchResult told (λ v. pieces_named (steps.known_in pool) (λ k. k.1) layout 0 start es ≡ Ok (items v)) (λ r. pieces_named (steps.known_in pool) (λ k. k.1) layout 0 start es ≡ Err r))
     → IfOk result (λ told. IfOk told (λ v. FitsPieces x (items v)))
-unfolding InRange
-fits_told items pool x es start has room (Err e) is = tt
-fits_told items pool x es start has room (Ok (Err r)) is = tt
-fits_told items pool x es start has room (Ok (Ok v)) is =
-    let found = named_found (steps.known_in pool) (λ k. k.1) dynamic InRange in_range 0 start es (items v) is in
-    record { room = omega (arith, room, found.0); lengths = found.1 }
+fits_told items pool x es layout start has room cut at (Err e) is = tt
+fits_told items pool x es layout start has room cut at (Ok (Err r)) is = tt
+fits_told items pool x es layout start has room cut at (Ok (Ok v)) is =
+    let found = named_found (steps.known_in pool) (λ k. k.1) layout IsLength in_range 0 start es (items v) is in
+    let fits = named_fits (steps.known_in pool) (λ k. k.1) layout 0 start es (items v) is in
+    let there : FitsAt (λ k. k.1) (layout_of x) (end_of x) (items v) =
+    subst (λ l. FitsAt (λ k. k.1) l (end_of x) (items v)) cut (subst (λ n. FitsAt (λ k. k.1) layout n (items v)) at fits) in
+    fits_index x (items v) (omega (arith, room, found.0)) there found.1
   where
     by_length : (d : Digest32) (k : Known) (o : Option ℕ) → length_at pool d.0 ≡ o → option_map (λ len. (d.0, len)) o ≡ Some k → (1 ≤ k.1) × (k.1 ≤ 16_777_216)
     by_length d k None e f = cc
@@ -109,7 +125,7 @@ fits_told items pool x es start has room (Ok (Ok v)) is =
         let pair : (d.0, n) ≡ k = cc in
         subst (λ m. (1 ≤ m) × (m ≤ 16_777_216)) (ap (λ p. p.1) pair) (has d.0 n e)
 
-    in_range : (d : Digest32) (k : Known) → steps.known_in pool d ≡ Some k → (1 ≤ k.1) × (k.1 ≤ 16_777_216)
+    in_range : (d : Digest32) (k : Known) → steps.known_in pool d ≡ Some k → IsLength k
     in_range d k f = by_length d k (length_at pool d.0) refl f
 
 -- ---- CLOSE_INDEX
@@ -118,10 +134,10 @@ left : Writing → ℕ → Open → Writing
 left w number b = record w { begun = without_first (steps.has_number number) w.begun; files = steps.insert_fact (steps.fact_of b) w.files }
 
 close_by : (w : Writing) (number count size : ℕ) (csum : Digest32) (o : Option Open) → find (steps.has_number number) w.begun ≡ o
-    → steps.close_index w number count size csum ≡ (or_else NoFile o >>= λ b. steps.want_close b.index count size csum >>= λ _. Ok (left w number b, dynamic_text b.index))
+    → steps.close_index w number count size csum ≡ (or_else NoFile o >>= λ b. steps.want_close b.index count size csum >>= λ _. Ok (left w number b, text_of b.index))
 unfolding steps.close_index left
 close_by w number count size csum o e =
-    ap (λ x. or_else NoFile x >>= λ b. steps.want_close b.index count size csum >>= λ _. Ok (left w number b, dynamic_text b.index)) e
+    ap (λ x. or_else NoFile x >>= λ b. steps.want_close b.index count size csum >>= λ _. Ok (left w number b, text_of b.index)) e
 
 pub close_none : (w : Writing) (number count size : ℕ) (csum : Digest32) → find (steps.has_number number) w.begun ≡ None → steps.close_index w number count size csum ≡ Err NoFile
 close_none w number count size csum e = close_by w number count size csum None e
@@ -129,17 +145,47 @@ close_none w number count size csum e = close_by w number count size csum None e
 pub close_refused : (w : Writing) (number count size : ℕ) (csum : Digest32) (b : Open) (r : Refusal) → find (steps.has_number number) w.begun ≡ Some b
     → steps.want_close b.index count size csum ≡ Err r → steps.close_index w number count size csum ≡ Err r
 close_refused w number count size csum b r e f =
-    close_by w number count size csum (Some b) e ∙ ap (λ x. x >>= λ _. Ok (left w number b, dynamic_text b.index)) f
+    close_by w number count size csum (Some b) e ∙ ap (λ x. x >>= λ _. Ok (left w number b, text_of b.index)) f
 
 pub close_done : (w : Writing) (number count size : ℕ) (csum : Digest32) (b : Open) → find (steps.has_number number) w.begun ≡ Some b
     → steps.want_close b.index count size csum ≡ Ok tt
     → steps.close_index w number count size csum
-    ≡ Ok (record w { begun = without_first (steps.has_number number) w.begun; files = steps.insert_fact (steps.fact_of b) w.files }, dynamic_text b.index)
+    ≡ Ok (record w { begun = without_first (steps.has_number number) w.begun; files = steps.insert_fact (steps.fact_of b) w.files }, text_of b.index)
 unfolding left
 close_done w number count size csum b e f =
-    close_by w number count size csum (Some b) e ∙ ap (λ x. x >>= λ _. Ok (left w number b, dynamic_text b.index)) f
+    close_by w number count size csum (Some b) e ∙ ap (λ x. x >>= λ _. Ok (left w number b, text_of b.index)) f
 
--- ---- NEW_DYNAMIC and BLOB
+-- ---- NEW_FIXED, NEW_DYNAMIC and BLOB
+
+module _ (w : Writing) (name : List ℕ) (size cut moment : ℕ) where
+  pub fixed_refused : (r : Refusal) → steps.want_fixed name size cut w ≡ Err r → steps.new_fixed w name size cut moment ≡ Err r
+  unfolding steps.new_fixed
+  fixed_refused r e = ap (λ x. x >>= λ _. Ok (steps.begin_fixed w name size cut moment, free_number (steps.numbers w.begun))) e
+
+  pub fixed_done : (u : Unit {0}) → steps.want_fixed name size cut w ≡ Ok u
+      → steps.new_fixed w name size cut moment ≡ Ok (steps.begin_fixed w name size cut moment, free_number (steps.numbers w.begun))
+  unfolding steps.new_fixed
+  fixed_done u e = ap (λ x. x >>= λ _. Ok (steps.begin_fixed w name size cut moment, free_number (steps.numbers w.begun))) e
+
+pub sizes_fit : (size cut : ℕ) (u : Unit {0}) → want_sizes size cut ≡ Ok u → FitsSizes size cut
+sizes_fit size cut u is = by_tests (is_chunk_size cut) (nat_le (piece_count size cut) entry_limit) refl refl is
+  where
+    by_tests : (a b : Bool) → is_chunk_size cut ≡ a → nat_le (piece_count size cut) entry_limit ≡ b → (unless (WrongSize 0 cut) a >>= λ _. unless (TooMany entry_limit) b) ≡ Ok u → FitsSizes size cut
+    by_tests false b e f go = cc
+    by_tests true false e f go = cc
+    by_tests true true e f go = record { chunk_size = e; limit = leb-true (piece_count size cut) entry_limit f }
+
+pub fixed_passed : (w : Writing) (name : List ℕ) (size cut : ℕ) (u : Unit {0}) → steps.want_fixed name size cut w ≡ Ok u → (length w.begun < 16) × FitsSizes size cut
+fixed_passed w name size cut u is =
+    by_tests (unless BadName (is_fixed_name name)) (steps.want_room name w.files w.begun) (nat_lt (length w.begun) 16) (want_sizes size cut) refl refl is
+  where
+    by_tests : (a b : Result (Unit {0}) Refusal) (d : Bool) (f : Result (Unit {0}) Refusal) → nat_lt (length w.begun) 16 ≡ d → want_sizes size cut ≡ f
+        → (a >>= λ _. b >>= λ _. unless (TooMany 16) d >>= λ _. f) ≡ Ok u → (length w.begun < 16) × FitsSizes size cut
+    by_tests (Err r) b d f e g go = cc
+    by_tests (Ok x) (Err r) d f e g go = cc
+    by_tests (Ok x) (Ok y) false f e g go = cc
+    by_tests (Ok x) (Ok y) true (Err r) e g go = cc
+    by_tests (Ok x) (Ok y) true (Ok v) e g go = (ltb-true (length w.begun) 16 e, sizes_fit size cut v g)
 
 pub new_refused : (w : Writing) (name : List ℕ) (moment : ℕ) (r : Refusal) → steps.want_dynamic name w ≡ Err r → steps.new_dynamic w name moment ≡ Err r
 unfolding steps.new_dynamic

@@ -4,6 +4,9 @@ use Rattle.store_types.specs.declared.refusal.Refusal.{Refusal}
 use Rattle.store_types.specs.declared.refusal.Refusal.TheVariants.{BadName}
 use Rattle.store_types.specs.Chain.Refusing.{◌>>=◌, unless}
 use Rattle.store_types.specs.FileNames.{is_blob_name}
+use Rattle.store_files.specs.Manifest as listing
+use Rattle.manifest.specs.declared.facts.Manifest.{Manifest}
+use Rattle.manifest.specs.Views.{manifest_view}
 use Rattle.store_model.specs.Store.{Writer}
 use Rattle.store_model.specs.Uploads.{want_room}
 use Rattle.backup_session.specs.Session.{Writing, Session}
@@ -27,6 +30,10 @@ Does show leave old new result step = MatchResult result (Tells show leave old n
 -- a file is pending exactly at Ok
 abbrev pub IsPendingAt : {A E : Type 0} → Session → Result (Result A Refusal) E → Type 0
 IsPendingAt s result = MatchResult result (λ told. MatchResult told (λ a. IsSome s.pending) (λ refusal. s.pending ≡ None)) (λ _. s.pending ≡ None)
+
+-- the answer is the manifest, or the refusal
+abbrev pub TellsManifest : Result listing.Manifest Refusal → Result Manifest Refusal → Type 0
+TellsManifest step told = MatchResult told (λ m. step ≡ Ok (manifest_view m)) (λ refusal. step ≡ Err refusal)
 
 -- ---- beside a plain writer
 

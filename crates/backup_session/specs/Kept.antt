@@ -1,8 +1,10 @@
 -- What a session keeps in memory.
-use Rattle.std.specs.Prelude.{◌≡◌, ℕ, ◌<◌, ◌≤◌, List, map, length, Option, Some, None, Result, Ok, Err, MatchResult}
+use Rattle.std.specs.Prelude.{◌≡◌, ℕ, ◌<◌, ◌≤◌, false, List, [], ◌∷◌, map, length, Option, Some, None, Result, Ok, Err, IsOk, MatchResult}
 use Rattle.std.specs.List.{remove}
-use Rattle.store_types.specs.Names.{IsKey}
+use Rattle.store_types.specs.Names.{IsKey, name_lt}
 use Rattle.store_types.specs.declared.refusal.Refusal.{Refusal}
+use Rattle.blob_codec.specs.Blob.{data_of}
+use Rattle.manifest.specs.declared.facts.FileFact.{FileFact}
 use Rattle.backup_session.specs.declared.state.Begun.{Begun}
 use Rattle.backup_session.specs.declared.state.Pending.{Pending}
 use Rattle.backup_session.specs.Session.{Pool, length_at, Open, Writing, Session, settled, held}
@@ -17,11 +19,28 @@ opens_of begun = map open_of begun
 abbrev pub HasLengths : Pool → Type 0
 HasLengths pool = (digest : List ℕ) (n : ℕ) → length_at pool digest ≡ Some n → (1 ≤ n) × (n ≤ 16_777_216)
 
+-- a manifest's text that is kept is a blob's
+abbrev pub HoldsBlob : Option (List ℕ) → Type 0
+HoldsBlob None = Unit {0}
+HoldsBlob (Some text) = IsOk (data_of text)
+
+-- none of these files has a lesser name
+abbrev pub NoneBefore : List ℕ → List FileFact → Type 0
+NoneBefore name [] = Unit {0}
+NoneBefore name (f ∷ fs) = (name_lt f.name name ≡ false) × NoneBefore name fs
+
+-- in byte order of the names
+abbrev pub Ascends : List FileFact → Type 0
+Ascends [] = Unit {0}
+Ascends (f ∷ fs) = NoneBefore f.name fs × Ascends fs
+
 -- what is so of every writer
 pub record IsWriting (w : Writing) : Type 0 where
   pub key : IsKey w.key
   pub lengths : HasLengths w.pool
   pub begun : length w.begun ≤ 16
+  pub files : Ascends w.files
+  pub manifest : HoldsBlob w.manifest
 
 -- ---- the pending file is among the files already
 
@@ -46,14 +65,14 @@ abbrev pub session_of : Option Pending → Writing → Session
 session_of None w = settled w
 session_of (Some p) w = held (before p w) (after p w)
 
--- the places are there
+-- the places are there, and a manifest's text is a blob's
 abbrev pub IsClosing : Option ℕ → List Open → Type 0
 IsClosing None begun = Unit {0}
 IsClosing (Some place) begun = place < length begun
 
 abbrev pub IsPlaced : Option Pending → Writing → Type 0
 IsPlaced None w = Unit {0}
-IsPlaced (Some p) w = (p.place < length w.files) × IsClosing p.closes w.begun
+IsPlaced (Some p) w = (p.place < length w.files) × IsClosing p.closes w.begun × HoldsBlob p.manifest
 
 -- ---- what a call gives and leaves that makes a file pending
 

@@ -1,5 +1,7 @@
+pub mod Indexes
 pub mod Session
 pub mod Steps
 pub mod Shown
 pub mod Answers
 pub mod Kept
+pub mod Finish

@@ -1,10 +1,10 @@
 -- A writer with digests in place of pieces.
-use Rattle.std.specs.Prelude.{◌≡◌, ℕ, List, if◌then◌else◌, Option, Some, None, is_some}
+use Rattle.std.specs.Prelude.{◌≡◌, ℕ, ◌≤◌, List, [], ◌∷◌, if◌then◌else◌, Option, Some, None, is_some}
 use Rattle.std.specs.FinMap.{FinMap, find, put, remove, entries, from_entries}
 use Rattle.store_types.specs.declared.names.SnapshotKey.{SnapshotKey}
 use Rattle.store_types.specs.Names.{text_cmp}
-use Rattle.store_files.specs.DynamicIndex.{DynamicIndex}
 use Rattle.manifest.specs.declared.facts.FileFact.{FileFact}
+use Rattle.backup_session.specs.declared.index.OpenIndex.{OpenIndex}
 
 -- the lengths of the pieces that were sent, by the bytes of their digests: a finite map's entries
 abbrev pub Pool : Type 0
@@ -12,6 +12,10 @@ Pool = List (List ℕ × ℕ)
 
 abbrev pub lengths_in : Pool → FinMap text_cmp ℕ
 lengths_in pool = from_entries pool
+
+-- a piece has 1 to 16,777,216 bytes
+abbrev pub IsLength : List ℕ × ℕ → Type 0
+IsLength k = (1 ≤ k.1) × (k.1 ≤ 16_777_216)
 
 -- a finite map has these entries
 abbrev pub IsPool : Pool → Type 0
@@ -25,6 +29,11 @@ length_at pool digest = find text_cmp digest pool
 abbrev pub with_length : Pool → List ℕ → ℕ → Pool
 with_length pool digest len = if is_some (length_at pool digest) then pool else put text_cmp digest len pool
 
+-- several, one after another
+abbrev pub with_lengths : Pool → Pool → Pool
+with_lengths pool [] = pool
+with_lengths pool (k ∷ ks) = with_lengths (with_length pool k.0 k.1) ks
+
 -- without the length of the digest
 abbrev pub without_length : Pool → List ℕ → Pool
 without_length pool digest = entries (remove (lengths_in pool) digest)
@@ -33,7 +42,7 @@ without_length pool digest = entries (remove (lengths_in pool) digest)
 pub record Open : Type 0 where
   pub number : ℕ
   pub name : List ℕ
-  pub index : DynamicIndex
+  pub index : OpenIndex
 
 -- The open indexes stand as they were begun, and the files in byte order. Of the manifest its file's text is kept.
 pub record Writing : Type 0 where

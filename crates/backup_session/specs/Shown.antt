@@ -1,15 +1,19 @@
 -- What a session shows of a plain writer: digests and lengths in place of pieces.
-use Rattle.std.specs.Prelude.{◌≡◌, ℕ, List, map, length, Option, IsTrue}
+use Rattle.std.specs.Prelude.{◌≡◌, ℕ, ◌+◌, ◌<◌, ◌^◌, Bool, true, ◌&&◌, List, [], ◌∷◌, map, length, Option, IsTrue}
 use Rattle.std.specs.Option.{option_map}
 use Rattle.std.specs.List.{AllByRecursion}
 use Rattle.std.specs.FinMap.{FinMap, from_entries, entries}
 use Rattle.sha2.specs.Sha256.{sha256}
-use Rattle.store_types.specs.FileNames.{manifest_name, is_dynamic_name}
+use Rattle.store_types.specs.FileNames.{manifest_name}
 use Rattle.store_types.specs.Names.{text_cmp}
-use Rattle.store_files.specs.Archive.{dynamic, File, dynamic_of_archive, file_text, file_named, size_of, csum_of}
+use Rattle.store_files.specs.Archive.{Layout, dynamic, fixed, archive, File, file_text, file_named, size_of, csum_of}
 use Rattle.manifest.specs.declared.facts.FileFact.{FileFact}
+use Rattle.store_model.specs.Archives.{fits_layout}
+use Rattle.store_model.specs.Stands.{names_content}
 use Rattle.store_model.specs.Store.{Begun, Writer}
 use Rattle.dynamic_index.specs.Writing.{Known}
+use Rattle.fixed_index.specs.Writing.{FitsSizes}
+use Rattle.backup_session.specs.Indexes.{index_by}
 use Rattle.backup_session.specs.Session.{Pool, Open, Writing}
 
 abbrev pub known_of : List ℕ → Known
@@ -23,7 +27,7 @@ abbrev pub pool_of : List (List ℕ) → Pool
 pool_of pieces = entries (lengths_of pieces)
 
 abbrev pub shown_begun : Begun → Open
-shown_begun b = record { number = b.number; name = b.name; index = dynamic_of_archive b.archive }
+shown_begun b = record { number = b.number; name = b.name; index = index_by (b.archive).layout b.archive }
 
 abbrev pub shown_file : File → FileFact
 shown_file f = record { name = f.name; size = size_of f.content; csum = csum_of f.content }
@@ -42,9 +46,23 @@ shown w = record {
   manifest = manifest_text w.files;
 }
 
--- open in a session: a dynamic archive under a name of its kind
-abbrev pub IsOpen : Begun → Type 0
-IsOpen b = ((b.archive).layout ≡ dynamic) × IsTrue (is_dynamic_name b.name)
+-- ---- an open archive
+
+-- a fixed archive may have these sizes
+abbrev pub HasSizes : Layout → Type 0
+HasSizes dynamic = Unit {0}
+HasSizes (fixed size chunk_size) = FitsSizes size chunk_size × (size < 2 ^ 64)
+
+-- from an end on, each piece has a length that the layout takes where it begins
+abbrev pub fits_from : Layout → ℕ → List (List ℕ) → Bool
+fits_from layout end [] = true
+fits_from layout end (p ∷ ps) = fits_layout layout end (length p) && fits_from layout (end + length p) ps
+
+-- open in a session: under a name of its kind, of sizes that it may have, and each piece so far as long as its layout asks
+pub record IsOpen (b : Begun) : Type 0 where
+  pub name : IsTrue (names_content (archive b.archive) b.name)
+  pub sizes : HasSizes (b.archive).layout
+  pub pieces : IsTrue (fits_from (b.archive).layout 0 (b.archive).pieces)
 
 -- the session stands for the writer
 pub record Shows (s : Writing) (w : Writer) : Type 0 where

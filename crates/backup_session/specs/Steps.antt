@@ -9,16 +9,17 @@ use Rattle.store_types.specs.declared.names.SnapshotKey.{SnapshotKey}
 use Rattle.store_types.specs.declared.refusal.Refusal.{Refusal}
 use Rattle.store_types.specs.declared.refusal.Refusal.TheVariants.{BadName, NoFile, Exists, TooMany}
 use Rattle.store_types.specs.Chain.Refusing.{◌>>=◌, unless, or_else}
-use Rattle.store_types.specs.FileNames.{is_dynamic_name, is_blob_name, manifest_name}
+use Rattle.store_types.specs.FileNames.{is_fixed_name, is_dynamic_name, is_blob_name, manifest_name}
 use Rattle.store_types.specs.Names.{name_lt}
-use Rattle.store_files.specs.Archive.{dynamic}
-use Rattle.store_files.specs.DynamicIndex.{DynamicIndex, csum_of, dynamic_text}
 use Rattle.manifest.specs.declared.facts.FileFact.{FileFact}
-use Rattle.dynamic_index.specs.Pieces.{size_of}
-use Rattle.dynamic_index.specs.Writing.{Known, with_pieces}
-use Rattle.dynamic_index.specs.Writing as indexes
-use Rattle.store_model.specs.Archives.{uuid_of, want_number, free_number, change_first, without_first, want_entries, pieces_named, want_facts}
-use Rattle.backup_session.specs.Session.{Pool, length_at, with_length, Open, Writing}
+use Rattle.dynamic_index.specs.Writing.{Known}
+use Rattle.dynamic_index.specs.Writing as dynamic_indexes
+use Rattle.fixed_index.specs.Writing as fixed_indexes
+use Rattle.store_model.specs.Archives.{uuid_of, want_sizes, want_number, free_number, change_first, without_first, want_entries, pieces_named, want_facts}
+use Rattle.backup_session.specs.declared.index.OpenIndex.{OpenIndex}
+use Rattle.backup_session.specs.declared.index.OpenIndex.TheVariants.{Dynamic, Fixed}
+use Rattle.backup_session.specs.Indexes.{layout_of, count_of, end_of, size_of, csum_of, text_of, with_pieces}
+use Rattle.backup_session.specs.Session.{Pool, length_at, with_length, with_lengths, Open, Writing}
 
 abbrev pub opened : SnapshotKey → ℕ → Option SnapshotKey → Writing
 opened key start base = record { key = key; start = start; base = base; pool = []; begun = []; files = []; manifest = None }
@@ -39,10 +40,17 @@ abbrev pub insert_fact : FileFact → List FileFact → List FileFact
 insert_fact new [] = new ∷ []
 insert_fact new (f ∷ fs) = if name_lt new.name f.name then new ∷ f ∷ fs else f ∷ insert_fact new fs
 
--- ---- NEW_DYNAMIC
+-- ---- NEW_FIXED and NEW_DYNAMIC
 
 abbrev pub numbers : List Open → List ℕ
 numbers begun = map (λ b. b.number) begun
+
+abbrev pub want_fixed : List ℕ → ℕ → ℕ → Writing → Result (Unit {0}) Refusal
+want_fixed name size chunk_size w = do
+  _ ← unless BadName (is_fixed_name name)
+  _ ← want_room name w.files w.begun
+  _ ← want_number (length w.begun)
+  want_sizes size chunk_size
 
 abbrev pub want_dynamic : List ℕ → Writing → Result (Unit {0}) Refusal
 want_dynamic name w = do
@@ -51,19 +59,36 @@ want_dynamic name w = do
   want_number (length w.begun)
 
 -- at the least free number
-abbrev pub begin : Writing → List ℕ → DynamicIndex → Writing
+abbrev pub begin : Writing → List ℕ → OpenIndex → Writing
 begin w name index = record w { begun = w.begun ++ record { number = free_number (numbers w.begun); name = name; index = index } ∷ [] }
 
 -- without pieces, made at this moment
+abbrev pub fixed_at : SnapshotKey → List ℕ → ℕ → ℕ → ℕ → OpenIndex
+fixed_at key name size chunk_size moment = Fixed (fixed_indexes.begun (uuid_of key name) (pos moment) size chunk_size)
+
+abbrev pub dynamic_at : SnapshotKey → List ℕ → ℕ → OpenIndex
+dynamic_at key name moment = Dynamic (dynamic_indexes.begun (uuid_of key name) (pos moment))
+
+abbrev pub begin_fixed : Writing → List ℕ → ℕ → ℕ → ℕ → Writing
+begin_fixed w name size chunk_size moment = begin w name (fixed_at w.key name size chunk_size moment)
+
 abbrev pub begin_dynamic : Writing → List ℕ → ℕ → Writing
-begin_dynamic w name moment = begin w name (indexes.begun (uuid_of w.key name) (pos moment))
+begin_dynamic w name moment = begin w name (dynamic_at w.key name moment)
+
+unfoldable pub new_fixed : Writing → List ℕ → ℕ → ℕ → ℕ → Result (Writing × ℕ) Refusal
+new_fixed w name size chunk_size moment = do
+  _ ← want_fixed name size chunk_size w
+  Ok (begin_fixed w name size chunk_size moment, free_number (numbers w.begun))
 
 unfoldable pub new_dynamic : Writing → List ℕ → ℕ → Result (Writing × ℕ) Refusal
 new_dynamic w name moment = do
   _ ← want_dynamic name w
   Ok (begin_dynamic w name moment, free_number (numbers w.begun))
 
--- ---- CHUNK and APPEND
+-- ---- PREVIOUS, CHUNK and APPEND
+
+abbrev pub previous : Writing → List Known → Writing
+previous w pieces = record w { pool = with_lengths w.pool pieces }
 
 abbrev pub chunk : Writing → List ℕ → ℕ → Writing
 chunk w digest len = record w { pool = with_length w.pool digest len }
@@ -79,13 +104,13 @@ abbrev pub known_in : Pool → Digest32 → Option Known
 known_in pool digest = option_map (λ len. (digest.0, len)) (length_at pool digest.0)
 
 -- the pieces of an APPEND to an index
-unfoldable pub pieces_for : Pool → DynamicIndex → List (Digest32 × ℕ) → Result (List Known) Refusal
+unfoldable pub pieces_for : Pool → OpenIndex → List (Digest32 × ℕ) → Result (List Known) Refusal
 pieces_for pool x entries = do
-  _ ← want_entries (length x.entries) (length entries)
-  pieces_named (known_in pool) (λ k. k.1) dynamic 0 (size_of x) entries
+  _ ← want_entries (count_of x) (length entries)
+  pieces_named (known_in pool) (λ k. k.1) (layout_of x) 0 (end_of x) entries
 
 abbrev pub grown : List Known → Open → Open
-grown known b = record b { index = with_pieces b.index known }
+grown known b = record b { index = with_pieces known b.index }
 
 unfoldable pub append : Writing → ℕ → List (Digest32 × ℕ) → Result (Writing × Unit {0}) Refusal
 append w number entries = do
@@ -97,16 +122,16 @@ append w number entries = do
 
 -- what a manifest lists of an index
 abbrev pub fact_of : Open → FileFact
-fact_of b = record { name = b.name; size = size_of b.index; csum = record { 0 = csum_of b.index } }
+fact_of b = record { name = b.name; size = size_of b.index; csum = csum_of b.index }
 
-abbrev pub want_close : DynamicIndex → ℕ → ℕ → Digest32 → Result (Unit {0}) Refusal
-want_close x count size csum = want_facts dynamic (length x.entries) (size_of x) (record { 0 = csum_of x }) count size csum
+abbrev pub want_close : OpenIndex → ℕ → ℕ → Digest32 → Result (Unit {0}) Refusal
+want_close x count size csum = want_facts (layout_of x) (count_of x) (end_of x) (csum_of x) count size csum
 
 unfoldable pub close_index : Writing → ℕ → ℕ → ℕ → Digest32 → Result (Writing × List ℕ) Refusal
 close_index w number count size csum = do
   b ← or_else NoFile (begun_at number w)
   _ ← want_close b.index count size csum
-  Ok (record w { begun = without_first (has_number number) w.begun; files = insert_fact (fact_of b) w.files }, dynamic_text b.index)
+  Ok (record w { begun = without_first (has_number number) w.begun; files = insert_fact (fact_of b) w.files }, text_of b.index)
 
 -- what a manifest lists of a blob of this file text
 abbrev pub blob_fact : List ℕ → List ℕ → FileFact

@@ -2,13 +2,13 @@
 
 ghost use Rattle.std.specs.Prelude.{◌≡◌, ◌≤◌, ◌*◌, length, map, Ok, Err, IfOk, MatchResult};
 ghost use Rattle.std.specs.FinMap.{entries as entries_of};
-ghost use Rattle.store_files.specs.Archive.{dynamic};
 ghost use Rattle.store_model.specs.Archives.{piece_named as piece_by, pieces_named as pieces_by, want_entries as entries_fit};
-ghost use Rattle.dynamic_index.specs.Writing.{known_of, FitsPieces};
+ghost use Rattle.dynamic_index.specs.Writing.{known_of};
+ghost use Rattle.backup_session.specs.Indexes.{layout_view, FitsPieces};
 ghost use Rattle.backup_session.specs.Steps.{known_in, pieces_for as pieces_of};
 ghost use Rattle.backup_session.specs.Kept.{HasLengths};
 
-use dynamic_index::DynamicWriter;
+use crate::index::{Layout, OpenIndex};
 use known_chunks::Known;
 use std::alloc::{AllocError, Global};
 use store_types::{Digest32, Refusal};
@@ -26,12 +26,19 @@ fn want_entries(pieces: u32, entries: usize) -> Result<(), Refusal>
     Ok(())
 }
 
-/// The length of the piece that the entry at a place names, where it begins at the end reached so far.
-fn piece_named(pool: &Known, place: u32, end: u64, entry: &(Digest32, u64)) -> Result<u32, Refusal>
+/// The length of the piece that the entry at a place names, where it begins at the end reached so far and has a length
+/// that the layout takes there.
+fn piece_named(
+    pool: &Known,
+    layout: Layout,
+    place: u32,
+    end: u64,
+    entry: &(Digest32, u64),
+) -> Result<u32, Refusal>
     requires { HasLengths (entries_of pool.now) }
     ensures exact { MatchResult result
-        (λ length. piece_by (known_in (entries_of pool.now)) (λ k. k.1) dynamic place end entry.now ≡ Ok (known_of ((entry.now).0, length)))
-        (λ refusal. piece_by (known_in (entries_of pool.now)) (λ k. k.1) dynamic place end entry.now ≡ Err refusal) }
+        (λ length. piece_by (known_in (entries_of pool.now)) (λ k. k.1) (layout_view layout) place end entry.now ≡ Ok (known_of ((entry.now).0, length)))
+        (λ refusal. piece_by (known_in (entries_of pool.now)) (λ k. k.1) (layout_view layout) place end entry.now ≡ Err refusal) }
     ensures short { IfOk result (λ length. length ≤ 16_777_216) }
 {
     let Some(length) = pool.find(&entry.0) else {
@@ -43,6 +50,12 @@ fn piece_named(pool: &Known, place: u32, end: u64, entry: &(Digest32, u64)) -> R
             expected: end,
         });
     }
+    if !layout.fits(end, length) {
+        return Err(Refusal::WrongSize {
+            place,
+            size: length as u64,
+        });
+    }
     Ok(length)
 }
 
@@ -50,6 +63,7 @@ fn piece_named(pool: &Known, place: u32, end: u64, entry: &(Digest32, u64)) -> R
 fn pieces_named(
     alloc: Global,
     pool: &Known,
+    layout: Layout,
     start: u64,
     entries: &[(Digest32, u64)],
 ) -> Result<Result<Vec<(Digest32, u32)>, Refusal>, AllocError>
@@ -57,14 +71,14 @@ fn pieces_named(
     requires start { start ≤ 1_048_576 * 16_777_216 }
     requires lengths { HasLengths (entries_of pool.now) }
     ensures { IfOk result (λ told. MatchResult told
-        (λ pieces. pieces_by (known_in (entries_of pool.now)) (λ k. k.1) dynamic 0 start entries.now ≡ Ok (map known_of pieces.items))
-        (λ refusal. pieces_by (known_in (entries_of pool.now)) (λ k. k.1) dynamic 0 start entries.now ≡ Err refusal)) }
+        (λ pieces. pieces_by (known_in (entries_of pool.now)) (λ k. k.1) (layout_view layout) 0 start entries.now ≡ Ok (map known_of pieces.items))
+        (λ refusal. pieces_by (known_in (entries_of pool.now)) (λ k. k.1) (layout_view layout) 0 start entries.now ≡ Err refusal)) }
 {
     let mut pieces = Vec::new(alloc);
     let mut end = start;
     for entry in entries {
         let place = pieces.len() as u32;
-        match piece_named(pool, place, end, entry) {
+        match piece_named(pool, layout, place, end, entry) {
             Ok(length) => {
                 pieces.push((entry.0, length))?;
                 end += length as u64;
@@ -76,11 +90,12 @@ fn pieces_named(
 }
 
 /// The pieces that an APPEND to an index names, or its first refusal: more than 4,096 entries, more than 1,048,576 pieces
-/// in the index, then entry by entry a digest that the pool lacks, and an offset other than the end reached so far.
+/// in the index, then entry by entry a digest that the pool lacks, an offset other than the end reached so far, and a
+/// length other than a fixed archive asks there.
 pub fn pieces_for(
     alloc: Global,
     pool: &Known,
-    index: &DynamicWriter,
+    index: &OpenIndex,
     entries: &[(Digest32, u64)],
 ) -> Result<Result<Vec<(Digest32, u32)>, Refusal>, AllocError>
     requires { HasLengths (entries_of pool.now) }
@@ -92,5 +107,5 @@ pub fn pieces_for(
     if let Err(refusal) = want_entries(index.len(), entries.len()) {
         return Ok(Err(refusal));
     }
-    pieces_named(alloc, pool, index.end(), entries)
+    pieces_named(alloc, pool, index.layout(), index.end(), entries)
 }

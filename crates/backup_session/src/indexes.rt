@@ -3,13 +3,14 @@
 ghost use Rattle.std.specs.Prelude.{◌≡◌, ◌==◌, position, IfOk, MatchResult, Ok, Err};
 ghost use Rattle.std.specs.List.{list_any};
 ghost use Rattle.store_types.specs.Names.{IsKey};
-ghost use Rattle.store_files.specs.DynamicIndex.{dynamic_text};
-ghost use Rattle.store_model.specs.Archives.{uuid_of as uuid_by, want_number as number_left, free_number as least_free};
+ghost use Rattle.store_model.specs.Archives.{uuid_of as uuid_by, want_sizes as sizes_fit, want_size as size_reached, want_number as number_left, free_number as least_free};
+ghost use Rattle.backup_session.specs.Indexes.{layout_view, text_of};
 ghost use Rattle.backup_session.specs.Kept.{opens_of, open_of, left_of, IsClosing};
 ghost use Rattle.backup_session.specs.Steps.{numbers, want_close as close_test, fact_of};
 
+use crate::index::{Layout, OpenIndex};
 use crate::state::Begun;
-use dynamic_index::DynamicWriter;
+use fixed_index::{is_chunk_size, piece_count};
 use manifest::FileFact;
 use std::alloc::{AllocError, Global};
 use store_types::{CloseFault, Digest32, FileName, Refusal, SnapshotKey};
@@ -38,6 +39,22 @@ pub fn want_number(begun: usize) -> Result<(), Refusal>
     }
 }
 
+/// A fixed archive may have these sizes.
+pub fn want_sizes(size: u64, chunk_size: u64) -> Result<(), Refusal>
+    ensures { result ≡ sizes_fit size chunk_size }
+{
+    if !is_chunk_size(chunk_size) {
+        return Err(Refusal::WrongSize {
+            place: 0,
+            size: chunk_size,
+        });
+    }
+    if piece_count(size, chunk_size) > 1_048_576 {
+        return Err(Refusal::TooMany { limit: 1_048_576 });
+    }
+    Ok(())
+}
+
 fn has_number(begun: &[Begun], number: u8) -> bool
     ensures { result ≡ list_any (λ b. b.number == number) begun.now }
 {
@@ -63,8 +80,18 @@ pub fn place_of(begun: &[Begun], number: u8) -> Option<usize>
     begun.iter().position(|b| b.number == number)
 }
 
-/// An index has so many pieces, they end there, and this is its checksum.
-fn want_close(index: &DynamicWriter, count: u64, size: u64, csum: &Digest32) -> Result<(), Refusal>
+/// The pieces of a fixed archive reach its size.
+fn want_size(layout: Layout, end: u64) -> Result<(), Refusal>
+    ensures { result ≡ size_reached (layout_view layout) end }
+{
+    match layout {
+        Layout::Fixed { size, .. } if end < size => Err(Refusal::BadClose(CloseFault::Rest(size))),
+        _ => Ok(()),
+    }
+}
+
+/// An index has so many pieces, they end there, this is its checksum, and the size is reached.
+fn want_close(index: &OpenIndex, count: u64, size: u64, csum: &Digest32) -> Result<(), Refusal>
     ensures { result ≡ close_test index.now count size csum.now }
 {
     let (pieces, end, found) = index.facts();
@@ -77,7 +104,7 @@ fn want_close(index: &DynamicWriter, count: u64, size: u64, csum: &Digest32) -> 
     if *csum != found {
         return Err(Refusal::BadClose(CloseFault::Csum(found)));
     }
-    Ok(())
+    want_size(index.layout(), end)
 }
 
 /// The file's text and what a manifest lists of it, where the index is as it is said to be.
@@ -89,7 +116,7 @@ pub fn closed(
     csum: &Digest32,
 ) -> Result<Result<(Vec<u8>, FileFact), Refusal>, AllocError>
     ensures { IfOk result (λ told. MatchResult told
-        (λ closed. (close_test begun.now.index count size csum.now ≡ Ok tt) × (closed.0.items ≡ dynamic_text begun.now.index) × (closed.1 ≡ fact_of (open_of begun.now)))
+        (λ closed. (close_test begun.now.index count size csum.now ≡ Ok tt) × (closed.0.items ≡ text_of begun.now.index) × (closed.1 ≡ fact_of (open_of begun.now)))
         (λ refusal. close_test begun.now.index count size csum.now ≡ Err refusal)) }
 {
     if let Err(refusal) = want_close(&begun.index, count, size, csum) {

@@ -4,6 +4,8 @@
 
 mod entries;
 mod files;
+mod finishing;
+mod index;
 mod indexes;
 mod state;
 #[cfg(test)]

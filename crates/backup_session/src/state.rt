@@ -1,21 +1,30 @@
 //! What a writer keeps.
 
-ghost use Rattle.std.specs.Prelude.{◌≡◌, ◌<◌, ◌≤◌, length, is_some, option_map, OnOk, OnErr, IfOk};
-ghost use Rattle.std.specs.List.{remove};
+ghost use Rattle.std.specs.Prelude.{◌≡◌, ◌<◌, ◌≤◌, length, map, is_some, option_map, OnOk, OnErr, IfOk, IfErr, IsOk};
+ghost use Rattle.std.specs.List.{AllByRecursion, remove};
 ghost use Rattle.store_types.specs.Names.{IsKey};
 ghost use Rattle.store_types.specs.Times.{last_moment};
 ghost use Rattle.store_model.specs.Archives.{free_number as least_free};
-ghost use Rattle.backup_session.specs.Answers.{Does};
-ghost use Rattle.backup_session.specs.Kept.{after, IsClosing, HoldsBack};
+ghost use Rattle.blob_codec.specs.Blob.{data_of};
+ghost use Rattle.dynamic_index.specs.Writing.{known_of};
+ghost use Rattle.fixed_index.specs.Writing.{FitsSizes};
+ghost use Rattle.wire_commands.specs.HasText.{FitsRefusal};
+ghost use Rattle.backup_session.specs.Answers.{Does, TellsManifest};
+ghost use Rattle.backup_session.specs.Finish.{finish_check as steps_finish};
+ghost use Rattle.backup_session.specs.Kept.{after, IsClosing, HoldsBlob, HoldsBack};
 ghost use Rattle.backup_session.specs.Steps as steps;
-ghost use Rattle.backup_session.specs.Session.{IsPool, length_at, without_length};
+ghost use Rattle.backup_session.specs.Session.{IsPool, IsLength, length_at, without_length};
 
 use crate::entries::pieces_for;
 use crate::files::{blob_fact, insert, keep_text, kept_text, want_room};
-use crate::indexes::{closed, free_number, leave, place_of, uuid_of, want_number};
+use crate::finishing::checked_manifest;
+use crate::index::OpenIndex;
+use crate::indexes::{closed, free_number, leave, place_of, uuid_of, want_number, want_sizes};
+use blob_codec::decode;
 use dynamic_index::DynamicWriter;
+use fixed_index::FixedWriter;
 use known_chunks::Known;
-use manifest::FileFact;
+use manifest::{FileFact, Manifest};
 use std::alloc::{AllocError, Global};
 use std::marker::Model;
 use store_types::{Bytes, Digest32, FileName, Refusal, SnapshotKey};
@@ -25,7 +34,7 @@ use store_types::{Bytes, Digest32, FileName, Refusal, SnapshotKey};
 pub struct Begun {
     pub number: u8,
     pub name: FileName,
-    pub index: DynamicWriter,
+    pub index: OpenIndex,
 }
 
 /// A file that is among the writer's files already, and not yet the writer's.
@@ -87,6 +96,12 @@ impl State {
         &self.key
     }
 
+    pub fn base(&self) -> Option<&SnapshotKey>
+        ensures { option_map (λ k. k.now) result ≡ self.now.base }
+    {
+        self.base.as_ref()
+    }
+
     /// The key, and nothing else of the writer.
     pub fn into_key(self) -> SnapshotKey
         ensures { result ≡ self.key }
@@ -128,6 +143,17 @@ impl State {
         Some(text.as_slice())
     }
 
+    fn want_fixed(&self, name: &FileName, size: u64, chunk_size: u64) -> Result<(), Refusal>
+        ensures { result ≡ steps.want_fixed name.now size chunk_size self.now }
+    {
+        if !name.is_fixed() {
+            return Err(Refusal::BadName);
+        }
+        want_room(&self.files, &self.begun, name)?;
+        want_number(self.begun.len())?;
+        want_sizes(size, chunk_size)
+    }
+
     fn want_dynamic(&self, name: &FileName) -> Result<(), Refusal>
         ensures { result ≡ steps.want_dynamic name.now self.now }
     {
@@ -138,23 +164,72 @@ impl State {
         want_number(self.begun.len())
     }
 
-    // Begins a dynamic index at the least free number.
-    fn begin(&mut self, alloc: Global, name: FileName, ctime: u64) -> Result<u8, AllocError>
-        requires room { length self.old.begun < 16 }
+    // The index of a fixed archive, without pieces.
+    fn fixed_at(
+        &self,
+        alloc: Global,
+        name: &FileName,
+        size: u64,
+        chunk_size: u64,
+        ctime: u64,
+    ) -> Result<OpenIndex, AllocError>
+        requires sizes { FitsSizes size chunk_size }
         requires ctime { ctime ≤ last_moment }
-        ensures ok { OnOk result (self.new ≡ steps.begin_dynamic self.old name ctime) }
+        ensures { IfOk result (λ index. index ≡ steps.fixed_at self.now.key name.now size chunk_size ctime) }
+    {
+        let uuid = uuid_of(alloc, &self.key, name)?;
+        let index = FixedWriter::new(alloc, uuid, ctime as i64, size, chunk_size);
+        Ok(OpenIndex::Fixed(index))
+    }
+
+    // The index of a dynamic archive, without pieces.
+    fn dynamic_at(
+        &self,
+        alloc: Global,
+        name: &FileName,
+        ctime: u64,
+    ) -> Result<OpenIndex, AllocError>
+        requires { ctime ≤ last_moment }
+        ensures { IfOk result (λ index. index ≡ steps.dynamic_at self.now.key name.now ctime) }
+    {
+        let uuid = uuid_of(alloc, &self.key, name)?;
+        let index = DynamicWriter::new(alloc, uuid, ctime as i64);
+        Ok(OpenIndex::Dynamic(index))
+    }
+
+    // Begins an index at the least free number.
+    fn begin(&mut self, name: FileName, index: OpenIndex) -> Result<u8, AllocError>
+        requires { length self.old.begun < 16 }
+        ensures ok { OnOk result (self.new ≡ steps.begin self.old name index) }
         ensures number { IfOk result (λ number. number ≡ least_free (steps.numbers self.old.begun)) }
         ensures err { OnErr result (self.new ≡ self.old) }
     {
-        let uuid = uuid_of(alloc, &self.key, &name)?;
         let number = free_number(&self.begun);
-        let index = DynamicWriter::new(alloc, uuid, ctime as i64);
         self.begun.push(Begun {
             number,
             name,
             index,
         })?;
         Ok(number)
+    }
+
+    pub fn new_fixed(
+        &mut self,
+        alloc: Global,
+        name: FileName,
+        ctime: u64,
+        size: u64,
+        chunk_size: u64,
+    ) -> Result<Result<u8, Refusal>, AllocError>
+        requires { ctime ≤ last_moment }
+        ensures { Does (λ n. n) (λ w. w) self.old self.new result (steps.new_fixed self.old name size chunk_size ctime) }
+    {
+        if let Err(refusal) = self.want_fixed(&name, size, chunk_size) {
+            return Ok(Err(refusal));
+        }
+        let index = self.fixed_at(alloc, &name, size, chunk_size, ctime)?;
+        let number = self.begin(name, index)?;
+        Ok(Ok(number))
     }
 
     pub fn new_dynamic(
@@ -169,8 +244,18 @@ impl State {
         if let Err(refusal) = self.want_dynamic(&name) {
             return Ok(Err(refusal));
         }
-        let number = self.begin(alloc, name, ctime)?;
+        let index = self.dynamic_at(alloc, &name, ctime)?;
+        let number = self.begin(name, index)?;
         Ok(Ok(number))
+    }
+
+    /// Notes the lengths of pieces, each unless one is noted. At want of memory nothing has changed.
+    pub fn previous(&mut self, alloc: Global, pieces: &[(Digest32, u32)]) -> Result<(), AllocError>
+        requires { AllByRecursion IsLength (map known_of pieces.now) }
+        ensures ok { OnOk result (self.new ≡ steps.previous self.old (map known_of pieces.now)) }
+        ensures err { OnErr result (self.new ≡ self.old) }
+    {
+        self.pool.add_all(alloc, pieces)
     }
 
     /// Notes a piece's length, unless one is noted.
@@ -252,6 +337,7 @@ impl State {
         name: FileName,
         text: &[u8],
     ) -> Result<Result<Pending, Refusal>, AllocError>
+        requires { IsOk (data_of text.now) }
         ensures { HoldsBack (λ p. tt) (λ p. p) self.old self.new result (steps.blob self.old name text.now) }
     {
         if let Err(refusal) = self.want_blob(&name) {
@@ -268,7 +354,8 @@ impl State {
 
     /// The pending file becomes the writer's. It takes no memory.
     pub fn keep(&mut self, pending: Pending)
-        requires { IsClosing pending.closes self.old.begun }
+        requires closes { IsClosing pending.closes self.old.begun }
+        requires manifest { HoldsBlob pending.manifest }
         ensures { self.new ≡ after pending self.old }
     {
         let Pending {
@@ -286,5 +373,24 @@ impl State {
         ensures { self.new ≡ record self.old { files = remove self.old.files place } }
     {
         let _ = self.files.remove(place);
+    }
+
+    /// The manifest among the files, where no index is open and it lists the others.
+    pub fn finish_check(&self, alloc: Global) -> Result<Result<Manifest, Refusal>, AllocError>
+        ensures does { IfOk result (λ checked. TellsManifest (steps_finish self.now) checked) }
+        ensures fits { IfOk result (λ checked. IfErr checked FitsRefusal) }
+        ensures blob { HoldsBlob self.now.manifest }
+    {
+        let count = self.begun.len() as u8;
+        if count > 0 {
+            return Ok(Err(Refusal::OpenIndexes { count }));
+        }
+        let Some(text) = self.manifest() else {
+            return Ok(Err(Refusal::NoFile));
+        };
+        let Ok(bytes) = decode(text) else {
+            unreachable!()
+        };
+        checked_manifest(alloc, &self.key, &self.files, bytes)
     }
 }

@@ -1,19 +1,25 @@
 //! A writer's calls.
 
-ghost use Rattle.std.specs.Prelude.{◌≡◌, ◌≤◌, ℕ, List, length as len, is_some, option_map, None, IsSome, OnOk, OnErr};
+ghost use Rattle.std.specs.Prelude.{◌≡◌, ◌≤◌, ℕ, List, length as len, map, is_some, option_map, None, IsSome, IsOk, IfOk, IfErr, OnOk, OnErr};
+ghost use Rattle.std.specs.List.{AllByRecursion};
 ghost use Rattle.sha2.specs.Sha256.{sha256};
 ghost use Rattle.store_types.specs.Names.{IsKey};
 ghost use Rattle.store_types.specs.Times.{last_moment};
-ghost use Rattle.blob_codec.specs.Blob.{blob as blob_text};
+ghost use Rattle.blob_codec.specs.Blob.{blob as blob_text, data_of};
+ghost use Rattle.dynamic_index.specs.Writing.{known_of};
 ghost use Rattle.store_model.specs.Store.{Writer as PlainWriter};
-ghost use Rattle.store_model.specs.WriterSteps.{new_writer};
+ghost use Rattle.store_model.specs.Manifests.{finish_check as plain_finish};
+ghost use Rattle.store_model.specs.WriterSteps.{new_writer, with_pool};
 ghost use Rattle.store_model.specs.WriterCalls as plain;
-ghost use Rattle.backup_session.specs.Answers.{Does, DoesPlainly, IsPendingAt, takes_blob};
-ghost use Rattle.backup_session.specs.Session.{Writing, IsPool, length_at, without_length, settled, held, kept};
-ghost use Rattle.backup_session.specs.Shown.{Shows};
+ghost use Rattle.wire_commands.specs.HasText.{FitsRefusal};
+ghost use Rattle.backup_session.specs.Answers.{Does, DoesPlainly, IsPendingAt, TellsManifest, takes_blob};
+ghost use Rattle.backup_session.specs.Finish.{finish_check as steps_finish};
+ghost use Rattle.backup_session.specs.Session.{Writing, IsPool, IsLength, length_at, without_length, settled, held, kept};
+ghost use Rattle.backup_session.specs.Shown.{Shows, known_of as known_piece};
 ghost use Rattle.backup_session.specs.Steps as steps;
 
 use crate::state::{Pending, State};
+use manifest::Manifest;
 use std::alloc::{AllocError, Global};
 use std::marker::Model;
 use store_types::{Digest32, FileName, Refusal, SnapshotKey};
@@ -62,6 +68,14 @@ impl Writer {
         ensures grammar { IsKey result.now }
     {
         self.state.key()
+    }
+
+    /// The snapshot that is its base, where it has one.
+    #[tactic(auto, using(crate::proofs::Asked::base_is))]
+    pub fn base(&self) -> Option<&SnapshotKey>
+        ensures { option_map (λ k. k.now) result ≡ self.now.writer.base }
+    {
+        self.state.base()
     }
 
     /// The key, and nothing else of the writer. It takes no memory.
@@ -115,6 +129,29 @@ impl Writer {
         self.state.manifest()
     }
 
+    /// Begins a fixed index, of an archive of `size` bytes in pieces of `chunk_size`, at the least number from 0 to 15
+    /// that is free, and gives it. `ctime` is seconds since 1970.
+    ///
+    /// The refusals, in the order in which they are tested: the name is no fixed index's; there is such a file or open
+    /// index; there are 64 files and open indexes; 16 indexes are open; the chunk size is no power of two from 4,096 to
+    /// 16,777,216; it makes more than 1,048,576 pieces.
+    pub fn new_fixed(
+        &mut self,
+        alloc: Global,
+        name: FileName,
+        ctime: u64,
+        size: u64,
+        chunk_size: u64,
+    ) -> Result<Result<u8, Refusal>, AllocError>
+        requires settled { self.old.pending ≡ None }
+        requires ctime { ctime ≤ last_moment }
+        ensures does { Does (λ n. n) settled self.old self.new result (steps.new_fixed self.old.writer name size chunk_size ctime) }
+        ensures settled { self.new.pending ≡ None }
+        ensures plain { DoesPlainly (λ n. n) settled self.old self.new result (λ w. plain.new_fixed w name size chunk_size ctime) }
+    {
+        self.state.new_fixed(alloc, name, ctime, size, chunk_size)
+    }
+
     /// Begins a dynamic index at the least number from 0 to 15 that is free, and gives it. `ctime` is seconds since 1970.
     ///
     /// The refusals, in the order in which they are tested: the name is no dynamic index's; there is such a file or open
@@ -132,6 +169,20 @@ impl Writer {
         ensures plain { DoesPlainly (λ n. n) settled self.old self.new result (λ w. plain.new_dynamic w name ctime) }
     {
         self.state.new_dynamic(alloc, name, ctime)
+    }
+
+    /// The chunks of a file of the base may be named from now on, each by its digest and its length. A length that is
+    /// noted already stays. All are noted, or none.
+    pub fn previous(&mut self, alloc: Global, pieces: &[(Digest32, u32)]) -> Result<(), AllocError>
+        requires settled { self.old.pending ≡ None }
+        requires lengths { AllByRecursion IsLength (map known_of pieces.now) }
+        ensures ok { OnOk result (self.new ≡ settled (steps.previous self.old.writer (map known_of pieces.now))) }
+        ensures err { OnErr result (self.new ≡ self.old) }
+        ensures settled { self.new.pending ≡ None }
+        ensures plain { OnOk result ((w : PlainWriter) → (shown : List (List ℕ)) → Shows self.old.writer w → map known_of pieces.now ≡ map known_piece shown →
+            Shows self.new.writer (with_pool shown w)) }
+    {
+        self.state.previous(alloc, pieces)
     }
 
     /// A chunk may be named from now on. A length that is noted already stays.
@@ -162,7 +213,7 @@ impl Writer {
     ///
     /// The refusals, in the order in which they are tested: no index of the number is open; there are more than 4,096
     /// entries; the index would have more than 1,048,576; then entry by entry, with its place, the chunk may not be
-    /// named, and its offset isn't the end reached so far.
+    /// named, its offset isn't the end reached so far, and its length isn't what a fixed archive asks there.
     pub fn append(
         &mut self,
         alloc: Global,
@@ -180,7 +231,7 @@ impl Writer {
     /// Closes an index and gives its file's text. The file is pending then.
     ///
     /// The refusals, in the order in which they are tested: no index of the number is open; the number of its entries,
-    /// the size of its archive or its checksum is another.
+    /// where they end or its checksum is another; a fixed archive's size is not reached.
     pub fn close_index(
         &mut self,
         alloc: Global,
@@ -214,7 +265,8 @@ impl Writer {
         name: FileName,
         text: &[u8],
     ) -> Result<Result<(), Refusal>, AllocError>
-        requires { self.old.pending ≡ None }
+        requires settled { self.old.pending ≡ None }
+        requires blob { IsOk (data_of text.now) }
         ensures does { Does (λ u. u) (held self.old.writer) self.old self.new result (steps.blob self.old.writer name text.now) }
         ensures pending { IsPendingAt self.new result }
         ensures plain { (contents : List ℕ) → text.now ≡ blob_text contents → DoesPlainly (λ u. u) (held self.old.writer) self.old self.new result (λ w. plain.put_data w name contents) }
@@ -226,6 +278,20 @@ impl Writer {
             }
             Err(refusal) => Ok(Err(refusal)),
         }
+    }
+
+    /// The manifest among the files, where the backup may be finished. Nothing changes.
+    ///
+    /// The refusals, in the order in which they are tested: an index is open; there is no manifest; it is none, by its
+    /// cause; the first mismatch of the manifest with the snapshot's key and the files beside it.
+    pub fn finish_check(&self, alloc: Global) -> Result<Result<Manifest, Refusal>, AllocError>
+        requires { self.now.pending ≡ None }
+        ensures does { IfOk result (λ checked. TellsManifest (steps_finish self.now.writer) checked) }
+        // a refusal has a spelling
+        ensures fits { IfOk result (λ checked. IfErr checked FitsRefusal) }
+        ensures plain { (w : PlainWriter) → Shows self.now.writer w → IfOk result (λ checked. TellsManifest (plain_finish w) checked) }
+    {
+        self.state.finish_check(alloc)
     }
 
     /// The pending file becomes the writer's. It takes no memory.

@@ -1,5 +1,5 @@
 -- What it takes that bytes hold a piece.
-use Rattle.std.proofs.Common.{◌≡◌, ◌<◌, ◌≤◌, ℕ, List, Bool, true, false, ◌&&◌, length, drop, Result, Ok, Err, if◌then◌else◌, refl, sym, ap, subst, ◌∙◌, arith, drop-drop}
+use Rattle.std.proofs.Common.{◌≡◌, ◌<◌, ◌≤◌, ℕ, List, Bool, true, false, ◌&&◌, length, drop, MatchResult, Result, Ok, Err, if◌then◌else◌, refl, sym, ap, subst, ◌∙◌, arith, drop-drop}
 use Rattle.std.specs.Prelude.{nat_le}
 use Rattle.std.specs.Str.{bytes_eq}
 use Rattle.std.proofs.lemmas.Bool.{and_parts, leb-true, le-leb}
@@ -64,6 +64,18 @@ piece_passes digest p one is =
 pub piece_in_blob : (digest bytes p : List ℕ) → bytes ≡ blob p → AreBytes p → IsPiece p → sha256 p ≡ digest → piece_in digest bytes ≡ Ok p
 piece_in_blob digest bytes p text are is named =
     piece_from digest bytes p (ap data_of text ∙ data_of-blob p are is.1) ∙ piece_passes digest p is.0 named
+
+-- what is told of the blob of a piece with the digest
+pub blob_told : (digest bytes p : List ℕ) (told : Result (List ℕ) ChunkFault) → bytes ≡ blob p → AreBytes bytes → IsPiece p → sha256 p ≡ digest
+    → MatchResult told (λ q. piece_in digest bytes ≡ Ok q) (λ fault. piece_in digest bytes ≡ Err fault) → MatchResult told (λ q. q ≡ p) (λ _. ⊥)
+blob_told digest bytes p (Ok q) text are is named value = oks q p (sym value ∙ piece_in_blob digest bytes p text (data_are_bytes p (subst AreBytes text are)) is named)
+  where
+    oks : (a b : List ℕ) → ◌≡◌ {A = Result (List ℕ) ChunkFault} (Ok a) (Ok b) → a ≡ b
+    oks a b e = cc
+blob_told digest bytes p (Err fault) text are is named value = apart fault (sym value ∙ piece_in_blob digest bytes p text (data_are_bytes p (subst AreBytes text are)) is named)
+  where
+    apart : (fault : ChunkFault) → ◌≡◌ {A = Result (List ℕ) ChunkFault} (Err fault) (Ok p) → ⊥
+    apart fault e = cc
 
 -- what holds a piece with this digest
 pub piece_is : (digest bytes p : List ℕ) → piece_in digest bytes ≡ Ok p → IsPiece p × (sha256 p ≡ digest)

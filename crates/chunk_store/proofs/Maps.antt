@@ -13,7 +13,7 @@ use Rattle.store_types.specs.declared.names.SnapshotKey.{SnapshotKey}
 use Rattle.store_model.specs.Stands.{IsPiece, IsDigest, HasWholeChunks, chunk_name}
 use Rattle.store_model.specs.Uploads.{file_path}
 use Rattle.store_model.proofs.Paths.{chunk_apart}
-use Rattle.chunk_store.specs.Pieces.{IsChunk, IsFree, AddsPiece, TakesPiece, found_in, piece_at, with_chunk}
+use Rattle.chunk_store.specs.Pieces.{IsChunk, IsFree, IsHeld, AddsPiece, TakesPiece, found_in, piece_at, with_chunk}
 use Rattle.chunk_store.proofs.Names.{same_digest}
 use Rattle.chunk_store.proofs.Blobs.{piece_in_blob, same_data, data_are_bytes}
 
@@ -131,3 +131,16 @@ is_free files digest p whole is only are = by_case (get files (chunk_name digest
 -- a piece whose blob stands under its digest is found there
 pub found_held : (files : Files) (p : List ℕ) → get files (chunk_name (sha256 p)) ≡ Some (blob p) → AreBytes p → IsPiece p → piece_at files (sha256 p) ≡ Some p
 found_held files p e are is = piece_there files (sha256 p) (blob p) p e (piece_in_blob (sha256 p) (blob p) p refl are is refl)
+
+-- what stands under a held piece's digest is its blob
+pub held_blob : (files : Files) (digest text p : List ℕ) → get files (chunk_name digest) ≡ Some text → IsHeld files p → sha256 p ≡ digest → text ≡ blob p
+held_blob files digest text p there held named = texts text (blob p) (sym there ∙ ap (λ d. get files (chunk_name d)) (sym named) ∙ held.0)
+  where
+    texts : (a b : List ℕ) → Some a ≡ Some b → a ≡ b
+    texts a b e = cc
+
+pub held_there : (files : Files) (digest p : List ℕ) → get files (chunk_name digest) ≡ None → IsHeld files p → sha256 p ≡ digest → ⊥
+held_there files digest p none held named = apart (sym none ∙ ap (λ d. get files (chunk_name d)) (sym named) ∙ held.0)
+  where
+    apart : None ≡ Some (blob p) → ⊥
+    apart e = cc

@@ -42,6 +42,10 @@ found_at files digest = found_in digest (get files (chunk_name digest))
 unfoldable pub piece_at : Files → List ℕ → Option (List ℕ)
 piece_at files digest = result_ok (found_at files digest)
 
+-- the piece's blob stands under its digest
+abbrev pub IsHeld : Files → List ℕ → Type 0
+IsHeld files p = (get files (chunk_name (sha256 p)) ≡ Some (blob p)) × IsPiece p
+
 -- ---- what changes it
 
 -- a file that is there stays, whatever it holds

@@ -1,6 +1,6 @@
 //! A map from digests to pieces, on a disk.
 
-ghost use Rattle.std.specs.Prelude.{◌≡◌, ℕ, List, Some, None, Ok, Err, false, is_some, IfOk, IfErr, OnOk, IsErr, IsErrOf, IsSome};
+ghost use Rattle.std.specs.Prelude.{◌≡◌, ℕ, List, Some, None, Ok, Err, false, is_some, IfOk, IfErr, OnOk, IsErr, IsErrOf, IsSome, MatchResult};
 ghost use Rattle.std.specs.FinMap.{get};
 ghost use Rattle.sha2.specs.Sha256.{sha256};
 ghost use Rattle.disk_trait.specs.Files.{placed};
@@ -10,7 +10,8 @@ ghost use Rattle.store_types.specs.declared.names.Digest32.{Digest32};
 ghost use Rattle.store_types.specs.declared.refusal.ChunkFault.{ChunkFault};
 ghost use Rattle.store_model.specs.Stands.{HasWholeChunks, IsPiece, chunk_name};
 ghost use Rattle.chunk_store.specs.declared.chunk.LoadFault.TheVariants.{Damaged};
-ghost use Rattle.chunk_store.specs.Pieces.{AddsPiece, IsChunk, IsFree, MayWrite, TakesPiece, found_at, with_chunk};
+ghost use Rattle.chunk_store.specs.Faults.{IsNotDamaged};
+ghost use Rattle.chunk_store.specs.Pieces.{AddsPiece, IsChunk, IsFree, IsHeld, MayWrite, TakesPiece, found_at, with_chunk};
 
 use crate::chunk::{Chunk, LoadFault, check};
 use crate::name::ChunkName;
@@ -88,6 +89,8 @@ pub fn load<D: Disk>(alloc: Global, disk: &mut D, digest: &Digest32) -> Result<C
     ensures piece { D.honest disk.old → IfOk result (λ chunk. found_at (D.content disk.old) digest.now.0 ≡ Ok chunk) }
     ensures damaged { D.honest disk.old → IfErr result (λ e. (asked : Digest32) (found : ChunkFault) → e ≡ Damaged asked found →
         (asked ≡ digest.now) × (found_at (D.content disk.old) digest.now.0 ≡ Err found)) }
+    // a piece that stands there is loaded
+    ensures held { D.honest disk.old → (p : List ℕ) → IsHeld (D.content disk.old) p → sha256 p ≡ digest.now.0 → MatchResult result (λ chunk. chunk ≡ p) IsNotDamaged }
     // on any disk
     ensures checked { IfOk result (λ chunk. IsPiece chunk × (sha256 chunk ≡ digest.now.0)) }
     ensures asked { IfErr result (λ e. (asked : Digest32) (found : ChunkFault) → e ≡ Damaged asked found → asked ≡ digest.now) }

@@ -1,6 +1,6 @@
 -- The acts of readers are well-formed commands.
 use Rattle.std.proofs.Common.{◌≡◌, refl}
-use Rattle.wire_commands.specs.declared.command.Command.TheVariants.{OpenWriter, NewDynamic, Chunk as ChunkCommand, Append, CloseIndex, Blob as BlobCommand, Finish, Abort, OpenReader, Download, CloseReader, Bye}
+use Rattle.wire_commands.specs.declared.command.Command.TheVariants.{OpenWriter, Previous, NewFixed, NewDynamic, Chunk as ChunkCommand, Append, CloseIndex, Blob as BlobCommand, Finish, Abort, OpenReader, Download, GetChunk, Range, CloseReader, Bye}
 use Rattle.store_history.specs.declared.act.Act.{Act}
 use Rattle.store_history.specs.declared.act.Act.TheVariants.{Plain, Blob, Chunk, Short, End}
 use Rattle.store_history.specs.Acts.{IsWellFormed, class_of, stepping}
@@ -11,8 +11,12 @@ use Rattle.core_reader.specs.ReaderActs.{IsReaders}
 pub readers_formed : (a : Act) → IsReaders a → IsWellFormed a
 readers_formed (Plain (OpenReader snapshot)) h = tt
 readers_formed (Plain (Download file offset)) h = tt
+readers_formed (Plain (GetChunk digest)) h = tt
+readers_formed (Plain (Range file offset len)) h = tt
 readers_formed (Plain CloseReader) h = tt
 readers_formed (Plain (OpenWriter snapshot)) h = absurd h
+readers_formed (Plain (Previous file offset)) h = absurd h
+readers_formed (Plain (NewFixed file size chunk_size)) h = absurd h
 readers_formed (Plain (NewDynamic file)) h = absurd h
 readers_formed (Plain (ChunkCommand digest blob)) h = absurd h
 readers_formed (Plain (Append number entries)) h = absurd h

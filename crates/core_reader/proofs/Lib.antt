@@ -1,8 +1,11 @@
-pub mod Finding
+pub mod ActLemmas
 pub mod OpenSteps
+pub mod CloseSteps
 pub mod Noted
 pub mod Downloads
-pub mod Unreadables
-pub mod PartLemmas
-pub mod ActLemmas
-pub mod CloseSteps
+pub mod Held
+pub mod Getting
+pub mod Ranging
+pub mod Loads
+pub mod Damaging
+pub mod Telling

@@ -1,20 +1,27 @@
--- The names that a reader notes.
-use Rattle.std.proofs.Common.{◌≡◌, ◌-◌, ℕ, nat_lt, drop, Bool, true, false, cond, ◌&&◌, ◌||◌, not, List, [], ◌∷◌, ◌++◌, length, Result, Ok, Err, OnOk, OnErr, refl, sym, ap, ◌∙◌}
+-- What a DOWNLOAD reads whole, and what it notes.
+use Rattle.std.proofs.Common.{◌≡◌, ◌-◌, ℕ, nat_lt, drop, Bool, true, false, cond, if◌then◌else◌, ◌&&◌, ◌||◌, List, [], ◌∷◌, ◌++◌, map, length, Some, None, Result, Ok, Err, OnOk, OnErr, refl, sym, ap, ◌∙◌}
 use Rattle.std.proofs.lemmas.Bool.{and_parts}
 use Rattle.std.proofs.lemmas.Slice.Eq.{bytes_eq-Decides}
 use Rattle.std.specs.List.{list_any}
 use Rattle.std.specs.Str.{bytes_eq}
-use Rattle.store_types.specs.FileNames.{is_id, is_index_name, is_fixed_name, is_dynamic_name, is_blob_name, has_ending, fixed_ending, dynamic_ending, blob_ending}
-use Rattle.store_files.specs.Archive.{Layout, dynamic, fixed, Content, archive, blob}
+use Rattle.store_types.specs.FileNames.{is_id, is_fixed_name, is_dynamic_name, is_blob_name, has_ending, fixed_ending, dynamic_ending, blob_ending}
+use Rattle.store_files.specs.Archive.{Layout, dynamic, fixed, Archive, Content, archive, blob, File, Snapshot}
 use Rattle.store_model.specs.Store as model
-use Rattle.store_model.specs.ReaderSteps.{is_noted, note}
 use Rattle.store_model.specs.Store.{reader}
+use Rattle.store_model.specs.ReaderSteps.{is_noted, note}
 use Rattle.store_model.specs.Stands.{names_content}
+use Rattle.restore_reader.specs.Session.{Reading}
+use Rattle.restore_reader.specs.Shown.{shown, shown_noted}
+use Rattle.restore_reader.specs.Steps.{is_downloaded}
+use Rattle.stored_files.specs.Indexes.{is_fixed_layout}
+use Rattle.stored_files.proofs.Archives.{layout_named}
+use Rattle.store_files.specs.DynamicIndex.{Ended}
+use Rattle.core_state.specs.Named.{is_named}
+use Rattle.core_state.specs.Unreadables.{whole_by}
+use Rattle.core_state.specs.Shown.{files_named, shown_session, shown_reader}
 use Rattle.core_state.specs.declared.kept.Session.{Session}
 use Rattle.core_state.specs.declared.kept.Session.TheVariants.{Idle, Writer, Reader}
-use Rattle.core_state.specs.Named.{is_named}
-use Rattle.core_state.specs.Shown.{shown_session, shown_reader}
-use Rattle.core_reader.specs.Asked.{noting}
+use Rattle.core_reader.specs.Asked.{whole_for, noting}
 
 -- ---- endings
 
@@ -28,28 +35,64 @@ and_none : (a b c : Bool) → b ≡ false → (a && (b && c)) ≡ false
 and_none true b c e = ap (λ x. x && c) e
 and_none false b c e = refl
 
-or_none : (a b : Bool) → a ≡ false → b ≡ false → (a || b) ≡ false
-or_none a b e f = ap (λ x. x || b) e ∙ f
-
 -- the last five bytes
 abbrev last_five : List ℕ → List ℕ
 last_five name = drop (length name - 5) name
 
-pub blob_no_index : (name : List ℕ) → is_blob_name name ≡ true → is_index_name name ≡ false
-blob_no_index name h =
+blob_whole : (name : List ℕ) → is_blob_name name ≡ true → whole_by name ≡ None
+blob_whole name h =
     let ending = (and_parts (is_id name) (has_ending blob_ending name) h).1 in
     let five : bytes_eq blob_ending (last_five name) ≡ true = (and_parts (bytes_eq blob_ending (last_five name)) (nat_lt 5 (length name)) ending).0 in
-    or_none (is_fixed_name name) (is_dynamic_name name)
-    (and_none (is_id name) (bytes_eq fixed_ending (last_five name)) (nat_lt 5 (length name)) (not_both blob_ending fixed_ending (last_five name) refl five))
-    (and_none (is_id name) (bytes_eq dynamic_ending (last_five name)) (nat_lt 5 (length name)) (not_both blob_ending dynamic_ending (last_five name) refl five))
+    let no_fixed : is_fixed_name name ≡ false = and_none (is_id name) (bytes_eq fixed_ending (last_five name)) (nat_lt 5 (length name)) (not_both blob_ending fixed_ending (last_five name) refl five) in
+    let no_dynamic : is_dynamic_name name ≡ false = and_none (is_id name) (bytes_eq dynamic_ending (last_five name)) (nat_lt 5 (length name)) (not_both blob_ending dynamic_ending (last_five name) refl five) in
+    ap (λ b. if b then Some true else (if is_dynamic_name name then Some false else None)) no_fixed
+    ∙ ap (λ b. if b then Some false else None) no_dynamic
 
-pub archive_is_index : (l : Layout) (name : List ℕ) → elim l [ dynamic ↦ is_dynamic_name name | fixed size chunk_size ↦ is_fixed_name name ] ≡ true → is_index_name name ≡ true
-archive_is_index dynamic name h = or_right (is_fixed_name name) (is_dynamic_name name) h
+-- ---- which files are read whole
+
+-- an archive is, by its layout
+archive_whole : (a : Archive) (name : List ℕ) → names_content (archive a) name ≡ true → whole_by name ≡ Some (is_fixed_layout a.layout)
+archive_whole a name kind = by_layout a.layout kind (layout_named a name kind)
   where
-    or_right : (a b : Bool) → b ≡ true → (a || b) ≡ true
-    or_right true b h = refl
-    or_right false b h = h
-archive_is_index (fixed size chunk_size) name h = ap (λ x. x || is_dynamic_name name) h
+    by_layout : (l : Layout) → (elim l [ dynamic ↦ is_dynamic_name name | fixed size chunk_size ↦ is_fixed_name name ]) ≡ true → is_fixed_name name ≡ is_fixed_layout l
+        → whole_by name ≡ Some (is_fixed_layout l)
+    by_layout dynamic kind same =
+        ap (λ b. if b then Some true else (if is_dynamic_name name then Some false else None)) same
+        ∙ ap (λ b. if b then Some false else None) kind
+    by_layout (fixed size chunk_size) kind same = ap (λ b. if b then Some true else (if is_dynamic_name name then Some false else None)) same
+
+none_whole : (b : Bool) → None ≡ Some b → ⊥
+none_whole b e = cc
+
+some_whole : (a b : Bool) → Some a ≡ Some b → a ≡ b
+some_whole a b e = cc
+
+any_noted : (files : List File) (name : List ℕ) (names : List (List ℕ)) → list_any (λ x. bytes_eq name x.name) (map (shown_noted files) names) ≡ list_any (bytes_eq name) names
+any_noted files name [] = refl
+any_noted files name (n ∷ ns) = ap (λ b. bytes_eq name n || b) (any_noted files name ns)
+
+-- nothing is noted where the file isn't read whole
+pub note_none : (ss : List Snapshot) (r : model.Reader) (name : List ℕ) (c : Content) → names_content c name ≡ true → whole_for (shown_reader ss r) name ≡ None → note name c r ≡ r
+note_none ss r name (blob bytes) kind whole = refl
+note_none ss r name (archive a) kind whole =
+    by_test (is_noted r name) (ap (λ b. if b then None else whole_by name) (sym (any_noted (files_named r.key ss) name r.noted)) ∙ whole)
+  where
+    by_test : (b : Bool) → (if b then None else whole_by name) ≡ None → cond b r (record r { noted = r.noted ++ name ∷ [] }) ≡ r
+    by_test true e = refl
+    by_test false e = absurd (none_whole (is_fixed_layout a.layout) (sym e ∙ archive_whole a name kind))
+
+-- what is read whole is an archive of that layout
+pub whole_archive : (ss : List Snapshot) (r : model.Reader) (name : List ℕ) (c : Content) (is_fixed : Bool) → names_content c name ≡ true → whole_for (shown_reader ss r) name ≡ Some is_fixed
+    → (a : Archive) × (c ≡ archive a) × (is_fixed ≡ is_fixed_layout a.layout)
+whole_archive ss r name c is_fixed kind whole = by_content c kind (by_test (is_downloaded (shown_reader ss r) name) whole)
+  where
+    by_test : (b : Bool) → (if b then None else whole_by name) ≡ Some is_fixed → whole_by name ≡ Some is_fixed
+    by_test true e = absurd (none_whole is_fixed e)
+    by_test false e = e
+
+    by_content : (c : Content) → names_content c name ≡ true → whole_by name ≡ Some is_fixed → (a : Archive) × (c ≡ archive a) × (is_fixed ≡ is_fixed_layout a.layout)
+    by_content (blob bytes) kind e = absurd (none_whole is_fixed (sym (blob_whole name kind) ∙ e))
+    by_content (archive a) kind e = (a, refl, some_whole is_fixed (is_fixed_layout a.layout) (sym e ∙ archive_whole a name kind))
 
 -- ---- noting
 
@@ -61,24 +104,22 @@ note_key name (archive a) r = by_test (is_noted r name)
     by_test true = refl
     by_test false = refl
 
-pub note_shown : (name : List ℕ) (c : Content) (r : model.Reader) → names_content c name ≡ true → noting name (Reader (shown_reader r)) ≡ shown_session (reader (note name c r))
-note_shown name (blob bytes) r h =
-    ap (λ b. Reader (record { key = r.key; noted = cond (b && not (list_any (bytes_eq name) r.noted)) (r.noted ++ name ∷ []) r.noted })) (blob_no_index name h)
-note_shown name (archive a) r h =
-    ap (λ b. Reader (record { key = r.key; noted = cond (b && not (list_any (bytes_eq name) r.noted)) (r.noted ++ name ∷ []) r.noted })) (archive_is_index a.layout name h)
-    ∙ by_test (list_any (bytes_eq name) r.noted)
-  where
-    by_test : (b : Bool) → Reader (record { key = r.key; noted = cond (not b) (r.noted ++ name ∷ []) r.noted }) ≡ shown_session (reader (cond b r (record r { noted = r.noted ++ name ∷ [] })))
-    by_test true = refl
-    by_test false = refl
+pub readings_same : (r q : Reading) → Reader r ≡ Reader q → r ≡ q
+readings_same r q e = cc
+
+-- the reader that noted it, as it is kept
+pub shown_note : (ss : List Snapshot) (r : model.Reader) (name : List ℕ) (a : Archive) (new : Reading) → new ≡ shown (files_named r.key ss) (note name (archive a) r)
+    → Reader new ≡ shown_session ss (reader (note name (archive a) r))
+shown_note ss r name a new is =
+    ap (λ x. Reader x) (is ∙ ap (λ k. shown (files_named k ss) (note name (archive a) r)) (sym (note_key name (archive a) r)))
 
 -- ---- sessions stay named
 
-is_named-noting : (name : List ℕ) (x : Session) → is_named (noting name x) ≡ is_named x
-is_named-noting name Idle = refl
-is_named-noting name (Writer w) = refl
-is_named-noting name (Reader r) = refl
+is_named-noting : (name : List ℕ) (entries : List Ended) (x : Session) → is_named (noting name entries x) ≡ is_named x
+is_named-noting name entries Idle = refl
+is_named-noting name entries (Writer w) = refl
+is_named-noting name entries (Reader r) = refl
 
-pub named_after : {E : Type 0} (result : Result (Unit {0}) E) (old new : Session) (name : List ℕ) → OnOk result (new ≡ noting name old) → OnErr result (new ≡ old) → is_named old ≡ true → is_named new ≡ true
-named_after (Ok u) old new name ok err h = ap is_named ok ∙ is_named-noting name old ∙ h
-named_after (Err e) old new name ok err h = ap is_named err ∙ h
+pub named_after : {E : Type 0} (result : Result (Unit {0}) E) (old new : Session) (name : List ℕ) (entries : List Ended) → OnOk result (new ≡ noting name entries old) → OnErr result (new ≡ old) → is_named old ≡ true → is_named new ≡ true
+named_after (Ok u) old new name entries ok err h = ap is_named ok ∙ is_named-noting name entries old ∙ h
+named_after (Err e) old new name entries ok err h = ap is_named err ∙ h

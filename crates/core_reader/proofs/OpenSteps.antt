@@ -1,12 +1,10 @@
 -- OPEN_READER: what is found in the core, and what the plain store does there.
-use Rattle.std.proofs.Common.{◌≡◌, ◌≢◌, ◌<◌, ℕ, Bool, List, [], map, length, Option, Some, None, Ok, Err, refl, sym, ap, subst, ◌∙◌, arith}
-use Rattle.std.specs.Option.{option_map}
-use Rattle.std.specs.List.{find}
+use Rattle.std.proofs.Common.{◌≡◌, ◌≢◌, ◌<◌, ℕ, List, [], length, Option, Some, None, Ok, Err, refl, sym, ap, subst, ◌∙◌, arith}
 use Rattle.disk_trait.specs.Files.{Files}
 use Rattle.store_types.specs.declared.names.SnapshotKey.{SnapshotKey}
 use Rattle.store_types.specs.declared.refusal.Refusal.TheVariants.{WrongState, BadName, NoSnapshot}
 use Rattle.store_types.specs.Chain.Refusing.{◌>>=◌, or_else}
-use Rattle.store_types.specs.Names.{key_of, same_key}
+use Rattle.store_types.specs.Names.{key_of}
 use Rattle.store_files.specs.Archive.{Snapshot}
 use Rattle.wire_commands.specs.declared.reply.Reply.{Reply}
 use Rattle.wire_commands.specs.declared.reply.Reply.TheVariants.{Done}
@@ -16,16 +14,12 @@ use Rattle.store_model.specs.Store.{Store, Outcome, none, writer, reader, sessio
 use Rattle.store_model.specs.ReaderSteps.{open_reader}
 use Rattle.store_model.specs.Steps.{outcome, answered}
 use Rattle.core_state.specs.declared.parts.Parts.{Parts}
-use Rattle.core_state.specs.declared.kept.Listed.{Listed}
-use Rattle.core_state.specs.declared.kept.Kept.{Kept}
 use Rattle.core_state.specs.declared.kept.Session.{Session}
 use Rattle.core_state.specs.declared.kept.Session.TheVariants.{Idle}
-use Rattle.core_state.specs.Shown.{shown_session, shown_snapshot}
+use Rattle.core_state.specs.Shown.{shown_session}
 use Rattle.core_state.specs.States.{state_of}
 use Rattle.core_state.specs.Holds.{IsSound, IsReader, IsOnDisk, Holds, Does}
 use Rattle.core_state.proofs.Sessions.{changed, no_writer_reader}
-use Rattle.core_reader.specs.Asked.{kept_named}
-use Rattle.core_reader.proofs.Finding.{find_map, no_mapped}
 
 -- ---- the step
 
@@ -42,44 +36,32 @@ open_is : (s : Store) (lane m : ℕ) (text : List ℕ) → outcome s lane m (Ope
 unfolding outcome open_reader
 open_is s lane m text = refl
 
-busy : (s : Store) (lane : ℕ) (text : List ℕ) (x : model.Session) (f : Session) → f ≡ shown_session x → f ≢ Idle → idle_then s lane text x ≡ Err (WrongState (state_of f))
+busy : (s : Store) (lane : ℕ) (text : List ℕ) (x : model.Session) (f : Session) → f ≡ shown_session s.snapshots x → f ≢ Idle → idle_then s lane text x ≡ Err (WrongState (state_of f))
 busy s lane text none f is ne = absurd (ne is)
 busy s lane text (writer w) f is ne = ap (λ g. Err (WrongState (state_of g))) (sym is)
 busy s lane text (reader r) f is ne = ap (λ g. Err (WrongState (state_of g))) (sym is)
 
-pub open_busy : (s : Store) (lane m : ℕ) (text : List ℕ) (f : Session) → f ≡ shown_session (session s lane) → f ≢ Idle → outcome s lane m (OpenReader text) ≡ Err (WrongState (state_of f))
+pub open_busy : (s : Store) (lane m : ℕ) (text : List ℕ) (f : Session) → f ≡ shown_session s.snapshots (session s lane) → f ≢ Idle → outcome s lane m (OpenReader text) ≡ Err (WrongState (state_of f))
 open_busy s lane m text f is ne = open_is s lane m text ∙ busy s lane text (session s lane) f is ne
 
-idle_none : (x : model.Session) → Idle ≡ shown_session x → x ≡ none
-idle_none none e = refl
-idle_none (writer w) e = cc
-idle_none (reader r) e = cc
+idle_none : (ss : List Snapshot) (x : model.Session) → Idle ≡ shown_session ss x → x ≡ none
+idle_none ss none e = refl
+idle_none ss (writer w) e = cc
+idle_none ss (reader r) e = cc
 
-idle_is : (s : Store) (lane m : ℕ) (text : List ℕ) → Idle ≡ shown_session (session s lane) → outcome s lane m (OpenReader text) ≡ named_then s lane (key_of text)
-idle_is s lane m text is = open_is s lane m text ∙ ap (idle_then s lane text) (idle_none (session s lane) is)
+idle_is : (s : Store) (lane m : ℕ) (text : List ℕ) → Idle ≡ shown_session s.snapshots (session s lane) → outcome s lane m (OpenReader text) ≡ named_then s lane (key_of text)
+idle_is s lane m text is = open_is s lane m text ∙ ap (idle_then s lane text) (idle_none s.snapshots (session s lane) is)
 
-pub open_bad : (s : Store) (lane m : ℕ) (text : List ℕ) → Idle ≡ shown_session (session s lane) → key_of text ≡ None → outcome s lane m (OpenReader text) ≡ Err BadName
+pub open_bad : (s : Store) (lane m : ℕ) (text : List ℕ) → Idle ≡ shown_session s.snapshots (session s lane) → key_of text ≡ None → outcome s lane m (OpenReader text) ≡ Err BadName
 open_bad s lane m text is bad = idle_is s lane m text is ∙ ap (named_then s lane) bad
 
-pub open_missing : (s : Store) (lane m : ℕ) (text : List ℕ) (key : SnapshotKey) → Idle ≡ shown_session (session s lane) → key_of text ≡ Some key → snapshot_named key s.snapshots ≡ None
+pub open_missing : (s : Store) (lane m : ℕ) (text : List ℕ) (key : SnapshotKey) → Idle ≡ shown_session s.snapshots (session s lane) → key_of text ≡ Some key → snapshot_named key s.snapshots ≡ None
     → outcome s lane m (OpenReader text) ≡ Err NoSnapshot
 open_missing s lane m text key is named missing = idle_is s lane m text is ∙ ap (named_then s lane) named ∙ ap (found_then s lane key) missing
 
-pub open_found : (s : Store) (lane m : ℕ) (text : List ℕ) (key : SnapshotKey) (x : Snapshot) → Idle ≡ shown_session (session s lane) → key_of text ≡ Some key → snapshot_named key s.snapshots ≡ Some x
+pub open_found : (s : Store) (lane m : ℕ) (text : List ℕ) (key : SnapshotKey) (x : Snapshot) → Idle ≡ shown_session s.snapshots (session s lane) → key_of text ≡ Some key → snapshot_named key s.snapshots ≡ Some x
     → outcome s lane m (OpenReader text) ≡ Ok (with_session s lane (reader (record { key = key; noted = [] })), Done)
 open_found s lane m text key x is named found = idle_is s lane m text is ∙ ap (named_then s lane) named ∙ ap (found_then s lane key) found
-
--- ---- the catalogue
-
-pub kept_is : (catalogue : List Listed) (snapshots : List Snapshot) (key : SnapshotKey) → map (λ x. x.kept) catalogue ≡ map shown_snapshot snapshots
-    → kept_named key catalogue ≡ option_map shown_snapshot (snapshot_named key snapshots)
-kept_is catalogue snapshots key is =
-    let p : Kept → Bool = λ k. same_key k.key key in
-    sym (find_map (λ x. x.kept) p catalogue) ∙ ap (find p) is ∙ find_map shown_snapshot p snapshots
-
-pub not_kept : (catalogue : List Listed) (snapshots : List Snapshot) (key : SnapshotKey) → map (λ x. x.kept) catalogue ≡ map shown_snapshot snapshots
-    → kept_named key catalogue ≡ None → snapshot_named key snapshots ≡ None
-not_kept catalogue snapshots key is missing = no_mapped shown_snapshot (snapshot_named key snapshots) (sym (kept_is catalogue snapshots key is) ∙ missing)
 
 -- ---- a reader more
 

@@ -1,72 +1,53 @@
--- What a reader asks of the catalogue, and what it is given.
-use Rattle.std.specs.Prelude.{◌≡◌, ℕ, List, [], ◌∷◌, ◌++◌, Option, None, Some, Result, Ok, Err, option_map, length, nat_le, ◌&&◌, not, if◌then◌else◌}
-use Rattle.std.specs.List.{find, list_any}
-use Rattle.std.specs.Str.{bytes_eq}
-use Rattle.store_types.specs.declared.names.SnapshotKey.{SnapshotKey}
-use Rattle.store_types.specs.Chain.Refusing.{◌>>=◌, unless}
-use Rattle.store_types.specs.FileNames.{is_file_name, is_index_name}
-use Rattle.store_types.specs.Names.{same_key}
+-- What a reader asks for.
+use Rattle.std.specs.Prelude.{ℕ, Bool, true, false, List, Option, None, Some, option_map, if◌then◌else◌, Result, Ok, Err}
 use Rattle.store_types.specs.declared.refusal.Refusal.{Refusal}
-use Rattle.store_types.specs.declared.refusal.Refusal.TheVariants.{BadRange, Unreadable}
-use Rattle.wire_commands.specs.HasText.{ReplyHasText}
+use Rattle.store_types.specs.declared.refusal.Refusal.TheVariants.{NotAllowed, TooMany, BadRange}
+use Rattle.store_types.specs.FileNames.{is_file_name}
 use Rattle.wire_commands.specs.declared.reply.Reply.{Reply}
-use Rattle.wire_commands.specs.declared.reply.Reply.TheVariants.{Part, Refused}
+use Rattle.wire_commands.specs.declared.reply.Reply.TheVariants.{Refused}
 use Rattle.wire_commands.specs.declared.command.Command.TheVariants.{Download}
 use Rattle.store_history.specs.declared.act.Act.{Act}
 use Rattle.store_history.specs.declared.act.Act.TheVariants.{Plain}
-use Rattle.store_model.specs.WriterSteps.{part_of}
+use Rattle.store_files.specs.DynamicIndex.{Ended}
+use Rattle.restore_reader.specs.Session.{Reading}
+use Rattle.restore_reader.specs.Steps as steps
 use Rattle.core_state.specs.declared.kept.Listed.{Listed}
-use Rattle.core_state.specs.declared.kept.Kept.{Kept}
 use Rattle.core_state.specs.declared.kept.Session.{Session}
 use Rattle.core_state.specs.declared.kept.Session.TheVariants.{Idle, Writer, Reader}
-use Rattle.core_state.specs.declared.kept.StoredFile.{StoredFile}
+use Rattle.core_state.specs.Found.{path_in}
+use Rattle.core_state.specs.Unreadables.{Asked, whole_by}
 
--- the finished snapshot with this key
-abbrev pub kept_named : SnapshotKey → List Listed → Option Kept
-kept_named key catalogue = option_map (λ x. x.kept) (find (λ x. same_key (x.kept).key key) catalogue)
+-- an index that was not downloaded before is read whole
+abbrev pub whole_for : Reading → List ℕ → Option Bool
+whole_for r file = if steps.is_downloaded r file then None else whole_by file
 
--- where the file of that name stands
-abbrev pub path_named : List ℕ → List StoredFile → Option (List ℕ)
-path_named name files = option_map (λ f. f.path) (find (λ f. bytes_eq f.name name) files)
+abbrev pub asked_at : Reading → List ℕ → ℕ → List ℕ → Asked
+asked_at r file offset path = record { path = path; whole = whole_for r file; offset = offset }
 
--- where the file of that name stands in what is kept of its snapshot
-abbrev pub path_of_kept : List ℕ → Option Kept → Option (List ℕ)
-path_of_kept name None = None
-path_of_kept name (Some k) = path_named name k.files
+-- what is downloaded: a file of the snapshot of the lane's reader
+abbrev pub downloaded : List ℕ → ℕ → Session → List Listed → Option Asked
+downloaded file offset (Reader r) catalogue = if is_file_name file then option_map (asked_at r file offset) (path_in r.key file catalogue) else None
+downloaded file offset session catalogue = None
 
--- where the snapshot's file stands
-abbrev pub path_in : SnapshotKey → List ℕ → List Listed → Option (List ℕ)
-path_in key name catalogue = path_of_kept name (kept_named key catalogue)
+-- the file that an act asks for
+abbrev pub asked_file : Act → Session → List Listed → Option Asked
+asked_file (Plain (Download file offset)) session catalogue = downloaded file offset session catalogue
+asked_file act session catalogue = None
 
--- where the file stands that is downloaded: one of the snapshot of the lane's reader
-abbrev pub downloaded : List ℕ → Session → List Listed → Option (List ℕ)
-downloaded file (Reader r) catalogue = if is_file_name file then path_in r.key file catalogue else None
-downloaded file session catalogue = None
+-- the reader with an archive noted, unless one of the name is
+abbrev pub noting : List ℕ → List Ended → Session → Session
+noting name entries Idle = Idle
+noting name entries (Writer w) = Writer w
+noting name entries (Reader r) = Reader (steps.downloaded r name entries)
 
--- where the file stands that an act asks for
-abbrev pub asked_path : Act → Session → List Listed → Option (List ℕ)
-asked_path (Plain (Download file offset)) session catalogue = downloaded file session catalogue
-asked_path act session catalogue = None
+-- the refusals of a range of an archive of the snapshot, before its chunks are read
+abbrev pub refuses_plan : Refusal → Bool
+refuses_plan NotAllowed = true
+refuses_plan (TooMany limit) = true
+refuses_plan (BadRange size) = true
+refuses_plan _ = false
 
--- a part of a file's text from an offset, or the refusal of the offset
-abbrev pub part_from : List ℕ → ℕ → Result Reply Refusal
-part_from text offset = unless (BadRange (length text)) (nat_le offset (length text)) >>= λ _. Ok (part_of text offset)
-
--- the reader with the name of an archive noted, once
-abbrev pub noting : List ℕ → Session → Session
-noting name Idle = Idle
-noting name (Writer w) = Writer w
-noting name (Reader r) =
-    Reader (record r { noted = if is_index_name name && not (list_any (bytes_eq name) r.noted) then r.noted ++ name ∷ [] else r.noted })
-
--- a part, or its refusal, of the file that stands there
-abbrev pub IsPartOf : List ℕ → Result Reply Refusal → Type 0
-IsPartOf path (Ok (Part total bytes)) = Unit {0}
-IsPartOf path (Err (BadRange size)) = Unit {0}
-IsPartOf path (Err (Unreadable name)) = name ≡ path
-IsPartOf path part = ⊥
-
--- a part or its refusal, which has a spelling
-abbrev pub GivesText : Result Reply Refusal → Type 0
-GivesText (Ok reply) = ReplyHasText reply
-GivesText (Err refusal) = ReplyHasText (Refused refusal)
+-- what was read, or its refusal, as a reply
+abbrev pub reply_told : Result Reply Refusal → Reply
+reply_told (Ok reply) = reply
+reply_told (Err refusal) = Refused refusal

@@ -1,3 +1,4 @@
 pub mod ReaderActs
 pub mod Asked
-pub mod Unreadables
+pub mod Chunks
+pub mod Damages

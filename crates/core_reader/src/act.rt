@@ -15,13 +15,16 @@ ghost use Rattle.core_state.specs.Replies.{may_answer};
 ghost use Rattle.core_state.specs.Settles.{kind_by, reply_by};
 ghost use Rattle.core_state.specs.Unchanged.{SameContent, Unchanged};
 ghost use Rattle.core_state.specs.declared.kept.Session.TheVariants.{Idle};
-ghost use Rattle.core_reader.specs.Asked.{asked_path};
-ghost use Rattle.core_reader.specs.Unreadables.{TellsUnreadable};
+ghost use Rattle.core_state.specs.Unreadables.{TellsUnreadable};
+ghost use Rattle.core_reader.specs.Asked.{asked_file};
+ghost use Rattle.core_reader.specs.Damages.{TellsDamaged, needed};
 ghost use Rattle.core_reader.specs.ReaderActs.{IsReaders};
 
+use crate::chunks::get_chunk;
 use crate::closing::close_reader;
 use crate::opening::open_reader;
 use crate::parts::download;
+use crate::ranges::range;
 use core_state::{Act, Answer, Begun, Core, Parts, begin, settle};
 use disk_trait::{Disk, DiskError};
 use port_traits::Clock;
@@ -45,7 +48,8 @@ fn perform<D: Disk>(
     ensures content { SameContent D.honest D.content parts.old.disk parts.new.disk }
     ensures catalogue { parts.new.catalogue.items ≡ parts.old.catalogue.items }
     ensures closed { closes act (slice_index_or parts.old.sessions.items lane Idle) ≡ true → HasClosed parts.new lane result }
-    ensures unreadable { TellsUnreadable D.honest D.content parts.old.disk (asked_path act (slice_index_or parts.old.sessions.items lane Idle) parts.old.catalogue.items) (kind_by result) (Some (reply_by result)) }
+    ensures unreadable { TellsUnreadable D.honest D.content parts.old.disk (asked_file act (slice_index_or parts.old.sessions.items lane Idle) parts.old.catalogue.items) (kind_by result) (Some (reply_by result)) }
+    ensures damaged { TellsDamaged D.honest D.content parts.old.disk (needed act (slice_index_or parts.old.sessions.items lane Idle) parts.old.catalogue.items) (kind_by result) (Some (reply_by result)) }
     ensures act { (remote : Option (List Snapshot)) (w : World) (moment : ℕ) → Acts D.honest D.content parts.old parts.new (λ s. act_outcome remote (record w { store = s }) lane moment act) result }
 {
     match act {
@@ -55,6 +59,14 @@ fn perform<D: Disk>(
         Act::Plain(Command::Download { file, offset }) => {
             download(parts, alloc, lane, file.as_slice(), offset)
         }
+        Act::Plain(Command::GetChunk { digest }) => get_chunk(parts, alloc, lane, &digest),
+        Act::Plain(
+            Command::Range {
+                file,
+                offset,
+                length,
+            },
+        ) => range(parts, alloc, lane, file.as_slice(), offset, length),
         Act::Plain(Command::CloseReader) => close_reader(parts, lane),
         _ => unreachable!(),
     }
@@ -77,7 +89,8 @@ pub fn reader_act<D: Disk, E, C: Clock>(
     ensures told { IsSome result.reply }
     // why it is answered so, on any disk
     ensures cause { HasCause D.faults core.old core.new act result }
-    ensures unreadable { TellsUnreadable D.honest D.content core.old.parts.disk (asked_path act (slice_index_or core.old.parts.sessions.items lane Idle) core.old.parts.catalogue.items) result.entry.kind result.reply }
+    ensures unreadable { TellsUnreadable D.honest D.content core.old.parts.disk (asked_file act (slice_index_or core.old.parts.sessions.items lane Idle) core.old.parts.catalogue.items) result.entry.kind result.reply }
+    ensures damaged { TellsDamaged D.honest D.content core.old.parts.disk (needed act (slice_index_or core.old.parts.sessions.items lane Idle) core.old.parts.catalogue.items) result.entry.kind result.reply }
     // a refused act leaves catalogue and sessions as before, and the disk too unless it failed
     ensures unchanged { IfSome result.reply (Unchanged D.honest D.content core.old.parts core.new.parts) }
     // an honest disk reads as before in any case

@@ -1,32 +1,26 @@
 //! What a reader asks of the catalogue.
 
-ghost use Rattle.std.specs.Prelude.{◌≡◌, option_map};
-ghost use Rattle.std.specs.List.{list_any};
-ghost use Rattle.std.specs.Str.{bytes_eq};
-ghost use Rattle.core_reader.specs.Asked.{kept_named, path_named};
+ghost use Rattle.std.specs.Prelude.{◌≡◌, is_some, option_map};
+ghost use Rattle.core_state.specs.Found.{path_in};
 
-use core_state::{Kept, Listed, Path, StoredFile};
+use core_state::{Listed, Path, path_named, snapshot_named};
 use store_types::{FileName, SnapshotKey};
 
-/// The finished snapshot with this key.
-pub fn snapshot_named<'a>(catalogue: &'a [Listed], key: &SnapshotKey) -> Option<&'a Kept>
-    ensures { option_map (λ k. k.now) result ≡ kept_named key.now catalogue.now }
+/// Where the snapshot's file stands.
+pub fn path_in_snapshot<'a>(
+    catalogue: &'a [Listed],
+    key: &SnapshotKey,
+    name: &FileName,
+) -> Option<&'a Path>
+    ensures { option_map (λ p. p.now) result ≡ path_in key.now name.now catalogue.now }
 {
-    let found = catalogue.iter().find(|listed| listed.kept.key == *key);
-    found.map(|listed| &listed.kept)
+    let kept = snapshot_named(catalogue, key)?;
+    path_named(kept.files.as_slice(), name)
 }
 
-/// Where the file of that name stands.
-pub fn path_named<'a>(files: &'a [StoredFile], name: &FileName) -> Option<&'a Path>
-    ensures { option_map (λ p. p.now) result ≡ path_named name.now files.now }
+/// Whether the snapshot has a file of that name.
+pub fn has_file(catalogue: &[Listed], key: &SnapshotKey, name: &FileName) -> bool
+    ensures { result ≡ is_some (path_in key.now name.now catalogue.now) }
 {
-    let found = files.iter().find(|file| file.name == *name);
-    found.map(|file| &file.path)
-}
-
-/// The name stands among these.
-pub fn is_noted(noted: &[FileName], name: &FileName) -> bool
-    ensures { result ≡ list_any (bytes_eq name.now) noted.now }
-{
-    noted.iter().any(|other| *name == *other)
+    path_in_snapshot(catalogue, key, name).is_some()
 }

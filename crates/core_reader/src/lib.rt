@@ -2,15 +2,22 @@
 #![tactic(auto)]
 
 mod act;
+mod chunks;
 mod closing;
 mod files;
+mod loading;
 mod opening;
 mod parts;
+mod ranges;
 
 pub use act::reader_act;
+pub use chunks::get_chunk;
 pub use closing::close_reader;
 pub use opening::open_reader;
 pub use parts::download;
+pub use ranges::range;
 
+#[cfg(test)]
+mod loading_tests;
 #[cfg(test)]
 mod tests;

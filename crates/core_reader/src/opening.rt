@@ -10,11 +10,11 @@ ghost use Rattle.core_state.specs.Replies.{answers_reader};
 ghost use Rattle.core_state.specs.Settles.{reply_by};
 ghost use Rattle.core_state.specs.Unchanged.{SameContent, Unchanged};
 
-use crate::files::snapshot_named;
-use core_state::{Parts, Reading, Session};
+use core_state::{Parts, Session, snapshot_named};
 use disk_trait::{Disk, DiskError};
+use restore_reader::open_reader as reader_of;
 use std::alloc::Global;
-use store_types::{Refusal, Rows, SnapshotKey};
+use store_types::{Refusal, SnapshotKey};
 use wire_commands::Reply;
 
 /// The lane gets a reader of the snapshot. It makes no disk call.
@@ -47,7 +47,6 @@ pub fn open_reader<D: Disk>(
     if snapshot_named(&parts.catalogue, &key).is_none() {
         return Ok(Reply::Refused(Refusal::NoSnapshot));
     }
-    let noted = Rows::new(alloc);
-    parts.sessions[lane] = Session::Reader(Reading { key, noted });
+    parts.sessions[lane] = Session::Reader(reader_of(alloc, key));
     Ok(Reply::Done)
 }

@@ -16,3 +16,7 @@ pub mod Answering
 pub mod Unchanging
 pub mod Caused
 pub mod Recorded
+pub mod Finding
+pub mod Found
+pub mod Unreadables
+pub mod Readers

@@ -47,7 +47,7 @@ empty_is_sound = record {
   apart = λ i j v w e f same. absurd (no_writer i v e);
 }
 
-map_replicate : (n : ℕ) → map shown_session (replicate n none) ≡ replicate n Idle
+map_replicate : (n : ℕ) → map (shown_session []) (replicate n none) ≡ replicate n Idle
 map_replicate zero = refl
 map_replicate (suc n) = ap (λ xs. Idle ∷ xs) (map_replicate n)
 

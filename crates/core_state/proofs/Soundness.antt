@@ -60,10 +60,10 @@ disk_writer m s lane x l files h = record {
 }
 
 -- catalogue and sessions, with one session changed
-pub shows_changed : {D : Type 0} (old new : Parts D) (s : Store) (lane : ℕ) (x : model.Session) (y : Session) → new.catalogue.items ≡ old.catalogue.items → new.sessions.items ≡ set old.sessions.items lane y → y ≡ shown_session x
+pub shows_changed : {D : Type 0} (old new : Parts D) (s : Store) (lane : ℕ) (x : model.Session) (y : Session) → new.catalogue.items ≡ old.catalogue.items → new.sessions.items ≡ set old.sessions.items lane y → y ≡ shown_session s.snapshots x
     → IsSound (with_session s lane x) → Shows old s → Shows new (with_session s lane x)
 shows_changed old new s lane x y c l is sound h = record {
   catalogue = ap (λ items. map (λ x. x.kept) items) c ∙ h.catalogue;
-  sessions = l ∙ ap (λ k. set k lane y) h.sessions ∙ ap (set (map shown_session s.sessions) lane) is ∙ sym (shown_set s lane x);
+  sessions = l ∙ ap (λ k. set k lane y) h.sessions ∙ ap (set (map (shown_session s.snapshots) s.sessions) lane) is ∙ sym (shown_set s.snapshots s lane x);
   sound = sound;
 }

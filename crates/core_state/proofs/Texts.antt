@@ -1,16 +1,19 @@
 -- Which replies have a spelling.
-use Rattle.std.proofs.Common.{◌≡◌, ◌<◌, ◌≤◌, ◌^◌, ℕ, List, length, Some, refl, subst, arith}
-use Rattle.store_types.specs.declared.refusal.Refusal.TheVariants.{WrongState, BadName, GroupBusy, NotNewer, NoSnapshot, NoFile, Exists, BadBlob, WrongDigest, WrongSize, UnknownChunk, BadOffset, BadClose, OpenIndexes, TooMany, BadRange, Unreadable, DiskFault, Halted, NoMemory}
+use Rattle.std.proofs.Common.{◌≡◌, ◌<◌, ◌≤◌, ◌^◌, ℕ, suc, List, [], ◌∷◌, ◌++◌, length, Some, refl, ap, subst, arith, length-append}
+use Rattle.store_types.specs.declared.refusal.Refusal.TheVariants.{WrongState, BadName, GroupBusy, NotNewer, NoSnapshot, NoFile, Exists, BadBlob, WrongDigest, WrongSize, UnknownChunk, BadOffset, BadClose, OpenIndexes, BadManifest, ManifestMismatch, NotAllowed, TooMany, BadRange, Damaged, Unreadable, DiskFault, Halted, NoMemory}
 use Rattle.store_types.specs.declared.names.Digest32.{Digest32}
 use Rattle.store_types.specs.declared.refusal.CloseFault.{CloseFault}
 use Rattle.store_types.specs.declared.refusal.CloseFault.TheVariants.{Count, Size, Csum, Rest}
+use Rattle.store_types.specs.declared.refusal.ChunkFault.{ChunkFault}
+use Rattle.store_types.specs.declared.refusal.ChunkFault.TheVariants.{Nothing, NotABlob, Other}
 use Rattle.store_types.specs.declared.refusal.SessionState.{SessionState}
 use Rattle.store_types.specs.declared.refusal.BadBlob.{BadBlob as BlobCause}
 use Rattle.store_types.specs.declared.refusal.BadBlob.TheVariants as blobs
+use Rattle.wire_frames.specs.Frames.{body_limit}
 use Rattle.wire_commands.specs.declared.reply.Reply.{Reply}
-use Rattle.wire_commands.specs.declared.reply.Reply.TheVariants.{Done, Base, Part, Number, Refused}
-use Rattle.wire_commands.specs.HasText.{FitsBadBlob, FitsCloseFault, ReplyHasText}
-use Rattle.wire_commands.specs.RefusalText.{refusal_text}
+use Rattle.wire_commands.specs.declared.reply.Reply.TheVariants.{Done, Base, Part, Data, Number, Refused}
+use Rattle.wire_commands.specs.HasText.{FitsBadBlob, FitsCloseFault, FitsChunkFault, FitsMismatch, ReplyHasText}
+use Rattle.wire_commands.specs.RefusalText.{chunk_fault_text, refusal_text}
 use Rattle.wire_commands.specs.ReplyText.{reply_text}
 use Rattle.store_history.specs.declared.act.Answer.{Answer}
 use Rattle.core_state.specs.declared.state.Core.{Core}
@@ -28,6 +31,11 @@ base_has_text snapshot lt = (lt, omega (arith, lt))
 pub part_has_text : (total : ℕ) (bytes : List ℕ) → total < 2 ^ 64 → length bytes ≤ 4_194_304 → ReplyHasText (Part total bytes)
 unfolding reply_text
 part_has_text total bytes lt short = (lt, omega (arith, short))
+
+-- bytes that a body holds behind its first
+pub data_has_text : (bytes : List ℕ) → length bytes < body_limit → ReplyHasText (Data bytes)
+unfolding reply_text
+data_has_text bytes short = (tt, omega (arith, short))
 
 pub number_has_text : (number : ℕ) → number < 256 → ReplyHasText (Number number)
 unfolding reply_text
@@ -108,6 +116,19 @@ pub open_indexes_has_text : (count : ℕ) → count < 256 → ReplyHasText (Refu
 unfolding reply_text refusal_text
 open_indexes_has_text count lt = (lt, omega arith)
 
+pub bad_manifest_has_text : (cause : ℕ) → 1 ≤ cause → cause ≤ 5 → ReplyHasText (Refused (BadManifest cause))
+unfolding reply_text refusal_text
+bad_manifest_has_text cause least most = ((least, most), omega arith)
+
+-- the file's name is empty just in the fields 1 to 3
+pub mismatch_has_text : (file : List ℕ) (field : ℕ) → FitsMismatch file field → ReplyHasText (Refused (ManifestMismatch file field))
+unfolding reply_text refusal_text
+mismatch_has_text file field fits = let short = fits.0 in (fits, omega (arith, short, length-append file (field ∷ [])))
+
+pub not_allowed_has_text : ReplyHasText (Refused NotAllowed)
+unfolding reply_text refusal_text
+not_allowed_has_text = (tt, omega arith)
+
 pub too_many_has_text : (limit : ℕ) → limit < 2 ^ 32 → ReplyHasText (Refused (TooMany limit))
 unfolding reply_text refusal_text
 too_many_has_text limit lt = (lt, omega arith)
@@ -115,6 +136,15 @@ too_many_has_text limit lt = (lt, omega arith)
 pub bad_range_has_text : (size : ℕ) → size < 2 ^ 64 → ReplyHasText (Refused (BadRange size))
 unfolding reply_text refusal_text
 bad_range_has_text size lt = (lt, omega arith)
+
+short_behind : (digest fault : List ℕ) → length digest ≡ 32 → length fault ≡ 33 → length (23 ∷ digest ++ fault) ≤ body_limit
+short_behind digest fault is long = omega (arith, is, long, length-append digest fault)
+
+pub damaged_has_text : (digest : Digest32) (fault : ChunkFault) → length digest.0 ≡ 32 → FitsChunkFault fault → ReplyHasText (Refused (Damaged digest fault))
+unfolding reply_text refusal_text
+damaged_has_text digest Nothing is fits = ((is, fits), short_behind digest.0 (chunk_fault_text Nothing) is refl)
+damaged_has_text digest NotABlob is fits = ((is, fits), short_behind digest.0 (chunk_fault_text NotABlob) is refl)
+damaged_has_text digest (Other found) is fits = ((is, fits), short_behind digest.0 (2 ∷ found.0) is (ap suc fits))
 
 pub unreadable_has_text : (name : List ℕ) → length name < 256 → ReplyHasText (Refused (Unreadable name))
 unfolding reply_text refusal_text

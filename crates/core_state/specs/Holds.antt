@@ -1,5 +1,6 @@
 -- When the core's parts stand for a plain store, and what an act on them does.
-use Rattle.std.specs.Prelude.{◌≡◌, ◌<◌, ◌≤◌, ℕ, ◌+◌, Bool, true, false, not, ◌&&◌, List, [], ◌∷◌, map, length, Some, IsTrue, IsSome, Result, MatchResult}
+use Rattle.std.specs.Prelude.{◌≡◌, ◌<◌, ◌≤◌, ℕ, ◌+◌, Bool, true, false, not, ◌&&◌, List, [], ◌∷◌, map, length, Some, IsTrue, IsSome, Result, MatchResult, FitsSigned}
+use Rattle.std.specs.Int.{w64}
 use Rattle.std.specs.List.{All, AllByRecursion, Contains, list_any}
 use Rattle.std.specs.Str.{bytes_eq}
 use Rattle.std.specs.FinMap.{get}
@@ -8,7 +9,8 @@ use Rattle.store_types.specs.declared.names.GroupKey.{GroupKey}
 use Rattle.store_types.specs.FileNames.{manifest_name}
 use Rattle.store_types.specs.Names.{IsKey, same_group, group_of_key}
 use Rattle.blob_codec.specs.Blob.{blob}
-use Rattle.store_files.specs.Archive.{File, Snapshot, file_text, pieces_of}
+use Rattle.store_files.specs.Cells.{entry_limit}
+use Rattle.store_files.specs.Archive.{Layout, dynamic, fixed, File, Snapshot, file_text, pieces_of}
 use Rattle.wire_commands.specs.declared.reply.Reply.{Reply}
 use Rattle.disk_trait.specs.Files.{Files}
 use Rattle.disk_trait.specs.declared.disk.DiskError.{DiskError}
@@ -17,7 +19,7 @@ use Rattle.disk_trait.specs.declared.disk.Failed.{Failed}
 use Rattle.store_model.specs.Store.{Store, Begun, Writer, Reader, writer, reader, session, in_group, snapshot_named, Outcome, ended}
 use Rattle.store_model.specs.Uploads.{file_path}
 use Rattle.store_model.specs.Steps.{answered}
-use Rattle.store_model.specs.Stands.{StandsFor, IsPiece, IsSnapshot, names_content, names_rise, keys_rise, FitsLayout, FitsContent, chunk_name, file_limit, group_limit}
+use Rattle.store_model.specs.Stands.{StandsFor, IsPiece, IsSnapshot, names_content, names_rise, keys_rise, FitsContent, chunk_name, file_limit, group_limit}
 use Rattle.backup_session.specs.Shown.{IsOpen}
 use Rattle.core_state.specs.declared.parts.Parts.{Parts}
 use Rattle.core_state.specs.Shown.{shown_snapshot, shown_session}
@@ -28,10 +30,18 @@ use Rattle.core_state.specs.Shown.{shown_snapshot, shown_session}
 abbrev pub IsOlder : Writer → Snapshot → Type 0
 IsOlder w x = IsTrue (same_group (group_of_key x.key) (group_of_key w.key)) → (x.key).time < (w.key).time
 
--- an open archive: a dynamic one, under a name of its kind, whose pieces are among these
+-- how many bytes of an index's header are reserved
+abbrev pub reserved_len : Layout → ℕ
+reserved_len dynamic = 4032
+reserved_len (fixed size chunk_size) = 4016
+
+-- an open archive: its header has a text, and its pieces are among these, and no more than an index may have
 pub record IsBegun (pool : List (List ℕ)) (b : Begun) : Type 0 where
   pub is_open : IsOpen b
-  pub fits : FitsLayout (b.archive).layout b.archive
+  pub uuid : length (b.archive).uuid ≡ 16
+  pub ctime : FitsSigned w64 (b.archive).ctime
+  pub reserved : length (b.archive).reserved ≡ reserved_len (b.archive).layout
+  pub limit : length (b.archive).pieces ≤ entry_limit
   pub pieces : All (Contains pool) (b.archive).pieces
 
 abbrev pub has_named : List ℕ → List File → Bool
@@ -76,7 +86,7 @@ pub record IsSound (s : Store) : Type 0 where
 -- catalogue and sessions are those of the store
 pub record Shows {D : Type 0} (parts : Parts D) (s : Store) : Type 0 where
   pub catalogue : map (λ x. x.kept) parts.catalogue.items ≡ map shown_snapshot s.snapshots
-  pub sessions : parts.sessions.items ≡ map shown_session s.sessions
+  pub sessions : parts.sessions.items ≡ map (shown_session s.snapshots) s.sessions
   pub sound : IsSound s
 
 -- a writer's files but the manifest are there

@@ -14,3 +14,5 @@ pub mod Answers
 pub mod Closing
 pub mod Reserved
 pub mod Records
+pub mod Found
+pub mod Unreadables

@@ -1,11 +1,11 @@
 -- What a command's own tests may answer: what it was asked for, or one of its refusals.
 use Rattle.std.specs.Prelude.{Bool, true, false}
 use Rattle.store_types.specs.declared.refusal.Refusal.{Refusal}
-use Rattle.store_types.specs.declared.refusal.Refusal.TheVariants.{WrongState, BadName, GroupBusy, NotNewer, NoSnapshot, NoFile, Exists, BadBlob, WrongDigest, WrongSize, UnknownChunk, BadOffset, BadClose, OpenIndexes, TooMany, BadRange, Unreadable}
+use Rattle.store_types.specs.declared.refusal.Refusal.TheVariants.{WrongState, BadName, GroupBusy, NotNewer, NoSnapshot, NoFile, Exists, BadBlob, WrongDigest, WrongSize, UnknownChunk, BadOffset, BadClose, OpenIndexes, TooMany, BadRange, Unreadable, BadManifest, ManifestMismatch, NotAllowed, Damaged}
 use Rattle.wire_commands.specs.declared.command.Command.{Command}
 use Rattle.wire_commands.specs.declared.command.Command.TheVariants as commands
 use Rattle.wire_commands.specs.declared.reply.Reply.{Reply}
-use Rattle.wire_commands.specs.declared.reply.Reply.TheVariants.{Done, Base, Part, Number, Refused}
+use Rattle.wire_commands.specs.declared.reply.Reply.TheVariants.{Done, Base, Part, Data, Number, Refused}
 use Rattle.store_history.specs.declared.act.Act.{Act}
 use Rattle.store_history.specs.declared.act.Act.TheVariants as acts
 
@@ -18,6 +18,24 @@ refuses_writer (GroupBusy lane) = true
 refuses_writer (NotNewer latest) = true
 refuses_writer (TooMany limit) = true
 refuses_writer _ = false
+
+abbrev pub refuses_previous : Refusal → Bool
+refuses_previous (WrongState state) = true
+refuses_previous BadName = true
+refuses_previous NoSnapshot = true
+refuses_previous NoFile = true
+refuses_previous (BadRange size) = true
+refuses_previous (Unreadable name) = true
+refuses_previous _ = false
+
+-- a NEW_FIXED
+abbrev pub refuses_fixed : Refusal → Bool
+refuses_fixed (WrongState state) = true
+refuses_fixed BadName = true
+refuses_fixed Exists = true
+refuses_fixed (TooMany limit) = true
+refuses_fixed (WrongSize place size) = true
+refuses_fixed _ = false
 
 -- a NEW_DYNAMIC
 abbrev pub refuses_index : Refusal → Bool
@@ -62,6 +80,8 @@ abbrev pub refuses_finish : Refusal → Bool
 refuses_finish (WrongState state) = true
 refuses_finish (OpenIndexes count) = true
 refuses_finish NoFile = true
+refuses_finish (BadManifest cause) = true
+refuses_finish (ManifestMismatch file field) = true
 refuses_finish _ = false
 
 abbrev pub refuses_reader : Refusal → Bool
@@ -78,6 +98,23 @@ refuses_download (BadRange size) = true
 refuses_download (Unreadable name) = true
 refuses_download _ = false
 
+-- a GET_CHUNK
+abbrev pub refuses_get : Refusal → Bool
+refuses_get (WrongState state) = true
+refuses_get NotAllowed = true
+refuses_get (Damaged digest fault) = true
+refuses_get _ = false
+
+abbrev pub refuses_range : Refusal → Bool
+refuses_range (WrongState state) = true
+refuses_range BadName = true
+refuses_range NoFile = true
+refuses_range NotAllowed = true
+refuses_range (TooMany limit) = true
+refuses_range (BadRange size) = true
+refuses_range (Damaged digest fault) = true
+refuses_range _ = false
+
 -- an ABORT, or a CLOSE_READER
 abbrev pub refuses_close : Refusal → Bool
 refuses_close (WrongState state) = true
@@ -89,6 +126,16 @@ abbrev pub answers_writer : Reply → Bool
 answers_writer (Base snapshot) = true
 answers_writer (Refused refusal) = refuses_writer refusal
 answers_writer _ = false
+
+abbrev pub answers_previous : Reply → Bool
+answers_previous (Part total bytes) = true
+answers_previous (Refused refusal) = refuses_previous refusal
+answers_previous _ = false
+
+abbrev pub answers_fixed : Reply → Bool
+answers_fixed (Number number) = true
+answers_fixed (Refused refusal) = refuses_fixed refusal
+answers_fixed _ = false
 
 abbrev pub answers_index : Reply → Bool
 answers_index (Number number) = true
@@ -130,6 +177,16 @@ answers_download (Part total bytes) = true
 answers_download (Refused refusal) = refuses_download refusal
 answers_download _ = false
 
+abbrev pub answers_get : Reply → Bool
+answers_get (Data bytes) = true
+answers_get (Refused refusal) = refuses_get refusal
+answers_get _ = false
+
+abbrev pub answers_range : Reply → Bool
+answers_range (Data bytes) = true
+answers_range (Refused refusal) = refuses_range refusal
+answers_range _ = false
+
 abbrev pub answers_close : Reply → Bool
 answers_close Done = true
 answers_close (Refused refusal) = refuses_close refusal
@@ -137,6 +194,8 @@ answers_close _ = false
 
 abbrev pub command_answers : Command → Reply → Bool
 command_answers (commands.OpenWriter snapshot) reply = answers_writer reply
+command_answers (commands.Previous file offset) reply = answers_previous reply
+command_answers (commands.NewFixed file size chunk_size) reply = answers_fixed reply
 command_answers (commands.NewDynamic file) reply = answers_index reply
 command_answers (commands.Append number entries) reply = answers_append reply
 command_answers (commands.CloseIndex number count size csum) reply = answers_closing reply
@@ -145,6 +204,8 @@ command_answers commands.Abort reply = answers_close reply
 command_answers commands.CloseReader reply = answers_close reply
 command_answers (commands.OpenReader snapshot) reply = answers_reader reply
 command_answers (commands.Download file offset) reply = answers_download reply
+command_answers (commands.GetChunk digest) reply = answers_get reply
+command_answers (commands.Range file offset len) reply = answers_range reply
 command_answers _ reply = false
 
 abbrev pub may_answer : Act → Reply → Bool

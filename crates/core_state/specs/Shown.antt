@@ -1,15 +1,16 @@
 -- What the core keeps of the plain store.
-use Rattle.std.specs.Prelude.{List, map}
+use Rattle.std.specs.Prelude.{List, [], map, None, Some}
 use Rattle.store_types.specs.declared.names.SnapshotKey.{SnapshotKey}
 use Rattle.store_files.specs.Archive.{File, Snapshot}
 use Rattle.store_model.specs.Store as model
 use Rattle.store_model.specs.Uploads.{file_path}
 use Rattle.backup_session.specs.Session.{settled}
 use Rattle.backup_session.specs.Shown.{shown}
+use Rattle.restore_reader.specs.Session.{Reading}
+use Rattle.restore_reader.specs.Shown as readers
 use Rattle.core_state.specs.declared.kept.StoredFile.{StoredFile}
 use Rattle.core_state.specs.declared.kept.Kept.{Kept}
 use Rattle.core_state.specs.declared.kept.Writing.{Writing}
-use Rattle.core_state.specs.declared.kept.Reading.{Reading}
 use Rattle.core_state.specs.declared.kept.Session.{Session}
 use Rattle.core_state.specs.declared.kept.Session.TheVariants.{Idle, Writer, Reader}
 
@@ -22,13 +23,17 @@ shown_files key files = map (shown_file key) files
 abbrev pub shown_snapshot : Snapshot → Kept
 shown_snapshot x = record { key = x.key; files = shown_files x.key x.files }
 
+abbrev pub files_named : SnapshotKey → List Snapshot → List File
+files_named key snapshots = elim (model.snapshot_named key snapshots) [ None ↦ [] | Some x ↦ x.files ]
+
 abbrev pub shown_writer : model.Writer → Writing
 shown_writer w = record { session = settled (shown w); files = shown_files w.key w.files }
 
-abbrev pub shown_reader : model.Reader → Reading
-shown_reader r = record { key = r.key; noted = r.noted }
+-- a reader of one of these snapshots
+abbrev pub shown_reader : List Snapshot → model.Reader → Reading
+shown_reader snapshots r = readers.shown (files_named r.key snapshots) r
 
-abbrev pub shown_session : model.Session → Session
-shown_session model.none = Idle
-shown_session (model.writer w) = Writer (shown_writer w)
-shown_session (model.reader r) = Reader (shown_reader r)
+abbrev pub shown_session : List Snapshot → model.Session → Session
+shown_session snapshots model.none = Idle
+shown_session snapshots (model.writer w) = Writer (shown_writer w)
+shown_session snapshots (model.reader r) = Reader (shown_reader snapshots r)

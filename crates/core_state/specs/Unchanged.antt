@@ -2,7 +2,7 @@
 use Rattle.std.specs.Prelude.{◌≡◌, Bool, true, false}
 use Rattle.disk_trait.specs.Files.{Files}
 use Rattle.store_types.specs.declared.refusal.Refusal.{Refusal}
-use Rattle.store_types.specs.declared.refusal.Refusal.TheVariants.{BadRange, Unreadable, DiskFault, NoMemory}
+use Rattle.store_types.specs.declared.refusal.Refusal.TheVariants.{BadRange, Damaged, Unreadable, DiskFault, NoMemory}
 use Rattle.wire_commands.specs.declared.reply.Reply.{Reply}
 use Rattle.wire_commands.specs.declared.reply.Reply.TheVariants.{Refused}
 use Rattle.core_state.specs.declared.parts.Parts.{Parts}
@@ -19,6 +19,7 @@ SameContent honest content old new = honest old → content new ≡ content old
 -- the refusals that come without a call of the disk: all but those by what a read gave, want of memory and a fault
 abbrev pub is_uncalled : Refusal → Bool
 is_uncalled (BadRange size) = false
+is_uncalled (Damaged digest fault) = false
 is_uncalled (Unreadable name) = false
 is_uncalled DiskFault = false
 is_uncalled NoMemory = false

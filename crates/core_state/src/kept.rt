@@ -2,6 +2,7 @@
 
 use crate::path::Path;
 use backup_session::Writer;
+use restore_reader::Reader;
 use store_types::{FileName, Rows, SessionState, SnapshotKey};
 
 /// A file of a snapshot: its name there, and its name in the datastore folder.
@@ -36,20 +37,13 @@ pub struct Writing {
     pub files: Rows<StoredFile>,
 }
 
-/// A reader of a finished snapshot.
-#[derive(Debug, Drop)]
-pub struct Reading {
-    pub key: SnapshotKey,
-    /// The names of the archives that it downloaded.
-    pub noted: Rows<FileName>,
-}
-
 /// What a lane has.
 #[derive(Drop)]
 pub enum Session {
     Idle,
     Writer(Writing),
-    Reader(Reading),
+    /// A reader of a finished snapshot, with the archives that it downloaded.
+    Reader(Reader),
 }
 
 impl Session {

@@ -19,13 +19,13 @@ use Rattle.core_state.specs.Shown.{shown_writer, shown_session}
 use Rattle.core_state.specs.States.{state_of}
 
 module _ (s : Store) (lane moment : ℕ) where
-  not_writing_by : (x : model.Session) → session s lane ≡ x → ((w : Writing) → shown_session x ≡ sessions.Writer w → ⊥) → outcome s lane moment Abort ≡ Err (WrongState (state_of (shown_session x)))
+  not_writing_by : (x : model.Session) → session s lane ≡ x → ((w : Writing) → shown_session s.snapshots x ≡ sessions.Writer w → ⊥) → outcome s lane moment Abort ≡ Err (WrongState (state_of (shown_session s.snapshots x)))
   unfolding outcome abort
   not_writing_by model.none at other = rw at refl
   not_writing_by (model.writer w) at other = absurd (other (shown_writer w) refl)
   not_writing_by (model.reader r) at other = rw at refl
 
-  pub not_writing : (found : Session) → found ≡ shown_session (session s lane) → ((w : Writing) → found ≡ sessions.Writer w → ⊥) → outcome s lane moment Abort ≡ Err (WrongState (state_of found))
+  pub not_writing : (found : Session) → found ≡ shown_session s.snapshots (session s lane) → ((w : Writing) → found ≡ sessions.Writer w → ⊥) → outcome s lane moment Abort ≡ Err (WrongState (state_of found))
   not_writing found is other =
       not_writing_by (session s lane) refl (λ w e. other w (is ∙ e)) ∙ ap (λ x. Err (WrongState (state_of x))) (sym is)
 

@@ -1,11 +1,13 @@
 -- The acts of writers are well-formed commands.
 use Rattle.std.specs.Option.{is_some}
-use Rattle.std.proofs.Common.{◌≡◌, ◌∙◌, ℕ, true, false, Option, Some, None, Result, Err, refl, sym, ap}
+use Rattle.std.proofs.Common.{◌≡◌, ◌∙◌, ℕ, true, false, List, Option, Some, None, Result, Ok, Err, IfOk, IsTrue, refl, sym, ap, subst}
 use Rattle.std.specs.Prelude.{IsOk, is_ok}
 use Rattle.disk_trait.specs.declared.disk.Failed.{Failed}
 use Rattle.port_traits.specs.Readings.{Readings}
-use Rattle.store_types.specs.declared.refusal.Refusal.TheVariants.{NoMemory, Halted}
-use Rattle.wire_commands.specs.declared.command.Command.TheVariants.{OpenWriter, NewDynamic, Chunk as ChunkCommand, Append, CloseIndex, Blob as BlobCommand, Finish, Abort, OpenReader, Download, CloseReader, Bye}
+use Rattle.store_types.specs.declared.refusal.Refusal.TheVariants.{NoMemory, Halted, Unreadable}
+use Rattle.disk_trait.specs.Files.{Files}
+use Rattle.disk_trait.specs.declared.disk.DiskError.{DiskError}
+use Rattle.wire_commands.specs.declared.command.Command.TheVariants.{OpenWriter, Previous, NewFixed, NewDynamic, Chunk as ChunkCommand, Append, CloseIndex, Blob as BlobCommand, Finish, Abort, OpenReader, Download, GetChunk, Range, CloseReader, Bye}
 use Rattle.wire_commands.specs.declared.reply.Reply.{Reply}
 use Rattle.wire_commands.specs.declared.reply.Reply.TheVariants.{Done, Refused}
 use Rattle.store_history.specs.declared.act.Act.{Act}
@@ -15,10 +17,18 @@ use Rattle.store_history.specs.Acts.{IsWellFormed, class_of, stepping}
 use Rattle.core_state.specs.Begins.{Refuses, short, halted}
 use Rattle.core_state.specs.declared.state.Core.{Core}
 use Rattle.core_writer.specs.Ended.{HasEnded}
-use Rattle.core_writer.specs.WriterActs.{IsWriters}
+use Rattle.core_state.specs.declared.kept.Listed.{Listed}
+use Rattle.core_state.specs.declared.kept.Session.{Session}
+use Rattle.core_state.specs.Replies.{may_answer}
+use Rattle.core_state.specs.Settles.{kind_by, reply_by}
+use Rattle.core_state.specs.Unreadables.{TellsUnreadable}
+use Rattle.core_state.proofs.Unreadables.{tells_other, tells_failed}
+use Rattle.core_writer.specs.WriterActs.{IsWriters, asked_of_writer}
 
 pub writers_formed : (a : Act) → IsWriters a → IsWellFormed a
 writers_formed (Plain (OpenWriter snapshot)) h = tt
+writers_formed (Plain (Previous file offset)) h = tt
+writers_formed (Plain (NewFixed file size chunk_size)) h = tt
 writers_formed (Plain (NewDynamic file)) h = tt
 writers_formed (Plain (ChunkCommand digest blob)) h = absurd h
 writers_formed (Plain (Append number entries)) h = tt
@@ -28,6 +38,8 @@ writers_formed (Plain Abort) h = tt
 writers_formed (Plain (BlobCommand file blob)) h = absurd h
 writers_formed (Plain (OpenReader snapshot)) h = absurd h
 writers_formed (Plain (Download file offset)) h = absurd h
+writers_formed (Plain (GetChunk digest)) h = absurd h
+writers_formed (Plain (Range file offset len)) h = absurd h
 writers_formed (Plain CloseReader) h = absurd h
 writers_formed (Plain Bye) h = absurd h
 writers_formed (Blob name checked) h = h
@@ -60,6 +72,8 @@ none_is (Some n) h = absurd (no_false h)
 pub ended_is : (a : Act) (x : Answer) → IsWriters a → HasEnded a x → (a ≡ Plain Abort) × (x.reply ≡ Some Done)
 ended_is (Plain Abort) x h ended = (refl, ended)
 ended_is (Plain (OpenWriter snapshot)) x h ended = absurd ended
+ended_is (Plain (Previous file offset)) x h ended = absurd ended
+ended_is (Plain (NewFixed file size chunk_size)) x h ended = absurd ended
 ended_is (Plain (NewDynamic file)) x h ended = absurd ended
 ended_is (Plain (ChunkCommand digest blob)) x h ended = absurd ended
 ended_is (Plain (Append number entries)) x h ended = absurd ended
@@ -68,6 +82,8 @@ ended_is (Plain Finish) x h ended = absurd ended
 ended_is (Plain (BlobCommand file blob)) x h ended = absurd ended
 ended_is (Plain (OpenReader snapshot)) x h ended = absurd ended
 ended_is (Plain (Download file offset)) x h ended = absurd ended
+ended_is (Plain (GetChunk digest)) x h ended = absurd ended
+ended_is (Plain (Range file offset len)) x h ended = absurd ended
 ended_is (Plain CloseReader) x h ended = absurd ended
 ended_is (Plain Bye) x h ended = absurd ended
 ended_is (Blob name checked) x h ended = absurd ended
@@ -101,3 +117,26 @@ not_ok r e is ok = no_true (sym (ap is_ok is) ∙ ok)
   where
     no_true : false ≡ true → ⊥
     no_true e = cc
+
+-- ---- what is told of files
+
+err_apart : (name : List ℕ) (r : Reply) → Some r ≡ Some (Refused (Unreadable name)) → r ≡ Refused (Unreadable name)
+err_apart name r e = cc
+
+-- an act that asks for no file
+pub tells_none : {D : Type 0} (honest : D → Type 0) (content : D → Files) (disk : D) (act x : Act) (session : Session) (catalogue : List Listed) (result : Result Reply DiskError) → act ≡ x
+    → ((session : Session) (catalogue : List Listed) → asked_of_writer x session catalogue ≡ None) → ((name : List ℕ) → may_answer x (Refused (Unreadable name)) ≡ false) → IfOk result (λ reply. IsTrue (may_answer x reply))
+    → TellsUnreadable honest content disk (asked_of_writer act session catalogue) (kind_by result) (Some (reply_by result))
+tells_none honest content disk act x session catalogue (Err e) is none never answers = tells_failed honest content disk (asked_of_writer act session catalogue) e
+tells_none honest content disk act x session catalogue (Ok reply) is none never answers =
+    tells_other honest content disk (asked_of_writer act session catalogue) 0 (Some reply)
+    (λ name e. true_false (sym answers ∙ ap (may_answer x) (err_apart name reply e) ∙ never name)) (ap (λ a. asked_of_writer a session catalogue) is ∙ none session catalogue)
+  where
+    true_false : true ≡ false → ⊥
+    true_false e = cc
+
+-- one that does
+pub tells_asked : {D : Type 0} (honest : D → Type 0) (content : D → Files) (disk : D) (act x : Act) (session : Session) (catalogue : List Listed) (kind : ℕ) (reply : Option Reply) → act ≡ x
+    → TellsUnreadable honest content disk (asked_of_writer x session catalogue) kind reply → TellsUnreadable honest content disk (asked_of_writer act session catalogue) kind reply
+tells_asked honest content disk act x session catalogue kind reply is tells =
+    subst (λ a. TellsUnreadable honest content disk (asked_of_writer a session catalogue) kind reply) (sym is) tells

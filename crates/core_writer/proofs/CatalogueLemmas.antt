@@ -8,7 +8,7 @@ use Rattle.core_state.specs.declared.kept.Kept.{Kept}
 use Rattle.core_state.specs.declared.kept.Listed.{Listed}
 use Rattle.core_writer.specs.Opened.{kept_in, latest_kept}
 use Rattle.core_writer.specs.Closed.{insert_listed}
-use Rattle.core_writer.proofs.Places.{insert_at}
+use Rattle.core_uploads.proofs.Places.{insert_at}
 
 abbrev is_in : GroupKey → Listed → Bool
 is_in group x = same_group (group_of_key (x.kept).key) group

@@ -11,7 +11,7 @@ use Rattle.disk_trait.specs.declared.disk.DiskError.TheVariants.{NoMemory, Faile
 use Rattle.store_types.specs.declared.names.SnapshotKey.{SnapshotKey}
 use Rattle.store_types.specs.declared.refusal.Refusal.TheVariants as refusals
 use Rattle.blob_codec.specs.Blob.{blob}
-use Rattle.store_files.specs.Archive.{File}
+use Rattle.store_files.specs.Archive.{File, Snapshot}
 use Rattle.wire_commands.specs.declared.command.Command.TheVariants as commands
 use Rattle.wire_commands.specs.declared.reply.Reply.{Reply}
 use Rattle.wire_commands.specs.declared.reply.Reply.TheVariants.{Refused}
@@ -31,8 +31,8 @@ use Rattle.core_state.specs.Replies.{may_answer}
 use Rattle.core_state.specs.Settles.{reply_by}
 use Rattle.core_state.specs.Shown.{shown_files, shown_session}
 use Rattle.core_state.proofs.Sessions.{at_lane}
-use Rattle.core_writer.specs.Ended.{removed_by, stored_files}
-use Rattle.core_writer.specs.Others.{stand_at, IsOther, OthersStay}
+use Rattle.core_writer.specs.Ended.{removed_by}
+use Rattle.core_uploads.specs.Others.{stand_at, IsOther, OthersStay, stored_files}
 
 true_false : true ≡ false → ⊥
 true_false e = cc
@@ -51,24 +51,26 @@ no_file digest key [] = refl
 no_file digest key (f ∷ fs) =
     ap₂ (λ a b. a || b) (unlike (chunk_name digest) (file_path key f.name) (chunk_apart digest key f.name)) (no_file digest key fs)
 
-no_session_file : (digest : List ℕ) (x : model.Session) → stand_at (chunk_name digest) (stored_files (shown_session x)) ≡ false
-no_session_file digest model.none = refl
-no_session_file digest (model.writer w) = no_file digest w.key w.files
-no_session_file digest (model.reader r) = refl
+no_session_file : (digest : List ℕ) (snapshots : List Snapshot) (x : model.Session) → stand_at (chunk_name digest) (stored_files (shown_session snapshots x)) ≡ false
+no_session_file digest snapshots model.none = refl
+no_session_file digest snapshots (model.writer w) = no_file digest w.key w.files
+no_session_file digest snapshots (model.reader r) = refl
 
 pub chunk_other : {D : Type 0} (parts : Parts D) (s : Store) (lane : ℕ) (digest : List ℕ) → lane < 64 → Shows parts s → IsOther parts lane (chunk_name digest)
 chunk_other parts s lane digest lt h =
     let items = parts.sessions.items in
     let count = ap length h.sessions in
-    let within : lane < length items = omega (arith, count, length-map s.sessions shown_session, (h.sound).lanes, lt) in
-    let here : get_or items lane Idle ≡ shown_session (session s lane) =
+    let within : lane < length items = omega (arith, count, length-map s.sessions (shown_session s.snapshots), (h.sound).lanes, lt) in
+    let here : get_or items lane Idle ≡ shown_session s.snapshots (session s lane) =
     at_lane items s lane (get_or items lane Idle) h.sessions (h.sound).lanes lt (get_or_default items lane Idle (get_or items lane Idle) within) in
-    ap (λ x. stand_at (chunk_name digest) (stored_files x)) here ∙ no_session_file digest (session s lane)
+    ap (λ x. stand_at (chunk_name digest) (stored_files x)) here ∙ no_session_file digest s.snapshots (session s lane)
 
 -- ---- what no other name than a file's is changed at
 
 not_fault_command : (c : Rattle.wire_commands.specs.declared.command.Command.Command) → may_answer (acts.Plain c) (Refused refusals.DiskFault) ≡ false
 not_fault_command (commands.OpenWriter snapshot) = refl
+not_fault_command (commands.Previous file offset) = refl
+not_fault_command (commands.NewFixed file size chunk_size) = refl
 not_fault_command (commands.NewDynamic file) = refl
 not_fault_command (commands.Chunk digest blob) = refl
 not_fault_command (commands.Append number entries) = refl
@@ -78,6 +80,8 @@ not_fault_command commands.Finish = refl
 not_fault_command commands.Abort = refl
 not_fault_command (commands.OpenReader snapshot) = refl
 not_fault_command (commands.Download file offset) = refl
+not_fault_command (commands.GetChunk digest) = refl
+not_fault_command (commands.Range file offset len) = refl
 not_fault_command commands.CloseReader = refl
 not_fault_command commands.Bye = refl
 

@@ -25,7 +25,8 @@ use Rattle.core_state.specs.Holds.{IsSound, IsOnDisk, HasUploads, Holds}
 use Rattle.core_state.proofs.Sessions.{at_lane, changed, no_writer_none}
 use Rattle.core_state.proofs.Soundness.{sound_idle, disk_idle, shows_changed}
 use Rattle.core_state.proofs.OnDisk.{IsOff, apart_upload, names_plain, keys_apart, off_other, uploads_off}
-use Rattle.core_writer.specs.Ended.{FilesGone, is_removed, removed_by, stored_files}
+use Rattle.core_writer.specs.Ended.{FilesGone, is_removed, removed_by}
+use Rattle.core_uploads.specs.Others.{stored_files}
 
 -- what one file less leaves at a name
 abbrev pub without : List ℕ → StoredFile → Option (List ℕ) → Option (List ℕ)
@@ -117,7 +118,7 @@ module _ (m n : Files) (s : Store) (lane : ℕ) (v : Writer) (lt : lane < 64) (h
   }
 
 -- by what the session is
-ended_on_disk : (m n : Files) (s : Store) (lane : ℕ) (x : model.Session) → lane < 64 → IsSound s → session s lane ≡ x → ((q : List ℕ) → get n q ≡ removed_by (stored_files (shown_session x)) m q) → IsOnDisk m s → IsOnDisk n (with_session s lane none)
+ended_on_disk : (m n : Files) (s : Store) (lane : ℕ) (x : model.Session) → lane < 64 → IsSound s → session s lane ≡ x → ((q : List ℕ) → get n q ≡ removed_by (stored_files (shown_session s.snapshots x)) m q) → IsOnDisk m s → IsOnDisk n (with_session s lane none)
 ended_on_disk m n s lane model.none lt h at removed disk =
     subst (λ f. IsOnDisk f (with_session s lane none)) (sym (same_files n m removed)) (disk_idle m s lane (omega (arith, h.lanes, lt)) disk)
 ended_on_disk m n s lane (model.writer v) lt h at removed disk = removed_on_disk m n s lane v lt h at removed disk

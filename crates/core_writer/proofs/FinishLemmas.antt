@@ -1,25 +1,30 @@
 -- FINISH is the store's.
-use Rattle.std.proofs.Common.{◌≡◌, ◌≢◌, ◌↔◌, ℕ, ◌<◌, ◌≤◌, Bool, true, false, not, ◌==◌, cond, length, get_or, set, map, List, [], ◌∷◌, Option, Some, None, Ok, Err, refl, sym, ap, subst, ◌∙◌, arith}
+use Rattle.std.proofs.Common.{◌≡◌, ◌≢◌, ◌↔◌, ℕ, ◌<◌, ◌≤◌, Bool, true, false, not, ◌==◌, cond, length, get_or, set, map, List, [], ◌∷◌, Option, Some, None, Result, Ok, Err, MatchResult, refl, sym, ap, subst, ◌∙◌, arith}
 use Rattle.std.proofs.lemmas.Bool.{and_parts, and_from, false_from_ne_true, eq-eqb, eqb-true}
 use Rattle.std.proofs.lemmas.List.{length-set, length-map}
 use Rattle.std.proofs.lemmas.Option.{some_pair_parts}
 use Rattle.std.proofs.lemmas.Slice.Eq.{bytes_eq-Decides}
 use Rattle.std.specs.FinMap.{get}
-use Rattle.std.specs.List.{All, find, list_all}
-use Rattle.std.specs.Option.{IsSome}
+use Rattle.std.specs.List.{All, AllByRecursion, find, list_all}
 use Rattle.std.specs.Prelude.{option_map, is_some}
 use Rattle.std.specs.Str.{bytes_eq}
 use Rattle.disk_trait.specs.Files.{Files, placed}
 use Rattle.disk_trait.specs.Laws.{placed_same, placed_other}
 use Rattle.store_types.specs.declared.names.SnapshotKey.{SnapshotKey}
-use Rattle.store_types.specs.declared.refusal.Refusal.TheVariants.{NoFile, OpenIndexes, WrongState}
+use Rattle.store_types.specs.declared.refusal.Refusal.{Refusal}
+use Rattle.store_types.specs.declared.refusal.Refusal.TheVariants.{NoFile, OpenIndexes, WrongState, BadManifest, ManifestMismatch}
+use Rattle.store_types.specs.Chain.Refusing.{◌>>=◌, unless, or_else, if_none}
 use Rattle.store_types.specs.FileNames.{manifest_name}
 use Rattle.store_types.specs.Names.{key_lt, same_group, group_of_key}
 use Rattle.store_files.specs.Archive.{File, Snapshot, file_text, file_named}
+use Rattle.store_files.specs.Manifest.{Manifest, manifest_of as manifest_of_bytes}
+use Rattle.store_files.specs.Manifest.Mismatch.{Mismatch}
+use Rattle.wire_commands.specs.HasText.{FitsRefusal, ReplyHasText}
 use Rattle.wire_commands.specs.declared.command.Command.TheVariants.{Finish}
-use Rattle.wire_commands.specs.declared.reply.Reply.TheVariants.{Done}
+use Rattle.wire_commands.specs.declared.reply.Reply.TheVariants.{Done, Refused}
 use Rattle.store_model.specs.Store as model
-use Rattle.store_model.specs.Store.{Store, Writer, none, writer, session, with_session, Outcome, in_group, insert_snapshot, snapshot_named}
+use Rattle.store_model.specs.Manifests.{data_in, manifest_data, want_manifest, mismatch_refusal, want_listed, listing_of, finish_check}
+use Rattle.store_model.specs.Store.{Begun, Store, Writer, none, writer, session, with_session, Outcome, in_group, insert_snapshot, snapshot_named}
 use Rattle.store_model.specs.Uploads.{file_path}
 use Rattle.store_model.specs.WriterSteps.{snapshot_of, finish}
 use Rattle.store_model.specs.Steps.{outcome, answered}
@@ -28,7 +33,10 @@ use Rattle.store_model.proofs.Paths.{manifest_plain, chunk_apart}
 use Rattle.store_model.proofs.Insertions.{All-insert, find-insert, length-in_group-insert, rise-insert}
 use Rattle.store_model.proofs.FileInsertions.{only_named}
 use Rattle.store_model.proofs.StandsLemmas.{Puts, IsReady, different, stands_finished, groups_insert}
-use Rattle.backup_session.specs.Shown.{shown, shown_begun, manifest_text}
+use Rattle.store_model.proofs.ListingLemmas.{listing_lists}
+use Rattle.backup_session.specs.Finish as checks
+use Rattle.backup_session.specs.Session as rows
+use Rattle.backup_session.specs.Shown.{IsOpen, Shows, shown, manifest_text}
 use Rattle.core_state.specs.declared.kept.Kept.{Kept}
 use Rattle.core_state.specs.declared.kept.Listed.{Listed}
 use Rattle.core_state.specs.declared.kept.Writing.{Writing}
@@ -37,11 +45,15 @@ use Rattle.core_state.specs.declared.kept.Session.TheVariants as sessions
 use Rattle.core_state.specs.declared.parts.Parts.{Parts}
 use Rattle.core_state.specs.Named.{has_text, is_named, is_named_snapshot}
 use Rattle.core_state.specs.Shown.{shown_file, shown_files, shown_snapshot, shown_writer, shown_session}
-use Rattle.core_state.specs.Holds.{IsSound, IsWriter, IsReader, IsOlder, HasUploads, IsOnDisk, Holds, Does}
+use Rattle.core_state.specs.Holds.{IsBegun, IsSound, IsWriter, IsReader, IsOlder, HasUploads, IsOnDisk, Holds, Does}
 use Rattle.core_state.proofs.Sessions.{changed, shown_set, no_writer_none, no_reader_none}
 use Rattle.core_state.proofs.Soundness.{sound_idle}
 use Rattle.core_state.proofs.OnDisk.{IsOff, fresh, off_other, keys_apart, uploads_off, pieces_there}
 use Rattle.core_state.specs.States.{state_of}
+use Rattle.core_state.specs.Replies.{refuses_finish}
+use Rattle.core_state.proofs.Readers.{sessions_finished}
+use Rattle.core_state.proofs.Texts.{wrong_state_has_text, no_file_has_text, open_indexes_has_text, bad_manifest_has_text, mismatch_has_text}
+use Rattle.core_uploads.proofs.Wanting.{no_writer}
 use Rattle.core_writer.specs.Closed.{manifest_by, kept_manifest, insert_listed, listed_of, closed}
 
 -- ---- the manifest
@@ -101,56 +113,104 @@ no_manifest w e = by_file (file_named manifest_name w.files) refl (sym (kept_man
 abbrev pub finished : Store → ℕ → Writer → Store
 finished s lane w = record (with_session s lane none) { snapshots = insert_snapshot (snapshot_of w) s.snapshots }
 
+abbrev finish_then : Store → ℕ → Result Writer Refusal → Outcome
+finish_then s lane r = r >>= λ w. finish_check w >>= λ _. Ok (finished s lane w, Done)
+
 module _ (s : Store) (lane moment : ℕ) where
-  not_writing_by : (x : model.Session) → session s lane ≡ x → ((w : Writing) → shown_session x ≡ sessions.Writer w → ⊥) → outcome s lane moment Finish ≡ Err (WrongState (state_of (shown_session x)))
+  step_is : outcome s lane moment Finish ≡ finish_then s lane (model.want_writer (session s lane))
   unfolding outcome finish
-  not_writing_by model.none at other = rw at refl
-  not_writing_by (model.writer w) at other = absurd (other (shown_writer w) refl)
-  not_writing_by (model.reader r) at other = rw at refl
+  step_is = refl
 
-  pub not_writing : (found : Session) → found ≡ shown_session (session s lane) → ((w : Writing) → found ≡ sessions.Writer w → ⊥) → outcome s lane moment Finish ≡ Err (WrongState (state_of found))
-  not_writing found is other =
-      not_writing_by (session s lane) refl (λ w e. other w (is ∙ e)) ∙ ap (λ x. Err (WrongState (state_of x))) (sym is)
+  pub not_writing : (found : Session) → found ≡ shown_session s.snapshots (session s lane) → ((w : Writing) → found ≡ sessions.Writer w → ⊥) → outcome s lane moment Finish ≡ Err (WrongState (state_of found))
+  not_writing found is other = step_is ∙ ap (finish_then s lane) (no_writer s.snapshots (session s lane) found is other)
 
-  pub open_indexes : (w : Writer) → session s lane ≡ writer w → (length w.begun == 0) ≡ false → outcome s lane moment Finish ≡ Err (OpenIndexes (length w.begun))
-  unfolding outcome finish
-  open_indexes w at some = rw (at, some) refl
+  writing_is : (w : Writer) → session s lane ≡ writer w → outcome s lane moment Finish ≡ finish_then s lane (Ok w)
+  writing_is w at = step_is ∙ ap (λ x. finish_then s lane (model.want_writer x)) at
 
-  pub no_file : (w : Writer) → session s lane ≡ writer w → (length w.begun == 0) ≡ true → kept_manifest (shown_writer w) ≡ None → outcome s lane moment Finish ≡ Err NoFile
-  unfolding outcome finish
-  no_file w at closed_all e = let absent = no_manifest w e in rw (at, closed_all, absent) refl
+  pub refused : (w : Writer) (r : Refusal) → session s lane ≡ writer w → finish_check w ≡ Err r → outcome s lane moment Finish ≡ Err r
+  refused w r at is = writing_is w at ∙ ap (λ (x : Result Manifest Refusal). x >>= λ _. let o : Outcome = Ok (finished s lane w, Done) in o) is
 
-  pub finishes : (w : Writer) (path text : List ℕ) → session s lane ≡ writer w → (length w.begun == 0) ≡ true → HasManifest w path text → outcome s lane moment Finish ≡ Ok (finished s lane w, Done)
-  unfolding outcome finish
-  finishes w path text at closed_all m = let there = m.found in rw (at, closed_all, there) refl
+  pub finishes : (w : Writer) (m : Manifest) → session s lane ≡ writer w → finish_check w ≡ Ok m → outcome s lane moment Finish ≡ Ok (finished s lane w, Done)
+  finishes w m at is = writing_is w at ∙ ap (λ (x : Result Manifest Refusal). x >>= λ _. let o : Outcome = Ok (finished s lane w, Done) in o) is
 
--- how many archives are open is kept
-pub open_shown : (w : Writer) → length (((shown_writer w).session).writer).begun ≡ length w.begun
-unfolding shown
-open_shown w = length-map w.begun shown_begun
+-- ---- what the check makes sure of
 
-count_is : (v : Writer) (w : Writing) (n : ℕ) → shown_writer v ≡ w → n ≡ length ((w.session).writer).begun → n ≡ length v.begun
-count_is v w n is count = count ∙ ap (λ x. length ((x.session).writer).begun) (sym is) ∙ open_shown v
-
-pub none_open : (v : Writer) (w : Writing) (n : ℕ) → shown_writer v ≡ w → n ≡ length ((w.session).writer).begun → n ≤ 0 → (length v.begun == 0) ≡ true
-none_open v w n is count le = let c = count_is v w n is count in eq-eqb (length v.begun) 0 (omega (arith, c, le))
-
-pub some_open : (v : Writer) (w : Writing) (n : ℕ) → shown_writer v ≡ w → n ≡ length ((w.session).writer).begun → 0 < n → ((length v.begun == 0) ≡ false) × (n ≡ length v.begun)
-some_open v w n is count more = let c = count_is v w n is count in (by_test c (length v.begun == 0) refl, c)
+pub listed : (w : Writer) (m : Manifest) → finish_check w ≡ Ok m → listing_of w.key w.files ≡ Ok m
+unfolding finish_check
+listed w m is = by_test (length w.begun == 0) is
   where
-    by_test : n ≡ length v.begun → (b : Bool) → (length v.begun == 0) ≡ b → b ≡ false
-    by_test c true e = absurd (let z = eqb-true (length v.begun) 0 e in omega (arith, c, z, more))
-    by_test c false e = refl
+    by_test : (b : Bool) → (unless (OpenIndexes (length w.begun)) b >>= λ _. listing_of w.key w.files) ≡ Ok m → listing_of w.key w.files ≡ Ok m
+    by_test true e = e
+    by_test false e = cc
+
+-- the manifest is there
+no_listing : (key : SnapshotKey) (files : List File) (m : Manifest) → file_named manifest_name files ≡ None → listing_of key files ≡ Ok m → ⊥
+unfolding listing_of
+no_listing key files m absent is = by_data (manifest_data files) (ap data_in absent) is
+  where
+    by_data : (o : Option (List ℕ)) → o ≡ None → (or_else NoFile o >>= λ bytes. want_manifest bytes >>= λ m. want_listed m key files >>= λ _. Ok m) ≡ Ok m → ⊥
+    by_data None e f = cc
+    by_data (Some bytes) e f = cc
+
+pub checked_there : (w : Writer) (m : Manifest) → finish_check w ≡ Ok m → kept_manifest (shown_writer w) ≡ None → ⊥
+checked_there w m is absent = no_listing w.key w.files m (no_manifest w absent) (listed w m is)
+
+-- ---- the refusals
+
+size_refuses : (r x : Refusal) (A : Type 0) → refuses_finish x ≡ true → ◌≡◌ {A = Result A Refusal} (Err x) (Err r) → refuses_finish r ≡ true
+size_refuses r x A is e = let same : x ≡ r = cc in ap refuses_finish (sym same) ∙ is
+
+pub check_refuses : (w : rows.Writing) (r : Refusal) → checks.finish_check w ≡ Err r → refuses_finish r ≡ true
+unfolding checks.finish_check checks.manifest_from
+check_refuses w r is = by_open (length w.begun == 0) is
+  where
+    by_mismatch : (o : Option Mismatch) (n : Manifest) → (if_none mismatch_refusal o >>= λ _. Ok n) ≡ Err r → refuses_finish r ≡ true
+    by_mismatch None n e = cc
+    by_mismatch (Some x) n e = size_refuses r (mismatch_refusal x) Manifest refl e
+
+    by_manifest : (q : Result Manifest ℕ) → ((elim q [ Ok m ↦ Ok m | Err cause ↦ Err (BadManifest cause) ]) >>= λ n. checks.want_listed n w.key w.files >>= λ _. Ok n) ≡ Err r → refuses_finish r ≡ true
+    by_manifest (Ok n) e = by_mismatch _ n e
+    by_manifest (Err cause) e = size_refuses r (BadManifest cause) Manifest refl e
+
+    by_data : (o : Option (List ℕ)) → (or_else NoFile o >>= λ bytes. want_manifest bytes >>= λ n. checks.want_listed n w.key w.files >>= λ _. Ok n) ≡ Err r → refuses_finish r ≡ true
+    by_data None e = size_refuses r NoFile Manifest refl e
+    by_data (Some bytes) e = by_manifest (manifest_of_bytes bytes) e
+
+    by_open : (b : Bool) → (unless (OpenIndexes (length w.begun)) b >>= λ _. or_else NoFile (checks.data_in w.manifest) >>= λ bytes. want_manifest bytes >>= λ n. checks.want_listed n w.key w.files >>= λ _. Ok n) ≡ Err r → refuses_finish r ≡ true
+    by_open true e = by_data (checks.data_in w.manifest) e
+    by_open false e = size_refuses r (OpenIndexes (length w.begun)) Manifest refl e
+
+pub finish_has_text : (r : Refusal) → refuses_finish r ≡ true → FitsRefusal r → ReplyHasText (Refused r)
+finish_has_text (WrongState state) is fits = wrong_state_has_text state
+finish_has_text NoFile is fits = no_file_has_text
+finish_has_text (OpenIndexes count) is fits = open_indexes_has_text count fits
+finish_has_text (BadManifest cause) is fits = bad_manifest_has_text cause fits.0 fits.1
+finish_has_text (ManifestMismatch file field) is fits = mismatch_has_text file field fits
+finish_has_text _ is fits = cc
+
+-- what the check tells of a writer that the session shows
+pub told_ok : {A : Type 0} (step : Result Manifest Refusal) (told : Result A Refusal) (view : A → Manifest) (m : A) → MatchResult told (λ m. step ≡ Ok (view m)) (λ r. step ≡ Err r) → told ≡ Ok m → step ≡ Ok (view m)
+told_ok step told view m h is = subst (λ t. MatchResult t (λ m. step ≡ Ok (view m)) (λ r. step ≡ Err r)) is h
+
+pub told_err : {A : Type 0} (step : Result Manifest Refusal) (told : Result A Refusal) (view : A → Manifest) (r : Refusal) → MatchResult told (λ m. step ≡ Ok (view m)) (λ r. step ≡ Err r) → told ≡ Err r → step ≡ Err r
+told_err step told view r h is = subst (λ t. MatchResult t (λ m. step ≡ Ok (view m)) (λ r. step ≡ Err r)) is h
+
+pub shows_found : (s : Store) (w : Writing) (v : Writer) → shown_writer v ≡ w → IsWriter s.snapshots v → Shows (w.session).writer v
+shows_found s w v is h = record { same = sym (ap (λ x. (x.session).writer) is); begun = all_open v.pool v.begun h.begun }
+  where
+    all_open : (pool : List (List ℕ)) (bs : List Begun) → AllByRecursion (IsBegun pool) bs → AllByRecursion IsOpen bs
+    all_open pool [] h = tt
+    all_open pool (b ∷ bs) h = ((h.0).is_open, all_open pool bs h.1)
 
 -- ---- the store after
 
-is_snapshot : (s : Store) (w : Writer) (path text : List ℕ) → IsWriter s.snapshots w → HasManifest w path text → IsSnapshot (snapshot_of w)
-is_snapshot s w path text h m = record {
+is_snapshot : (s : Store) (w : Writer) (m : Manifest) → IsWriter s.snapshots w → finish_check w ≡ Ok m → IsSnapshot (snapshot_of w)
+is_snapshot s w m h is = record {
   key = h.key;
   names = h.names;
   kinds = h.kinds;
   contents = h.contents;
-  manifest = subst (λ (o : Option File). IsSome o) (sym m.found) refl;
+  manifest = let c = h.count in listing_lists w.key w.files m (listed w m is) (omega (arith, c));
   count = let c = h.count in omega (arith, c);
 }
 
@@ -158,7 +218,7 @@ count_cond : {A : Type 0} (b : Bool) (x : A) (xs : List A) → b ≡ false → l
 count_cond true x xs e = cc
 count_cond false x xs e = refl
 
-module _ (s : Store) (lane : ℕ) (w : Writer) (path text : List ℕ) (lt : lane < 64) (h : IsSound s) (at : session s lane ≡ writer w) (m : HasManifest w path text) where
+module _ (s : Store) (lane : ℕ) (w : Writer) (path text : List ℕ) (listing : Manifest) (lt : lane < 64) (h : IsSound s) (at : session s lane ≡ writer w) (m : HasManifest w path text) (check : finish_check w ≡ Ok listing) where
   -- another lane's writer is of another group
   other_group : (i : ℕ) (v : Writer) → i ≢ lane → session s i ≡ writer v → same_group (group_of_key w.key) (group_of_key v.key) ≡ false
   other_group i v ne is = false_from_ne_true (same_group (group_of_key w.key) (group_of_key v.key)) (λ e. ne (sym (h.apart lane i w v at is e)))
@@ -184,7 +244,7 @@ module _ (s : Store) (lane : ℕ) (w : Writer) (path text : List ℕ) (lt : lane
       both_ways e = cc
 
   whole : IsSnapshot (snapshot_of w)
-  whole = is_snapshot s w path text (h.writers lane w at) m
+  whole = is_snapshot s w listing (h.writers lane w at) check
 
   new : All (λ x. x.key ≢ w.key) s.snapshots
   new = fresh s.snapshots w (h.writers lane w at)
@@ -262,12 +322,12 @@ named_closed number (sessions.Reader r) xs is h = h
 -- ---- the act
 
 module _ {D : Type 0} (honest : D → Type 0) (content : D → Files) where
-  pub does_finish : (old new : Parts D) (s : Store) (lane moment number : ℕ) (found : Session) (w : Writer) (path text : List ℕ) → lane < 64 → session s lane ≡ writer w → (length w.begun == 0) ≡ true → found ≡ sessions.Writer (shown_writer w) → kept_manifest (shown_writer w) ≡ Some (path, text)
+  pub does_finish : (old new : Parts D) (s : Store) (lane moment number : ℕ) (found : Session) (w : Writer) (path text : List ℕ) (listing : Manifest) → lane < 64 → session s lane ≡ writer w → finish_check w ≡ Ok listing → found ≡ sessions.Writer (shown_writer w) → kept_manifest (shown_writer w) ≡ Some (path, text)
       → (honest old.disk ↔ honest new.disk) → (honest old.disk → content new.disk ≡ placed (content old.disk) path (Some text))
       → new.catalogue.items ≡ closed number found old.catalogue.items → new.sessions.items ≡ set old.sessions.items lane sessions.Idle
       → Holds honest content old s → Does honest content new s (answered s (outcome s lane moment Finish)) (Ok Done)
   unfolding shown
-  does_finish old new s lane moment number found w path text lt at none_open is manifest kept put c l h =
+  does_finish old new s lane moment number found w path text listing lt at check is manifest kept put c l h =
       let sound = (h.shows).sound in
       let m = has_manifest w path text manifest in
       let now : content new.disk ≡ placed (content old.disk) (manifest_path w.key) (Some text) = put h.honest ∙ ap (λ q. placed (content old.disk) q (Some text)) m.is_path in
@@ -280,10 +340,10 @@ module _ {D : Type 0} (honest : D → Type 0) (content : D → Files) where
         shows = record {
           catalogue = ap all_kept (c ∙ ap (λ x. closed number x old.catalogue.items) is) ∙ kept_listed (listed_of number (shown_writer w)) old.catalogue.items
               ∙ ap (insert_kept (shown_snapshot (snapshot_of w))) (h.shows).catalogue ∙ sym (shown_listed (snapshot_of w) s.snapshots);
-          sessions = l ∙ ap (λ k. set k lane sessions.Idle) (h.shows).sessions ∙ sym (shown_set s lane none);
-          sound = sound_finished s lane w path text lt sound at m;
+          sessions = l ∙ ap (λ k. set k lane sessions.Idle) ((h.shows).sessions ∙ sym (sessions_finished s lane w sound at)) ∙ sym (shown_set (insert_snapshot (snapshot_of w) s.snapshots) s lane none);
+          sound = sound_finished s lane w path text listing lt sound at m check;
         };
-        files = finished_on_disk s lane w path text lt sound at m (content old.disk) (content new.disk) puts h.files;
+        files = finished_on_disk s lane w path text listing lt sound at m check (content old.disk) (content new.disk) puts h.files;
       } in
       let done : Does honest content new s (finished s lane w, Done) (Ok Done) = (refl, holds) in
-      subst (λ o. Does honest content new s (answered s o) (Ok Done)) (sym (finishes s lane moment w path text at none_open m)) done
+      subst (λ o. Does honest content new s (answered s o) (Ok Done)) (sym (finishes s lane moment w listing at check)) done

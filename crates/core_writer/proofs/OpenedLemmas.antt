@@ -24,30 +24,30 @@ use Rattle.core_writer.specs.Opened.{want_idle, writes, kept_in, latest_kept, ba
 
 -- ---- each test
 
-pub shown_idle : (x : model.Session) → want_idle (shown_session x) ≡ model.want_idle x
-shown_idle model.none = refl
-shown_idle (model.writer w) = refl
-shown_idle (model.reader r) = refl
+pub shown_idle : (ss : List Snapshot) (x : model.Session) → want_idle (shown_session ss x) ≡ model.want_idle x
+shown_idle ss model.none = refl
+shown_idle ss (model.writer w) = refl
+shown_idle ss (model.reader r) = refl
 
 shown_key : (w : model.Writer) → (shown w).key ≡ w.key
 unfolding shown
 shown_key w = refl
 
-shown_writes : (group : GroupKey) (x : model.Session) → writes group (shown_session x) ≡ writes_group group x
-shown_writes group model.none = refl
-shown_writes group (model.writer w) = ap (λ k. same_group group (group_of_key k)) (shown_key w)
-shown_writes group (model.reader r) = refl
+shown_writes : (ss : List Snapshot) (group : GroupKey) (x : model.Session) → writes group (shown_session ss x) ≡ writes_group group x
+shown_writes ss group model.none = refl
+shown_writes ss group (model.writer w) = ap (λ k. same_group group (group_of_key k)) (shown_key w)
+shown_writes ss group (model.reader r) = refl
 
-place_shown : (group : GroupKey) (xs : List model.Session) → position_or_len (writes group) (map shown_session xs) ≡ position_or_len (writes_group group) xs
-place_shown group [] = refl
-place_shown group (x ∷ xs) =
-    ap (λ b. cond (not b) (1 + position_or_len (writes group) (map shown_session xs)) 0) (shown_writes group x)
-    ∙ ap (λ n. cond (not (writes_group group x)) (1 + n) 0) (place_shown group xs)
+place_shown : (ss : List Snapshot) (group : GroupKey) (xs : List model.Session) → position_or_len (writes group) (map (shown_session ss) xs) ≡ position_or_len (writes_group group) xs
+place_shown ss group [] = refl
+place_shown ss group (x ∷ xs) =
+    ap (λ b. cond (not b) (1 + position_or_len (writes group) (map (shown_session ss) xs)) 0) (shown_writes ss group x)
+    ∙ ap (λ n. cond (not (writes_group group x)) (1 + n) 0) (place_shown ss group xs)
 
-pub position_shown : (group : GroupKey) (xs : List model.Session) → position (writes group) (map shown_session xs) ≡ position (writes_group group) xs
-position_shown group xs =
-    ap (λ n. cond (nat_lt n (length (map shown_session xs))) (Some n) None) (place_shown group xs)
-    ∙ ap (λ n. cond (nat_lt (position_or_len (writes_group group) xs) n) (Some (position_or_len (writes_group group) xs)) None) (length-map xs shown_session)
+pub position_shown : (ss : List Snapshot) (group : GroupKey) (xs : List model.Session) → position (writes group) (map (shown_session ss) xs) ≡ position (writes_group group) xs
+position_shown ss group xs =
+    ap (λ n. cond (nat_lt n (length (map (shown_session ss) xs))) (Some n) None) (place_shown ss group xs)
+    ∙ ap (λ n. cond (nat_lt (position_or_len (writes_group group) xs) n) (Some (position_or_len (writes_group group) xs)) None) (length-map xs (shown_session ss))
 
 cond_shown : (b : Bool) (x : Snapshot) (xs : List Snapshot) (ys : List Kept) → ys ≡ map shown_snapshot xs → cond b (shown_snapshot x ∷ ys) ys ≡ map shown_snapshot (cond b (x ∷ xs) xs)
 cond_shown true x xs ys e = ap (λ (l : List Kept). shown_snapshot x ∷ l) e

@@ -79,15 +79,15 @@ module _ (s : Store) (lane moment : ℕ) (text : List ℕ) where
   unfolding outcome open_writer
   in_turn key idle is = rw (idle, is) refl
 
-  kept_tests : (key : SnapshotKey) → base_kept (map shown_snapshot s.snapshots) (map shown_session s.sessions) key ≡ store_tests key (Ok (latest_in (group_of_key key) s.snapshots))
+  kept_tests : (key : SnapshotKey) → base_kept (map shown_snapshot s.snapshots) (map (shown_session s.snapshots) s.sessions) key ≡ store_tests key (Ok (latest_in (group_of_key key) s.snapshots))
   unfolding base_kept
   kept_tests key =
-      rw (position_shown (group_of_key key) s.sessions, latest_shown (group_of_key key) s.snapshots, count_shown (group_of_key key) s.snapshots) refl
+      rw (position_shown s.snapshots (group_of_key key) s.sessions, latest_shown (group_of_key key) s.snapshots, count_shown (group_of_key key) s.snapshots) refl
 
-  pub refused : (key : SnapshotKey) (r : Refusal) → model.want_idle (session s lane) ≡ Ok tt → key_of text ≡ Some key → base_kept (map shown_snapshot s.snapshots) (map shown_session s.sessions) key ≡ Err r → step ≡ Err r
+  pub refused : (key : SnapshotKey) (r : Refusal) → model.want_idle (session s lane) ≡ Ok tt → key_of text ≡ Some key → base_kept (map shown_snapshot s.snapshots) (map (shown_session s.snapshots) s.sessions) key ≡ Err r → step ≡ Err r
   refused key r idle is e = in_turn key idle is ∙ refuses_alike (group_holder s (group_of_key key)) (want_newer key.time (latest_in (group_of_key key) s.snapshots)) (nat_lt (length (in_group (group_of_key key) s.snapshots)) 4096) (latest_in (group_of_key key) s.snapshots) (after_tests key) r (sym (kept_tests key) ∙ e)
 
-  pub opened : (key : SnapshotKey) (base : Option SnapshotKey) → model.want_idle (session s lane) ≡ Ok tt → key_of text ≡ Some key → base_kept (map shown_snapshot s.snapshots) (map shown_session s.sessions) key ≡ Ok base
+  pub opened : (key : SnapshotKey) (base : Option SnapshotKey) → model.want_idle (session s lane) ≡ Ok tt → key_of text ≡ Some key → base_kept (map shown_snapshot s.snapshots) (map (shown_session s.snapshots) s.sessions) key ≡ Ok base
       → step ≡ Ok (with_session s lane (writer (new_writer key moment base)), Base (base_text base))
   unfolding goes_on
   opened key base idle is e =
@@ -153,12 +153,12 @@ named_new v files key moment base is named =
 
 -- what the code finds at the lane
 pub idle_is : {D : Type 0} (old : Parts D) (s : Store) (lane : ℕ) (found : Session) (r : Result (Unit {0}) Refusal) → lane < 64 → found ≡ get_or old.sessions.items lane found → want_idle found ≡ r → Shows old s → model.want_idle (session s lane) ≡ r
-idle_is old s lane found r lt at is h = sym (shown_idle (session s lane)) ∙ ap want_idle (sym (at_lane old.sessions.items s lane found h.sessions (h.sound).lanes lt at)) ∙ is
+idle_is old s lane found r lt at is h = sym (shown_idle s.snapshots (session s lane)) ∙ ap want_idle (sym (at_lane old.sessions.items s lane found h.sessions (h.sound).lanes lt at)) ∙ is
 
 pub tests_are : {D : Type 0} (old : Parts D) (s : Store) (key : SnapshotKey) (r : Result (Option SnapshotKey) Refusal) → base_kept (map (λ x. x.kept) old.catalogue.items) old.sessions.items key ≡ r → Shows old s
-    → base_kept (map shown_snapshot s.snapshots) (map shown_session s.sessions) key ≡ r
+    → base_kept (map shown_snapshot s.snapshots) (map (shown_session s.snapshots) s.sessions) key ≡ r
 tests_are old s key r is h =
-    ap (λ k. base_kept k (map shown_session s.sessions) key) (sym h.catalogue) ∙ ap (λ l. base_kept (map (λ x. x.kept) old.catalogue.items) l key) (sym h.sessions) ∙ is
+    ap (λ k. base_kept k (map (shown_session s.snapshots) s.sessions) key) (sym h.catalogue) ∙ ap (λ l. base_kept (map (λ x. x.kept) old.catalogue.items) l key) (sym h.sessions) ∙ is
 
 module _ {D : Type 0} (honest : D → Type 0) (content : D → Files) where
   pub does_open : (old new : Parts D) (s : Store) (lane moment : ℕ) (text : List ℕ) (found : Session) (key : SnapshotKey) (base : Option SnapshotKey) (y : Session) (reply : Reply)
@@ -171,10 +171,10 @@ module _ {D : Type 0} (honest : D → Type 0) (content : D → Files) where
       let within : lane < length s.sessions = omega (arith, sound.lanes, lt) in
       let idle2 = idle_is old s lane found (Ok tt) lt at idle h.shows in
       let tested2 = tests_are old s key (Ok base) tested h.shows in
-      let may = may_open (map shown_snapshot s.snapshots) (map shown_session s.sessions) key base tested2 in
+      let may = may_open (map shown_snapshot s.snapshots) (map (shown_session s.snapshots) s.sessions) key base tested2 in
       let w = new_writer key moment base in
       let is_writer = is_new_writer s key moment base sound is_key (ap (want_newer key.time) (sym (latest_shown (group_of_key key) s.snapshots)) ∙ may.newer) (subst (λ n. n < 4096) (count_shown (group_of_key key) s.snapshots) may.room) in
-      let is_alone = alone s lane w (sym (position_shown (group_of_key key) s.sessions) ∙ may.free) in
+      let is_alone = alone s lane w (sym (position_shown s.snapshots (group_of_key key) s.sessions) ∙ may.free) in
       let disk2 = disk_writer (content old.disk) s lane w within (no_uploads (content old.disk) key moment base) h.files in
       let holds : Holds honest content new (with_session s lane (writer w)) = record {
         honest = subst honest (sym d) h.honest;

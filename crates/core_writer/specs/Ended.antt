@@ -1,5 +1,5 @@
 -- What is left of a disk as a writer's files are removed, and when they are.
-use Rattle.std.specs.Prelude.{◌≡◌, ℕ, Bool, not, ◌&&◌, List, [], Option, Some, None, if◌then◌else◌, slice_index_or}
+use Rattle.std.specs.Prelude.{◌≡◌, ℕ, Bool, not, ◌&&◌, List, Option, Some, None, if◌then◌else◌, slice_index_or}
 use Rattle.std.specs.List.{list_any}
 use Rattle.std.specs.Str.{bytes_eq}
 use Rattle.std.specs.FinMap.{get}
@@ -13,14 +13,8 @@ use Rattle.store_history.specs.declared.act.Answer.{Answer}
 use Rattle.core_state.specs.declared.state.Core.{Core}
 use Rattle.core_state.specs.declared.parts.Parts.{Parts}
 use Rattle.core_state.specs.declared.kept.StoredFile.{StoredFile}
-use Rattle.core_state.specs.declared.kept.Session.{Session}
-use Rattle.core_state.specs.declared.kept.Session.TheVariants.{Idle, Writer, Reader}
-
--- the files of the session's writer
-abbrev pub stored_files : Session → List StoredFile
-stored_files Idle = []
-stored_files (Writer w) = w.files
-stored_files (Reader r) = []
+use Rattle.core_state.specs.declared.kept.Session.TheVariants.{Idle}
+use Rattle.core_uploads.specs.Others.{stored_files}
 
 -- a file other than the manifest stands there
 abbrev pub is_removed : List ℕ → StoredFile → Bool

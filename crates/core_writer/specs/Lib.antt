@@ -1,9 +1,4 @@
 pub mod Opened
 pub mod Closed
-pub mod Uploaded
 pub mod Ended
 pub mod WriterActs
-pub mod Others
-pub mod Appended
-pub mod Noted
-pub mod Stepped

@@ -17,20 +17,19 @@ ghost use Rattle.core_state.specs.History.{History, IsClear, StandsFor, then_eve
 ghost use Rattle.core_state.specs.Chunks.{IsSafe, Adds};
 ghost use Rattle.core_state.specs.Holds.{Acts};
 ghost use Rattle.core_state.specs.Replies.{may_answer};
-ghost use Rattle.core_state.specs.Settles.{reply_by};
+ghost use Rattle.core_state.specs.Settles.{kind_by, reply_by};
 ghost use Rattle.core_state.specs.Unchanged.{Unchanged};
+ghost use Rattle.core_state.specs.Unreadables.{TellsUnreadable};
 ghost use Rattle.core_writer.specs.Closed.{Lists, listed_by};
 ghost use Rattle.core_writer.specs.Ended.{FilesGone, Removes};
-ghost use Rattle.core_writer.specs.Others.{OthersStay, ActLeaves};
-ghost use Rattle.core_writer.specs.WriterActs.{IsWriters};
+ghost use Rattle.core_uploads.specs.Others.{OthersStay, ActLeaves};
+ghost use Rattle.core_writer.specs.WriterActs.{IsWriters, asked_of_writer};
 
-use crate::archives::{append, close_index, new_dynamic};
-use crate::chunks::chunk;
 use crate::ending::{abort, end, forget_session};
 use crate::finishing::finish;
 use crate::opening::open_writer;
-use crate::uploads::blob;
 use core_state::{Act, Answer, Begun, Core, Parts, begin, begin_end, enter, settle};
+use core_uploads::{append, blob, chunk, close_index, new_dynamic, new_fixed, previous};
 use disk_trait::{Disk, DiskError};
 use port_traits::Clock;
 use std::alloc::Global;
@@ -57,6 +56,7 @@ fn perform<D: Disk>(
     ensures listed { parts.new.catalogue.items ≡ listed_by act (Some (reply_by result)) number (slice_index_or parts.old.sessions.items lane Idle) parts.old.catalogue.items }
     ensures chunks { Adds D.honest D.content parts.old parts.new act result }
     ensures closed { closes act (slice_index_or parts.old.sessions.items lane Idle) ≡ true → HasClosed parts.new lane result }
+    ensures unreadable { TellsUnreadable D.honest D.content parts.old.disk (asked_of_writer act (slice_index_or parts.old.sessions.items lane Idle) parts.old.catalogue.items) (kind_by result) (Some (reply_by result)) }
     ensures removed { act ≡ Act.Plain commands.Abort → reply_by result ≡ Reply.Done → FilesGone D.honest D.content parts.old parts.new.disk lane }
     ensures act { (remote : Option (List Snapshot)) (w : World) → IsSafe (D.content parts.old.disk) act → Acts D.honest D.content parts.old parts.new (λ s. act_outcome remote (record w { store = s }) lane moment act) result }
 {
@@ -64,6 +64,24 @@ fn perform<D: Disk>(
         Act::Plain(Command::OpenWriter { snapshot }) => {
             open_writer(parts, alloc, lane, moment, snapshot.as_slice())
         }
+        Act::Plain(Command::Previous { file, offset }) => {
+            previous(parts, alloc, lane, file.as_slice(), offset)
+        }
+        Act::Plain(
+            Command::NewFixed {
+                file,
+                size,
+                chunk_size,
+            },
+        ) => new_fixed(
+            parts,
+            alloc,
+            lane,
+            moment,
+            file.as_slice(),
+            size,
+            chunk_size,
+        ),
         Act::Plain(Command::NewDynamic { file }) => {
             new_dynamic(parts, alloc, lane, moment, file.as_slice())
         }
@@ -104,6 +122,8 @@ pub fn writer_act<D: Disk, E, C: Clock>(
     ensures told { IsSome result.reply }
     // why it is answered so, on any disk
     ensures cause { HasCause D.faults core.old core.new act result }
+    // a file of the base is unreadable exactly where it is, as far as the disk tells
+    ensures unreadable { TellsUnreadable D.honest D.content core.old.parts.disk (asked_of_writer act (slice_index_or core.old.parts.sessions.items lane Idle) core.old.parts.catalogue.items) result.entry.kind result.reply }
     // a refused act leaves catalogue and sessions as before, and the disk too unless it failed
     ensures unchanged { IfSome result.reply (Unchanged D.honest D.content core.old.parts core.new.parts) }
     // under names that are no file's of the lane's writer all stays, but at that of a chunk that the act puts

@@ -13,11 +13,11 @@ ghost use Rattle.core_state.specs.Replies.{answers_close};
 ghost use Rattle.core_state.specs.Settles.{reply_by};
 ghost use Rattle.core_state.specs.declared.kept.Session.TheVariants.{Idle};
 ghost use Rattle.core_state.specs.Unchanged.{SameKept, Unchanged};
-ghost use Rattle.core_writer.specs.Ended.{FilesGone, is_removed, removed_by, stored_files};
-ghost use Rattle.core_writer.specs.Others.{OthersStay};
+ghost use Rattle.core_writer.specs.Ended.{FilesGone, is_removed, removed_by};
+ghost use Rattle.core_uploads.specs.Others.{OthersStay, stored_files};
 
-use crate::sessions::wrong_state;
 use core_state::{Parts, Session, StoredFile};
+use core_uploads::wrong_state;
 use disk_trait::{Disk, DiskError, Failed};
 use wire_commands::Reply;
 

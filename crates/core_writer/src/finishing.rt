@@ -6,25 +6,36 @@ ghost use Rattle.std.specs.Str.{bytes_eq};
 ghost use Rattle.store_types.specs.FileNames.{manifest_name};
 ghost use Rattle.disk_trait.specs.Files.{placed};
 ghost use Rattle.disk_trait.specs.Disk.{Serves};
-ghost use Rattle.wire_commands.specs.HasText.{ReplyHasText};
+ghost use Rattle.wire_commands.specs.HasText.{FitsRefusal, ReplyHasText};
+ghost use Rattle.wire_commands.specs.declared.reply.Reply.TheVariants.{Refused};
 ghost use Rattle.wire_commands.specs.declared.command.Command.TheVariants as commands;
 ghost use Rattle.store_model.specs.Steps.{outcome};
 ghost use Rattle.core_state.specs.Holds.{Acts};
 ghost use Rattle.core_state.specs.declared.kept.Session.TheVariants.{Idle};
-ghost use Rattle.core_state.specs.Replies.{answers_finish};
+ghost use Rattle.core_state.specs.Replies.{answers_finish, refuses_finish};
 ghost use Rattle.core_state.specs.Settles.{reply_by};
 ghost use Rattle.core_state.specs.Unchanged.{Unchanged};
 ghost use Rattle.core_writer.specs.Closed.{closed, closed_by, kept_manifest};
-ghost use Rattle.core_writer.specs.Others.{OthersStay};
+ghost use Rattle.core_uploads.specs.Others.{OthersStay};
 
 use crate::catalogue::insert;
-use crate::sessions::wrong_state;
 use core_state::{Kept, Listed, Parts, Path, Session, StoredFile, Writing};
+use core_uploads::wrong_state;
 use disk_trait::{Disk, DiskError};
 use std::alloc::Global;
 use std::mem;
 use store_types::Refusal;
 use wire_commands::Reply;
+
+/// The reply to a FINISH that is refused so.
+fn refused_finish(refusal: Refusal) -> Reply
+    requires kind { IsTrue (refuses_finish refusal) }
+    requires fits { FitsRefusal refusal }
+    ensures value { result ≡ Refused refusal }
+    ensures text { ReplyHasText result }
+{
+    Reply::Refused(refusal)
+}
 
 fn manifest_file(files: &[StoredFile]) -> Option<&StoredFile>
     ensures { option_map (λ f. f.now) result ≡ find (λ f. bytes_eq f.name manifest_name) files.now }
@@ -77,7 +88,9 @@ fn close(catalogue: &mut Vec<Listed>, session: &mut Session, number: u64)
 /// The files of the lane's writer become a finished snapshot.
 ///
 /// The number is that of the order's entry of this act. The refusals, in the order in which they are tested: the lane has
-/// no writer; it has open indexes; it has no manifest. All memory is taken before the first disk call, that of the put itself apart.
+/// no writer; it has open indexes; it has no manifest; the manifest is none, by its cause; the first mismatch between the
+/// manifest and the snapshot's key and other files. A refusal changes nothing. All memory is taken before the first disk
+/// call, that of the put itself apart.
 pub fn finish<D: Disk>(
     parts: &mut Parts<D>,
     alloc: Global,
@@ -100,10 +113,10 @@ pub fn finish<D: Disk>(
     let Session::Writer(w) = session else {
         return Ok(Reply::Refused(wrong_state(session)));
     };
-    let count = w.session.open_indexes();
-    if count > 0 {
-        return Ok(Reply::Refused(Refusal::OpenIndexes { count }));
+    if let Err(refusal) = w.session.finish_check(alloc)? {
+        return Ok(refused_finish(refusal));
     }
+    // the check found it
     let Some((path, text)) = manifest_of(w) else {
         return Ok(Reply::Refused(Refusal::NoFile));
     };

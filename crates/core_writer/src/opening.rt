@@ -15,7 +15,7 @@ ghost use Rattle.core_state.specs.Replies.{answers_writer, refuses_writer};
 ghost use Rattle.core_state.specs.Settles.{reply_by};
 ghost use Rattle.core_state.specs.Unchanged.{Unchanged};
 ghost use Rattle.core_writer.specs.Opened.{base_kept};
-ghost use Rattle.core_writer.specs.Others.{OthersStay};
+ghost use Rattle.core_uploads.specs.Others.{OthersStay};
 
 use crate::catalogue::{latest_in, want_newer, want_room};
 use crate::sessions::{want_free, want_idle};

@@ -4,24 +4,14 @@ ghost use Rattle.std.specs.Prelude.{◌≡◌, ◌<◌, length, IfErr, IsTrue, p
 ghost use Rattle.store_types.specs.Names.{group_of_key};
 ghost use Rattle.wire_commands.specs.declared.reply.Reply.TheVariants.{Refused};
 ghost use Rattle.wire_commands.specs.HasText.{ReplyHasText};
-ghost use Rattle.store_types.specs.declared.refusal.Refusal.TheVariants.{WrongState};
 ghost use Rattle.store_types.specs.Chain.Refusing.{if_none};
 ghost use Rattle.store_types.specs.declared.refusal.Refusal.TheVariants.{GroupBusy};
-ghost use Rattle.core_state.specs.States.{state_of};
 ghost use Rattle.core_state.specs.Replies.{refuses_writer};
 ghost use Rattle.core_writer.specs.Opened.{writes, want_idle as needs_idle};
 
 use core_state::Session;
+use core_uploads::wrong_state;
 use store_types::{Refusal, SnapshotKey};
-
-/// The refusal of a command that needs another session.
-#[tactic(auto, using(core_state::proofs::Texts::wrong_state_has_text))]
-pub fn wrong_state(session: &Session) -> Refusal
-    ensures value { result ≡ WrongState (state_of session.now) }
-    ensures text { ReplyHasText (Refused result) }
-{
-    Refusal::WrongState(session.state())
-}
 
 pub fn want_idle(session: &Session) -> Result<(), Refusal>
     ensures value { result ≡ needs_idle session.now }

@@ -2,8 +2,9 @@ ghost use Rattle.std.specs.Prelude.{◌<◌};
 ghost use Rattle.store_history.specs.Acts.{IsChecked};
 
 use super::*;
-use blob_codec::decode;
+use blob_codec::{decode, encode};
 use core_state::{Parts, open_on};
+use core_uploads::blob;
 use disk_trait::{Disk, MemoryDisk};
 use port_traits::SetClock;
 use std::alloc::Global;
@@ -20,6 +21,10 @@ const DIGITS: &[u8] = b"\x42\xab\x38\x07\xbe\x83\x70\xa1\x26\x39\xf4\xcb12345678
 
 /// The blob of nothing.
 const NOTHING: &[u8] = b"\x42\xab\x38\x07\xbe\x83\x70\xa1\x00\x00\x00\x00";
+
+/// Lists the blob of `123456789` as `a.conf.blob`.
+const MANIFEST: &[u8] =
+    b"{\"backup-id\":\"a\",\"backup-time\":1579069803,\"backup-type\":\"host\",\"files\":[{\"filename\":\"a.conf.blob\",\"size\":21,\"csum\":\"69dcb4830c28203c26a1dade2d893d7f1d13cdba5eb39e348b008f3a5a0fb688\"}]}";
 
 /// The check of an upload.
 fn checked(text: Bytes) -> Result<Bytes, Refusal>
@@ -42,6 +47,19 @@ fn upload(
 {
     let text = Bytes::from_slice(alloc, text)?;
     Ok(blob(parts, alloc, lane, name, checked(text))?)
+}
+
+/// The manifest of these bytes.
+fn manifest(
+    parts: &mut Parts<MemoryDisk>,
+    alloc: Global,
+    lane: u32,
+    json: &[u8],
+) -> Result<Reply, Fail>
+    requires { lane < 64 }
+{
+    let text = encode(alloc, json)?.ok().ok_or("too long")?;
+    upload(parts, alloc, lane, b"index.json.blob", &text)
 }
 
 fn is_base(reply: &Reply, text: &[u8]) -> bool {
@@ -74,17 +92,12 @@ fn snapshots_are_written(rt: HostRuntime) -> Result<(), Fail> {
             Reply::Refused(Refusal::NoFile)
         )
     );
-    assert!(rt;
-        matches!(
-            upload(&mut parts, alloc, 3, b"index.json.blob", NOTHING)?,
-            Reply::Done
-        )
-    );
-    let manifest = "host/a/2020-01-15T06:30:03Z/index.json.blob";
-    assert!(rt; parts.disk.read(alloc, manifest)?.is_none());
+    assert!(rt; matches!(manifest(&mut parts, alloc, 3, MANIFEST)?, Reply::Done));
+    let path = "host/a/2020-01-15T06:30:03Z/index.json.blob";
+    assert!(rt; parts.disk.read(alloc, path)?.is_none());
     assert!(rt; matches!(finish(&mut parts, alloc, 3, 6)?, Reply::Done));
-    let put = parts.disk.read(alloc, manifest)?.ok_or("no manifest")?;
-    assert_eq!(rt; put.as_slice(), NOTHING);
+    let put = parts.disk.read(alloc, path)?.ok_or("no manifest")?;
+    assert_eq!(rt; put.len(), MANIFEST.len() + 12);
 
     let late = open_writer(&mut parts, alloc, 3, 1000, FIRST)?;
     assert!(rt;
@@ -134,7 +147,7 @@ fn writers_are_aborted(rt: HostRuntime) -> Result<(), Fail> {
     );
     let _ = open_writer(&mut parts, alloc, 3, 1000, FIRST)?;
     let _ = upload(&mut parts, alloc, 3, b"a.conf.blob", DIGITS)?;
-    let _ = upload(&mut parts, alloc, 3, b"index.json.blob", NOTHING)?;
+    let _ = manifest(&mut parts, alloc, 3, MANIFEST)?;
     assert!(rt; matches!(finish(&mut parts, alloc, 3, 4)?, Reply::Done));
 
     assert!(rt; is_base(&open_writer(&mut parts, alloc, 4, 1000, SECOND)?, FIRST));

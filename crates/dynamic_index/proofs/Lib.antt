@@ -4,5 +4,5 @@ mod LastEntry
 mod KnownPieces
 mod Faults
 mod TextParts
-mod Spelling
+pub mod Spelling
 pub mod Reading

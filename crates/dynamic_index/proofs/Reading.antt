@@ -1,9 +1,10 @@
 -- What bytes that are an index have in them, for a reader that uses no view.
-use Rattle.std.proofs.Common.{◌≡◌, ℕ, List, Option, Some, None, Ok, refl, sym, ap, ◌∙◌}
+use Rattle.std.proofs.Common.{◌≡◌, ◌≤◌, ℕ, IsTrue, List, length, Option, Some, None, Ok, refl, sym, ap, subst, ◌∙◌, arith}
 use Rattle.store_files.specs.declared.causes.IndexFault.{IndexFault}
-use Rattle.store_files.specs.DynamicIndex.{DynamicIndex, fields_of, dynamic_text, dynamic_of}
+use Rattle.store_files.specs.Cells.{entry_limit}
+use Rattle.store_files.specs.DynamicIndex.{DynamicIndex, steps_fit, fields_of, dynamic_text, dynamic_of}
 use Rattle.dynamic_index.specs.Viewing.{fault_of, IsIndex}
-use Rattle.dynamic_index.proofs.Cells.{AreBytes}
+use Rattle.dynamic_index.proofs.Cells.{AreBytes, count_is}
 use Rattle.dynamic_index.proofs.Faults.{outcome, dynamic_of-fault, is_index}
 use Rattle.dynamic_index.proofs.Spelling.{dynamic_text-fields}
 
@@ -22,3 +23,10 @@ pub dynamic_of-text : (bytes : List ℕ) (x : DynamicIndex) → AreBytes bytes �
 dynamic_of-text bytes x small is =
     let found = dynamic_of-ok bytes x is in
     dynamic_text-fields bytes small found.1 ∙ ap dynamic_text (sym found.0)
+
+-- It has not too many pieces, and each is as long as a piece may be.
+pub dynamic_of-fits : (bytes : List ℕ) (x : DynamicIndex) → dynamic_of bytes ≡ Ok x → (length x.entries ≤ entry_limit) × IsTrue (steps_fit 0 x.entries)
+dynamic_of-fits bytes x is =
+    let found = dynamic_of-ok bytes x is in
+    let limit : length (fields_of bytes).entries ≤ entry_limit = omega (arith, count_is bytes, found.1.limit) in
+    subst (λ (y : DynamicIndex). (length y.entries ≤ entry_limit) × IsTrue (steps_fit 0 y.entries)) (sym found.0) (limit, found.1.steps)

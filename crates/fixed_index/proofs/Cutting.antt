@@ -1,12 +1,12 @@
 -- How many pieces a size makes, and where they end.
-use Rattle.std.proofs.Common.{◌≡◌, ℕ, ◌+◌, ◌-◌, ◌*◌, ◌/◌, ◌^◌, ◌<◌, ◌≤◌, Bool, true, false, ◌&&◌, IsTrue, min, List, [], ◌∷◌, ◌++◌, length, ℤ, refl, inl, inr, sym, subst, arith}
+use Rattle.std.proofs.Common.{◌≡◌, ℕ, ◌+◌, ◌-◌, ◌*◌, ◌/◌, ◌^◌, ◌<◌, ◌≤◌, Bool, true, false, ◌&&◌, IsTrue, min, List, [], ◌∷◌, ◌++◌, All, length, map, ℤ, refl, inl, inr, sym, ap, subst, ◌∙◌, append_assoc, arith}
 use Rattle.std.proofs.Math.Nat.{div-lt_iff_lt-mul, mul-le-mul, mul-le-mul_right}
 use Rattle.std.proofs.lemmas.Grind.{div_ceil_times}
 use Rattle.std.proofs.lemmas.Bool.{cases_lt, leb-true}
 use Rattle.std.proofs.lemmas.List.{length-append}
-use Rattle.std.proofs.lemmas.List.Elements.{All-push}
+use Rattle.std.proofs.lemmas.List.Elements.{All-push, All-head, All-tail}
 use Rattle.std.specs.Int.{div_ceil}
-use Rattle.fixed_index.specs.Writing.{IsBegun}
+use Rattle.fixed_index.specs.Writing.{IsBegun, Known, FitsFrom}
 use Rattle.store_files.specs.FixedIndex.{FixedIndex, is_chunk_size, piece_count, has_sizes}
 
 left_true : (a b : Bool) → IsTrue (a && b) → IsTrue a
@@ -82,3 +82,26 @@ begun_more uuid ctime size cut digests digest is room long =
       count = omega (arith, more, length-append digests (digest ∷ []));
       digest_len = All-push (λ d. length d ≡ 32) digests digest is.digest_len long;
     }
+
+-- ---- several pieces behind the others
+
+-- a piece that is as long as is asked ends where so many pieces and one more end
+pub next_end : (size cut n : ℕ) → min size (n * cut) + min cut (size - min size (n * cut)) ≡ min size ((n + 1) * cut)
+next_end size cut n = omega arith
+
+append_nothing : (ds : List (List ℕ)) → ds ++ [] ≡ ds
+append_nothing [] = refl
+append_nothing (d ∷ ds) = ap (λ (l : List (List ℕ)). d ∷ l) (append_nothing ds)
+
+pub begun_all : (uuid : List ℕ) (ctime : ℤ) (size cut : ℕ) (digests : List (List ℕ)) (pieces : List Known) → IsBegun uuid ctime size cut digests →
+    FitsFrom size cut (min size (length digests * cut)) pieces → All (λ d. length d ≡ 32) (map (λ k. k.0) pieces) →
+    IsBegun uuid ctime size cut (digests ++ map (λ k. k.0) pieces)
+begun_all uuid ctime size cut digests [] is fits long = subst (IsBegun uuid ctime size cut) (sym (append_nothing digests)) is
+begun_all uuid ctime size cut digests (k ∷ ks) is fits long =
+    let IsLong : List ℕ → Type 0 = λ d. length d ≡ 32 in
+    let more = begun_more uuid ctime size cut digests k.0 is fits.0 (All-head IsLong k.0 (map (λ j. j.0) ks) long) in
+    let count : length (digests ++ k.0 ∷ []) ≡ length digests + 1 = omega (arith, length-append digests (k.0 ∷ [])) in
+    let ends : min size (length digests * cut) + k.1 ≡ min size (length (digests ++ k.0 ∷ []) * cut) =
+    ap (λ n. min size (length digests * cut) + n) (fits.1) ∙ next_end size cut (length digests) ∙ ap (λ n. min size (n * cut)) (sym count) in
+    subst (IsBegun uuid ctime size cut) (append_assoc digests (k.0 ∷ []) (map (λ j. j.0) ks))
+    (begun_all uuid ctime size cut (digests ++ k.0 ∷ []) ks more (subst (λ end. FitsFrom size cut end ks) ends fits.2) (All-tail IsLong k.0 (map (λ j. j.0) ks) long))

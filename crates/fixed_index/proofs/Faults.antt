@@ -1,11 +1,10 @@
 -- The tests of an index, in turn.
-use Rattle.std.proofs.Common.{◌≡◌, ℕ, Bool, true, false, not, cond, Option, Some, None, Result, Ok, Err, List, take, slice_range, refl, sym}
+use Rattle.std.proofs.Common.{◌≡◌, ℕ, Bool, true, false, not, cond, Option, Some, None, Result, Ok, Err, List, refl, sym}
 use Rattle.std.proofs.lemmas.Bool.{ltb-false, eqb-true}
 use Rattle.std.proofs.lemmas.Slice.Eq.{bytes_eq-Decides}
 use Rattle.store_files.specs.declared.causes.IndexFault.{IndexFault}
 use Rattle.store_files.specs.declared.causes.IndexFault.TheVariants.{Short, Magic, Length, Count, Sizes, Csum}
-use Rattle.store_files.specs.FixedIndex.{FixedIndex, fixed_of, fields_of, csum_of}
-use Rattle.store_files.specs.FixedIndex.{magic as magic_bytes}
+use Rattle.store_files.specs.FixedIndex.{FixedIndex, fixed_of, fields_of}
 use Rattle.fixed_index.specs.Viewing.{first_fault, fault_of, IsIndex}
 
 abbrev pub outcome : FixedIndex → Option IndexFault → Result FixedIndex IndexFault

@@ -3,4 +3,5 @@ mod Cells
 mod Faults
 mod Joining
 mod TextParts
-mod Spelling
+pub mod Spelling
+pub mod Reading

@@ -1,8 +1,9 @@
 -- A fixed index as it is written: its digests come one by one.
-use Rattle.std.specs.Prelude.{◌≡◌, ℕ, ◌*◌, ◌^◌, ◌<◌, ◌≤◌, FitsSigned, All, List, [], ◌∷◌, ◌++◌, length, replicate, min, ℤ, IsTrue}
+use Rattle.std.specs.Prelude.{◌≡◌, ℕ, ◌+◌, ◌*◌, ◌^◌, ◌<◌, ◌≤◌, FitsSigned, All, List, [], ◌∷◌, ◌++◌, map, length, replicate, min, ℤ, IsTrue}
 use Rattle.std.specs.Int.{w64}
 use Rattle.store_files.specs.Cells.{entry_limit}
 use Rattle.store_files.specs.FixedIndex.{FixedIndex, is_chunk_size, piece_count, piece_len}
+use Rattle.store_types.specs.declared.names.Digest32.{Digest32}
 
 -- the rest of the header
 unfoldable pub reserved : List ℕ
@@ -29,6 +30,26 @@ pub record FitsPiece (x : FixedIndex) (len : ℕ) : Type 0 where
 
 abbrev pub with_digest : FixedIndex → List ℕ → FixedIndex
 with_digest x digest = record x { digests = x.digests ++ digest ∷ [] }
+
+-- ---- several pieces at once, each by its digest and its length
+
+abbrev pub Known : Type 0
+Known = List ℕ × ℕ
+
+abbrev pub known_of : Digest32 × ℕ → Known
+known_of piece = ((piece.0).0, piece.1)
+
+-- from an end on, each is as long as is asked where it begins
+abbrev pub FitsFrom : ℕ → ℕ → ℕ → List Known → Type 0
+FitsFrom size cut end [] = Unit {0}
+FitsFrom size cut end (k ∷ ks) = (end < size) × (k.1 ≡ piece_len size cut end) × FitsFrom size cut (end + k.1) ks
+
+abbrev pub FitsPieces : FixedIndex → List Known → Type 0
+FitsPieces x pieces = FitsFrom x.size x.chunk_size (end_of x) pieces
+
+-- they all stand behind the others
+abbrev pub with_pieces : FixedIndex → List Known → FixedIndex
+with_pieces x pieces = record x { digests = x.digests ++ map (λ k. k.0) pieces }
 
 -- what a writer keeps
 pub record IsBegun (uuid : List ℕ) (ctime : ℤ) (size cut : ℕ) (digests : List (List ℕ)) : Type 0 where

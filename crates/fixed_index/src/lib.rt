@@ -4,11 +4,13 @@
 //! length of a piece) and the digests, 32 bytes each. Numbers are little-endian.
 #![tactic(auto)]
 
+mod sizes;
 #[cfg(test)]
 mod tests;
 mod view;
 mod writer;
 
+pub use sizes::{is_chunk_size, piece_count};
 pub use store_files::IndexFault;
 pub use view::{BadIndex, FixedView};
 pub use writer::FixedWriter;

@@ -61,6 +61,16 @@ fn two_whole_pieces(rt: HostRuntime) -> Result<(), Fail> {
 }
 
 #[test]
+fn pieces_at_once(rt: HostRuntime) -> Result<(), Fail> {
+    let mut writer = FixedWriter::new(rt.alloc(), [1; 16], 1_579_069_803, 4097, 4096);
+    let pieces = [(Digest32([7; 32]), 4096), (Digest32([9; 32]), 1)];
+    writer.append_all(rt.alloc(), &pieces)?;
+    assert_eq!(rt; (writer.len(), writer.end()), (2, 4097));
+    assert_eq!(rt; writer.facts().2, Digest32(CSUM));
+    Ok(())
+}
+
+#[test]
 fn no_pieces(rt: HostRuntime) -> Result<(), Fail> {
     let text = FixedWriter::new(rt.alloc(), [0; 16], -1, 0, 16_777_216).close(rt.alloc())?;
     assert_eq!(rt; text.len(), 4096);

@@ -4,9 +4,10 @@ ghost use Rattle.std.specs.Prelude.{◌≡◌, ◌+◌, ◌-◌, ◌%◌, ◌≤
 ghost use Rattle.std.specs.Str.{bytes_eq};
 ghost use Rattle.std.specs.Int.{w64, from_le_bytes};
 ghost use Rattle.store_files.specs.Cells.{header_len};
-ghost use Rattle.store_files.specs.FixedIndex.{fixed_of, fixed_text, magic, fields_of, csum_of, has_sizes as sizes_agree, is_chunk_size as is_allowed};
+ghost use Rattle.store_files.specs.FixedIndex.{fixed_of, fixed_text, magic, fields_of, csum_of, has_sizes as sizes_agree};
 ghost use Rattle.fixed_index.specs.Viewing.{fault_of as fault_in};
 
+use crate::sizes::{is_chunk_size, piece_count};
 use crate::{ENTRY_LIMIT, HEADER_SIZE, MAGIC};
 use sha2::{Digest, Sha256};
 use std::marker::Model;
@@ -143,7 +144,7 @@ fn has_sizes(bytes: &[u8]) -> bool
         return false;
     }
     let count = (bytes.len() - HEADER_SIZE) / 32;
-    count as u64 == u64_at(bytes, 64).div_ceil(chunk_size)
+    count as u64 == piece_count(u64_at(bytes, 64), chunk_size)
 }
 
 fn has_csum(bytes: &[u8]) -> bool
@@ -153,12 +154,6 @@ fn has_csum(bytes: &[u8]) -> bool
 {
     let csum = Sha256::digest(&bytes[HEADER_SIZE..]);
     &bytes[32..64] == csum.as_slice()
-}
-
-fn is_chunk_size(n: u64) -> bool
-    ensures { result ≡ is_allowed n }
-{
-    4096 <= n && n <= 16_777_216 && n & (n - 1) == 0
 }
 
 fn digest_at(bytes: &[u8], at: usize) -> [u8; 32]

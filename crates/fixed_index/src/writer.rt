@@ -1,11 +1,11 @@
 //! An index as it is written.
 
-ghost use Rattle.std.specs.Prelude.{◌≡◌, ◌++◌, ◌≤◌, length, map, take, IfOk, OnOk, OnErr, Ok};
+ghost use Rattle.std.specs.Prelude.{◌≡◌, ◌*◌, ◌++◌, ◌≤◌, All, length, map, take, IfOk, OnOk, OnErr, Ok};
 ghost use Rattle.std.specs.Int.{w64, to_le_bytes, cast_unsigned};
 ghost use Rattle.std.specs.List.{concat};
 ghost use Rattle.sha2.specs.Sha256.{sha256};
 ghost use Rattle.store_files.specs.FixedIndex.{FixedIndex, fixed_text, fixed_of, csum_of, magic as magic_bytes};
-ghost use Rattle.fixed_index.specs.Writing.{reserved, begun, end_of, with_digest, FitsSizes, FitsPiece};
+ghost use Rattle.fixed_index.specs.Writing.{reserved, begun, end_of, with_digest, FitsSizes, FitsPiece, known_of, with_pieces, FitsPieces};
 
 use crate::{HEADER_SIZE, MAGIC};
 use sha2::{Digest, Sha256};
@@ -51,9 +51,31 @@ impl FixedWriter {
         }
     }
 
-    // Where the pieces so far end.
-    fn end(&self) -> u64
-        ensures { result ≡ end_of self.now }
+    /// How many digests there are so far.
+    pub fn len(&self) -> u32
+        ensures { result ≡ length self.now.digests }
+    {
+        self.digests.len() as u32
+    }
+
+    /// The archive's size, which the pieces are to reach, in bytes.
+    pub fn size(&self) -> u64
+        ensures { result ≡ self.now.size }
+    {
+        self.size
+    }
+
+    /// The length of each piece but the last, in bytes.
+    pub fn chunk_size(&self) -> u64
+        ensures { result ≡ self.now.chunk_size }
+    {
+        self.chunk_size
+    }
+
+    /// Where the pieces so far end.
+    pub fn end(&self) -> u64
+        ensures value { result ≡ end_of self.now }
+        ensures limit { result ≤ 1_048_576 * 16_777_216 }
     {
         (self.digests.len() as u64 * self.chunk_size).min(self.size)
     }
@@ -70,6 +92,22 @@ impl FixedWriter {
         Ok(())
     }
 
+    /// The digests and lengths of the next pieces, each as long as is asked where it begins. At want of memory nothing
+    /// has changed.
+    pub fn append_all(
+        &mut self,
+        alloc: Global,
+        pieces: &[(Digest32, u32)],
+    ) -> Result<(), AllocError>
+        requires { FitsPieces self.old (map known_of pieces.now) }
+        ensures ok { OnOk result (self.new ≡ with_pieces self.old (map known_of pieces.now)) }
+        ensures err { OnErr result (self.new ≡ self.old) }
+    {
+        let mut more = digests_of(alloc, pieces)?;
+        self.digests.append(&mut more)?;
+        Ok(())
+    }
+
     /// The number of digests, where their pieces end, and the SHA-256 of the digests. It takes no memory.
     pub fn facts(&self) -> (u32, u64, Digest32)
         ensures entries { result.0 ≡ length self.now.digests }
@@ -77,7 +115,7 @@ impl FixedWriter {
         ensures csum { result.2.0 ≡ csum_of self.now }
     {
         let csum = digest_of_all(&self.digests);
-        (self.digests.len() as u32, self.end(), csum)
+        (self.len(), self.end(), csum)
     }
 
     /// The file's text, once the pieces reach the size. `FixedView::open_on` reads the same index from it.
@@ -107,6 +145,25 @@ impl FixedWriter {
         text.extend_from_slice(&zeros())?;
         Ok(text)
     }
+}
+
+fn copy_of(digest: &Digest32) -> Digest32
+    ensures value { result.0 ≡ digest.now.0 }
+    ensures length { length result.0 ≡ 32 }
+{
+    let digest = digest.0;
+    Digest32(digest)
+}
+
+fn digests_of(alloc: Global, pieces: &[(Digest32, u32)]) -> Result<Vec<Digest32>, AllocError>
+    ensures values { IfOk result (λ digests. map (λ d. d.0) digests.items ≡ map (λ k. k.0) (map known_of pieces.now)) }
+    ensures lengths { IfOk result (λ digests. All (λ d. length d ≡ 32) (map (λ d. d.0) digests.items)) }
+{
+    let mut digests = Vec::with_capacity(alloc, pieces.len())?;
+    for piece in pieces {
+        digests.push(copy_of(&piece.0))?;
+    }
+    Ok(digests)
 }
 
 // The rest of the header.

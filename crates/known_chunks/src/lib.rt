@@ -1,8 +1,9 @@
 //! The chunks that a writer may name, each with its length.
 #![tactic(auto)]
 
-ghost use Rattle.std.specs.Prelude.{◌≡◌, OnOk, OnErr};
+ghost use Rattle.std.specs.Prelude.{◌≡◌, map, OnOk, OnErr};
 ghost use Rattle.std.specs.FinMap.{empty, get, insert, remove};
+ghost use Rattle.known_chunks.specs.Lengths.{known_of, with_length, with_lengths, without};
 
 use std::alloc::{AllocError, Global};
 use std::collections::BTreeMap;
@@ -46,6 +47,47 @@ impl Known {
         Ok(())
     }
 
+    /// Notes each chunk's length, unless one is noted. At want of memory nothing has changed.
+    pub fn add_all(&mut self, alloc: Global, pieces: &[(Digest32, u32)]) -> Result<(), AllocError>
+        ensures ok { OnOk result (self.new ≡ with_lengths self.old (map known_of pieces.now)) }
+        ensures err { OnErr result (self.new ≡ self.old) }
+    {
+        let mut added = Vec::with_capacity(alloc, pieces.len())?;
+        for piece in pieces {
+            if let Err(error) = self.add_new(&mut added, &piece.0, piece.1) {
+                self.remove_all(&added);
+                return Err(error);
+            }
+        }
+        Ok(())
+    }
+
+    // Notes a chunk's length, unless one is noted, and tells what was added. Without that the map is as before.
+    fn add_new(
+        &mut self,
+        added: &mut Vec<Digest32>,
+        digest: &Digest32,
+        length: u32,
+    ) -> Result<(), AllocError>
+        ensures ok { OnOk result (self.new ≡ with_length self.old (digest.now.0, length)) }
+        ensures back { without self.new added.new.items ≡ without self.old added.old.items }
+    {
+        if self.find(digest).is_some() {
+            return Ok(());
+        }
+        added.push(*digest)?;
+        self.add(digest, length)
+    }
+
+    // Takes these chunks out.
+    fn remove_all(&mut self, digests: &[Digest32])
+        ensures { self.new ≡ without self.old digests.now }
+    {
+        for digest in digests {
+            self.remove(digest);
+        }
+    }
+
     /// Takes a chunk out, where it is there. It takes no memory.
     pub fn remove(&mut self, digest: &Digest32)
         ensures { self.new ≡ remove self.old digest.now.0 }
@@ -81,6 +123,17 @@ mod tests {
         known.remove(&second);
         assert_eq!(rt; known.find(&second), None);
         assert_eq!(rt; known.find(&first), Some(1));
+        Ok(())
+    }
+
+    #[test]
+    fn adds_those_that_are_new(rt: HostRuntime) -> Result<(), Fail> {
+        let (first, second) = (Digest32([1; 32]), Digest32([2; 32]));
+        let mut known = Known::new(rt.alloc());
+        known.add(&second, 7)?;
+        known.add_all(rt.alloc(), &[(first, 1), (second, 4096), (first, 2)])?;
+        assert_eq!(rt; known.find(&first), Some(1));
+        assert_eq!(rt; known.find(&second), Some(7));
         Ok(())
     }
 }

@@ -79,6 +79,8 @@ command_ahead t body rest c is some = by_command c (next_is t (whole body rest) 
     by_command : (d : Command) → next_in t ≡ command_next d rest → IsAhead t (ahead_of d)
     by_command commands.Bye next = record { next = next; seen = seen }
     by_command (commands.OpenWriter snapshot) next = other (commands.OpenWriter snapshot) next (λ h. cc)
+    by_command (commands.Previous file offset) next = other (commands.Previous file offset) next (λ h. cc)
+    by_command (commands.NewFixed file size chunk_size) next = other (commands.NewFixed file size chunk_size) next (λ h. cc)
     by_command (commands.NewDynamic file) next = other (commands.NewDynamic file) next (λ h. cc)
     by_command (commands.Chunk digest blob) next = other (commands.Chunk digest blob) next (λ h. cc)
     by_command (commands.Append number entries) next = other (commands.Append number entries) next (λ h. cc)
@@ -88,6 +90,8 @@ command_ahead t body rest c is some = by_command c (next_is t (whole body rest) 
     by_command commands.Abort next = other commands.Abort next (λ h. cc)
     by_command (commands.OpenReader snapshot) next = other (commands.OpenReader snapshot) next (λ h. cc)
     by_command (commands.Download file offset) next = other (commands.Download file offset) next (λ h. cc)
+    by_command (commands.GetChunk digest) next = other (commands.GetChunk digest) next (λ h. cc)
+    by_command (commands.Range file offset len) next = other (commands.Range file offset len) next (λ h. cc)
     by_command commands.CloseReader next = other commands.CloseReader next (λ h. cc)
 
 -- ---- where memory may be wanting

@@ -1,5 +1,5 @@
 -- A manifest beside what a session uploaded.
-use Rattle.std.specs.Prelude.{ℕ, not, List, [], ◌∷◌, map, if◌then◌else◌, Option}
+use Rattle.std.specs.Prelude.{ℕ, ◌≤◌, not, List, [], ◌∷◌, map, if◌then◌else◌, Option, None, Some}
 use Rattle.std.specs.List.{filter}
 use Rattle.std.specs.Str.{bytes_eq}
 use Rattle.store_types.specs.FileNames.{manifest_name}
@@ -32,3 +32,8 @@ first_mismatch m key uploads = mismatch m.key (map fact_view m.files) key (uploa
 -- what differs of a file
 abbrev pub of_file : List ℕ → ℕ → Mismatch
 of_file name field = record { file = name; field = field }
+
+-- the fields of type, id and time have no file, those of a file have one
+abbrev pub FitsField : Option (List ℕ) → ℕ → Type 0
+FitsField None field = (1 ≤ field) × (field ≤ 3)
+FitsField (Some name) field = (4 ≤ field) × (field ≤ 7)

@@ -1,12 +1,12 @@
 //! Manifests are compared with a session.
 
-ghost use Rattle.std.specs.Prelude.{◌≡◌, [], None, Some, not, ◌&&◌, option_map, map, IfOk, MatchResult};
+ghost use Rattle.std.specs.Prelude.{◌≡◌, ◌≤◌, [], None, Some, not, ◌&&◌, option_map, map, IfOk, IfErr, IfSome, MatchResult};
 ghost use Rattle.std.specs.List.{find, list_any};
 ghost use Rattle.std.specs.Str.{bytes_eq};
 ghost use Rattle.store_types.specs.FileNames.{manifest_name};
 ghost use Rattle.store_files.specs.Manifest.Mismatch.{key_mismatch, upload_mismatch, fact_named, listed_mismatch, unlisted_mismatch};
 ghost use Rattle.manifest.specs.Views.{fact_view, mismatch_view};
-ghost use Rattle.manifest.specs.Checking.{uploaded, first_mismatch, of_file};
+ghost use Rattle.manifest.specs.Checking.{uploaded, first_mismatch, of_file, FitsField};
 ghost use Rattle.manifest.specs.Least.{lesser as lesser_of};
 
 use crate::facts::{FileFact, Manifest, Mismatch};
@@ -15,7 +15,8 @@ use store_types::{FileName, SnapshotKey};
 
 /// Which of type, id and time differs first.
 fn key_field(listed: &SnapshotKey, key: &SnapshotKey) -> Option<u8>
-    ensures { option_map (of_file []) result ≡ key_mismatch listed.now key.now }
+    ensures value { option_map (of_file []) result ≡ key_mismatch listed.now key.now }
+    ensures field { IfSome result (λ field. (1 ≤ field) × (field ≤ 3)) }
 {
     if listed.kind != key.kind {
         Some(1)
@@ -52,7 +53,8 @@ fn upload_named<'u>(uploads: &'u [FileFact], name: &FileName) -> Option<&'u File
 
 /// What differs between a listed file and its upload.
 fn file_field(listed: &FileFact, uploads: &[FileFact]) -> Option<u8>
-    ensures { option_map (of_file listed.now.name) result ≡ upload_mismatch (fact_view listed.now) (fact_named listed.now.name (uploaded uploads.now)) }
+    ensures value { option_map (of_file listed.now.name) result ≡ upload_mismatch (fact_view listed.now) (fact_named listed.now.name (uploaded uploads.now)) }
+    ensures field { IfSome result (λ field. (4 ≤ field) × (field ≤ 7)) }
 {
     let Some(upload) = upload_named(uploads, &listed.name) else {
         return Some(4);
@@ -68,7 +70,8 @@ fn file_field(listed: &FileFact, uploads: &[FileFact]) -> Option<u8>
 
 /// The first listed file that was not uploaded so, and what differs.
 fn first_listed<'l>(listed: &'l [FileFact], uploads: &[FileFact]) -> Option<(&'l FileName, u8)>
-    ensures { option_map (λ r. of_file r.0.now r.1) result ≡ listed_mismatch (map fact_view listed.now) (uploaded uploads.now) }
+    ensures value { option_map (λ r. of_file r.0.now r.1) result ≡ listed_mismatch (map fact_view listed.now) (uploaded uploads.now) }
+    ensures field { IfSome result (λ r. (4 ≤ r.1) × (r.1 ≤ 7)) }
 {
     for file in listed {
         if let Some(field) = file_field(file, uploads) {
@@ -118,9 +121,11 @@ pub fn check(
     key: &SnapshotKey,
     uploads: &[FileFact],
 ) -> Result<Result<(), Mismatch>, AllocError>
-    ensures { IfOk result (λ checked. MatchResult checked
+    ensures first { IfOk result (λ checked. MatchResult checked
         (λ _. first_mismatch manifest.now key.now uploads.now ≡ None)
         (λ e. first_mismatch manifest.now key.now uploads.now ≡ Some (mismatch_view e))) }
+    // a file is told of just where it is none of type, id and time that differs
+    ensures field { IfOk result (λ checked. IfErr checked (λ e. FitsField e.file e.field)) }
 {
     if let Some(field) = key_field(&manifest.key, key) {
         return Ok(Err(Mismatch { file: None, field }));

@@ -1,7 +1,15 @@
 mod archives;
+mod damaged;
 mod disk_faults;
+mod fixed;
+mod frames;
+mod manifests;
 mod memory;
 mod port_faults;
+mod ranges;
+mod restore_faults;
+mod reuse;
+mod talks;
 
 use super::*;
 use archives::{

@@ -1,5 +1,5 @@
 -- The entries of a dynamic index, and the digests of a fixed one, piece by piece.
-use Rattle.std.proofs.Common.{◌≡◌, ℕ, suc, ◌+◌, ◌^◌, ◌%◌, ◌/◌, ◌<◌, length, map, take, drop, get_or, List, [], ◌∷◌, ◌++◌, refl, sym, ap, ◌∙◌, arith, append_assoc, drop-cons, add-one}
+use Rattle.std.proofs.Common.{◌≡◌, ℕ, suc, ◌+◌, ◌^◌, ◌%◌, ◌/◌, ◌<◌, length, map, take, drop, get_or, List, [], ◌∷◌, ◌++◌, refl, sym, ap, ◌∙◌, arith, append_assoc, drop-cons, add-one, length-append}
 use Rattle.std.specs.Int.{w64, to_le_bytes}
 use Rattle.std.specs.List.{concat, flat_map}
 use Rattle.std.proofs.lemmas.List.{map_push, append-nil, take_more}
@@ -7,6 +7,14 @@ use Rattle.std.proofs.lemmas.List.Folds.{concat-append}
 use Rattle.sha2.specs.Sha256.{sha256}
 use Rattle.store_files.specs.Archive.{ends_from}
 use Rattle.store_files.specs.DynamicIndex.{entry_text}
+
+-- ---- where pieces end
+
+pub end_more : (xs : List (List ℕ)) (i : ℕ) (x : List ℕ) → i < length xs → x ≡ get_or xs i x → length (concat (take (i + 1) xs)) ≡ length (concat (take i xs)) + length x
+end_more xs i x below is =
+    ap (λ l. length (concat l)) (take_more xs i x below ∙ ap (λ y. take i xs ++ y ∷ []) (sym is))
+    ∙ ap length (concat-append (take i xs) (x ∷ []) ∙ ap (λ z. concat (take i xs) ++ z) (append-nil x))
+    ∙ length-append (concat (take i xs)) x
 
 -- ---- digests
 

@@ -1,9 +1,8 @@
 -- What a fixed index that decodes says is what its bytes spell.
-use Rattle.std.proofs.Common.{◌≡◌, ℕ, ◌-◌, ◌/◌, ◌%◌, ◌≤◌, Bool, true, false, not, cond, List, length, take, Result, Ok, Err, slice_range, refl}
+use Rattle.std.proofs.Common.{◌≡◌, ℕ, ◌-◌, ◌/◌, ◌%◌, ◌≤◌, Bool, true, false, not, cond, List, length, take, Ok, Err, slice_range, refl}
 use Rattle.std.specs.Prelude.{nat_lt, ◌==◌}
 use Rattle.std.specs.Str.{bytes_eq}
 use Rattle.std.proofs.lemmas.Bool.{ltb-false}
-use Rattle.store_files.specs.declared.causes.IndexFault.{IndexFault}
 use Rattle.store_files.specs.declared.causes.IndexFault.TheVariants.{Short, Magic, Length, Count, Sizes, Csum}
 use Rattle.store_files.specs.Cells.{header_len, entry_limit}
 use Rattle.store_files.specs.FixedIndex.{FixedIndex, fixed_of, fields_of, magic, has_sizes, csum_of}

@@ -1,12 +1,13 @@
 //! Archives with all their bytes, and the texts of their index files.
 
-ghost use Rattle.std.specs.Prelude.{◌≡◌, IfOk, map};
+ghost use Rattle.std.specs.Prelude.{◌≡◌, IfOk, length, map};
 ghost use Rattle.std.specs.List.{concat, flat_map};
 ghost use Rattle.sha2.specs.Sha256.{sha256};
-ghost use Rattle.store_files.specs.Archive.{archive_text, csum_by, fixed_of_archive, dynamic_of_archive, ends_from};
+ghost use Rattle.store_files.specs.Archive.{archive_text, content_of, csum_by, size_by, fixed_of_archive, dynamic_of_archive, ends_from};
 ghost use Rattle.store_files.specs.FixedIndex.{fixed_text as text_of_fixed};
 ghost use Rattle.store_files.specs.DynamicIndex.{dynamic_text as text_of_dynamic, entry_text};
 
+use crate::blob::BlobData;
 use sha2::{Digest, Sha256};
 use std::alloc::{AllocError, Global};
 use std::marker::Model;
@@ -33,7 +34,7 @@ pub struct Archive {
     /// Seconds since 1970.
     pub ctime: i64,
     pub reserved: Bytes,
-    pub pieces: Vec<Bytes>,
+    pub pieces: Vec<BlobData>,
 }
 
 impl Model for Archive {
@@ -53,7 +54,7 @@ impl Model for Archive {
 }
 
 /// The digests of the pieces, one after another.
-fn digests_of(alloc: Global, pieces: &[Bytes]) -> Result<Vec<u8>, AllocError>
+fn digests_of(alloc: Global, pieces: &[BlobData]) -> Result<Vec<u8>, AllocError>
     ensures { IfOk result (λ text. text.items ≡ concat (map sha256 pieces.now)) }
 {
     let mut text = Vec::new(alloc);
@@ -64,7 +65,7 @@ fn digests_of(alloc: Global, pieces: &[Bytes]) -> Result<Vec<u8>, AllocError>
 }
 
 /// The entries of the pieces, one after another: where each ends, and its digest.
-fn entries_of(alloc: Global, pieces: &[Bytes]) -> Result<Vec<u8>, AllocError>
+fn entries_of(alloc: Global, pieces: &[BlobData]) -> Result<Vec<u8>, AllocError>
     ensures { IfOk result (λ text. text.items ≡ flat_map entry_text (ends_from 0 pieces.now)) }
 {
     let mut text = Vec::new(alloc);
@@ -79,6 +80,28 @@ fn entries_of(alloc: Global, pieces: &[Bytes]) -> Result<Vec<u8>, AllocError>
 }
 
 impl Archive {
+    /// Where the pieces end, in bytes. More than a `u64` counts no memory holds.
+    pub fn end(&self) -> Result<u64, AllocError>
+        ensures { IfOk result (λ end. end ≡ length (content_of self.now)) }
+    {
+        let mut end = 0u64;
+        for piece in &self.pieces {
+            let size = piece.as_slice().len() as u64;
+            end = end.checked_add(size).ok_or(AllocError)?;
+        }
+        Ok(end)
+    }
+
+    /// The archive's size in bytes: of a fixed one, the size that it was declared with.
+    pub fn size(&self) -> Result<u64, AllocError>
+        ensures { IfOk result (λ size. size ≡ size_by self.now.layout self.now) }
+    {
+        match self.layout {
+            Layout::Dynamic => self.end(),
+            Layout::Fixed { size, .. } => Ok(size),
+        }
+    }
+
     /// The text of the archive's index file.
     #[tactic(auto, unfolding(store_files::specs::Archive::archive_text))]
     pub fn text(&self, alloc: Global) -> Result<Vec<u8>, AllocError>

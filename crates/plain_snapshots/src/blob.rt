@@ -1,7 +1,7 @@
 //! The data of a blob.
 
-ghost use Rattle.std.specs.Prelude.{◌≡◌, [], IfOk};
-ghost use Rattle.blob_codec.specs.Blob.{blob, data_of};
+ghost use Rattle.std.specs.Prelude.{◌≡◌, ◌≤◌, [], length, IfOk};
+ghost use Rattle.blob_codec.specs.Blob.{blob, data_limit, data_of};
 
 use blob_codec::{BadBlob, decode, encode};
 use std::alloc::{AllocError, Global};
@@ -54,12 +54,11 @@ impl BlobData {
         Ok(encode(alloc, self.bytes.as_slice())?.unwrap())
     }
 
-    /// The data. It takes no memory.
-    pub fn into_bytes(self) -> Bytes
-        ensures { result ≡ self }
+    pub fn as_slice(&self) -> &[u8]
+        ensures value { result.now ≡ self.now }
+        ensures limit { length result.now ≤ data_limit }
     {
-        let BlobData { bytes } = self;
-        bytes
+        self.bytes.as_slice()
     }
 }
 

@@ -2,15 +2,16 @@
 
 ghost use Rattle.std.specs.Prelude.{◌≡◌, IfOk, OnOk, OnErr, position, option_map};
 ghost use Rattle.store_types.specs.Names.{name_lt};
-ghost use Rattle.store_files.specs.Archive.{file_text, file_named as find_file};
+ghost use Rattle.store_files.specs.Archive.{file_text, pieces_of, size_of, csum_of, file_named as find_file};
 ghost use Rattle.store_model.specs.Store.{insert_file as with_file};
 ghost use Rattle.plain_snapshots.specs.Contents.{shown_content, is_archive};
 
 use crate::archive::Archive;
 use crate::blob::BlobData;
+use sha2::{Digest, Sha256};
 use std::alloc::{AllocError, Global};
 use std::marker::Model;
-use store_types::FileName;
+use store_types::{Digest32, FileName};
 
 /// What a file holds: an archive, or the data of a blob.
 #[derive(Drop)]
@@ -47,6 +48,39 @@ impl Content {
         match self {
             Content::Archive(archive) => archive.text(alloc),
             Content::Blob(bytes) => bytes.text(alloc),
+        }
+    }
+
+    /// The pieces of an archive. A blob has none.
+    pub fn pieces(&self) -> &[BlobData]
+        ensures { result.now ≡ pieces_of (shown_content self.now) }
+    {
+        match self {
+            Content::Archive(archive) => &archive.pieces,
+            Content::Blob(_) => &[],
+        }
+    }
+
+    /// What a manifest lists as the file's size: an archive's, or the length of a blob's file.
+    pub fn size(&self, alloc: Global) -> Result<u64, AllocError>
+        ensures { IfOk result (λ size. size ≡ size_of (shown_content self.now)) }
+    {
+        match self {
+            Content::Archive(archive) => archive.size(),
+            Content::Blob(bytes) => Ok(bytes.text(alloc)?.len() as u64),
+        }
+    }
+
+    /// What a manifest lists as the file's checksum: an index's own, or the SHA-256 of a blob's file.
+    pub fn csum(&self, alloc: Global) -> Result<Digest32, AllocError>
+        ensures { IfOk result (λ csum. csum ≡ csum_of (shown_content self.now)) }
+    {
+        match self {
+            Content::Archive(archive) => archive.csum(alloc),
+            Content::Blob(bytes) => {
+                let text = bytes.text(alloc)?;
+                Ok(Digest32(Sha256::digest(&text)))
+            }
         }
     }
 

@@ -9,6 +9,7 @@ ghost use Rattle.plain_snapshots.specs.Shown.{shown_layout};
 ghost use Rattle.plain_snapshots.specs.Loading.{fixed_in as fixed_of_bytes, dynamic_in as dynamic_of_bytes};
 
 use crate::archive::{Archive, Layout};
+use crate::blob::BlobData;
 use crate::pieces::piece_in;
 use crate::stored::Stored;
 use dynamic_index::DynamicView;
@@ -39,7 +40,11 @@ fn u64_at(bytes: &[u8], at: usize) -> u64
 }
 
 /// The pieces that a fixed index names.
-fn fixed_pieces(alloc: Global, files: &[Stored], view: &FixedView) -> Result<Vec<Bytes>, AllocError>
+fn fixed_pieces(
+    alloc: Global,
+    files: &[Stored],
+    view: &FixedView,
+) -> Result<Vec<BlobData>, AllocError>
     ensures { IfOk result (λ pieces. pieces.items ≡ map (piece_of files.now) view.now.digests) }
 {
     let mut pieces = Vec::new(alloc);
@@ -62,8 +67,8 @@ fn fixed_archive(
 {
     Ok(Archive {
         layout: Layout::Fixed {
-            size: u64_at(bytes, 64),
-            chunk_size: u64_at(bytes, 72),
+            size: view.size(),
+            chunk_size: view.chunk_size(),
         },
         uuid: Bytes::from_slice(alloc, &bytes[8..24])?,
         ctime: u64_at(bytes, 24).cast_signed(),
@@ -93,7 +98,7 @@ fn dynamic_pieces(
     alloc: Global,
     files: &[Stored],
     view: &DynamicView,
-) -> Result<Vec<Bytes>, AllocError>
+) -> Result<Vec<BlobData>, AllocError>
     ensures { IfOk result (λ pieces. pieces.items ≡ map (λ e. piece_of files.now e.digest) view.now.entries) }
 {
     let mut pieces = Vec::new(alloc);

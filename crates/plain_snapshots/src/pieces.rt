@@ -1,15 +1,14 @@
 //! The pieces of archives as a disk has them.
 
-ghost use Rattle.std.specs.Prelude.{◌≡◌, option_map, IfOk};
+ghost use Rattle.std.specs.Prelude.{◌≡◌, IfOk};
 ghost use Rattle.store_model.specs.Stands.{chunk_name as name_of_chunk};
 ghost use Rattle.store_model.specs.Load.{piece_in as piece_of};
 ghost use Rattle.plain_snapshots.specs.Loading.{data_of_digest};
 
+use crate::blob::BlobData;
 use crate::stored::{Stored, bytes_at};
-use blob_codec::decode;
 use sha2::{Digest, Sha256};
 use std::alloc::{AllocError, Global};
-use store_types::Bytes;
 
 /// Where the chunk with this digest stands: `.chunks/<first four digits>/<all digits>`, in lower case.
 fn chunk_name(alloc: Global, digest: &[u8]) -> Result<Vec<u8>, AllocError>
@@ -25,30 +24,30 @@ fn chunk_name(alloc: Global, digest: &[u8]) -> Result<Vec<u8>, AllocError>
 }
 
 /// The data of a blob, where they have this digest.
-fn data_with<'a>(blob: &'a [u8], digest: &[u8]) -> Option<&'a [u8]>
-    ensures { option_map (λ p. p.now) result ≡ data_of_digest blob.now digest.now }
+fn data_with(alloc: Global, blob: &[u8], digest: &[u8]) -> Result<Option<BlobData>, AllocError>
+    ensures { IfOk result (λ piece. piece ≡ data_of_digest blob.now digest.now) }
 {
-    let Ok(piece) = decode(blob) else {
-        return None;
+    let Ok(piece) = BlobData::decoded(alloc, blob)? else {
+        return Ok(None);
     };
-    if Sha256::digest(piece).as_slice() == digest {
-        Some(piece)
+    if Sha256::digest(piece.as_slice()).as_slice() == digest {
+        Ok(Some(piece))
     } else {
-        None
+        Ok(None)
     }
 }
 
 /// The piece with this digest. One that is not there, or is another, counts as empty.
 #[tactic(auto, unfolding(store_model::specs::Load::piece_in))]
-pub fn piece_in(alloc: Global, files: &[Stored], digest: &[u8]) -> Result<Bytes, AllocError>
+pub fn piece_in(alloc: Global, files: &[Stored], digest: &[u8]) -> Result<BlobData, AllocError>
     ensures { IfOk result (λ piece. piece ≡ piece_of files.now digest.now) }
 {
     let name = chunk_name(alloc, digest)?;
     let Some(blob) = bytes_at(files, &name) else {
-        return Ok(Bytes::new(alloc));
+        return Ok(BlobData::empty(alloc));
     };
-    match data_with(blob, digest) {
-        Some(piece) => Bytes::from_slice(alloc, piece),
-        None => Ok(Bytes::new(alloc)),
+    match data_with(alloc, blob, digest)? {
+        Some(piece) => Ok(piece),
+        None => Ok(BlobData::empty(alloc)),
     }
 }

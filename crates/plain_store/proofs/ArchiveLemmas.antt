@@ -1,32 +1,27 @@
 -- The commands on archives, by how their tests came out.
-use Rattle.std.proofs.Common.{◌≡◌, ℕ, ◌<◌, ◌≤◌, Bool, true, false, List, [], length, map, arith, Result, Ok, Err, refl, sym, ap, subst, ◌∙◌}
-use Rattle.std.specs.Prelude.{nat_lt, pos, replicate}
-use mir.Val.{to_z}
-use mir.Syntax.{w64}
-use Rattle.std.proofs.lemmas.Bool.{ltb-true, or_parts}
-use Rattle.std.proofs.lemmas.Int.{ints}
+use Rattle.std.proofs.Common.{◌≡◌, ℕ, ◌<◌, Bool, true, false, List, [], ◌∷◌, length, map, Result, Ok, Err, refl, sym, ap, subst, ◌∙◌}
+use Rattle.std.specs.Prelude.{nat_lt}
+use Rattle.std.proofs.lemmas.Bool.{ltb-true}
 use Rattle.store_types.specs.declared.append.AppendEntry.{AppendEntry}
 use Rattle.store_types.specs.declared.names.Digest32.{Digest32}
-use Rattle.store_types.specs.declared.names.SnapshotKey.{SnapshotKey}
-use Rattle.store_types.specs.Times.{last_moment}
 use Rattle.store_types.specs.declared.refusal.Refusal.{Refusal}
 use Rattle.store_types.specs.declared.refusal.Refusal.TheVariants.{BadName, NoFile, TooMany}
 use Rattle.store_types.specs.Chain.Refusing.{◌>>=◌, unless, or_else}
-use Rattle.store_types.specs.FileNames.{is_file_name, is_index_name, is_fixed_name, is_dynamic_name, is_blob_name}
-use Rattle.store_files.specs.Archive.{dynamic, File, Archive, archive, content_of, csum_by, archive_text}
+use Rattle.store_types.specs.FileNames.{is_fixed_name, is_dynamic_name}
+use Rattle.store_files.specs.Archive.{dynamic, fixed, File, archive, content_of, csum_by, archive_text}
 use Rattle.wire_commands.specs.declared.reply.Reply.{Reply}
 use Rattle.wire_commands.specs.declared.reply.Reply.TheVariants.{Done, Number}
 use Rattle.store_model.specs.Store.{Store, Session, Begun, Writer, writer, session, with_session, want_writer}
 use Rattle.store_model.specs.Uploads.{want_room}
-use Rattle.store_model.specs.WriterSteps.{goes_on, with_file}
-use Rattle.store_model.specs.Archives.{uuid_of, new_archive, want_number, free_number, change_first, without_first, want_entries, want_facts}
+use Rattle.store_model.specs.WriterSteps.{goes_on, with_pool, with_file}
+use Rattle.store_model.specs.Archives.{new_archive, want_sizes, want_number, free_number, change_first, without_first, want_entries, want_facts}
 use Rattle.store_model.specs.WriterCalls as calls
 use Rattle.store_model.specs.WriterCalls.{numbers, begin, has_number, begun_at, with_pieces}
-use Rattle.store_model.specs.ArchiveSteps.{new_dynamic, check_chunk, checked_chunk, put_chunk, append, close_index, named}
-use Rattle.plain_store.specs.declared.changes.Change.{Change}
-use Rattle.plain_store.specs.declared.changes.Change.TheVariants.{Piece, Begin, Close}
-use Rattle.plain_store.specs.Archiving.{begun_of, pieces_from, appended, closed_of}
-use Rattle.plain_store.specs.Changes.{changed, changed_in, FitsWriter, FitsSession}
+use Rattle.store_model.specs.ArchiveSteps.{new_fixed, new_dynamic, check_chunk, checked_chunk, put_chunk, append, close_index, named}
+use Rattle.plain_sessions.specs.declared.changes.Change.{Change}
+use Rattle.plain_sessions.specs.declared.changes.Change.TheVariants.{Begin, Close}
+use Rattle.plain_sessions.specs.Archiving.{begun_of, fixed_begun_of, pieces_from, appended, closed_of}
+use Rattle.plain_sessions.specs.Changes.{changed, changed_in, FitsWriter, FitsSession}
 use Rattle.plain_store.proofs.WriterLemmas.{is_writer}
 
 -- ---- changes
@@ -63,6 +58,38 @@ then_made : {B C R U : Type 0} (t : Result U Refusal) (x : B) (y : C) (k : B →
 then_made (Err e) x y k l same = refl
 then_made (Ok u) x y k l same = same
 
+four_in_row : {A B R U : Type 0} (a b c d : Result U Refusal) (x : A) (y : B) (f : A → Result R Refusal) (g : B → Result R Refusal) → f x ≡ g y
+    → ((a >>= λ _. b >>= λ _. c >>= λ _. d >>= λ _. (let r : Result A Refusal = Ok x in r)) >>= f) ≡ ((a >>= λ _. b >>= λ _. c >>= λ _. d >>= λ _. (let r : Result B Refusal = Ok y in r)) >>= g)
+four_in_row (Err e) b c d x y f g same = refl
+four_in_row (Ok t) b c d x y f g same = three_in_row b c d x y f g same
+
+-- ---- NEW_FIXED
+
+abbrev begins_at : Store → ℕ → Writer → Begun → Result (Store × Reply) Refusal
+begins_at s lane w b = Ok (with_session s lane (writer (changed (Begin b) w)), Number b.number)
+
+module _ (s : Store) (lane moment : ℕ) (name : List ℕ) (size chunk_size : ℕ) where
+  pub fixed_not_writer : (r : Refusal) → want_writer (session s lane) ≡ Err r → new_fixed s lane moment name size chunk_size ≡ Err r
+  unfolding new_fixed
+  fixed_not_writer r e = rw e refl
+
+  module _ (w : Writer) (is : want_writer (session s lane) ≡ Ok w) where
+    fixed_tests : new_fixed s lane moment name size chunk_size ≡ (fixed_begun_of w name size chunk_size moment >>= begins_at s lane w)
+    unfolding new_fixed calls.new_fixed goes_on
+    fixed_tests =
+        rw is
+        (four_in_row (unless BadName (is_fixed_name name)) (want_room name w) (want_number (length w.begun)) (want_sizes size chunk_size)
+        (begin w name (new_archive (fixed size chunk_size) 4016 w.key name moment), free_number (numbers w))
+        (record { number = free_number (numbers w); name = name; archive = new_archive (fixed size chunk_size) 4016 w.key name moment })
+        (λ x. Ok (with_session s lane (writer x.0), Number x.1)) (begins_at s lane w) refl)
+
+    pub fixed_refused : (r : Refusal) → fixed_begun_of w name size chunk_size moment ≡ Err r → new_fixed s lane moment name size chunk_size ≡ Err r
+    fixed_refused r h = fixed_tests ∙ ap (λ t. t >>= begins_at s lane w) h
+
+    pub fixed_goes : (b : Begun) → fixed_begun_of w name size chunk_size moment ≡ Ok b
+        → new_fixed s lane moment name size chunk_size ≡ Ok (with_session s lane (writer (changed (Begin b) w)), Number b.number)
+    fixed_goes b h = fixed_tests ∙ ap (λ t. t >>= begins_at s lane w) h
+
 -- ---- NEW_DYNAMIC
 
 module _ (s : Store) (lane moment : ℕ) (name : List ℕ) where
@@ -89,14 +116,6 @@ module _ (s : Store) (lane moment : ℕ) (name : List ℕ) where
     pub new_goes : (b : Begun) → begun_of w name moment ≡ Ok b → new_dynamic s lane moment name ≡ Ok (with_session s lane (writer (changed (Begin b) w)), Number b.number)
     new_goes b h = new_tests ∙ ap (λ t. t >>= begins) h
 
--- an archive without pieces, by its parts
-pub archive_is : (key : SnapshotKey) (name : List ℕ) (moment n : ℕ) (uuid zeros : List ℕ) (pieces : List (List ℕ)) → n ≡ moment → n ≤ last_moment
-    → uuid ≡ uuid_of key name → zeros ≡ replicate 4032 0 → pieces ≡ []
-    → (let a : Archive = record { layout = dynamic; uuid = uuid; ctime = to_z w64 n; reserved = zeros; pieces = pieces } in a ≡ new_archive dynamic 4032 key name moment)
-archive_is key name moment n uuid zeros pieces same limit is_uuid are_zeros none =
-    let number : to_z w64 n ≡ pos n = omega (arith, ints, limit) in
-    rw (number, same, is_uuid, are_zeros, none) refl
-
 -- where an archive is begun there is room for it
 pub begun_room : (w : Writer) (name : List ℕ) (moment : ℕ) (b : Begun) → begun_of w name moment ≡ Ok b → length w.begun < 16
 begun_room w name moment b h = by_tests (unless BadName (is_dynamic_name name)) (want_room name w) (nat_lt (length w.begun) 16) refl _ h
@@ -108,11 +127,15 @@ begun_room w name moment b h = by_tests (unless BadName (is_dynamic_name name)) 
     by_tests (Ok t) (Ok u) false is x go = cc
     by_tests (Ok t) (Ok u) true is x go = ltb-true (length w.begun) 16 is
 
--- a name that no file may have
-pub no_archive_name : (w : Writer) (name : List ℕ) (moment : ℕ) → is_file_name name ≡ false → begun_of w name moment ≡ Err BadName
-no_archive_name w name moment bad =
-    let no_dynamic = (or_parts (is_fixed_name name) (is_dynamic_name name) (or_parts (is_index_name name) (is_blob_name name) bad).0).1 in
-    rw no_dynamic refl
+pub fixed_room : (w : Writer) (name : List ℕ) (size chunk_size moment : ℕ) (b : Begun) → fixed_begun_of w name size chunk_size moment ≡ Ok b → length w.begun < 16
+fixed_room w name size chunk_size moment b h = by_tests (unless BadName (is_fixed_name name)) (want_room name w) (nat_lt (length w.begun) 16) refl (want_sizes size chunk_size) _ h
+  where
+    by_tests : (a c : Result (Unit {0}) Refusal) (few : Bool) → nat_lt (length w.begun) 16 ≡ few → (d : Result (Unit {0}) Refusal) (x : Begun)
+        → (a >>= λ _. c >>= λ _. unless (TooMany 16) few >>= λ _. d >>= λ _. Ok x) ≡ Ok b → length w.begun < 16
+    by_tests (Err e) c few is d x go = cc
+    by_tests (Ok t) (Err e) few is d x go = cc
+    by_tests (Ok t) (Ok u) false is d x go = cc
+    by_tests (Ok t) (Ok u) true is d x go = ltb-true (length w.begun) 16 is
 
 -- ---- CHUNK
 
@@ -126,9 +149,10 @@ module _ (s : Store) (lane : ℕ) (digest : Digest32) (bytes : List ℕ) where
     unfolding put_chunk checked_chunk
     chunk_refused r h = rw (is, h) refl
 
-    pub chunk_goes : (piece : List ℕ) → check_chunk digest bytes ≡ Ok piece → put_chunk s lane digest bytes ≡ Ok (with_session s lane (writer (changed (Piece piece) w)), Done)
+    pub chunk_goes : (piece : List ℕ) (pieces : List (List ℕ)) → check_chunk digest bytes ≡ Ok piece → pieces ≡ piece ∷ []
+        → put_chunk s lane digest bytes ≡ Ok (with_session s lane (writer (with_pool pieces w)), Done)
     unfolding put_chunk checked_chunk goes_on
-    chunk_goes piece h = rw (is, h) refl
+    chunk_goes piece pieces h one = rw (is, h, one) refl
 
 -- ---- APPEND
 

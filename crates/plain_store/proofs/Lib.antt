@@ -1,7 +1,6 @@
 pub mod Spelled
 pub mod Stopping
-pub mod Opened
-pub mod Naming
+pub mod PartLemmas
 pub mod WriterLemmas
 pub mod ArchiveLemmas
 pub mod ReaderLemmas

@@ -1,21 +1,22 @@
 -- A reader's commands, by how their tests came out.
-use Rattle.std.proofs.Common.{◌≡◌, ℕ, ◌-◌, ◌≤◌, arith, take, drop, true, false, List, [], length, Result, None, Some, Ok, Err, refl, sym, ap, ◌∙◌}
-use Rattle.std.proofs.lemmas.Bool.{le-leb}
-use Rattle.std.proofs.lemmas.List.{take_min, take_all, length-take, length-drop}
-use Rattle.std.specs.Prelude.{nat_le, min}
+use Rattle.std.proofs.Common.{◌≡◌, ℕ, true, false, List, [], Result, None, Some, Ok, Err, refl, sym, ap, ◌∙◌}
+use Rattle.std.proofs.lemmas.Bool.{or_parts}
+use Rattle.store_types.specs.declared.names.Digest32.{Digest32}
 use Rattle.store_types.specs.declared.names.SnapshotKey.{SnapshotKey}
 use Rattle.store_types.specs.declared.refusal.Refusal.{Refusal}
-use Rattle.store_types.specs.declared.refusal.Refusal.TheVariants.{BadName, NoSnapshot, NoFile, BadRange}
-use Rattle.store_types.specs.Chain.Refusing.{◌>>=◌, unless}
-use Rattle.store_types.specs.FileNames.{is_file_name}
+use Rattle.store_types.specs.declared.refusal.Refusal.TheVariants.{BadName, NoSnapshot, NoFile, NotAllowed}
+use Rattle.store_types.specs.Chain.Refusing.{◌>>=◌, or_else}
+use Rattle.store_types.specs.FileNames.{is_file_name, is_index_name, is_blob_name}
 use Rattle.store_types.specs.Names.{key_of}
-use Rattle.store_files.specs.Archive.{File, Snapshot, file_text, file_named}
+use Rattle.blob_codec.specs.Blob as blobs
+use Rattle.store_files.specs.Archive.{File, Snapshot, file_named, piece_with}
 use Rattle.wire_commands.specs.declared.reply.Reply.{Reply}
-use Rattle.wire_commands.specs.declared.reply.Reply.TheVariants.{Done, Part}
+use Rattle.wire_commands.specs.declared.reply.Reply.TheVariants.{Done, Data}
 use Rattle.store_model.specs.Store.{Store, Reader, reader, session, with_session, want_reader, want_idle, snapshot_named, ended}
-use Rattle.store_model.specs.WriterSteps.{part_of}
-use Rattle.store_model.specs.ReaderSteps.{open_reader, reader_files, note, download, close_reader}
-use Rattle.plain_store.specs.Readers.{part_from}
+use Rattle.store_model.specs.ReaderSteps.{open_reader, reader_files, note, download, noted_pieces, get_chunk, range_of, range, close_reader}
+use Rattle.plain_sessions.specs.Reading.{chunk_of}
+use Rattle.plain_store.specs.Parts.{file_part}
+use Rattle.plain_store.proofs.PartLemmas.{part_in_row}
 
 -- the files of the reader's snapshot
 pub files_none : (s : Store) (x : Reader) → snapshot_named x.key s.snapshots ≡ None → reader_files s x ≡ []
@@ -38,16 +39,13 @@ module _ (s : Store) (lane : ℕ) (text : List ℕ) where
   unfolding open_reader
   open_no_snapshot key idle named none = rw (idle, named, none) refl
 
-  pub open_goes : (key : SnapshotKey) (x : Snapshot) (noted : List (List ℕ)) (after : Store)
+  pub open_goes : (key : SnapshotKey) (x : Snapshot) (r : Reader) (after : Store)
       → want_idle (session s lane) ≡ Ok tt → key_of text ≡ Some key → snapshot_named key s.snapshots ≡ Some x
-      → noted ≡ [] → after ≡ with_session s lane (reader (record { key = key; noted = noted })) → open_reader s lane text ≡ Ok (after, Done)
+      → r ≡ record { key = key; noted = [] } → after ≡ with_session s lane (reader r) → open_reader s lane text ≡ Ok (after, Done)
   unfolding open_reader
-  open_goes key x noted after idle named there empty is = rw (idle, named, there, is, empty) refl
+  open_goes key x r after idle named there new is = rw (idle, named, there, is, new) refl
 
-in_row : (t : Result (Unit {0}) Refusal) (after : Store) (reply : Reply)
-    → (t >>= λ _. (let y : Result (Store × Reply) Refusal = Ok (after, reply) in y)) ≡ ((t >>= λ _. (let y : Result Reply Refusal = Ok reply in y)) >>= λ p. Ok (after, p))
-in_row (Ok u) after reply = refl
-in_row (Err r) after reply = refl
+-- ---- DOWNLOAD
 
 module _ (s : Store) (lane : ℕ) (name : List ℕ) (offset : ℕ) where
   pub not_reader : (r : Refusal) → want_reader (session s lane) ≡ Err r → download s lane name offset ≡ Err r
@@ -58,53 +56,73 @@ module _ (s : Store) (lane : ℕ) (name : List ℕ) (offset : ℕ) where
   unfolding download
   no_name x e bad = rw (e, bad) refl
 
-  pub no_file : (x : Reader) → want_reader (session s lane) ≡ Ok x → is_file_name name ≡ true → file_named name (reader_files s x) ≡ None
-      → download s lane name offset ≡ Err NoFile
-  unfolding download
-  no_file x e good none = rw (e, good, none) refl
+  module _ (x : Reader) (e : want_reader (session s lane) ≡ Ok x) (good : is_file_name name ≡ true) where
+    abbrev tells : File × Reply → Result (Store × Reply) Refusal
+    tells y = Ok (with_session s lane (reader (note name (y.0).content x)), y.1)
 
-  module _ (x : Reader) (f : File) (e : want_reader (session s lane) ≡ Ok x) (good : is_file_name name ≡ true)
-      (there : file_named name (reader_files s x) ≡ Some f) where
-    abbrev tells : Reply → Result (Store × Reply) Refusal
-    tells reply = Ok (with_session s lane (reader (note name f.content x)), reply)
-
-    tests_are : download s lane name offset ≡ (part_from (file_text f.content) offset >>= tells)
+    tests_are : download s lane name offset ≡ (file_part (reader_files s x) name offset >>= tells)
     unfolding download
-    tests_are =
-        let size = length (file_text f.content) in
-        rw (e, good, there) (in_row (unless (BadRange size) (nat_le offset size)) (with_session s lane (reader (note name f.content x))) (part_of (file_text f.content) offset))
+    tests_are = rw (e, good) (part_in_row (or_else NoFile (file_named name (reader_files s x))) offset tells)
 
-    pub no_part : (r : Refusal) → part_from (file_text f.content) offset ≡ Err r → download s lane name offset ≡ Err r
+    pub no_part : (r : Refusal) → file_part (reader_files s x) name offset ≡ Err r → download s lane name offset ≡ Err r
     no_part r h = tests_are ∙ ap (λ p. p >>= tells) h
 
-    pub downloads : (reply : Reply) (after : Store) → part_from (file_text f.content) offset ≡ Ok reply
+    pub downloads : (f : File) (reply : Reply) (after : Store) → file_part (reader_files s x) name offset ≡ Ok (f, reply)
         → after ≡ with_session s lane (reader (note name f.content x)) → download s lane name offset ≡ Ok (after, reply)
-    downloads reply after h is = tests_are ∙ ap (λ p. p >>= tells) h ∙ ap (λ a. Ok (a, reply)) (sym is)
+    downloads f reply after h is = tests_are ∙ ap (λ p. p >>= tells) h ∙ ap (λ a. Ok (a, reply)) (sym is)
 
--- ---- a part of a text
+-- ---- GET_CHUNK
 
--- what the code takes: of what is left, as much as a reply holds
-taken : (text : List ℕ) (offset n : ℕ) → n ≡ min (length (take (length text - offset) (drop offset text))) 4_194_304
-    → take n (take (length text - offset) (drop offset text)) ≡ take 4_194_304 (drop offset text)
-taken text offset n e =
-    let rest = drop offset text in
-    let all = take_all (length text - offset) rest (omega (arith, length-drop offset text)) in
-    ap (λ m. take m (take (length text - offset) rest)) (e ∙ ap (λ (r : List ℕ). min (length r) 4_194_304) all)
-    ∙ ap (take (min (length rest) 4_194_304)) all
-    ∙ ap (λ m. take m rest) (let same : min (length rest) 4_194_304 ≡ min 4_194_304 (length rest) = omega arith in same)
-    ∙ take_min 4_194_304 rest
+module _ (s : Store) (lane : ℕ) (digest : Digest32) where
+  pub chunk_not_reader : (r : Refusal) → want_reader (session s lane) ≡ Err r → get_chunk s lane digest ≡ Err r
+  unfolding get_chunk
+  chunk_not_reader r e = rw e refl
 
-pub part_within : (text bytes : List ℕ) (offset size n : ℕ) → size ≡ length text → offset ≤ size
-    → n ≡ min (length (take (length text - offset) (drop offset text))) 4_194_304
-    → bytes ≡ take n (take (length text - offset) (drop offset text)) → part_from text offset ≡ Ok (Part size bytes)
-part_within text bytes offset size n same within e is =
-    let inside = le-leb offset (length text) (omega arith) in
-    rw (inside, same, is, taken text offset n e) refl
+  module _ (x : Reader) (e : want_reader (session s lane) ≡ Ok x) where
+    chunk_tests : get_chunk s lane digest ≡ (chunk_of (reader_files s x) x digest >>= λ bytes. Ok (s, Data bytes))
+    unfolding get_chunk
+    chunk_tests = rw e (by_piece (or_else NotAllowed (piece_with digest (noted_pieces (reader_files s x) x))))
+      where
+        by_piece : (o : Result (List ℕ) Refusal)
+            → (o >>= λ piece. (let y : Result (Store × Reply) Refusal = Ok (s, Data (blobs.blob piece)) in y))
+            ≡ ((o >>= λ piece. (let y : Result (List ℕ) Refusal = Ok (blobs.blob piece) in y)) >>= λ bytes. (let z : Result (Store × Reply) Refusal = Ok (s, Data bytes) in z))
+        by_piece (Err r) = refl
+        by_piece (Ok piece) = refl
 
-pub part_short : (text bytes : List ℕ) (offset n : ℕ) → n ≡ min (length (take (length text - offset) (drop offset text))) 4_194_304
-    → bytes ≡ take n (take (length text - offset) (drop offset text)) → length bytes ≤ 4_194_304
-part_short text bytes offset n e is =
-    omega (arith, ap length (is ∙ taken text offset n e), length-take 4_194_304 (drop offset text))
+    pub chunk_refused : (r : Refusal) → chunk_of (reader_files s x) x digest ≡ Err r → get_chunk s lane digest ≡ Err r
+    chunk_refused r h = chunk_tests ∙ ap (λ p. p >>= λ bytes. Ok (s, Data bytes)) h
+
+    pub chunk_given : (bytes : List ℕ) → chunk_of (reader_files s x) x digest ≡ Ok bytes → get_chunk s lane digest ≡ Ok (s, Data bytes)
+    chunk_given bytes h = chunk_tests ∙ ap (λ p. p >>= λ bytes. Ok (s, Data bytes)) h
+
+-- ---- RANGE
+
+-- what no file may be called, no index may be
+pub no_index_name : (name : List ℕ) → is_file_name name ≡ false → is_index_name name ≡ false
+no_index_name name bad = (or_parts (is_index_name name) (is_blob_name name) bad).0
+
+module _ (s : Store) (lane : ℕ) (name : List ℕ) (offset len : ℕ) where
+  pub range_not_reader : (r : Refusal) → want_reader (session s lane) ≡ Err r → range s lane name offset len ≡ Err r
+  unfolding range
+  range_not_reader r e = rw e refl
+
+  module _ (x : Reader) (e : want_reader (session s lane) ≡ Ok x) where
+    pub range_no_name : is_index_name name ≡ false → range s lane name offset len ≡ Err BadName
+    unfolding range
+    range_no_name bad = rw (e, bad) refl
+
+    pub range_no_file : is_index_name name ≡ true → file_named name (reader_files s x) ≡ None → range s lane name offset len ≡ Err NoFile
+    unfolding range
+    range_no_file good none = rw (e, good, none) refl
+
+    module _ (f : File) (good : is_index_name name ≡ true) (there : file_named name (reader_files s x) ≡ Some f) where
+      pub range_refused : (r : Refusal) → range_of (reader_files s x) x name offset len ≡ Err r → range s lane name offset len ≡ Err r
+      unfolding range
+      range_refused r h = rw (e, good, there, h) refl
+
+      pub range_given : (bytes : List ℕ) → range_of (reader_files s x) x name offset len ≡ Ok bytes → range s lane name offset len ≡ Ok (s, Data bytes)
+      unfolding range
+      range_given bytes h = rw (e, good, there, h) refl
 
 -- ---- CLOSE_READER
 

@@ -8,7 +8,7 @@ use Rattle.store_types.specs.declared.refusal.CloseFault.{CloseFault}
 use Rattle.store_types.specs.declared.refusal.CloseFault.TheVariants.{Count, Size, Csum, Rest}
 use Rattle.store_types.specs.declared.refusal.ChunkFault.{ChunkFault}
 use Rattle.store_types.specs.declared.refusal.ChunkFault.TheVariants.{Nothing, NotABlob, Other}
-use Rattle.wire_commands.specs.declared.reply.Reply.TheVariants.{Done, Base, Part, Number, Refused}
+use Rattle.wire_commands.specs.declared.reply.Reply.TheVariants.{Done, Base, Part, Data, Number, Refused}
 use Rattle.wire_commands.specs.RefusalText.{blob_fault_text, close_fault_text, chunk_fault_text, refusal_text}
 use Rattle.wire_commands.specs.ReplyText.{reply_text}
 use Rattle.wire_commands.specs.HasText.{FitsCloseFault, FitsChunkFault, FitsRefusal, ReplyHasText}
@@ -26,6 +26,10 @@ base_spelled text h = (h, omega arith)
 pub part_spelled : (total : ℕ) (bytes : List ℕ) → total < 2 ^ 64 → length bytes ≤ 4_194_304 → ReplyHasText (Part total bytes)
 unfolding reply_text
 part_spelled total bytes h few = (h, omega arith)
+
+pub data_spelled : (bytes : List ℕ) → length bytes ≤ 16_777_228 → ReplyHasText (Data bytes)
+unfolding reply_text
+data_spelled bytes few = (tt, omega arith)
 
 pub number_spelled : (n : ℕ) → n < 256 → ReplyHasText (Number n)
 unfolding reply_text

@@ -4,9 +4,10 @@ use Rattle.store_types.specs.declared.refusal.Refusal.{Refusal}
 use Rattle.wire_commands.specs.declared.reply.Reply.{Reply}
 use Rattle.wire_commands.specs.HasText.{FitsRefusal}
 use Rattle.store_model.specs.Store.{Store, Outcome}
-use Rattle.plain_store.specs.declared.stop.Stop.{Stop}
-use Rattle.plain_store.specs.declared.stop.Stop.TheVariants.{Refused, NoMemory}
-use Rattle.plain_store.specs.Outcomes.{Does, Gives, IsFitRefusal, IsSpelled}
+use Rattle.plain_sessions.specs.declared.stop.Stop.{Stop}
+use Rattle.plain_sessions.specs.declared.stop.Stop.TheVariants.{Refused, NoMemory}
+use Rattle.plain_sessions.specs.Outcomes.{Gives, IsFitRefusal}
+use Rattle.plain_store.specs.Outcomes.{Does, IsSpelled}
 
 pub does_refuse : (s : Store) (result : Result Reply Stop) (r : Refusal) (o : Outcome) → result ≡ Err (Refused r) → o ≡ Err r → Does s s result o
 does_refuse s result r o is h = subst (λ (x : Result Reply Stop). Does s s x o) (sym is) (h, refl)
@@ -25,7 +26,3 @@ does_stop {A} shown s result stop test o is gives refused = subst (λ (x : Resul
 
 pub stop_fits : (result : Result Reply Stop) (stop : Stop) → result ≡ Err stop → IsFitRefusal {A = Reply} (Err stop) → IsSpelled result
 stop_fits result stop is h = subst (λ (x : Result Reply Stop). IsSpelled x) (sym is) h
-
--- a test that is refused
-pub gives_refusal : {A B : Type 0} (shown : A → B) (result : Result A Stop) (r : Refusal) (test : Result B Refusal) → result ≡ Err (Refused r) → test ≡ Err r → Gives shown result test
-gives_refusal {A} shown result r test is h = subst (λ (x : Result A Stop). Gives shown x test) (sym is) h

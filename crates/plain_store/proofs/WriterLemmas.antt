@@ -1,21 +1,24 @@
 -- A writer's commands, by how their tests came out.
-use Rattle.std.proofs.Common.{◌≡◌, ℕ, ◌<◌, true, false, set, List, [], length, Option, None, Some, Result, Ok, Err, refl, sym, ap, ◌∙◌, arith}
-use Rattle.std.proofs.lemmas.Bool.{or_parts}
+use Rattle.std.proofs.Common.{◌≡◌, ℕ, true, false, set, List, length, Option, None, Some, Result, Ok, Err, refl, sym, ap, ◌∙◌}
 use Rattle.std.specs.Prelude.{nat_lt, is_some}
 use Rattle.store_types.specs.declared.names.SnapshotKey.{SnapshotKey}
 use Rattle.store_types.specs.declared.refusal.Refusal.{Refusal}
-use Rattle.store_types.specs.declared.refusal.Refusal.TheVariants.{BadName, GroupBusy, TooMany, NoFile, OpenIndexes}
-use Rattle.store_types.specs.Chain.Refusing.{◌>>=◌, unless, if_none}
-use Rattle.store_types.specs.FileNames.{is_file_name, is_index_name, is_blob_name, manifest_name}
+use Rattle.store_types.specs.declared.refusal.Refusal.TheVariants.{BadName, GroupBusy, TooMany, NoSnapshot, NoFile}
+use Rattle.store_types.specs.Chain.Refusing.{◌>>=◌, unless, or_else, if_none}
+use Rattle.store_types.specs.FileNames.{is_file_name, is_blob_name}
 use Rattle.store_types.specs.Names.{key_of, group_of_key}
-use Rattle.store_files.specs.Archive.{File, Snapshot, blob, file_named}
+use Rattle.store_files.specs.Archive.{File, Snapshot, blob, pieces_of, file_named}
 use Rattle.wire_commands.specs.declared.reply.Reply.{Reply}
 use Rattle.wire_commands.specs.declared.reply.Reply.TheVariants.{Done, Base}
-use Rattle.store_model.specs.Store.{Store, Session, Begun, Writer, none, writer, reader, session, with_session, want_writer, want_idle, group_holder, in_group, latest_in, insert_snapshot, insert_file, ended}
+use Rattle.store_model.specs.Store.{Store, Session, Writer, none, writer, reader, session, with_session, want_writer, want_idle, group_holder, in_group, latest_in, insert_snapshot, insert_file, ended}
 use Rattle.store_model.specs.Uploads.{want_room}
-use Rattle.store_model.specs.WriterSteps.{open_writer, new_writer, base_text, want_newer, want_data, checked_blob, put_blob, goes_on, finish, snapshot_of, abort}
-use Rattle.plain_store.proofs.RunLemmas.{differs}
-use Rattle.plain_store.specs.Writers.{base_of, upload_of}
+use Rattle.store_model.specs.WriterSteps.{open_writer, new_writer, base_text, want_newer, with_pool, base_of as base_snapshot, previous, want_data, checked_blob, put_blob, goes_on, finish, snapshot_of, abort}
+use Rattle.store_model.specs.Manifests.{finish_check}
+use Rattle.plain_sessions.specs.Uploading.{upload_of}
+use Rattle.plain_sessions.specs.Finishing.{finished_of}
+use Rattle.plain_store.specs.Writers.{base_of}
+use Rattle.plain_store.specs.Parts.{file_part}
+use Rattle.plain_store.proofs.PartLemmas.{in_range, its_part, part_in_row}
 
 -- ---- tests in a row
 
@@ -79,13 +82,52 @@ module _ (s : Store) (lane moment : ℕ) (text : List ℕ) where
     pub open_refused : (r : Refusal) → base_of s key ≡ Err r → open_writer s lane moment text ≡ Err r
     open_refused r h = tests_are ∙ refused_in_row latest goes (is_free s key) (is_newer s key) (has_room s key) r h
 
-    pub open_goes : (base copy : Option SnapshotKey) (pool : List (List ℕ)) (begun : List Begun) (files : List File) (told : List ℕ) (after : Store)
-        → base_of s key ≡ Ok base → pool ≡ [] → begun ≡ [] → files ≡ [] → copy ≡ base → told ≡ base_text base
-        → after ≡ with_session s lane (writer (record { key = key; start = moment; base = copy; pool = pool; begun = begun; files = files }))
-        → open_writer s lane moment text ≡ Ok (after, Base told)
-    open_goes base copy pool begun files told after h no_piece no_archive empty same tells is =
+    pub open_goes : (base copy : Option SnapshotKey) (told : List ℕ) (w : Writer) (after : Store)
+        → base_of s key ≡ Ok base → copy ≡ base → told ≡ base_text base → w ≡ new_writer key moment copy
+        → after ≡ with_session s lane (writer w) → open_writer s lane moment text ≡ Ok (after, Base told)
+    open_goes base copy told w after h same tells new is =
         let p = passed_in_row latest goes (is_free s key) (is_newer s key) (has_room s key) base h in
-        tests_are ∙ p.1 ∙ ap (λ b. Ok (begins b)) p.2 ∙ rw (is, no_piece, no_archive, empty, same, tells) refl
+        tests_are ∙ p.1 ∙ ap (λ b. Ok (begins b)) p.2 ∙ rw (is, new, same, tells) refl
+
+-- ---- PREVIOUS
+
+module _ (s : Store) (lane : ℕ) (name : List ℕ) (offset : ℕ) where
+  pub previous_not_writer : (r : Refusal) → want_writer (session s lane) ≡ Err r → previous s lane name offset ≡ Err r
+  unfolding previous
+  previous_not_writer r e = rw e refl
+
+  module _ (w : Writer) (e : want_writer (session s lane) ≡ Ok w) where
+    pub previous_no_name : is_file_name name ≡ false → previous s lane name offset ≡ Err BadName
+    unfolding previous
+    previous_no_name bad = rw (e, bad) refl
+
+    module _ (good : is_file_name name ≡ true) where
+      abbrev after_base : Snapshot → Result (Store × Reply) Refusal
+      after_base base =
+          or_else NoFile (file_named name base.files) >>= λ f. in_range f offset >>= λ _. goes_on s lane (with_pool (pieces_of f.content) w) (its_part f offset)
+
+      by_base : previous s lane name offset ≡ (or_else NoSnapshot (base_snapshot s w) >>= after_base)
+      unfolding previous
+      by_base = rw (e, good) refl
+
+      pub previous_no_base : base_snapshot s w ≡ None → previous s lane name offset ≡ Err NoSnapshot
+      previous_no_base gone = by_base ∙ ap (λ o. or_else NoSnapshot o >>= after_base) gone
+
+      module _ (base : Snapshot) (there : base_snapshot s w ≡ Some base) where
+        abbrev looks : File × Reply → Result (Store × Reply) Refusal
+        looks x = Ok (with_session s lane (writer (with_pool (pieces_of (x.0).content) w)), x.1)
+
+        looks_are : previous s lane name offset ≡ (file_part base.files name offset >>= looks)
+        unfolding goes_on
+        looks_are = by_base ∙ ap (λ o. or_else NoSnapshot o >>= after_base) there ∙ part_in_row (or_else NoFile (file_named name base.files)) offset looks
+
+        pub previous_refused : (r : Refusal) → file_part base.files name offset ≡ Err r → previous s lane name offset ≡ Err r
+        previous_refused r h = looks_are ∙ ap (λ p. p >>= looks) h
+
+        pub previous_goes : (f : File) (reply : Reply) (pieces : List (List ℕ)) (after : Store) → file_part base.files name offset ≡ Ok (f, reply) → pieces ≡ pieces_of f.content
+            → after ≡ with_session s lane (writer (with_pool pieces w)) → previous s lane name offset ≡ Ok (after, reply)
+        previous_goes f reply pieces after h same is =
+            looks_are ∙ ap (λ p. p >>= looks) h ∙ ap (λ ps. Ok (with_session s lane (writer (with_pool ps w)), reply)) (sym same) ∙ ap (λ a. Ok (a, reply)) (sym is)
 
 -- ---- BLOB
 
@@ -122,41 +164,36 @@ module _ (s : Store) (lane : ℕ) (name bytes : List ℕ) where
         let p = passed_in_row file goes_with (unless BadName (is_blob_name name)) (want_room name w) (want_data bytes) f h in
         put_tests ∙ p.1 ∙ ap puts p.2
 
--- a name that no file may have
-pub no_name : (w : Writer) (name bytes : List ℕ) → is_file_name name ≡ false → upload_of w name bytes ≡ Err BadName
-no_name w name bytes bad = let no_blob = (or_parts (is_index_name name) (is_blob_name name) bad).1 in rw no_blob refl
-
 -- ---- FINISH
+
+made_in_row : {A C U : Type 0} (t : Result U Refusal) (x : A) (k : A → Result C Refusal) → (t >>= λ _. k x) ≡ ((t >>= λ _. (let r : Result A Refusal = Ok x in r)) >>= k)
+made_in_row (Err e) x k = refl
+made_in_row (Ok u) x k = refl
 
 module _ (s : Store) (lane : ℕ) where
   pub finish_not_writer : (r : Refusal) → want_writer (session s lane) ≡ Err r → finish s lane ≡ Err r
   unfolding finish
   finish_not_writer r e = rw e refl
 
-  pub finish_open : (w : Writer) (count : ℕ) → want_writer (session s lane) ≡ Ok w → count ≡ length w.begun → 0 < count → finish s lane ≡ Err (OpenIndexes count)
-  unfolding finish
-  finish_open w count e same some = rw (e, sym same, differs count 0 (λ e. omega (arith, some, e))) refl
+  module _ (w : Writer) (e : want_writer (session s lane) ≡ Ok w) where
+    abbrev finishes : Snapshot → Result (Store × Reply) Refusal
+    finishes x = Ok (record (with_session s lane none) { snapshots = insert_snapshot x s.snapshots }, Done)
 
-  module _ (w : Writer) (e : want_writer (session s lane) ≡ Ok w) (closed : length w.begun ≡ 0) where
-    pub finish_no_manifest : file_named manifest_name w.files ≡ None → finish s lane ≡ Err NoFile
+    finish_tests : finish s lane ≡ (finished_of w >>= finishes)
     unfolding finish
-    finish_no_manifest h = rw (e, closed, h) refl
+    finish_tests = rw e (made_in_row (finish_check w) (snapshot_of w) finishes)
 
-    pub finish_goes : (f : File) → file_named manifest_name w.files ≡ Some f
-        → finish s lane ≡ Ok (record (with_session s lane none) { snapshots = insert_snapshot (snapshot_of w) s.snapshots }, Done)
-    unfolding finish
-    finish_goes f h = rw (e, closed, h) refl
+    pub finish_refused : (r : Refusal) → finished_of w ≡ Err r → finish s lane ≡ Err r
+    finish_refused r h = finish_tests ∙ ap (λ t. t >>= finishes) h
 
     -- as the code does it
-    pub finish_as : (f : File) → file_named manifest_name w.files ≡ Some f
-        → (snapshots new : List Snapshot) (sessions : List Session) (key : SnapshotKey) (files : List File) (after : Store)
+    pub finish_as : (x : Snapshot) → finished_of w ≡ Ok x → (snapshots new : List Snapshot) (sessions : List Session) (after : Store)
         → (let store : Store = record { snapshots = snapshots; sessions = sessions } in store ≡ s)
-        → new ≡ insert_snapshot (record { key = key; files = files }) snapshots → key ≡ w.key → files ≡ w.files
-        → after ≡ record { snapshots = new; sessions = set sessions lane none } → finish s lane ≡ Ok (after, Done)
-    finish_as f h snapshots new sessions key files after store placed same_key same_files is =
+        → new ≡ insert_snapshot x snapshots → after ≡ record { snapshots = new; sessions = set sessions lane none } → finish s lane ≡ Ok (after, Done)
+    finish_as x h snapshots new sessions after store placed is =
         let listed : snapshots ≡ s.snapshots = ap (λ (x : Store). x.snapshots) store in
         let held : sessions ≡ s.sessions = ap (λ (x : Store). x.sessions) store in
-        finish_goes f h ∙ rw (is, placed, same_key, same_files, listed, held) refl
+        finish_tests ∙ ap (λ t. t >>= finishes) h ∙ rw (is, placed, listed, held) refl
 
 pub is_there : {A : Type 0} (o : Option A) → is_some o ≡ true → (x : A) × (o ≡ Some x)
 is_there None h = cc

@@ -4,25 +4,18 @@
 #![tactic(auto)]
 
 mod archive_steps;
-mod archives;
-mod changes;
-mod closing;
-mod entries;
 mod lane;
 mod loading;
 mod next;
+mod parts;
 mod plain;
 mod reader_steps;
 mod run;
-mod session;
-mod stop;
 mod weave;
 mod writer_steps;
 
 pub use plain::Plain;
 pub use weave::{Misfit, Woven};
 
-#[cfg(test)]
-mod archive_tests;
 #[cfg(test)]
 mod tests;

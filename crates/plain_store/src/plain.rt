@@ -1,16 +1,16 @@
 //! The plain store, and what a command does to it.
 
-ghost use Rattle.std.specs.Prelude.{◌≡◌, ◌<◌, ◌≤◌, IfOk, OnErr};
+ghost use Rattle.std.specs.Prelude.{◌≡◌, ◌<◌, ◌≤◌, IfOk, OnOk, OnErr};
 ghost use Rattle.store_types.specs.Times.{last_moment};
 ghost use Rattle.wire_commands.specs.HasText.{ReplyHasText};
 ghost use Rattle.store_model.specs.Store.{session as session_at, with_session, ended};
 ghost use Rattle.store_model.specs.Steps.{step as stepped};
 ghost use Rattle.store_model.specs.Steps.{outcome as outcome_of};
-ghost use Rattle.plain_store.specs.Sessions.{shown_held};
+ghost use Rattle.plain_sessions.specs.Sessions.{shown_held};
+ghost use Rattle.plain_sessions.specs.Changes.{changed_in, FitsSession};
 ghost use Rattle.plain_store.specs.Outcomes.{Does, IsSpelled};
 
-use crate::session::{Held, Session};
-use crate::stop::Stop;
+use plain_sessions::{Change, Held, Session, Stop};
 use plain_snapshots::Snapshot;
 use std::alloc::{AllocError, Global};
 use std::marker::Model;
@@ -51,6 +51,17 @@ impl Plain {
         ensures { self.new ≡ with_session self.old lane (shown_held held) }
     {
         self.sessions[lane as usize] = Session { held };
+    }
+
+    /// The lane's writer is changed. At want of memory nothing has changed.
+    pub(crate) fn change(&mut self, lane: u32, change: Change) -> Result<(), AllocError>
+        requires lane { lane < 64 }
+        requires fits { FitsSession change (session_at self.old lane) }
+        ensures ok { OnOk result (self.new ≡ with_session self.old lane (changed_in change (session_at self.old lane))) }
+        ensures err { OnErr result (self.new ≡ self.old) }
+    {
+        let session = &mut self.sessions[lane as usize];
+        session.held.change(change)
     }
 
     /// The lane's session ends.
@@ -102,6 +113,14 @@ impl Plain {
             Command::OpenWriter { snapshot } => {
                 self.open_writer(alloc, lane, moment, snapshot.as_slice())
             }
+            Command::Previous { file, offset } => {
+                self.previous(alloc, lane, file.as_slice(), *offset)
+            }
+            Command::NewFixed {
+                file,
+                size,
+                chunk_size,
+            } => self.new_fixed(alloc, lane, moment, file.as_slice(), *size, *chunk_size),
             Command::NewDynamic { file } => self.new_dynamic(alloc, lane, moment, file.as_slice()),
             Command::Chunk { digest, blob } => {
                 self.put_chunk(alloc, lane, digest, blob.as_slice())
@@ -118,12 +137,18 @@ impl Plain {
             Command::Blob { file, blob } => {
                 self.put_blob(alloc, lane, file.as_slice(), blob.as_slice())
             }
-            Command::Finish => self.finish(lane),
+            Command::Finish => self.finish(alloc, lane),
             Command::Abort => self.abort(lane),
             Command::OpenReader { snapshot } => self.open_reader(alloc, lane, snapshot.as_slice()),
             Command::Download { file, offset } => {
                 self.download(alloc, lane, file.as_slice(), *offset)
             }
+            Command::GetChunk { digest } => self.get_chunk(alloc, lane, digest),
+            Command::Range {
+                file,
+                offset,
+                length,
+            } => self.range(alloc, lane, file.as_slice(), *offset, *length),
             Command::CloseReader => self.close_reader(lane),
             Command::Bye => {
                 self.end(lane);

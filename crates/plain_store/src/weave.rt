@@ -11,7 +11,7 @@ ghost use Rattle.store_model.specs.Weave.{known, weave as woven_in, woven_of, mi
 use crate::lane::Lane;
 use crate::plain::Plain;
 use crate::run::Run;
-use crate::session::{Held, Session};
+use plain_sessions::{Held, Session};
 use plain_snapshots::Snapshot;
 use std::alloc::{AllocError, Global};
 use std::marker::Model;

@@ -1,27 +1,19 @@
 //! The commands of a writer.
 
 ghost use Rattle.std.specs.Prelude.{◌≡◌, ◌<◌, length, nat_lt, option_map, Ok, Err, MatchResult, IfOk, IfErr};
-ghost use Rattle.std.specs.List.{list_any};
-ghost use Rattle.std.specs.Str.{bytes_eq};
 ghost use Rattle.store_types.specs.Chain.Refusing.{unless};
 ghost use Rattle.store_types.specs.Names.{group_of_key};
 ghost use Rattle.store_types.specs.declared.refusal.Refusal.TheVariants.{TooMany};
 ghost use Rattle.store_model.specs.Store.{in_group};
-ghost use Rattle.store_model.specs.Uploads.{want_room as needs_room, has_file as file_there};
-ghost use Rattle.store_model.specs.WriterSteps.{base_text as text_of_base, want_newer as needs_newer, open_writer as opened, put_blob as put, finish as finished, abort as aborted};
-ghost use Rattle.plain_store.specs.Sessions.{shown_writer};
-ghost use Rattle.plain_store.specs.Outcomes.{Does, Gives, IsFitRefusal, IsSpelled};
+ghost use Rattle.store_model.specs.WriterSteps.{base_text as text_of_base, want_newer as needs_newer, open_writer as opened, base_of as base_named, previous as looked_back, put_blob as put, finish as finished, abort as aborted};
+ghost use Rattle.plain_store.specs.Outcomes.{Does, IsSpelled};
 ghost use Rattle.wire_commands.specs.HasText.{FitsRefusal};
-ghost use Rattle.plain_store.specs.Writers.{base_of as tested_base, upload_of as tested_upload};
+ghost use Rattle.plain_store.specs.Writers.{base_of as tested_base};
 
-use crate::archives::Open;
-use crate::changes::Change;
+use crate::parts::part_in;
 use crate::plain::Plain;
-use crate::session::{Held, Writer, want_free};
-use crate::stop::Stop;
-use plain_snapshots::{
-    BlobData, Content, File, PlainKey, Snapshot, count_in, file_named, insert_snapshot, latest_in,
-};
+use plain_sessions::{Change, Held, Stop, Writer, want_free};
+use plain_snapshots::{PlainKey, Snapshot, count_in, insert_snapshot, latest_in, snapshot_named};
 use std::alloc::{AllocError, Global};
 use store_types::{Bytes, FileName, Refusal, SnapshotKey};
 use wire_commands::Reply;
@@ -74,56 +66,6 @@ fn copied(base: Option<&PlainKey>) -> Result<Option<PlainKey>, AllocError>
     }
 }
 
-/// The writer has a file of that name.
-fn is_uploaded(w: &Writer, name: &FileName) -> bool
-    ensures { result ≡ list_any (λ f. bytes_eq f.name name.now) w.now.files.items }
-{
-    w.files.iter().any(|file| file.name == *name)
-}
-
-/// The writer has an uploaded or an open file of that name.
-fn has_file(w: &Writer, name: &FileName) -> bool
-    ensures { result ≡ file_there name.now (shown_writer w.now) }
-{
-    is_uploaded(w, name) || w.begun.has_name(name)
-}
-
-/// The writer has no file of that name, and has room for one more.
-pub fn want_room(w: &Writer, name: &FileName) -> Result<(), Refusal>
-    ensures fits { IfErr result FitsRefusal }
-    ensures test { result ≡ needs_room name.now (shown_writer w.now) }
-{
-    if has_file(w, name) {
-        return Err(Refusal::Exists);
-    }
-    if w.files.len() + (w.begun.len() as usize) < 64 {
-        Ok(())
-    } else {
-        Err(Refusal::TooMany { limit: 64 })
-    }
-}
-
-/// The file that a writer uploads.
-fn upload(alloc: Global, w: &Writer, name: &[u8], blob: &[u8]) -> Result<File, Stop>
-    ensures fits { IsFitRefusal result }
-    ensures gives { Gives (λ f. f) result (tested_upload (shown_writer w.now) name.now blob.now) }
-{
-    let Ok(name) = FileName::check(alloc, name)? else {
-        return Err(Stop::Refused(Refusal::BadName));
-    };
-    if !name.is_blob() {
-        return Err(Stop::Refused(Refusal::BadName));
-    }
-    want_room(w, &name)?;
-    match BlobData::decoded(alloc, blob)? {
-        Ok(contents) => Ok(File {
-            name,
-            content: Content::Blob(contents),
-        }),
-        Err(cause) => Err(Stop::Refused(Refusal::BadBlob(cause))),
-    }
-}
-
 impl Plain {
     /// The latest snapshot of the group, where a writer of the snapshot may begin.
     fn base_of(&self, key: &SnapshotKey) -> Result<Option<&PlainKey>, Refusal>
@@ -157,18 +99,42 @@ impl Plain {
         let base = self.base_of(key.as_key())?;
         let text = base_text(alloc, base)?;
         let base = copied(base)?;
-        self.set_held(
-            lane,
-            Held::Writing(Writer {
-                key,
-                start: moment,
-                base,
-                pool: Vec::new(alloc),
-                begun: Open::new(alloc),
-                files: Vec::new(alloc),
-            }),
-        );
+        let w = Writer::new(alloc, key, moment, base);
+        self.set_held(lane, Held::Writing(w));
         Ok(Reply::Base { snapshot: text })
+    }
+
+    /// The snapshot that is the writer's base, where it is still there.
+    fn base_snapshot(&self, w: &Writer) -> Option<&Snapshot>
+        ensures { option_map (λ x. x.now) result ≡ base_named self.now w.now }
+    {
+        let key = w.base()?;
+        snapshot_named(key.as_key(), &self.snapshots)
+    }
+
+    /// PREVIOUS: a part of a file of the base. The file's pieces come to the pool of the lane's writer.
+    pub(crate) fn previous(
+        &mut self,
+        alloc: Global,
+        lane: u32,
+        name: &[u8],
+        offset: u64,
+    ) -> Result<Reply, Stop>
+        requires { lane < 64 }
+        ensures does { Does self.old self.new result (looked_back self.old lane name.now offset) }
+        ensures spelled { IsSpelled result }
+    {
+        let w = self.held(lane).want_writer()?;
+        let Ok(name) = FileName::check(alloc, name)? else {
+            return Err(Stop::Refused(Refusal::BadName));
+        };
+        let Some(base) = self.base_snapshot(w) else {
+            return Err(Stop::Refused(Refusal::NoSnapshot));
+        };
+        let (file, part) = part_in(alloc, &base.files, &name, offset)?;
+        let pieces = file.content.pieces().to_vec(alloc)?;
+        self.change(lane, Change::Pool(pieces))?;
+        Ok(part)
     }
 
     /// BLOB: the lane's writer gets a file of the blob's data.
@@ -184,29 +150,19 @@ impl Plain {
         ensures spelled { IsSpelled result }
     {
         let w = self.held(lane).want_writer()?;
-        let file = upload(alloc, w, name, blob)?;
+        let file = w.upload(alloc, name, blob)?;
         self.change(lane, Change::Upload(file))?;
         Ok(Reply::Done)
     }
 
     /// FINISH: the files of the lane's writer become a finished snapshot.
-    pub(crate) fn finish(&mut self, lane: u32) -> Result<Reply, Stop>
+    pub(crate) fn finish(&mut self, alloc: Global, lane: u32) -> Result<Reply, Stop>
         requires { lane < 64 }
         ensures does { Does self.old self.new result (finished self.old lane) }
         ensures spelled { IsSpelled result }
     {
         let w = self.held(lane).want_writer()?;
-        let count = w.begun.len();
-        if count > 0 {
-            return Err(Stop::Refused(Refusal::OpenIndexes { count }));
-        }
-        if file_named(b"index.json.blob", &w.files).is_none() {
-            return Err(Stop::Refused(Refusal::NoFile));
-        }
-        let snapshot = Snapshot {
-            key: w.key.clone()?,
-            files: w.files.clone()?,
-        };
+        let snapshot = w.finished(alloc)?;
         insert_snapshot(&mut self.snapshots, snapshot)?;
         self.set_held(lane, Held::Nothing);
         Ok(Reply::Done)

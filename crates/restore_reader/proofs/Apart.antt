@@ -1,10 +1,10 @@
 -- A range has nothing of the pieces before it and behind it.
-use Rattle.std.proofs.Common.{◌≡◌, ℕ, zero, suc, ◌+◌, ◌-◌, ◌<◌, ◌≤◌, min, max, Bool, ◌&&◌, IsTrue, cond, List, [], ◌∷◌, ◌++◌, length, take, drop, get_or, refl, ap, ap₂, ◌∙◌, add-one, append_assoc, append-nil, take_all, subst, sym, arith}
+use Rattle.std.proofs.Common.{◌≡◌, ℕ, zero, suc, ◌+◌, ◌-◌, ◌<◌, ◌≤◌, ◌⊎◌, inl, inr, min, max, Bool, ◌&&◌, IsTrue, cond, List, [], ◌∷◌, ◌++◌, length, take, drop, get_or, refl, ap, ap₂, ◌∙◌, add-one, append_assoc, append-nil, take_all, subst, sym, arith}
 use Rattle.std.proofs.lemmas.List.{length-map}
 use Rattle.std.specs.Prelude.{nat_lt, nat_le}
 use Rattle.std.specs.List.{AllAdjacentBelow}
 use Rattle.std.specs.List.Sorted.{IsPartitionedBy}
-use Rattle.std.proofs.lemmas.Bool.{and_parts, ltb-true, le-ltb, lt-ltb, leb-true}
+use Rattle.std.proofs.lemmas.Bool.{cases_lt, and_parts, ltb-true, le-ltb, lt-ltb, leb-true}
 use Rattle.std.proofs.lemmas.List.Sorted.{IsNonDecreasingBy-from_all_adjacent, IsPartitionedBy-leb}
 use Rattle.store_types.specs.declared.names.Digest32.{Digest32}
 use Rattle.store_files.specs.DynamicIndex.{Ended, steps_fit}
@@ -12,6 +12,7 @@ use Rattle.dynamic_index.specs.Pieces.{last_end}
 use Rattle.restore_reader.specs.declared.ranges.Part.{Part}
 use Rattle.restore_reader.specs.Session.{ended_of, ends_of}
 use Rattle.restore_reader.specs.Plan.{part_in, parts_in}
+use Rattle.restore_reader.specs.Cutting.{total_of}
 
 -- ---- steps
 
@@ -56,6 +57,23 @@ parts_behind from to start (e ∷ es) behind fit =
     let step = first_step start e es fit in
     ap₂ (λ (ps qs : List Part). ps ++ qs) (no_part from to start e (omega (arith, behind)))
     (parts_behind from to e.end es (omega (arith, behind, step)) (rest_steps start e es fit))
+
+-- they have no more bytes than the range
+total_one : (from to start : ℕ) (e : Ended) → total_of (part_in from to start e) ≡ min to e.end - max from start
+total_one from to start e = by_test (cases_lt (max from start) (min to e.end))
+  where
+    by_test : (max from start < min to e.end) ⊎ (min to e.end ≤ max from start) → total_of (part_in from to start e) ≡ min to e.end - max from start
+    by_test (inl h) = ap total_of (one_part from to start e h) ∙ omega arith
+    by_test (inr h) = ap total_of (no_part from to start e h) ∙ omega (arith, h)
+
+total_append : (xs ys : List Part) → total_of (xs ++ ys) ≡ total_of xs + total_of ys
+total_append [] ys = omega arith
+total_append (x ∷ xs) ys = omega (arith, total_append xs ys)
+
+pub total_in : (from to start : ℕ) (es : List Ended) → IsTrue (steps_fit start es) → total_of (parts_in from to start es) ≤ to - max from start
+total_in from to start [] fit = omega arith
+total_in from to start (e ∷ es) fit =
+    omega (arith, first_step start e es fit, total_append (part_in from to start e) (parts_in from to e.end es), total_one from to start e, total_in from to e.end es (rest_steps start e es fit))
 
 -- pieces before it
 pub parts_before : (from to start : ℕ) (es : List Ended) (i : ℕ) → last_end start (take i es) ≤ from → IsTrue (steps_fit start es)

@@ -13,14 +13,14 @@ use Rattle.store_types.specs.Chain.Refusing.{◌>>=◌, unless, or_else}
 use Rattle.store_files.specs.Archive.{Archive, Content, archive, File, piece_with, pieces_of, ends_from}
 use Rattle.store_files.specs.DynamicIndex.{Ended}
 use Rattle.store_model.specs.Store.{Reader}
-use Rattle.store_model.specs.ReaderSteps.{is_noted, note}
+use Rattle.store_model.specs.ReaderSteps.{is_noted, note, content_at, pieces_at, want_range, range_of}
 use Rattle.dynamic_index.specs.Pieces.{last_end}
 use Rattle.restore_reader.specs.declared.ranges.Part.{Part}
 use Rattle.restore_reader.specs.Session.{Noted, Reading}
 use Rattle.restore_reader.specs.Plan.{parts_in}
 use Rattle.restore_reader.specs.Answers.{Tells, ReadsNoted, TellsPlainly}
-use Rattle.restore_reader.specs.Steps.{has_digest, downloaded, noted_as, want_range, range_plan}
-use Rattle.restore_reader.specs.Shown.{content_at, pieces_at, is_allowed, range, shown_noted, shown, Shows}
+use Rattle.restore_reader.specs.Steps.{has_digest, downloaded, noted_as, range_plan}
+use Rattle.restore_reader.specs.Shown.{is_allowed, shown_noted, shown, Shows}
 
 -- ---- chunks
 
@@ -76,8 +76,8 @@ noted_in files r s name shows = ap (λ t. noted_as t name) shows ∙ found_noted
 -- ---- ranges
 
 -- one of an archive that was not noted
-pub range_none : (files : List File) (r : Reader) (s : Reading) (name : List ℕ) (offset len : ℕ) → Shows s files r → noted_as s name ≡ None → range files r name offset len ≡ Err NotAllowed
-unfolding range
+pub range_none : (files : List File) (r : Reader) (s : Reading) (name : List ℕ) (offset len : ℕ) → Shows s files r → noted_as s name ≡ None → range_of files r name offset len ≡ Err NotAllowed
+unfolding range_of
 range_none files r s name offset len shows none = by_test (is_noted r name) (sym (noted_in files r s name shows) ∙ none)
   where
     by_test : (b : Bool) → cond b (Some (shown_noted files name)) None ≡ None
@@ -111,8 +111,8 @@ noted_plainly files r s name x shows is = by_test (is_noted r name) refl (sym (n
 
 -- what its range is
 pub range_noted : (files : List File) (r : Reader) (name : List ℕ) (x : Noted) (offset len : ℕ) (wanted : Result (Unit {0}) Refusal) → IsNotedAs files r name x → want_range (last_end 0 x.entries) offset len ≡ wanted
-    → range files r name offset len ≡ (wanted >>= λ _. Ok (take len (drop offset (concat (pieces_at files name)))))
-unfolding range
+    → range_of files r name offset len ≡ (wanted >>= λ _. Ok (take len (drop offset (concat (pieces_at files name)))))
+unfolding range_of
 range_noted files r name x offset len wanted is wants =
     ap (λ b. unless NotAllowed b >>= λ _. want_range (length (concat (pieces_at files name))) offset len >>= λ _. Ok (take len (drop offset (concat (pieces_at files name))))) is.noted
     ∙ ap (λ w. w >>= λ _. Ok (take len (drop offset (concat (pieces_at files name))))) (ap (λ size. want_range size offset len) (sym is.size) ∙ wants)
@@ -141,12 +141,12 @@ same_refusal show pieces planned ranged refusal (Err e) p r does =
 -- what a plan tells beside the plain reader's range
 pub plan_plainly : {A : Type 0} (show : A → List Part) (files : List File) (r : Reader) (s : Reading) (name : List ℕ) (offset len : ℕ) (told : Result A Refusal) → Shows s files r
     → Tells show (range_plan s name offset len) told → IfOk told (λ a. ReadsNoted (show a) (noted_as s name) offset len)
-    → TellsPlainly show (pieces_at files name) (range files r name offset len) told
+    → TellsPlainly show (pieces_at files name) (range_of files r name offset len) told
 plan_plainly {A} show files r s name offset len told shows does bytes = by_noted (noted_as s name) refl
   where
     by_told : (t : Result A Refusal) (x : Noted) → noted_as s name ≡ Some x → want_range (last_end 0 x.entries) offset len ≡ Ok tt
         → Tells show (range_plan s name offset len) t → IfOk t (λ a. ReadsNoted (show a) (noted_as s name) offset len)
-        → TellsPlainly show (pieces_at files name) (range files r name offset len) t
+        → TellsPlainly show (pieces_at files name) (range_of files r name offset len) t
     by_told (Ok a) x e f told_is reads_it =
         let is = noted_plainly files r s name x shows e in
         record {
@@ -158,16 +158,16 @@ plan_plainly {A} show files r s name offset len told shows does bytes = by_noted
         let planned = plan_noted s name x offset len (Ok tt) e f in cc
 
     by_wanted : (w : Result (Unit {0}) Refusal) (x : Noted) → noted_as s name ≡ Some x → want_range (last_end 0 x.entries) offset len ≡ w
-        → TellsPlainly show (pieces_at files name) (range files r name offset len) told
+        → TellsPlainly show (pieces_at files name) (range_of files r name offset len) told
     by_wanted (Ok u) x e f = by_told told x e f does bytes
     by_wanted (Err refusal) x e f =
         let is = noted_plainly files r s name x shows e in
-        same_refusal show (pieces_at files name) (range_plan s name offset len) (range files r name offset len) refusal told
+        same_refusal show (pieces_at files name) (range_plan s name offset len) (range_of files r name offset len) refusal told
         (plan_noted s name x offset len (Err refusal) e f) (range_noted files r name x offset len (Err refusal) is f) does
 
-    by_noted : (o : Option Noted) → noted_as s name ≡ o → TellsPlainly show (pieces_at files name) (range files r name offset len) told
+    by_noted : (o : Option Noted) → noted_as s name ≡ o → TellsPlainly show (pieces_at files name) (range_of files r name offset len) told
     by_noted None e =
-        same_refusal show (pieces_at files name) (range_plan s name offset len) (range files r name offset len) NotAllowed told
+        same_refusal show (pieces_at files name) (range_plan s name offset len) (range_of files r name offset len) NotAllowed told
         (plan_none s name offset len e) (range_none files r s name offset len shows e) does
     by_noted (Some x) e = by_wanted (want_range (last_end 0 x.entries) offset len) x e refl
 
@@ -197,6 +197,6 @@ noted_also files a r s new name entries made shows is ends =
 -- the same under want of memory
 pub plan_told : {A E : Type 0} (show : A → List Part) (s : Reading) (name : List ℕ) (offset len : ℕ) (result : Result (Result A Refusal) E)
     → IfOk result (Tells show (range_plan s name offset len)) → IfOk result (λ told. IfOk told (λ a. ReadsNoted (show a) (noted_as s name) offset len))
-    → IfOk result (λ told. (files : List File) → (r : Reader) → Shows s files r → TellsPlainly show (pieces_at files name) (range files r name offset len) told)
+    → IfOk result (λ told. (files : List File) → (r : Reader) → Shows s files r → TellsPlainly show (pieces_at files name) (range_of files r name offset len) told)
 plan_told show s name offset len (Ok told) does bytes = λ files r shows. plan_plainly show files r s name offset len told shows does bytes
 plan_told show s name offset len (Err e) does bytes = tt

@@ -19,6 +19,11 @@ ArePartsOf [] pieces = ⊤
 ArePartsOf (x ∷ xs) [] = ⊥
 ArePartsOf (x ∷ xs) (p ∷ ps) = IsPartOf x p × ArePartsOf xs ps
 
+-- how many bytes they have
+abbrev pub total_of : List Part → ℕ
+total_of [] = 0
+total_of (x ∷ xs) = x.length + total_of xs
+
 -- their bytes, one after another
 abbrev pub joined : List Part → List (List ℕ) → List ℕ
 joined [] pieces = []

@@ -1,12 +1,13 @@
 -- What a reader's calls answer and leave.
-use Rattle.std.specs.Prelude.{ℕ, ◌+◌, Bool, List, [], ◌∷◌, ◌++◌, nat_le, if◌then◌else◌, Option, Result, Ok}
+use Rattle.std.specs.Prelude.{ℕ, ◌+◌, Bool, List, [], ◌∷◌, ◌++◌, if◌then◌else◌, Option, Result, Ok}
 use Rattle.std.specs.List.{list_any, find}
 use Rattle.std.specs.Str.{bytes_eq}
 use Rattle.store_types.specs.declared.names.SnapshotKey.{SnapshotKey}
 use Rattle.store_types.specs.declared.refusal.Refusal.{Refusal}
-use Rattle.store_types.specs.declared.refusal.Refusal.TheVariants.{NotAllowed, TooMany, BadRange}
-use Rattle.store_types.specs.Chain.Refusing.{◌>>=◌, unless, or_else}
+use Rattle.store_types.specs.declared.refusal.Refusal.TheVariants.{NotAllowed}
+use Rattle.store_types.specs.Chain.Refusing.{◌>>=◌, or_else}
 use Rattle.store_files.specs.DynamicIndex.{Ended}
+use Rattle.store_model.specs.ReaderSteps.{want_range}
 use Rattle.dynamic_index.specs.Pieces.{last_end}
 use Rattle.restore_reader.specs.declared.ranges.Part.{Part}
 use Rattle.restore_reader.specs.Session.{Noted, Reading}
@@ -35,15 +36,6 @@ abbrev pub is_allowed : Reading → List ℕ → Bool
 is_allowed r digest = list_any (has_digest digest) r.noted
 
 -- ---- ranges
-
-abbrev pub range_limit : ℕ
-range_limit = 4_194_304
-
--- a range of content of this size
-abbrev pub want_range : ℕ → ℕ → ℕ → Result (Unit {0}) Refusal
-want_range size offset len = do
-  _ ← unless (TooMany range_limit) (nat_le len range_limit)
-  unless (BadRange size) (nat_le (offset + len) size)
 
 abbrev pub noted_as : Reading → List ℕ → Option Noted
 noted_as r name = find (λ x. bytes_eq name x.name) r.noted

@@ -1,11 +1,11 @@
 //! An archive that was downloaded.
 
-ghost use Rattle.std.specs.Prelude.{◌≡◌, ℕ, ◌-◌, List, take, drop, IfOk};
+ghost use Rattle.std.specs.Prelude.{◌≡◌, ◌≤◌, ℕ, ◌-◌, List, take, drop, IfOk};
 ghost use Rattle.std.specs.List.{concat};
 ghost use Rattle.store_files.specs.Archive.{ends_from};
 ghost use Rattle.dynamic_index.specs.Pieces.{last_end};
 ghost use Rattle.restore_reader.specs.Session.{ends_of, FitsIndex};
-ghost use Rattle.restore_reader.specs.Cutting.{Reads};
+ghost use Rattle.restore_reader.specs.Cutting.{Reads, total_of};
 ghost use Rattle.restore_reader.specs.Plan as plan;
 ghost use Rattle.restore_reader.specs.Steps as steps;
 
@@ -75,6 +75,7 @@ impl Index {
     /// The parts of pieces from one offset up to another.
     pub fn parts(&self, alloc: Global, from: u64, to: u64) -> Result<Vec<Part>, AllocError>
         ensures value { IfOk result (λ parts. parts.items ≡ plan.parts_in from to 0 self.now.entries) }
+        ensures total { IfOk result (λ parts. total_of parts.items ≤ to - from) }
         ensures bytes { IfOk result (λ parts. (pieces : List (List ℕ)) → ends_from 0 pieces ≡ self.now.entries → Reads parts.items pieces (take (to - from) (drop from (concat pieces)))) }
     {
         parts_in(alloc, &self.entries, from, to)

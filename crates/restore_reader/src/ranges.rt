@@ -6,9 +6,9 @@ ghost use Rattle.store_files.specs.Archive.{ends_from};
 ghost use Rattle.store_files.specs.DynamicIndex.{steps_fit};
 ghost use Rattle.dynamic_index.specs.Pieces.{last_end};
 ghost use Rattle.restore_reader.specs.Session.{ended_of, ends_of};
-ghost use Rattle.restore_reader.specs.Cutting.{Reads};
+ghost use Rattle.restore_reader.specs.Cutting.{Reads, total_of};
 ghost use Rattle.restore_reader.specs.Plan as plan;
-ghost use Rattle.restore_reader.specs.Steps as steps;
+ghost use Rattle.store_model.specs.ReaderSteps as plain;
 
 use std::alloc::{AllocError, Global};
 use store_types::{Digest32, Refusal};
@@ -29,7 +29,8 @@ pub struct Part {
 
 /// A range that content of this size has.
 pub fn want_range(size: u64, offset: u64, length: u32) -> Result<(), Refusal>
-    ensures { result ≡ steps.want_range size offset length }
+    ensures value { result ≡ plain.want_range size offset length }
+    ensures limit { OnOk result (length ≤ 4_194_304) }
 {
     if length > RANGE_LIMIT {
         return Err(Refusal::TooMany { limit: RANGE_LIMIT });
@@ -119,6 +120,7 @@ pub fn parts_in(
 ) -> Result<Vec<Part>, AllocError>
     requires { IsTrue (steps_fit 0 (ends_of entries.now)) }
     ensures value { IfOk result (λ parts. parts.items ≡ plan.parts_in from to 0 (ends_of entries.now)) }
+    ensures total { IfOk result (λ parts. total_of parts.items ≤ to - from) }
     ensures bytes { IfOk result (λ parts. (pieces : List (List ℕ)) → ends_from 0 pieces ≡ ends_of entries.now → Reads parts.items pieces (take (to - from) (drop from (concat pieces)))) }
 {
     let first = pieces_before(entries, from);

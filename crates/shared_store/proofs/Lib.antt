@@ -1,1 +1,2 @@
+mod Damages
 mod Asking

@@ -9,12 +9,13 @@ ghost use Rattle.core_state.specs.History.{History, IsClear, StandsFor, then_eve
 ghost use Rattle.core_state.specs.Records.{Records, IsTimely};
 ghost use Rattle.core_state.specs.Reserved.{Keeps};
 ghost use Rattle.core_state.specs.Unchanged.{Unchanged};
+ghost use Rattle.core_state.specs.Unreadables.{TellsUnreadable};
 ghost use Rattle.core_state.specs.declared.kept.Session.TheVariants.{Idle};
 ghost use Rattle.core_writer.specs.Closed.{Lists};
 ghost use Rattle.core_writer.specs.Ended.{Removes};
-ghost use Rattle.core_writer.specs.Others.{ActLeaves};
-ghost use Rattle.core_reader.specs.Asked.{asked_path};
-ghost use Rattle.core_reader.specs.Unreadables.{TellsUnreadable};
+ghost use Rattle.core_uploads.specs.Others.{ActLeaves};
+ghost use Rattle.core_reader.specs.Damages.{TellsDamaged, needed};
+ghost use Rattle.shared_store.specs.Asked.{asked, is_readers};
 
 use core_reader::reader_act;
 use core_state::{Act, Answer, Core, short};
@@ -23,6 +24,23 @@ use disk_trait::Disk;
 use port_traits::Clock;
 use std::alloc::Global;
 use wire_commands::Command;
+
+/// The act is one of a reader's commands.
+fn is_readers(act: &Act) -> bool
+    ensures { result ≡ is_readers act.now }
+{
+    let Act::Plain(command) = act else {
+        return false;
+    };
+    matches!(
+        command,
+        Command::OpenReader { .. }
+            | Command::Download { .. }
+            | Command::GetChunk { .. }
+            | Command::Range { .. }
+            | Command::CloseReader
+    )
+}
 
 /// Does one act on a lane, and enters it in the order. It is one atomic step of the store.
 pub fn apply<D: Disk, E, C: Clock>(
@@ -46,7 +64,8 @@ pub fn apply<D: Disk, E, C: Clock>(
     ensures told { IsTold act result }
     // why it is answered so
     ensures cause { IsCaused D.faults core.old core.new act result }
-    ensures unreadable { TellsUnreadable D.honest D.content core.old.parts.disk (asked_path act (slice_index_or core.old.parts.sessions.items lane Idle) core.old.parts.catalogue.items) result.entry.kind result.reply }
+    ensures unreadable { TellsUnreadable D.honest D.content core.old.parts.disk (asked act (slice_index_or core.old.parts.sessions.items lane Idle) core.old.parts.catalogue.items) result.entry.kind result.reply }
+    ensures damaged { TellsDamaged D.honest D.content core.old.parts.disk (needed act (slice_index_or core.old.parts.sessions.items lane Idle) core.old.parts.catalogue.items) result.entry.kind result.reply }
     // a refused act leaves catalogue and sessions as before, and the disk too unless it failed
     ensures unchanged { IfSome result.reply (Unchanged D.honest D.content core.old.parts core.new.parts) }
     // under names that are no file's of the lane's writer all stays, but at that of a chunk that the act puts
@@ -63,9 +82,10 @@ pub fn apply<D: Disk, E, C: Clock>(
     ensures halted { IfSome core.old.fault (λ _. core.new.parts.disk ≡ core.old.parts.disk) }
     ensures remote { core.new.remote ≡ core.old.remote }
 {
+    if is_readers(&act) {
+        return reader_act(core, alloc, lane, act);
+    }
     match act {
-        Act::Plain(Command::OpenReader { .. } | Command::Download { .. } | Command::CloseReader) =>
-            reader_act(core, alloc, lane, act),
         Act::Plain(_) | Act::Blob { .. } | Act::Chunk { .. } => writer_act(core, alloc, lane, act),
         Act::Short => short(core, alloc, lane),
         Act::End => end_act(core, lane),

@@ -1,3 +1,12 @@
 pub mod PathLengths
 pub mod Placing
 pub mod Losing
+pub mod ReadingCalls
+pub mod Places
+pub mod InOrder
+pub mod Joined
+pub mod Damage
+pub mod FoundLemmas
+pub mod Named
+pub mod Listing
+pub mod Ordered

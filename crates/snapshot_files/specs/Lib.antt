@@ -1,1 +1,3 @@
 pub mod Forgotten
+pub mod OnlyReads
+pub mod Scanned

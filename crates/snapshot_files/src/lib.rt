@@ -4,14 +4,18 @@
 #![tactic(auto)]
 
 mod forgetting;
+mod found;
 mod path;
 mod putting;
 mod reading;
+mod scanning;
 
 pub use forgetting::{forget, remove_files};
+pub use found::Found;
 pub use path::{FilePath, path_of};
 pub use putting::{finish, put_file};
 pub use reading::read_part;
+pub use scanning::scan;
 
 #[cfg(test)]
 mod tests;

@@ -45,7 +45,8 @@ impl FilePath {
 
     /// The name's bytes. It takes no memory.
     pub fn into_bytes(self) -> Bytes
-        ensures { result ≡ self }
+        ensures text { result ≡ self }
+        ensures short { length result ≤ 251 }
     {
         let FilePath { text } = self;
         Bytes::from_vec(text.into_bytes())

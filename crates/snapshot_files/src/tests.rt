@@ -2,6 +2,7 @@ ghost use Rattle.std.specs.Prelude.{IfOk};
 ghost use Rattle.store_types.specs.Names.{IsKey};
 
 use super::*;
+use blob_codec::encode;
 use disk_trait::{Disk, DiskError, FailingDisk, MemoryDisk};
 use std::alloc::Global;
 use std::process::Abort;
@@ -175,5 +176,140 @@ fn files_are_removed(rt: HostRuntime) -> Result<(), Fail> {
         shown(alloc, &mut disk)?.as_str(),
         "manifest//root///other/"
     );
+    Ok(())
+}
+
+// The blob of a manifest of `host/a-b` that lists nothing.
+const EMPTY: &[u8] =
+    b"B\xab8\x07\xbe\x83p\xa1\xd8\x04\xd8h{\"backup-type\":\"host\",\"backup-id\":\"a-b\",\"backup-time\":1579069803,\"files\":[]}";
+
+// A manifest of `host/a` that lists `set.blob`, `root.didx` and so many further files.
+fn manifest_of(alloc: Global, further: u32) -> Result<Vec<u8>, Fail> {
+    let zeros = "0000000000000000000000000000000000000000000000000000000000000000";
+    let mut text = String::from_str(
+        alloc,
+        "{\"backup-type\":\"host\",\"backup-id\":\"a\",\"backup-time\":1579069803,\"files\":[",
+    )?;
+    for i in 0..further {
+        write!(
+            text,
+            "{{\"filename\":\"{i}.blob\",\"size\":12,\"csum\":\"{zeros}\"}},"
+        )?;
+    }
+    write!(
+        text,
+        "{{\"filename\":\"set.blob\",\"size\":12,\"csum\":\"{zeros}\"}},"
+    )?;
+    write!(
+        text,
+        "{{\"filename\":\"root.didx\",\"size\":0,\"csum\":\"{zeros}\"}}]}}"
+    )?;
+    Ok(encode(alloc, text.as_str().as_bytes())??)
+}
+
+// Each snapshot with the number of files that its manifest lists, and the name that makes it damaged.
+fn found_on(alloc: Global, disk: &mut MemoryDisk) -> Result<String, Fail> {
+    let mut text = String::new(alloc);
+    for found in &scan(alloc, disk)? {
+        write!(text, "[{:?} ", found.key.kind)?;
+        text.push_str(str::from_utf8(found.key.id.as_slice()).unwrap_or("no text"))?;
+        if let Some(manifest) = &found.manifest {
+            write!(text, " {}", manifest.files.as_slice().len())?;
+        }
+        if let Some(name) = &found.unreadable {
+            text.push(' ')?;
+            text.push_str(str::from_utf8(name.as_slice()).unwrap_or("no text"))?;
+        }
+        text.push(']')?;
+    }
+    Ok(text)
+}
+
+// Names whose byte order is not the snapshots', a snapshot without a manifest, and names that are none of a snapshot.
+fn datastore(alloc: Global) -> Result<MemoryDisk, Fail> {
+    let mut disk = MemoryDisk::new(alloc);
+    disk.put(alloc, "vm/a/2020-01-15T06:30:03Z/index.json.blob", EMPTY)?;
+    disk.put(
+        alloc,
+        "host/a-b/2020-01-15T06:30:03Z/index.json.blob",
+        EMPTY,
+    )?;
+    disk.put(alloc, "ct/z/2020-01-15T06:30:03Z/index.json.blob", b"abc")?;
+    disk.put(alloc, STAGED, EMPTY)?;
+    disk.put(alloc, OTHER, b"set")?;
+    disk.put(
+        alloc,
+        "host/a/2020-01-15T06:30:03Z/x/index.json.blob",
+        EMPTY,
+    )?;
+    disk.put(alloc, "host/a/2020-01-15T06:30:03z/index.json.blob", EMPTY)?;
+    disk.put(
+        alloc,
+        ".chunks/host/a/2020-01-15T06:30:03Z/index.json.blob",
+        EMPTY,
+    )?;
+    Ok(disk)
+}
+
+#[test]
+fn what_is_found(rt: HostRuntime) -> Result<(), Fail> {
+    let alloc = rt.alloc();
+    for (further, has_set, has_root, wanted) in [
+        (0, true, true, "[Host a 2]"),
+        (
+            0,
+            false,
+            true,
+            "[Host a 2 host/a/2020-01-15T06:30:03Z/set.blob]",
+        ),
+        (
+            0,
+            false,
+            false,
+            "[Host a 2 host/a/2020-01-15T06:30:03Z/root.didx]",
+        ),
+        (
+            61,
+            true,
+            true,
+            "[Host a 63 host/a/2020-01-15T06:30:03Z/0.blob]",
+        ),
+        (
+            62,
+            true,
+            true,
+            "[Host a 64 host/a/2020-01-15T06:30:03Z/index.json.blob]",
+        ),
+    ] {
+        let mut disk = datastore(alloc)?;
+        disk.put(alloc, MANIFEST, &manifest_of(alloc, further)?)?;
+        if has_set {
+            disk.put(alloc, BLOB, b"set")?;
+        }
+        if has_root {
+            disk.put(alloc, INDEX, b"root")?;
+        }
+        let text = found_on(alloc, &mut disk)?;
+        let expected = format!(in alloc;
+            "[Ct z ct/z/2020-01-15T06:30:03Z/index.json.blob]{wanted}[Host a-b 0][Vm a 0]"
+        )?;
+        assert_eq!(rt; text.as_str(), expected.as_str());
+    }
+    Ok(())
+}
+
+// Three lists, four manifests, and the two files that one of them lists.
+#[test]
+fn each_call_of_a_scan_fails(rt: HostRuntime) -> Result<(), Fail> {
+    let alloc = rt.alloc();
+    for k in 0..10 {
+        let mut disk = datastore(alloc)?;
+        disk.put(alloc, MANIFEST, &manifest_of(alloc, 0)?)?;
+        let plan = Vec::from_slice(alloc, &[k])?;
+        let mut failing = FailingDisk::at_calls(disk, plan);
+        let outcome = scan(alloc, &mut failing);
+        let has_failed = matches!(&outcome, Err(DiskError::Failed));
+        assert_eq!(rt; has_failed, k < 9, "{k}");
+    }
     Ok(())
 }

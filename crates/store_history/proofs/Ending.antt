@@ -85,6 +85,8 @@ is_checked bytes = by_result (data_of bytes) refl
 pub is_formed : (c : Command) → c ≢ commands.Bye → IsWellFormed (act_of_command c)
 is_formed (commands.Chunk digest blob) ne = is_checked_chunk digest blob
 is_formed (commands.Blob file blob) ne = is_checked blob
+is_formed (commands.Previous file offset) ne = tt
+is_formed (commands.NewFixed file size chunk_size) ne = tt
 is_formed (commands.NewDynamic file) ne = tt
 is_formed (commands.Append number entries) ne = tt
 is_formed (commands.CloseIndex number count size csum) ne = tt
@@ -94,6 +96,8 @@ is_formed commands.Finish ne = tt
 is_formed commands.Abort ne = tt
 is_formed (commands.OpenReader snapshot) ne = tt
 is_formed (commands.Download file offset) ne = tt
+is_formed (commands.GetChunk digest) ne = tt
+is_formed (commands.Range file offset len) ne = tt
 is_formed commands.CloseReader ne = tt
 
 -- ---- one more command

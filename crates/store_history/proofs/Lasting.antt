@@ -1,22 +1,24 @@
 -- A snapshot is there once its FINISH was answered 0, and stays.
-use Rattle.std.proofs.Common.{◌≡◌, ℕ, zero, suc, Bool, true, false, List, [], ◌∷◌, cond, Option, Some, None, Result, Ok, Err, refl, sym, subst, ap, ◌∙◌, is_some, if◌then◌else◌, nat_le, nat_lt, ◌==◌, length, map}
+use Rattle.std.proofs.Common.{◌≡◌, ℕ, zero, suc, Bool, true, false, List, [], ◌∷◌, cond, Option, Some, None, Result, Ok, Err, refl, sym, subst, ap, ◌∙◌, is_some, if◌then◌else◌, nat_le, nat_lt, length, map}
 use Rattle.store_types.specs.declared.names.SnapshotKey.{SnapshotKey}
 use Rattle.store_types.specs.declared.refusal.Refusal.{Refusal}
-use Rattle.store_types.specs.declared.refusal.Refusal.TheVariants.{BadName, GroupBusy, TooMany, OpenIndexes, NoFile, NoSnapshot, BadRange, NoMemory}
+use Rattle.store_types.specs.declared.refusal.Refusal.TheVariants.{BadName, GroupBusy, TooMany, NoFile, NoSnapshot, BadRange, NotAllowed, NoMemory}
 use Rattle.store_types.specs.Chain.Refusing.{◌>>=◌, unless, or_else, if_none}
-use Rattle.store_types.specs.FileNames.{is_blob_name, is_file_name, manifest_name}
+use Rattle.store_types.specs.FileNames.{is_blob_name, is_file_name, is_index_name}
 use Rattle.store_types.specs.Names.{same_key, key_lt, key_of, group_of_key}
-use Rattle.store_files.specs.Archive.{File, Snapshot, file_text, file_named}
+use Rattle.store_files.specs.Archive.{Snapshot, file_text, file_named, piece_with}
+use Rattle.store_files.specs.Manifest.{Manifest}
 use Rattle.wire_commands.specs.declared.command.Command.{Command}
 use Rattle.wire_commands.specs.declared.command.Command.TheVariants as commands
 use Rattle.wire_commands.specs.declared.reply.Reply.{Reply}
 use Rattle.wire_commands.specs.declared.reply.Reply.TheVariants.{Done, Refused}
-use Rattle.store_model.specs.Store.{Writer, none, writer, with_session, Store, Outcome, session, want_writer, want_reader, want_idle, group_holder, in_group, latest_in, snapshot_named, insert_snapshot, ended}
+use Rattle.store_model.specs.Store.{Writer, none, writer, with_session, Store, Outcome, session, want_writer, want_reader, want_idle, group_holder, in_group, latest_in, snapshot_named, insert_snapshot}
 use Rattle.store_model.specs.Uploads.{want_room}
-use Rattle.store_model.specs.WriterSteps.{goes_on, open_writer, want_newer, want_data, checked_blob, put_blob, snapshot_of, finish, abort}
+use Rattle.store_model.specs.WriterSteps.{goes_on, open_writer, want_newer, base_of, previous, want_data, checked_blob, put_blob, snapshot_of, finish, abort}
 use Rattle.store_model.specs.WriterCalls as calls
-use Rattle.store_model.specs.ArchiveSteps.{new_dynamic, check_chunk, checked_chunk, put_chunk, named, append, close_index}
-use Rattle.store_model.specs.ReaderSteps.{open_reader, reader_files, download, close_reader}
+use Rattle.store_model.specs.ArchiveSteps.{new_fixed, new_dynamic, check_chunk, checked_chunk, put_chunk, named, append, close_index}
+use Rattle.store_model.specs.ReaderSteps.{open_reader, reader_files, download, noted_pieces, get_chunk, range_of, range, close_reader}
+use Rattle.store_model.specs.Manifests.{finish_check}
 use Rattle.store_model.specs.Steps.{outcome, answered}
 use Rattle.store_model.specs.Weave.{fault_refusal}
 use Rattle.store_history.specs.declared.act.Act.{Act}
@@ -81,11 +83,17 @@ unfolding Keeps checked_chunk goes_on
 chunk_keeps key s k checked = bound key s (want_writer (session s k)) _ (λ w. bound key s checked _ (λ piece. λ h. h))
 
 command_keeps : (key : SnapshotKey) (s : Store) (k m : ℕ) (c : Command) → Keeps key s (outcome s k m c)
-unfolding Keeps outcome open_writer new_dynamic put_chunk append close_index goes_on put_blob finish abort open_reader download close_reader
+unfolding Keeps outcome open_writer previous new_fixed new_dynamic put_chunk append close_index goes_on put_blob finish abort open_reader download get_chunk range close_reader
 command_keeps key s k m (commands.OpenWriter snapshot) =
     bound key s (want_idle (session s k)) _ (λ a. bound key s (or_else BadName (key_of snapshot)) _ (λ b. bound key s (if_none GroupBusy (group_holder s (group_of_key b))) _
     (λ c. bound key s (want_newer b.time (latest_in (group_of_key b) s.snapshots)) _
     (λ d. bound key s (unless (TooMany 4096) (nat_lt (length (in_group (group_of_key b) s.snapshots)) 4096)) _ (λ e. λ h. h)))))
+command_keeps key s k m (commands.Previous file offset) =
+    bound key s (want_writer (session s k)) _ (λ w. bound key s (unless BadName (is_file_name file)) _ (λ a. bound key s (or_else NoSnapshot (base_of s w)) _
+    (λ x. bound key s (or_else NoFile (file_named file x.files)) _
+    (λ f. bound key s (unless (BadRange (length (file_text f.content))) (nat_le offset (length (file_text f.content)))) _ (λ b. λ h. h)))))
+command_keeps key s k m (commands.NewFixed file size chunk_size) =
+    bound key s (want_writer (session s k)) _ (λ w. bound key s (calls.new_fixed w file size chunk_size m) _ (λ b. λ h. h))
 command_keeps key s k m (commands.NewDynamic file) =
     bound key s (want_writer (session s k)) _ (λ w. bound key s (calls.new_dynamic w file m) _ (λ b. λ h. h))
 command_keeps key s k m (commands.Chunk digest blob) = chunk_keeps key s k (check_chunk digest blob)
@@ -95,14 +103,18 @@ command_keeps key s k m (commands.CloseIndex number count size csum) =
     bound key s (want_writer (session s k)) _ (λ w. bound key s (calls.close_index w number count size csum) _ (λ b. λ h. h))
 command_keeps key s k m (commands.Blob file blob) = blob_keeps key s k file (want_data blob)
 command_keeps key s k m commands.Finish =
-    bound key s (want_writer (session s k)) _ (λ w. bound key s (unless (OpenIndexes (length w.begun)) (length w.begun == 0)) _
-    (λ u. bound key s (or_else NoFile (file_named manifest_name w.files)) _ (λ f. λ h. insert_keeps key (snapshot_of w) s.snapshots h)))
+    bound key s (want_writer (session s k)) _ (λ w. bound key s (finish_check w) _ (λ m. λ h. insert_keeps key (snapshot_of w) s.snapshots h))
 command_keeps key s k m commands.Abort = bound key s (want_writer (session s k)) _ (λ w. λ h. h)
 command_keeps key s k m (commands.OpenReader snapshot) =
     bound key s (want_idle (session s k)) _ (λ a. bound key s (or_else BadName (key_of snapshot)) _ (λ b. bound key s (or_else NoSnapshot (snapshot_named b s.snapshots)) _ (λ c. λ h. h)))
 command_keeps key s k m (commands.Download file offset) =
     bound key s (want_reader (session s k)) _ (λ r. bound key s (unless BadName (is_file_name file)) _ (λ a. bound key s (or_else NoFile (file_named file (reader_files s r))) _
     (λ f. bound key s (unless (BadRange (length (file_text f.content))) (nat_le offset (length (file_text f.content)))) _ (λ b. λ h. h))))
+command_keeps key s k m (commands.GetChunk digest) =
+    bound key s (want_reader (session s k)) _ (λ r. bound key s (or_else NotAllowed (piece_with digest (noted_pieces (reader_files s r) r))) _ (λ p. λ h. h))
+command_keeps key s k m (commands.Range file offset len) =
+    bound key s (want_reader (session s k)) _ (λ r. bound key s (unless BadName (is_index_name file)) _ (λ a. bound key s (or_else NoFile (file_named file (reader_files s r))) _
+    (λ f. bound key s (range_of (reader_files s r) r file offset len) _ (λ b. λ h. h))))
 command_keeps key s k m commands.CloseReader = bound key s (want_reader (session s k)) _ (λ r. λ h. h)
 command_keeps key s k m commands.Bye = λ h. h
 
@@ -141,29 +153,26 @@ fin = acts.Plain commands.Finish
 no_done : (r : Option Reply) (refusal : Refusal) → r ≡ Some Done → r ≡ Some (Refused refusal) → ⊥
 no_done r refusal done is = let clash : Some Done ≡ Some (Refused refusal) = sym done ∙ is in cc
 
-abbrev finished : Store → ℕ → Writer → Bool → Option File → Outcome
-finished s k x b f =
-    unless (OpenIndexes (length x.begun)) b >>= (λ u. or_else NoFile f >>= (λ g. Ok (record (with_session s k none) { snapshots = insert_snapshot (snapshot_of x) s.snapshots }, Done)))
+abbrev finished : Store → ℕ → Writer → Result Manifest Refusal → Outcome
+finished s k x r = r >>= (λ m. Ok (record (with_session s k none) { snapshots = insert_snapshot (snapshot_of x) s.snapshots }, Done))
 
-finish_is : (s : Store) (k : ℕ) (x : Writer) → session s k ≡ writer x → finish s k ≡ finished s k x (length x.begun == 0) (file_named manifest_name x.files)
+finish_is : (s : Store) (k : ℕ) (x : Writer) → session s k ≡ writer x → finish s k ≡ finished s k x (finish_check x)
 unfolding finish
-finish_is s k x is =
-    ap (λ y. want_writer y >>= (λ v. finished s k v (length v.begun == 0) (file_named manifest_name v.files))) is
+finish_is s k x is = ap (λ y. want_writer y >>= (λ v. finished s k v (finish_check v))) is
 
-finished_puts : (s : Store) (k : ℕ) (x : Writer) (b : Bool) (f : Option File) → same_key x.key x.key ≡ true → (answered s (finished s k x b f)).1 ≡ Done
-    → IsThere x.key ((answered s (finished s k x b f)).0).snapshots
-finished_puts s k x false f same h = cc
-finished_puts s k x true None same h = cc
-finished_puts s k x true (Some f) same h = insert_puts (snapshot_of x) s.snapshots same
+finished_puts : (s : Store) (k : ℕ) (x : Writer) (r : Result Manifest Refusal) → same_key x.key x.key ≡ true → (answered s (finished s k x r)).1 ≡ Done
+    → IsThere x.key ((answered s (finished s k x r)).0).snapshots
+finished_puts s k x (Err refusal) same h = cc
+finished_puts s k x (Ok m) same h = insert_puts (snapshot_of x) s.snapshots same
 
 puts_by : (R : Option (List Snapshot)) (w : World) (k m n : ℕ) (r : Option Reply) (x : Writer) → Right R w k m fin r stepping (kind_of n) → r ≡ Some Done
     → session w.store k ≡ writer x → same_key x.key x.key ≡ true → IsThere x.key ((moved R w k m fin (kind_of n)).store).snapshots
 unfolding moved act_outcome outcome
 puts_by R w k m zero r x right done is same =
-    let o = finished w.store k x (length x.begun == 0) (file_named manifest_name x.files) in
+    let o = finished w.store k x (finish_check x) in
     let says : Some Done ≡ Some (answered w.store o).1 = sym done ∙ right.1 ∙ ap (λ y. Some (answered w.store y).1) (finish_is w.store k x is) in
     subst (λ y. IsThere x.key ((answered w.store y).0).snapshots) (sym (finish_is w.store k x is))
-    (finished_puts w.store k x (length x.begun == 0) (file_named manifest_name x.files) same (let h : (answered w.store o).1 ≡ Done = cc in h))
+    (finished_puts w.store k x (finish_check x) same (let h : (answered w.store o).1 ≡ Done = cc in h))
 puts_by R w k m (suc zero) r x right done is same = absurd right
 puts_by R w k m (suc (suc zero)) r x right done is same = absurd (no_done r NoMemory done right)
 puts_by R w k m (suc (suc (suc zero))) r x right done is same = absurd right

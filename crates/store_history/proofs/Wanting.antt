@@ -1,6 +1,6 @@
 -- Where memory may be wanting, a command or something else is next, but neither BYE nor the end of the input.
 use Rattle.std.proofs.Common.{◌≡◌, ℕ, ◌-◌, ◌≤◌, Bool, true, false, ◌&&◌, List, [], ◌∷◌, length, take, drop, Option, Some, None, refl, sym, subst, arith, if◌then◌else◌, ◌==◌, nat_lt, nat_le}
-use Rattle.std.specs.Int.{w32, w64, from_le_bytes}
+use Rattle.std.specs.Int.{Width, w32, w64, from_le_bytes}
 use Rattle.std.proofs.lemmas.Bool.{ltb-false, eqb-true}
 use Rattle.std.proofs.lemmas.Bool.Decides.{nat_tests}
 use Rattle.std.proofs.lemmas.List.{length-take}
@@ -10,7 +10,7 @@ use Rattle.wire_commands.specs.declared.command.Command.{Command}
 use Rattle.wire_commands.specs.declared.command.Command.TheVariants as commands
 use Rattle.wire_commands.specs.Fields.{text_at, number_at, byte_at, digest_at, rows_at}
 use Rattle.wire_commands.specs.Fields as fields
-use Rattle.wire_commands.specs.CommandText.{nothing_more, one_text, text_and_offset, chunk, entry_at, append, close_index, blob, fields_of, command_of}
+use Rattle.wire_commands.specs.CommandText.{nothing_more, one_text, text_and_offset, new_fixed, chunk, entry_at, append, close_index, blob, get_chunk, range, fields_of, command_of}
 use Rattle.wire_commands.specs.Inputs.{front, cut_front, body_front}
 use Rattle.store_model.specs.Lanes.{Next, bye, end, front_next, command_next, lane_next}
 use Rattle.store_history.specs.LaneRun.{Position, next_at, may_want}
@@ -35,10 +35,23 @@ unfolding IsNotBye close_index
 close_not_bye bytes =
     bound (byte_at bytes) _ (λ n. bound (number_at w64 n.1) _ (λ c. bound (number_at w64 c.1) _ (λ s. bound (fields.whole (digest_at s.1)) _ (λ d. tt))))
 
+-- a text and two numbers
+numbers_not_bye : (make : List ℕ → ℕ → ℕ → Command) (w : Width) (bytes : List ℕ) → ((t : List ℕ) (m n : ℕ) → IsNotBye (Some (make t m n)))
+    → IsNotBye (text_at bytes >>= (λ t. number_at w64 t.1 >>= (λ m. fields.whole (number_at w m.1) >>= (λ n. Some (make t.0 m.0 n)))))
+unfolding IsNotBye
+numbers_not_bye make w bytes made =
+    bound (text_at bytes) _ (λ t. bound (number_at w64 t.1) _ (λ m. bound (fields.whole (number_at w m.1)) _ (λ n. made t.0 m.0 n)))
+
+offset_not_bye : (make : List ℕ → ℕ → Command) (bytes : List ℕ) → ((t : List ℕ) (n : ℕ) → IsNotBye (Some (make t n))) → IsNotBye (text_and_offset make bytes)
+unfolding IsNotBye text_and_offset
+offset_not_bye make bytes made = bound (text_at bytes) _ (λ t. bound (fields.whole (number_at w64 t.1)) _ (λ n. made t.0 n))
+
 fields_not_bye : (code : ℕ) (bytes : List ℕ) → 1 ≤ length bytes → IsNotBye (fields_of code bytes)
-unfolding IsNotBye fields_of one_text blob nothing_more text_and_offset chunk append
+unfolding IsNotBye fields_of one_text new_fixed blob nothing_more chunk append get_chunk range
 fields_not_bye code bytes more =
     either (code == 10) (one_text commands.OpenWriter bytes) _ (bound (fields.whole (text_at bytes)) (λ t. Some (commands.OpenWriter t)) (λ t. tt))
+    (either (code == 11) (text_and_offset commands.Previous bytes) _ (offset_not_bye commands.Previous bytes (λ t n. tt))
+    (either (code == 12) (new_fixed bytes) _ (numbers_not_bye commands.NewFixed w64 bytes (λ t m n. tt))
     (either (code == 13) (one_text commands.NewDynamic bytes) _ (bound (fields.whole (text_at bytes)) (λ t. Some (commands.NewDynamic t)) (λ t. tt))
     (either (code == 14) (chunk bytes) _ (bound (digest_at bytes) (λ d. Some (commands.Chunk d.0 d.1)) (λ d. tt))
     (either (code == 15) (append bytes) _
@@ -49,11 +62,11 @@ fields_not_bye code bytes more =
     (either (code == 18) (nothing_more commands.Finish bytes) _ (either (length bytes == 0) (Some commands.Finish) None tt tt)
     (either (code == 19) (nothing_more commands.Abort bytes) _ (either (length bytes == 0) (Some commands.Abort) None tt tt)
     (either (code == 20) (one_text commands.OpenReader bytes) _ (bound (fields.whole (text_at bytes)) (λ t. Some (commands.OpenReader t)) (λ t. tt))
-    (either (code == 21) (text_and_offset commands.Download bytes) _
-    (bound (text_at bytes) (λ t. fields.whole (number_at w64 t.1) >>= λ n. Some (commands.Download t.0 n))
-    (λ t. bound (fields.whole (number_at w64 t.1)) (λ n. Some (commands.Download t.0 n)) (λ n. tt)))
+    (either (code == 21) (text_and_offset commands.Download bytes) _ (offset_not_bye commands.Download bytes (λ t n. tt))
+    (either (code == 22) (get_chunk bytes) _ (bound (fields.whole (digest_at bytes)) (λ d. Some (commands.GetChunk d)) (λ d. tt))
+    (either (code == 23) (range bytes) _ (numbers_not_bye commands.Range w32 bytes (λ t m n. tt))
     (either (code == 24) (nothing_more commands.CloseReader bytes) _ (either (length bytes == 0) (Some commands.CloseReader) None tt tt)
-    (either (code == 63) (nothing_more commands.Bye bytes) None (last (length bytes == 0) refl) tt)))))))))))
+    (either (code == 63) (nothing_more commands.Bye bytes) None (last (length bytes == 0) refl) tt)))))))))))))))
   where
     last : (b : Bool) → (length bytes == 0) ≡ b → IsNotBye (if b then Some commands.Bye else None)
     last true is = let none : length bytes ≡ 0 = eqb-true (length bytes) 0 is in absurd (omega arith)

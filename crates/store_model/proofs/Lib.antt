@@ -1,5 +1,7 @@
 pub mod OnLiterals
+mod ExampleBytes
 mod SessionExamples
+mod ArchiveExamples
 mod LaneExamples
 mod LoadExamples
 pub mod Paths
@@ -8,3 +10,6 @@ pub mod FileInsertions
 pub mod StandsLemmas
 pub mod GroupTimes
 pub mod PiecesNamed
+pub mod ListingLemmas
+pub mod ManifestNames
+pub mod ManifestTexts

@@ -1,40 +1,17 @@
 -- Sessions from their bytes: what each is replied, and what a lane leaves.
-use Rattle.std.specs.Prelude.{◌≡◌, ℕ, List, [], ◌∷◌, ◌++◌, codes, refl, replicate, length, None, Ok, Err}
+use Rattle.std.specs.Prelude.{◌≡◌, ℕ, List, [], ◌∷◌, ◌++◌, codes, refl, length, None, Ok}
 use Rattle.hex.specs.Hex.{encode_lower}
 use Rattle.sha2.specs.Sha256.{sha256}
-use Rattle.store_types.specs.declared.order.Entry.{Entry}
 use Rattle.blob_codec.specs.Blob.{blob}
 use Rattle.store_model.specs.declared.ending.Ending.TheVariants as endings
 use Rattle.store_model.specs.Store.{store_of}
-use Rattle.store_model.specs.Weave.{weave, told_by_input, woven}
+use Rattle.store_model.specs.Weave.{weave}
 use Rattle.wire_commands.proofs.Hexadecimal.{hex}
-use Rattle.store_model.proofs.OnLiterals.{store_model_on_literals, digests_on_literals}
-
-abbrev k : List ℕ
-k = codes "host/a/2020-01-15T06:30:03Z"
-
-abbrev later_k : List ℕ
-later_k = codes "host/a/2020-01-15T06:30:04Z"
-
-abbrev manifest : List ℕ
-manifest = codes "{\"backup-id\":\"a\",\"backup-time\":1579069803,\"backup-type\":\"host\",\"files\":[]}"
+use Rattle.store_model.proofs.OnLiterals.{store_model_on_literals, digests_on_literals, manifests_on_literals}
+use Rattle.store_model.proofs.ExampleBytes.{k, later_k, manifest, entry, commands, replies_in, alone, open_writer, put_manifest, finish, put, put_replies}
 
 manifest_length : length manifest ≡ 74
 manifest_length = refl
-
-abbrev entry : ℕ → ℕ → Entry
-entry lane kind = record { lane = lane; moment = 5; kind = kind }
-
--- so many commands of lane 0, and its end
-abbrev commands : ℕ → List Entry
-commands n = replicate n (entry 0 0) ++ entry 0 6 ∷ []
-
--- the replies, where an input's ending is as the input tells it
-abbrev replies_in : List Entry → List (List ℕ) → List (List ℕ)
-replies_in order inputs = elim (woven told_by_input [] None order inputs) [ Ok w ↦ w.replies | Err e ↦ [] ]
-
-abbrev alone : List ℕ → ℕ → List (List ℕ)
-alone input n = replies_in (commands n) (input ∷ [])
 
 -- ---- ends
 
@@ -68,28 +45,13 @@ finish_alone = refl
 
 -- ---- a snapshot of a manifest alone, and its manifest read again
 
-abbrev open_writer : List ℕ
-open_writer = hex (codes "1d000000 0a 1b") ++ k
-
-abbrev put_manifest : List ℕ
-put_manifest = hex (codes "67000000 11 0f") ++ codes "index.json.blob" ++ blob manifest
-
-abbrev finish : List ℕ
-finish = hex (codes "01000000 12")
-
-abbrev put : List ℕ
-put = open_writer ++ put_manifest ++ finish
-
-abbrev put_replies : List ℕ
-put_replies = hex (codes "02000000 0000 01000000 00 01000000 00")
-
 finished : alone put 3 ≡ put_replies ∷ []
-unfolding store_model_on_literals
+unfolding store_model_on_literals manifests_on_literals
 finished = refl
 
 read_again : alone (put ++ hex (codes "1d000000 14 1b") ++ k ++ hex (codes "19000000 15 0f") ++ codes "index.json.blob" ++ hex (codes "0000000000000000")) 5
     ≡ (put_replies ++ hex (codes "01000000 00 5f000000 00 5600000000000000") ++ blob manifest) ∷ []
-unfolding store_model_on_literals
+unfolding store_model_on_literals manifests_on_literals
 read_again = refl
 
 -- ---- a blob, and parts of it
@@ -124,7 +86,7 @@ parts : alone (open_writer ++ put_conf conf ++ hex (codes "e9000000 11 0f") ++ c
     ++ hex (codes "09000000 00 1500000000000000")
     ++ hex (codes "09000000 16 1500000000000000")
     ++ hex (codes "01000000 00")) ∷ []
-unfolding store_model_on_literals digests_on_literals
+unfolding store_model_on_literals digests_on_literals manifests_on_literals
 parts = refl
 
 -- ---- blobs that are none: eleven bytes, a wrong CRC, and a compressed one. The session goes on.
@@ -144,7 +106,7 @@ bad_blobs = refl
 next_writer : replies_in (entry 0 0 ∷ entry 1 0 ∷ entry 0 0 ∷ entry 0 0 ∷ entry 1 0 ∷ entry 1 0 ∷ entry 0 6 ∷ entry 1 6 ∷ [])
     (put ∷ (open_writer ++ open_writer ++ hex (codes "1d000000 0a 1b") ++ later_k) ∷ [])
     ≡ put_replies ∷ (hex (codes "05000000 05 00000000") ++ hex (codes "09000000 07 6bb11e5e00000000") ++ hex (codes "1d000000 00 1b") ++ k) ∷ []
-unfolding store_model_on_literals
+unfolding store_model_on_literals manifests_on_literals
 next_writer = refl
 
 -- a writer without FINISH leaves nothing: the group is free
@@ -165,43 +127,5 @@ closed : alone (abort ++ open_writer ++ put_manifest ++ close_reader ++ abort ++
     ++ hex (codes "1d000000 14 1b") ++ k ++ abort ++ close_reader ++ close_reader) 12
     ≡ (hex (codes "02000000 03 00 02000000 0000 01000000 00 02000000 03 01 01000000 00") ++ put_replies
     ++ hex (codes "01000000 00 02000000 03 02 01000000 00 02000000 03 00")) ∷ []
-unfolding store_model_on_literals
+unfolding store_model_on_literals manifests_on_literals
 closed = refl
-
--- ---- a dynamic archive: pieces that are none, an offset too low, and a FINISH while it is open
-
-abbrev u8_of : ℕ → List ℕ
-u8_of n = n ∷ []
-
-abbrev u64_of : ℕ → List ℕ
-u64_of n = n ∷ replicate 7 0
-
-abbrev new_dynamic : List ℕ
-new_dynamic = hex (codes "0b000000 0d 09") ++ codes "root.didx"
-
-abbrev chunk : ℕ → List ℕ → List ℕ → List ℕ
-chunk size digest piece = u8_of size ++ hex (codes "000000 0e") ++ digest ++ blob piece
-
-abbrev close_index : ℕ → ℕ → List ℕ → List ℕ
-close_index count size csum = hex (codes "32000000 10 00") ++ u64_of count ++ u64_of size ++ csum
-
-abbrev append_two : ℕ → List ℕ
-append_two offset = hex (codes "54000000 0f 00 0200") ++ sha256 (codes "abc") ++ u64_of 0 ++ sha256 (codes "de") ++ u64_of offset
-
-abbrev two_pieces_csum : List ℕ
-two_pieces_csum = sha256 (u64_of 3 ++ sha256 (codes "abc") ++ u64_of 5 ++ sha256 (codes "de"))
-
-archives : alone (open_writer ++ new_dynamic
-    ++ close_index 1 0 (sha256 []) ++ close_index 0 0 (sha256 [])
-    ++ hex (codes "0b000000 0d 09") ++ codes "data.didx"
-    ++ chunk 48 (sha256 (codes "abc")) (codes "abc") ++ chunk 48 (sha256 (codes "abc")) (codes "abc")
-    ++ chunk 48 (sha256 (codes "abc")) (codes "abd") ++ chunk 45 (sha256 []) [] ++ append_two 2
-    ++ chunk 47 (sha256 (codes "de")) (codes "de") ++ append_two 2 ++ append_two 3 ++ finish
-    ++ close_index 2 5 (sha256 []) ++ close_index 2 5 two_pieces_csum) 16
-    ≡ (hex (codes "02000000 0000 02000000 0000")
-    ++ hex (codes "22000000 10 01") ++ replicate 32 0 ++ hex (codes "01000000 00 02000000 0000 01000000 00 01000000 00")
-    ++ hex (codes "21000000 0c") ++ sha256 (codes "abd") ++ hex (codes "0d000000 0d 00000000 0000000000000000 05000000 0e 01000000")
-    ++ hex (codes "01000000 00 0d000000 0f 01000000 0300000000000000 01000000 00 02000000 11 01")
-    ++ hex (codes "22000000 10 03") ++ two_pieces_csum ++ hex (codes "01000000 00")) ∷ []
-unfolding store_model_on_literals digests_on_literals
-archives = refl

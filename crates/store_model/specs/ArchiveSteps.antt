@@ -12,7 +12,13 @@ use Rattle.store_model.specs.Store.{Writer, Store, Outcome, session, want_writer
 use Rattle.store_model.specs.WriterSteps.{goes_on, want_data}
 use Rattle.store_model.specs.WriterCalls as calls
 
--- ---- NEW_DYNAMIC
+-- ---- NEW_FIXED and NEW_DYNAMIC
+
+unfoldable pub new_fixed : Store → ℕ → ℕ → List ℕ → ℕ → ℕ → Outcome
+new_fixed s lane moment name size chunk_size = do
+  w ← want_writer (session s lane)
+  begun ← calls.new_fixed w name size chunk_size moment
+  goes_on s lane begun.0 (Number begun.1)
 
 unfoldable pub new_dynamic : Store → ℕ → ℕ → List ℕ → Outcome
 new_dynamic s lane moment name = do

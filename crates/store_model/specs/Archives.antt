@@ -13,7 +13,7 @@ use Rattle.store_types.specs.declared.refusal.Refusal.{Refusal}
 use Rattle.store_types.specs.declared.refusal.Refusal.TheVariants.{TooMany, WrongSize, UnknownChunk, BadOffset, BadClose}
 use Rattle.store_types.specs.Chain.Refusing.{◌>>=◌, unless, or_else}
 use Rattle.store_files.specs.Cells.{entry_limit}
-use Rattle.store_files.specs.FixedIndex.{piece_len}
+use Rattle.store_files.specs.FixedIndex.{is_chunk_size, piece_count, piece_len}
 use Rattle.store_files.specs.Archive.{Layout, dynamic, fixed, Archive}
 use Rattle.store_model.specs.Uploads.{file_path}
 
@@ -32,6 +32,12 @@ new_archive layout reserved key name moment = record {
   reserved = replicate reserved 0;
   pieces = [];
 }
+
+-- sizes that a fixed archive may have
+abbrev pub want_sizes : ℕ → ℕ → Result (Unit {0}) Refusal
+want_sizes size chunk_size = do
+  _ ← unless (WrongSize 0 chunk_size) (is_chunk_size chunk_size)
+  unless (TooMany entry_limit) (nat_le (piece_count size chunk_size) entry_limit)
 
 -- beside so many open archives there is room for one more
 abbrev pub want_number : ℕ → Result (Unit {0}) Refusal

@@ -1,5 +1,6 @@
 pub mod Store
 pub mod Uploads
+pub mod Manifests
 pub mod Archives
 pub mod WriterSteps
 pub mod WriterCalls

@@ -11,10 +11,11 @@ use Rattle.store_types.specs.Chain.Reading.{◌>>=◌, only_if}
 use Rattle.blob_codec.specs.Blob as blobs
 use Rattle.store_files.specs.FixedIndex as fixed_index
 use Rattle.store_files.specs.DynamicIndex as dynamic_index
-use Rattle.store_files.specs.Archive.{Layout, dynamic, fixed, Archive, Content, archive, blob, File, Snapshot, file_named}
+use Rattle.store_files.specs.Archive.{Layout, dynamic, fixed, Archive, Content, archive, blob, File, Snapshot}
 use Rattle.store_files.specs.Manifest.{Manifest, manifest_of}
 use Rattle.store_model.specs.Store.{insert_snapshot, insert_file}
 use Rattle.store_model.specs.Uploads.{file_path}
+use Rattle.store_model.specs.Manifests.{listed_names}
 use Rattle.store_model.specs.Stands.{Files, chunk_name, manifest_path}
 
 -- a map's names and their bytes, in byte order of the names
@@ -77,10 +78,6 @@ read_manifest bytes =
       | Ok contents ↦ elim (manifest_of contents) [ Ok x ↦ Some x | Err cause ↦ None ]
     ]
 
--- the names that a manifest lists, without its own
-abbrev pub listed_names : Manifest → List (List ℕ)
-listed_names m = filter (λ name. not (bytes_eq name manifest_name)) (map (λ f. f.name) m.files)
-
 -- a snapshot, unless it is damaged
 unfoldable pub snapshot_in : Entries → SnapshotKey → List ℕ → Option Snapshot
 snapshot_in m key bytes = do
@@ -115,17 +112,3 @@ snapshots_in m = in_order (filter_map (entry_snapshot m) m)
 -- the list that a map gives
 unfoldable pub load : Files → List Snapshot
 load m = snapshots_in (entries m)
-
--- ---- what a map that stands for a list gives
-
--- the data of the manifest among the files
-abbrev pub manifest_data : Option File → Option (List ℕ)
-manifest_data None = None
-manifest_data (Some f) = elim f.content [ archive a ↦ None | blob bytes ↦ Some bytes ]
-
--- the manifest's reading lists just the other files
-abbrev pub ListsFiles : Snapshot → Type 0
-ListsFiles x = (bytes : List ℕ) × (m : Manifest)
-    × (manifest_data (file_named manifest_name x.files) ≡ Some bytes) × (manifest_of bytes ≡ Ok m)
-    × (length m.files ≤ 63)
-    × ((name : List ℕ) → Contains (map (λ f. f.name) x.files) name ↔ Contains (manifest_name ∷ listed_names m) name)

@@ -1,15 +1,18 @@
 -- The commands of a reader, with their refusals in order.
-use Rattle.std.specs.Prelude.{if◌then◌else◌, ◌++◌, [], ◌∷◌, ℕ, Bool, List, length, nat_le, Some, None, Ok}
+use Rattle.std.specs.Prelude.{if◌then◌else◌, ◌++◌, ◌+◌, [], ◌∷◌, ℕ, Bool, List, length, take, drop, nat_le, Option, Some, None, option_map, Result, Ok}
 use Rattle.std.specs.Str.{bytes_eq}
-use Rattle.std.specs.List.{list_any}
-use Rattle.store_types.specs.declared.refusal.Refusal.TheVariants.{BadName, NoSnapshot, NoFile, BadRange}
+use Rattle.std.specs.List.{list_any, concat, flat_map}
+use Rattle.store_types.specs.declared.refusal.Refusal.{Refusal}
+use Rattle.store_types.specs.declared.refusal.Refusal.TheVariants.{BadName, NoSnapshot, NoFile, NotAllowed, TooMany, BadRange}
+use Rattle.store_types.specs.declared.names.Digest32.{Digest32}
 use Rattle.store_types.specs.Chain.Refusing.{◌>>=◌, unless, or_else}
-use Rattle.store_types.specs.FileNames.{is_file_name}
+use Rattle.store_types.specs.FileNames.{is_file_name, is_index_name}
 use Rattle.store_types.specs.Names.{key_of}
-use Rattle.store_files.specs.Archive.{Content, archive, blob, File, file_text, file_named}
-use Rattle.wire_commands.specs.declared.reply.Reply.TheVariants.{Done}
+use Rattle.store_files.specs.Archive.{Content, archive, blob, File, file_text, file_named, pieces_of, piece_with}
+use Rattle.blob_codec.specs.Blob as blobs
+use Rattle.wire_commands.specs.declared.reply.Reply.TheVariants.{Done, Data}
 use Rattle.store_model.specs.Store.{Reader, reader, Store, Outcome, session, with_session, want_reader, want_idle, ended, snapshot_named}
-use Rattle.store_model.specs.WriterSteps.{part_of}
+use Rattle.store_model.specs.WriterSteps.{part_limit, part_of}
 
 unfoldable pub open_reader : Store → ℕ → List ℕ → Outcome
 open_reader s lane snapshot = do
@@ -37,6 +40,51 @@ download s lane name offset = do
   file ← or_else NoFile (file_named name (reader_files s r))
   _ ← unless (BadRange (length (file_text file.content))) (nat_le offset (length (file_text file.content)))
   Ok (with_session s lane (reader (note name file.content r)), part_of (file_text file.content) offset)
+
+-- ---- the archives that a reader noted, among the files of its snapshot
+
+abbrev pub content_at : List File → List ℕ → Option Content
+content_at files name = option_map (λ f. f.content) (file_named name files)
+
+-- the pieces of the archive of this name
+abbrev pub pieces_at : List File → List ℕ → List (List ℕ)
+pieces_at files name = elim (content_at files name) [ None ↦ [] | Some content ↦ pieces_of content ]
+
+abbrev pub noted_pieces : List File → Reader → List (List ℕ)
+noted_pieces files r = flat_map (pieces_at files) r.noted
+
+-- ---- GET_CHUNK
+
+unfoldable pub get_chunk : Store → ℕ → Digest32 → Outcome
+get_chunk s lane digest = do
+  r ← want_reader (session s lane)
+  piece ← or_else NotAllowed (piece_with digest (noted_pieces (reader_files s r) r))
+  Ok (s, Data (blobs.blob piece))
+
+-- ---- RANGE
+
+-- a range of no more bytes than one reply holds, within content of this size
+abbrev pub want_range : ℕ → ℕ → ℕ → Result (Unit {0}) Refusal
+want_range size offset len = do
+  _ ← unless (TooMany part_limit) (nat_le len part_limit)
+  unless (BadRange size) (nat_le (offset + len) size)
+
+-- so many bytes from an offset of a noted archive's content
+unfoldable pub range_of : List File → Reader → List ℕ → ℕ → ℕ → Result (List ℕ) Refusal
+range_of files r name offset len = do
+  _ ← unless NotAllowed (is_noted r name)
+  _ ← want_range (length (concat (pieces_at files name))) offset len
+  Ok (take len (drop offset (concat (pieces_at files name))))
+
+unfoldable pub range : Store → ℕ → List ℕ → ℕ → ℕ → Outcome
+range s lane name offset len = do
+  r ← want_reader (session s lane)
+  _ ← unless BadName (is_index_name name)
+  _ ← or_else NoFile (file_named name (reader_files s r))
+  bytes ← range_of (reader_files s r) r name offset len
+  Ok (s, Data bytes)
+
+-- ---- CLOSE_READER
 
 unfoldable pub close_reader : Store → ℕ → Outcome
 close_reader s lane = do

@@ -11,9 +11,10 @@ use Rattle.blob_codec.specs.Blob as blobs
 use Rattle.store_files.specs.FixedIndex as fixed_index
 use Rattle.store_files.specs.FixedIndex.{piece_len}
 use Rattle.store_files.specs.DynamicIndex as dynamic_index
-use Rattle.store_files.specs.Archive.{Layout, dynamic, fixed, Archive, Content, archive, blob, File, Snapshot, fixed_of_archive, dynamic_of_archive, file_text, pieces_of, file_named}
+use Rattle.store_files.specs.Archive.{Layout, dynamic, fixed, Archive, Content, archive, blob, File, Snapshot, fixed_of_archive, dynamic_of_archive, file_text, pieces_of}
 use Rattle.store_model.specs.Store.{in_group}
 use Rattle.store_model.specs.Uploads.{file_path}
+use Rattle.store_model.specs.Manifests.{ListsFiles}
 use Rattle.hex.specs.Hex.{encode_lower}
 
 -- a disk as it reads: from names, in byte order, to bytes
@@ -74,7 +75,7 @@ pub record IsSnapshot (x : Snapshot) : Type 0 where
   pub names : IsTrue (names_rise x.files)
   pub kinds : All (λ f. IsTrue (names_content f.content f.name)) x.files
   pub contents : All (λ f. FitsContent f.content) x.files
-  pub manifest : IsSome (file_named manifest_name x.files)
+  pub manifest : ListsFiles x.files
   pub count : length x.files ≤ file_limit
 
 -- ---- standing for a list

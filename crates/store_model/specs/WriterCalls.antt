@@ -5,12 +5,12 @@ use Rattle.store_types.specs.declared.names.Digest32.{Digest32}
 use Rattle.store_types.specs.declared.refusal.Refusal.{Refusal}
 use Rattle.store_types.specs.declared.refusal.Refusal.TheVariants.{BadName, NoFile}
 use Rattle.store_types.specs.Chain.Refusing.{◌>>=◌, unless, or_else}
-use Rattle.store_types.specs.FileNames.{is_dynamic_name, is_blob_name}
-use Rattle.store_files.specs.Archive.{dynamic, Archive, archive, blob, content_of, archive_text, csum_by, piece_with}
+use Rattle.store_types.specs.FileNames.{is_fixed_name, is_dynamic_name, is_blob_name}
+use Rattle.store_files.specs.Archive.{dynamic, fixed, Archive, archive, blob, content_of, archive_text, csum_by, piece_with}
 use Rattle.store_model.specs.Store.{Begun, Writer}
 use Rattle.store_model.specs.Uploads.{want_room}
-use Rattle.store_model.specs.WriterSteps.{with_file}
-use Rattle.store_model.specs.Archives.{new_archive, want_number, free_number, change_first, without_first, want_entries, pieces_named, want_facts}
+use Rattle.store_model.specs.WriterSteps.{with_pool, with_file}
+use Rattle.store_model.specs.Archives.{new_archive, want_sizes, want_number, free_number, change_first, without_first, want_entries, pieces_named, want_facts}
 
 -- ---- beginning
 
@@ -20,6 +20,15 @@ numbers w = map (λ b. b.number) w.begun
 -- an archive at the least free number
 abbrev pub begin : Writer → List ℕ → Archive → Writer
 begin w name a = record w { begun = w.begun ++ record { number = free_number (numbers w); name = name; archive = a } ∷ [] }
+
+-- NEW_FIXED
+unfoldable pub new_fixed : Writer → List ℕ → ℕ → ℕ → ℕ → Result (Writer × ℕ) Refusal
+new_fixed w name size chunk_size moment = do
+  _ ← unless BadName (is_fixed_name name)
+  _ ← want_room name w
+  _ ← want_number (length w.begun)
+  _ ← want_sizes size chunk_size
+  Ok (begin w name (new_archive (fixed size chunk_size) 4016 w.key name moment), free_number (numbers w))
 
 -- NEW_DYNAMIC
 unfoldable pub new_dynamic : Writer → List ℕ → ℕ → Result (Writer × ℕ) Refusal
@@ -33,7 +42,7 @@ new_dynamic w name moment = do
 
 -- CHUNK: the piece joins the pool
 abbrev pub chunk : Writer → List ℕ → Writer
-chunk w piece = record w { pool = w.pool ++ piece ∷ [] }
+chunk w piece = with_pool (piece ∷ []) w
 
 abbrev pub has_number : ℕ → Begun → Bool
 has_number number b = b.number == number

@@ -1,17 +1,22 @@
 -- The commands of a writer, with their refusals in order.
-use Rattle.std.specs.Prelude.{ℕ, List, [], length, ◌==◌, nat_lt, Option, Some, None, Result, Ok, Err, take, drop}
+use Rattle.std.specs.Prelude.{ℕ, List, [], ◌++◌, length, nat_lt, nat_le, Option, Some, None, Result, Ok, Err, take, drop}
 use Rattle.store_types.specs.declared.names.SnapshotKey.{SnapshotKey}
 use Rattle.store_types.specs.declared.refusal.Refusal.{Refusal}
-use Rattle.store_types.specs.declared.refusal.Refusal.TheVariants.{BadName, GroupBusy, NotNewer, TooMany, NoFile, BadBlob, OpenIndexes}
+use Rattle.store_types.specs.declared.refusal.Refusal.TheVariants.{BadName, GroupBusy, NotNewer, TooMany, NoSnapshot, NoFile, BadBlob, BadRange}
 use Rattle.store_types.specs.Chain.Refusing.{◌>>=◌, unless, or_else, if_none}
-use Rattle.store_types.specs.FileNames.{is_blob_name, manifest_name}
+use Rattle.store_types.specs.FileNames.{is_blob_name, is_file_name}
 use Rattle.store_types.specs.Names.{key_of, key_text, group_of_key}
 use Rattle.blob_codec.specs.Blob.{data_of}
-use Rattle.store_files.specs.Archive.{Content, blob, Snapshot, file_named}
+use Rattle.store_files.specs.Archive.{Content, blob, Snapshot, file_text, pieces_of, file_named}
 use Rattle.wire_commands.specs.declared.reply.Reply.{Reply}
 use Rattle.wire_commands.specs.declared.reply.Reply.TheVariants.{Done, Base, Part}
-use Rattle.store_model.specs.Store.{Writer, none, writer, Store, Outcome, session, with_session, want_writer, want_idle, ended, group_holder, in_group, latest_in, insert_snapshot, insert_file}
+use Rattle.store_model.specs.Store.{Writer, none, writer, Store, Outcome, session, with_session, want_writer, want_idle, ended, group_holder, in_group, latest_in, insert_snapshot, insert_file, snapshot_named}
 use Rattle.store_model.specs.Uploads.{want_room}
+use Rattle.store_model.specs.Manifests.{finish_check}
+
+-- pieces join the pool
+abbrev pub with_pool : List (List ℕ) → Writer → Writer
+with_pool pieces w = record w { pool = w.pool ++ pieces }
 
 -- the lane's writer becomes this one
 unfoldable pub goes_on : Store → ℕ → Writer → Reply → Outcome
@@ -50,6 +55,20 @@ part_limit = 4_194_304
 abbrev pub part_of : List ℕ → ℕ → Reply
 part_of text offset = Part (length text) (take part_limit (drop offset text))
 
+-- ---- PREVIOUS
+
+abbrev pub base_of : Store → Writer → Option Snapshot
+base_of s w = elim w.base [ None ↦ None | Some key ↦ snapshot_named key s.snapshots ]
+
+unfoldable pub previous : Store → ℕ → List ℕ → ℕ → Outcome
+previous s lane name offset = do
+  w ← want_writer (session s lane)
+  _ ← unless BadName (is_file_name name)
+  base ← or_else NoSnapshot (base_of s w)
+  file ← or_else NoFile (file_named name base.files)
+  _ ← unless (BadRange (length (file_text file.content))) (nat_le offset (length (file_text file.content)))
+  goes_on s lane (with_pool (pieces_of file.content) w) (part_of (file_text file.content) offset)
+
 -- ---- BLOB
 
 abbrev pub want_data : List ℕ → Result (List ℕ) Refusal
@@ -75,12 +94,10 @@ put_blob s lane name bytes = checked_blob s lane name (want_data bytes)
 abbrev pub snapshot_of : Writer → Snapshot
 snapshot_of w = record { key = w.key; files = w.files }
 
--- no archive is open, and the manifest is among the uploads
 unfoldable pub finish : Store → ℕ → Outcome
 finish s lane = do
   w ← want_writer (session s lane)
-  _ ← unless (OpenIndexes (length w.begun)) (length w.begun == 0)
-  _ ← or_else NoFile (file_named manifest_name w.files)
+  _ ← finish_check w
   Ok (record (with_session s lane none) { snapshots = insert_snapshot (snapshot_of w) s.snapshots }, Done)
 
 -- ---- ABORT

@@ -5,13 +5,13 @@ use Rattle.std.proofs.lemmas.Bool.{leb-true, le-leb}
 use Rattle.store_types.specs.Chain.Reading.{◌>>=◌, only_if}
 use Rattle.wire_frames.specs.Frames.{body_limit, AreBytes}
 use Rattle.wire_commands.specs.declared.command.Command.{Command}
-use Rattle.wire_commands.specs.declared.command.Command.TheVariants.{OpenWriter, NewDynamic, Chunk, Append, CloseIndex, Blob, Finish, Abort, OpenReader, Download, CloseReader, Bye}
-use Rattle.std.specs.Int.{w64}
+use Rattle.wire_commands.specs.declared.command.Command.TheVariants.{OpenWriter, Previous, NewFixed, NewDynamic, Chunk, Append, CloseIndex, Blob, Finish, Abort, OpenReader, Download, GetChunk, Range, CloseReader, Bye}
+use Rattle.std.specs.Int.{w32, w64}
 use Rattle.store_types.specs.declared.names.Digest32.{Digest32}
-use Rattle.wire_commands.specs.Fields.{Read, u64, byte_at, number_at, digest_at, whole}
-use Rattle.wire_commands.specs.CommandText.{command_text, nothing_more, one_text, text_and_offset, chunk, append, close_index, blob, fields_of, command_of}
+use Rattle.wire_commands.specs.Fields.{Read, u32, u64, text, byte_at, number_at, digest_at, text_at, whole}
+use Rattle.wire_commands.specs.CommandText.{command_text, nothing_more, one_text, text_and_offset, new_fixed, chunk, append, close_index, blob, get_chunk, range, fields_of, command_of}
 use Rattle.wire_commands.specs.HasText.{HasText, FitsCommand, CommandsAreReadAgain, CommandsHaveOneText}
-use Rattle.wire_commands.proofs.FieldLaws.{IsField, both, both_field, byte_field, u64_field, digest_field, text_field}
+use Rattle.wire_commands.proofs.FieldLaws.{IsField, both, both_field, byte_field, u32_field, u64_field, digest_field, text_field}
 use Rattle.wire_commands.proofs.RefusalFields.{either_at, only_if_some}
 use Rattle.wire_commands.proofs.BodyLaws.{Spells, none_spells, nothing_spells, one_spells, one_again, two_first, two_spells, two_again, rest_spells, rest_again}
 use Rattle.wire_commands.proofs.RowLaws.{rows_field}
@@ -47,13 +47,63 @@ close_again number count size csum fits =
     close_is (number ∷ u64 count ++ u64 size ++ csum.0)
     ∙ two_again three_field digest_field make_close ((number, count), size) csum ((fits.0, fits.1), fits.2) fits.3
 
+-- ---- a text and two numbers, as one field of the first two and one
+
+abbrev text_and_number : List ℕ → Read (List ℕ × ℕ)
+text_and_number = both text_at (number_at w64)
+
+text_and_number_field : IsField text_and_number (λ p. text p.0 ++ u64 p.1) (λ p. (length p.0 < 256) × (p.1 < 2 ^ 64))
+text_and_number_field = both_field text_field u64_field
+
+abbrev make_fixed : List ℕ × ℕ → ℕ → Command
+make_fixed p chunk_size = NewFixed p.0 p.1 chunk_size
+
+fixed_is : (bytes : List ℕ) → new_fixed bytes ≡ (text_and_number bytes >>= (λ p. whole (number_at w64 p.1) >>= (λ chunk_size. Some (make_fixed p.0 chunk_size))))
+unfolding new_fixed
+fixed_is bytes =
+    two_first text_at (number_at w64) (λ file size rest. whole (number_at w64 rest) >>= (λ chunk_size. Some (NewFixed file size chunk_size))) bytes
+
+fixed_spells : (bytes : List ℕ) → AreBytes bytes → Spells command_text FitsCommand bytes 12 (new_fixed bytes)
+unfolding command_text
+fixed_spells bytes fits =
+    subst (Spells command_text FitsCommand bytes 12) (sym (fixed_is bytes))
+    (two_spells command_text FitsCommand text_and_number_field u64_field make_fixed bytes 12 fits (λ p. refl) (λ p h. ((h.0).0, (h.0).1, h.1)))
+
+fixed_again : (file : List ℕ) (size chunk_size : ℕ) → FitsCommand (NewFixed file size chunk_size)
+    → new_fixed (text file ++ u64 size ++ u64 chunk_size) ≡ Some (NewFixed file size chunk_size)
+fixed_again file size chunk_size fits =
+    fixed_is (text file ++ u64 size ++ u64 chunk_size)
+    ∙ two_again text_and_number_field u64_field make_fixed (file, size) chunk_size (fits.0, fits.1) fits.2
+
+abbrev make_range : List ℕ × ℕ → ℕ → Command
+make_range p len = Range p.0 p.1 len
+
+range_is : (bytes : List ℕ) → range bytes ≡ (text_and_number bytes >>= (λ p. whole (number_at w32 p.1) >>= (λ len. Some (make_range p.0 len))))
+unfolding range
+range_is bytes =
+    two_first text_at (number_at w64) (λ file offset rest. whole (number_at w32 rest) >>= (λ len. Some (Range file offset len))) bytes
+
+range_spells : (bytes : List ℕ) → AreBytes bytes → Spells command_text FitsCommand bytes 23 (range bytes)
+unfolding command_text
+range_spells bytes fits =
+    subst (Spells command_text FitsCommand bytes 23) (sym (range_is bytes))
+    (two_spells command_text FitsCommand text_and_number_field u32_field make_range bytes 23 fits (λ p. refl) (λ p h. ((h.0).0, (h.0).1, h.1)))
+
+range_again : (file : List ℕ) (offset len : ℕ) → FitsCommand (Range file offset len)
+    → range (text file ++ u64 offset ++ u32 len) ≡ Some (Range file offset len)
+range_again file offset len fits =
+    range_is (text file ++ u64 offset ++ u32 len)
+    ∙ two_again text_and_number_field u32_field make_range (file, offset) len (fits.0, fits.1) fits.2
+
 -- ---- all commands
 
 fields_spell : (n : ℕ) (bytes : List ℕ) → AreBytes bytes → Spells command_text FitsCommand bytes n (fields_of n bytes)
-unfolding fields_of command_text nothing_more one_text text_and_offset chunk append blob
+unfolding fields_of command_text nothing_more one_text text_and_offset chunk append blob get_chunk
 fields_spell n bytes fits =
     let P : ℕ → Option Command → Type 0 = Spells command_text FitsCommand bytes in
     either_at P n 10 (one_text OpenWriter bytes) _ (one_spells command_text FitsCommand text_field OpenWriter bytes 10 fits (λ t. refl) (λ t h. h))
+    (either_at P n 11 (text_and_offset Previous bytes) _ (two_spells command_text FitsCommand text_field u64_field Previous bytes 11 fits (λ p. refl) (λ p h. h))
+    (either_at P n 12 (new_fixed bytes) _ (fixed_spells bytes fits)
     (either_at P n 13 (one_text NewDynamic bytes) _ (one_spells command_text FitsCommand text_field NewDynamic bytes 13 fits (λ t. refl) (λ t h. h))
     (either_at P n 14 (chunk bytes) _ (rest_spells command_text FitsCommand digest_field Chunk bytes 14 fits (λ d rest. refl) (λ d rest h. h))
     (either_at P n 15 (append bytes) _ (two_spells command_text FitsCommand byte_field (rows_field entry_field) Append bytes 15 fits (λ p. refl) (λ p h. (h.0, (h.1).0, (h.1).1)))
@@ -63,9 +113,11 @@ fields_spell n bytes fits =
     (either_at P n 19 (nothing_more Abort bytes) _ (nothing_spells command_text FitsCommand bytes 19 Abort tt refl)
     (either_at P n 20 (one_text OpenReader bytes) _ (one_spells command_text FitsCommand text_field OpenReader bytes 20 fits (λ t. refl) (λ t h. h))
     (either_at P n 21 (text_and_offset Download bytes) _ (two_spells command_text FitsCommand text_field u64_field Download bytes 21 fits (λ p. refl) (λ p h. h))
+    (either_at P n 22 (get_chunk bytes) _ (one_spells command_text FitsCommand digest_field GetChunk bytes 22 fits (λ d. refl) (λ d h. h))
+    (either_at P n 23 (range bytes) _ (range_spells bytes fits)
     (either_at P n 24 (nothing_more CloseReader bytes) _ (nothing_spells command_text FitsCommand bytes 24 CloseReader tt refl)
     (either_at P n 63 (nothing_more Bye bytes) None (nothing_spells command_text FitsCommand bytes 63 Bye tt refl)
-    (none_spells command_text FitsCommand bytes n))))))))))))
+    (none_spells command_text FitsCommand bytes n))))))))))))))))
 
 -- the command of a body of any length
 abbrev command_in : List ℕ → Option Command
@@ -76,8 +128,10 @@ unfolding command_of
 within_limit body h = ap (λ (b : Bool). only_if b >>= (λ u. command_in body)) (le-leb (length body) body_limit h)
 
 fields_again : (c : Command) → FitsCommand c → command_in (command_text c) ≡ Some c
-unfolding command_text fields_of nothing_more one_text text_and_offset chunk append blob
+unfolding command_text fields_of nothing_more one_text text_and_offset chunk append blob get_chunk
 fields_again (OpenWriter snapshot) fits = one_again text_field OpenWriter snapshot fits
+fields_again (Previous file offset) fits = two_again text_field u64_field Previous file offset fits.0 fits.1
+fields_again (NewFixed file size chunk_size) fits = fixed_again file size chunk_size fits
 fields_again (NewDynamic file) fits = one_again text_field NewDynamic file fits
 fields_again (Chunk digest content) fits = rest_again digest_field Chunk digest content fits
 fields_again (Append number entries) fits = two_again byte_field (rows_field entry_field) Append number entries fits.0 (fits.1, fits.2)
@@ -87,6 +141,8 @@ fields_again Finish fits = refl
 fields_again Abort fits = refl
 fields_again (OpenReader snapshot) fits = one_again text_field OpenReader snapshot fits
 fields_again (Download file offset) fits = two_again text_field u64_field Download file offset fits.0 fits.1
+fields_again (GetChunk digest) fits = one_again digest_field GetChunk digest fits
+fields_again (Range file offset len) fits = range_again file offset len fits
 fields_again CloseReader fits = refl
 fields_again Bye fits = refl
 

@@ -9,8 +9,8 @@ use Rattle.store_types.specs.declared.refusal.ChunkFault.TheVariants.{Nothing, N
 use Rattle.store_types.specs.declared.refusal.Refusal.{Refusal}
 use Rattle.store_types.specs.declared.refusal.Refusal.TheVariants.{BadFrame, TooLong, WrongState, BadName, GroupBusy, SnapshotBusy, NotNewer, NoSnapshot, NoFile, Exists, BadBlob, WrongDigest, WrongSize, UnknownChunk, BadOffset, BadClose, OpenIndexes, BadManifest, ManifestMismatch, NotAllowed, TooMany, BadRange, Damaged, Unreadable, CollectorBusy, DiskFault, Halted, NoMemory, NoRemote, RemoteFault}
 use Rattle.wire_frames.specs.Frames.{frame}
-use Rattle.wire_commands.specs.declared.command.Command.TheVariants.{OpenWriter, NewDynamic, Chunk, Append, CloseIndex, Blob, Finish, Abort, OpenReader, Download, CloseReader, Bye}
-use Rattle.wire_commands.specs.declared.reply.Reply.TheVariants.{Done, Base, Part, Number, Refused}
+use Rattle.wire_commands.specs.declared.command.Command.TheVariants.{OpenWriter, Previous, NewFixed, NewDynamic, Chunk, Append, CloseIndex, Blob, Finish, Abort, OpenReader, Download, GetChunk, Range, CloseReader, Bye}
+use Rattle.wire_commands.specs.declared.reply.Reply.TheVariants.{Done, Base, Part, Data, Number, Refused}
 use Rattle.wire_commands.specs.CommandText.{command_text, command_of}
 use Rattle.wire_commands.specs.ReplyText.{reply_text}
 use Rattle.wire_commands.specs.ReplyReading.{reply_of}
@@ -45,6 +45,9 @@ nothing_digest = record { 0 = hex (codes "e3b0c44298fc1c149afbf4c8996fb92427ae41
 abbrev archive : List ℕ
 archive = codes "root.didx"
 
+abbrev image : List ℕ
+image = codes "disk.fidx"
+
 -- the blob of abc, 15 bytes
 abbrev abc_blob : List ℕ
 abc_blob = hex (codes "42ab3807be8370a1 c2412435 616263")
@@ -61,6 +64,14 @@ bye = refl
 open_writer : frame (command_text (OpenWriter snapshot)) ≡ hex (codes "1d000000 0a 1b") ++ snapshot
 unfolding wire_commands_on_literals
 open_writer = refl
+
+previous : frame (command_text (Previous archive 21)) ≡ hex (codes "13000000 0b 09") ++ archive ++ hex (codes "1500000000000000")
+unfolding wire_commands_on_literals
+previous = refl
+
+new_fixed : frame (command_text (NewFixed image 4097 8192)) ≡ hex (codes "1b000000 0c 09") ++ image ++ hex (codes "0110000000000000 0020000000000000")
+unfolding wire_commands_on_literals
+new_fixed = refl
 
 new_dynamic : frame (command_text (NewDynamic archive)) ≡ hex (codes "0b000000 0d 09") ++ archive
 unfolding wire_commands_on_literals
@@ -105,6 +116,30 @@ open_reader = refl
 download : frame (command_text (Download manifest 0)) ≡ hex (codes "19000000 15 0f") ++ manifest ++ hex (codes "0000000000000000")
 unfolding wire_commands_on_literals
 download = refl
+
+get_chunk : frame (command_text (GetChunk abc)) ≡ hex (codes "21000000 16 ba7816bf8f01cfea414140de5dae2223b00361a396177a9cb410ff61f20015ad")
+unfolding wire_commands_on_literals
+get_chunk = refl
+
+range : frame (command_text (Range archive 258 3)) ≡ hex (codes "17000000 17 09") ++ archive ++ hex (codes "0201000000000000 03000000")
+unfolding wire_commands_on_literals
+range = refl
+
+previous_read : command_of (hex (codes "0b 0f") ++ manifest ++ hex (codes "0000000000000000")) ≡ Some (Previous manifest 0)
+unfolding wire_commands_on_literals
+previous_read = refl
+
+new_fixed_read : command_of (hex (codes "0c 09") ++ image ++ hex (codes "0110000000000000 0020000000000000")) ≡ Some (NewFixed image 4097 8192)
+unfolding wire_commands_on_literals
+new_fixed_read = refl
+
+get_chunk_read : command_of (hex (codes "16 ba7816bf8f01cfea414140de5dae2223b00361a396177a9cb410ff61f20015ad")) ≡ Some (GetChunk abc)
+unfolding wire_commands_on_literals
+get_chunk_read = refl
+
+range_read : command_of (hex (codes "17 09") ++ archive ++ hex (codes "0201000000000000 03000000")) ≡ Some (Range archive 258 3)
+unfolding wire_commands_on_literals
+range_read = refl
 
 download_read : command_of (hex (codes "15 0f") ++ manifest ++ hex (codes "1500000000000000")) ≡ Some (Download manifest 21)
 unfolding wire_commands_on_literals
@@ -168,6 +203,19 @@ too_many_entries = refl
 more_behind : command_of (hex (codes "10 00 0000000000000000 0000000000000000 e3b0c44298fc1c149afbf4c8996fb92427ae41e4649b934ca495991b7852b855 00")) ≡ None
 unfolding wire_commands_on_literals
 more_behind = refl
+
+-- a length of eight bytes, a chunk size of four, and a digest with a byte behind it
+long_length : command_of (hex (codes "17 01 61 0000000000000000 0000000000000000")) ≡ None
+unfolding wire_commands_on_literals
+long_length = refl
+
+short_chunk_size : command_of (hex (codes "0c 01 61 0000000000000000 00100000")) ≡ None
+unfolding wire_commands_on_literals
+short_chunk_size = refl
+
+digest_and_more : command_of (hex (codes "16 ba7816bf8f01cfea414140de5dae2223b00361a396177a9cb410ff61f20015ad 00")) ≡ None
+unfolding wire_commands_on_literals
+digest_and_more = refl
 
 no_code : command_of [] ≡ None
 unfolding wire_commands_on_literals
@@ -246,6 +294,14 @@ empty_part : frame (reply_text (Part 21 [])) ≡ hex (codes "09000000 00 1500000
 unfolding wire_commands_on_literals
 empty_part = refl
 
+piece_given : frame (reply_text (Data abc_blob)) ≡ hex (codes "10000000 00 42ab3807be8370a1 c2412435 616263")
+unfolding wire_commands_on_literals
+piece_given = refl
+
+nothing_given : frame (reply_text (Data [])) ≡ hex (codes "01000000 00")
+unfolding wire_commands_on_literals
+nothing_given = refl
+
 bad_range : frame (reply_text (Refused (BadRange 21))) ≡ hex (codes "09000000 16 1500000000000000")
 unfolding wire_commands_on_literals
 bad_range = refl
@@ -273,6 +329,22 @@ number_read = refl
 part_read : reply_of 21 (hex (codes "00 1500000000000000") ++ digits_blob) ≡ Some (Part 21 digits_blob)
 unfolding wire_commands_on_literals
 part_read = refl
+
+previous_part_read : reply_of 11 (hex (codes "00 1500000000000000") ++ digits_blob) ≡ Some (Part 21 digits_blob)
+unfolding wire_commands_on_literals
+previous_part_read = refl
+
+fixed_number_read : reply_of 12 (hex (codes "00 0f")) ≡ Some (Number 15)
+unfolding wire_commands_on_literals
+fixed_number_read = refl
+
+chunk_data_read : reply_of 22 (hex (codes "00") ++ abc_blob) ≡ Some (Data abc_blob)
+unfolding wire_commands_on_literals
+chunk_data_read = refl
+
+range_data_read : reply_of 23 (hex (codes "00")) ≡ Some (Data [])
+unfolding wire_commands_on_literals
+range_data_read = refl
 
 -- a form of another command, a code of no command, and a refusal under it
 other_form : reply_of 18 (hex (codes "0000")) ≡ None

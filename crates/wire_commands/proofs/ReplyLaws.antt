@@ -6,11 +6,11 @@ use Rattle.store_types.specs.declared.refusal.Refusal.TheVariants as refusals
 use Rattle.store_types.specs.Chain.Reading.{◌>>=◌, only_if}
 use Rattle.wire_frames.specs.Frames.{body_limit, AreBytes}
 use Rattle.wire_commands.specs.declared.reply.Reply.{Reply}
-use Rattle.wire_commands.specs.declared.reply.Reply.TheVariants.{Done, Base, Part, Number, Refused}
+use Rattle.wire_commands.specs.declared.reply.Reply.TheVariants.{Done, Base, Part, Data, Number, Refused}
 use Rattle.wire_commands.specs.Fields.{text, byte_at, text_at, whole}
 use Rattle.wire_commands.specs.RefusalText.{refusal_text}
 use Rattle.wire_commands.specs.RefusalReading.{refusal_from}
-use Rattle.wire_commands.specs.ReplyText.{Form, empty, base, part, number, reply_form, may_have_form, reply_text}
+use Rattle.wire_commands.specs.ReplyText.{Form, empty, base, part, rest, number, reply_form, may_have_form, reply_text}
 use Rattle.wire_commands.specs.ReplyReading.{made, part_in, fields_in, accepted, reply_from, reply_of}
 use Rattle.wire_commands.specs.HasText.{FitsRefusal, FitsReply, ReplyHasText, RepliesAreReadAgain, RepliesHaveOneText}
 use Rattle.wire_commands.proofs.FieldLaws.{byte_field, u64_field, text_field}
@@ -40,6 +40,7 @@ accepted_spells (Some base) bytes fits =
     subst (Spells reply_text (IsReply (Some base)) bytes 0) (sym (made_is Base (whole (text_at bytes))))
     (one_spells reply_text (IsReply (Some base)) text_field Base bytes 0 fits (λ t. refl) (λ t h. (h, refl)))
 accepted_spells (Some part) bytes fits = rest_spells reply_text (IsReply (Some part)) u64_field Part bytes 0 fits (λ n rest. refl) (λ n rest h. (h, refl))
+accepted_spells (Some rest) bytes fits = value_spells reply_text (IsReply (Some rest)) bytes 0 (Data bytes) (tt, refl) refl
 accepted_spells (Some number) bytes fits =
     subst (Spells reply_text (IsReply (Some number)) bytes 0) (sym (made_is Number (whole (byte_at bytes))))
     (one_spells reply_text (IsReply (Some number)) byte_field Number bytes 0 fits (λ n. refl) (λ n h. (h, refl)))
@@ -113,23 +114,33 @@ reply_again form (Refused r) fits has = numbered form r ∙ ap (made Refused) (r
 reply_again (Some empty) Done fits has = refl
 reply_again (Some base) (Base snapshot) fits has = made_is Base (whole (text_at (text snapshot))) ∙ one_again text_field Base snapshot fits
 reply_again (Some part) (Part total bytes) fits has = rest_again u64_field Part total bytes fits
+reply_again (Some rest) (Data bytes) fits has = refl
 reply_again (Some number) (Number n) fits has = made_is Number (whole (byte_at (n ∷ []))) ∙ one_again byte_field Number n fits
 reply_again None Done fits has = absurd (false≢true has)
 reply_again None (Base snapshot) fits has = absurd (false≢true has)
 reply_again None (Part total bytes) fits has = absurd (false≢true has)
+reply_again None (Data bytes) fits has = absurd (false≢true has)
 reply_again None (Number n) fits has = absurd (false≢true has)
 reply_again (Some base) Done fits has = absurd (false≢true has)
 reply_again (Some part) Done fits has = absurd (false≢true has)
+reply_again (Some rest) Done fits has = absurd (false≢true has)
 reply_again (Some number) Done fits has = absurd (false≢true has)
 reply_again (Some empty) (Base snapshot) fits has = absurd (false≢true has)
 reply_again (Some part) (Base snapshot) fits has = absurd (false≢true has)
+reply_again (Some rest) (Base snapshot) fits has = absurd (false≢true has)
 reply_again (Some number) (Base snapshot) fits has = absurd (false≢true has)
 reply_again (Some empty) (Part total bytes) fits has = absurd (false≢true has)
 reply_again (Some base) (Part total bytes) fits has = absurd (false≢true has)
+reply_again (Some rest) (Part total bytes) fits has = absurd (false≢true has)
 reply_again (Some number) (Part total bytes) fits has = absurd (false≢true has)
+reply_again (Some empty) (Data bytes) fits has = absurd (false≢true has)
+reply_again (Some base) (Data bytes) fits has = absurd (false≢true has)
+reply_again (Some part) (Data bytes) fits has = absurd (false≢true has)
+reply_again (Some number) (Data bytes) fits has = absurd (false≢true has)
 reply_again (Some empty) (Number n) fits has = absurd (false≢true has)
 reply_again (Some base) (Number n) fits has = absurd (false≢true has)
 reply_again (Some part) (Number n) fits has = absurd (false≢true has)
+reply_again (Some rest) (Number n) fits has = absurd (false≢true has)
 
 pub replies_again : RepliesAreReadAgain
 replies_again code r h has = within_limit code (reply_text r) h.1 ∙ reply_again (reply_form code) r h.0 has

@@ -1,18 +1,20 @@
 -- The one spelling of each command, and the command that a body spells.
 use Rattle.std.specs.Prelude.{ℕ, List, [], ◌∷◌, ◌++◌, length, ◌==◌, nat_le, if◌then◌else◌, Option, Some, None}
-use Rattle.std.specs.Int.{w64}
+use Rattle.std.specs.Int.{w32, w64}
 use Rattle.store_types.specs.declared.append.AppendEntry.{AppendEntry}
 use Rattle.store_types.specs.Chain.Reading.{◌>>=◌, only_if}
 use Rattle.wire_frames.specs.Frames.{body_limit}
 use Rattle.wire_commands.specs.declared.command.Command.{Command}
-use Rattle.wire_commands.specs.declared.command.Command.TheVariants.{OpenWriter, NewDynamic, Chunk, Append, CloseIndex, Blob, Finish, Abort, OpenReader, Download, CloseReader, Bye}
-use Rattle.wire_commands.specs.Fields.{Read, u64, text, rows, whole, byte_at, number_at, digest_at, text_at, rows_at}
+use Rattle.wire_commands.specs.declared.command.Command.TheVariants.{OpenWriter, Previous, NewFixed, NewDynamic, Chunk, Append, CloseIndex, Blob, Finish, Abort, OpenReader, Download, GetChunk, Range, CloseReader, Bye}
+use Rattle.wire_commands.specs.Fields.{Read, u32, u64, text, rows, whole, byte_at, number_at, digest_at, text_at, rows_at}
 
 abbrev pub entry_text : AppendEntry → List ℕ
 entry_text e = e.digest.0 ++ u64 e.offset
 
 unfoldable pub command_text : Command → List ℕ
 command_text (OpenWriter snapshot) = 10 ∷ text snapshot
+command_text (Previous file offset) = 11 ∷ text file ++ u64 offset
+command_text (NewFixed file size chunk_size) = 12 ∷ text file ++ u64 size ++ u64 chunk_size
 command_text (NewDynamic file) = 13 ∷ text file
 command_text (Chunk digest blob) = 14 ∷ digest.0 ++ blob
 command_text (Append number entries) = 15 ∷ number ∷ rows entry_text entries
@@ -22,6 +24,8 @@ command_text Finish = 18 ∷ []
 command_text Abort = 19 ∷ []
 command_text (OpenReader snapshot) = 20 ∷ text snapshot
 command_text (Download file offset) = 21 ∷ text file ++ u64 offset
+command_text (GetChunk digest) = 22 ∷ digest.0
+command_text (Range file offset len) = 23 ∷ text file ++ u64 offset ++ u32 len
 command_text CloseReader = 24 ∷ []
 command_text Bye = 63 ∷ []
 
@@ -48,6 +52,13 @@ text_and_offset make bytes = do
   t ← text_at bytes
   offset ← whole (number_at w64 t.1)
   Some (make t.0 offset)
+
+unfoldable pub new_fixed : Reader
+new_fixed bytes = do
+  file ← text_at bytes
+  size ← number_at w64 file.1
+  chunk_size ← whole (number_at w64 size.1)
+  Some (NewFixed file.0 size.0 chunk_size)
 
 unfoldable pub chunk : Reader
 chunk bytes = do
@@ -79,10 +90,24 @@ blob bytes = do
   file ← text_at bytes
   Some (Blob file.0 file.1)
 
+unfoldable pub get_chunk : Reader
+get_chunk bytes = do
+  digest ← whole (digest_at bytes)
+  Some (GetChunk digest)
+
+unfoldable pub range : Reader
+range bytes = do
+  file ← text_at bytes
+  offset ← number_at w64 file.1
+  len ← whole (number_at w32 offset.1)
+  Some (Range file.0 offset.0 len)
+
 -- what the fields of a code make
 unfoldable pub fields_of : ℕ → Reader
 fields_of code bytes =
     if code == 10 then one_text OpenWriter bytes else
+    if code == 11 then text_and_offset Previous bytes else
+    if code == 12 then new_fixed bytes else
     if code == 13 then one_text NewDynamic bytes else
     if code == 14 then chunk bytes else
     if code == 15 then append bytes else
@@ -92,6 +117,8 @@ fields_of code bytes =
     if code == 19 then nothing_more Abort bytes else
     if code == 20 then one_text OpenReader bytes else
     if code == 21 then text_and_offset Download bytes else
+    if code == 22 then get_chunk bytes else
+    if code == 23 then range bytes else
     if code == 24 then nothing_more CloseReader bytes else
     if code == 63 then nothing_more Bye bytes else
     None

@@ -12,7 +12,7 @@ use Rattle.store_types.specs.declared.refusal.Refusal.{Refusal}
 use Rattle.store_types.specs.declared.refusal.Refusal.TheVariants.{BadFrame, TooLong, GroupBusy, SnapshotBusy, NotNewer, BadBlob, WrongDigest, WrongSize, UnknownChunk, BadOffset, BadClose, OpenIndexes, BadManifest, ManifestMismatch, TooMany, BadRange, Damaged, Unreadable, CollectorBusy, Halted}
 use Rattle.wire_frames.specs.Frames.{body_limit, AreBytes}
 use Rattle.wire_commands.specs.declared.command.Command.{Command}
-use Rattle.wire_commands.specs.declared.command.Command.TheVariants.{OpenWriter, NewDynamic, Chunk, Append, CloseIndex, Blob, OpenReader, Download}
+use Rattle.wire_commands.specs.declared.command.Command.TheVariants.{OpenWriter, Previous, NewFixed, NewDynamic, Chunk, Append, CloseIndex, Blob, OpenReader, Download, GetChunk, Range}
 use Rattle.wire_commands.specs.declared.reply.Reply.{Reply}
 use Rattle.wire_commands.specs.declared.reply.Reply.TheVariants.{Base, Part, Number, Refused}
 use Rattle.wire_commands.specs.CommandText.{command_text, command_of}
@@ -30,6 +30,8 @@ FitsEntry e = IsDigest e.digest × (e.offset < 2 ^ 64)
 
 abbrev pub FitsCommand : Command → Type 0
 FitsCommand (OpenWriter snapshot) = IsText snapshot
+FitsCommand (Previous file offset) = IsText file × (offset < 2 ^ 64)
+FitsCommand (NewFixed file size chunk_size) = IsText file × (size < 2 ^ 64) × (chunk_size < 2 ^ 64)
 FitsCommand (NewDynamic file) = IsText file
 FitsCommand (Chunk digest blob) = IsDigest digest
 FitsCommand (Append number entries) = (number < 256) × (length entries < 2 ^ 16) × All FitsEntry entries
@@ -37,6 +39,8 @@ FitsCommand (CloseIndex number count size csum) = (number < 256) × (count < 2 ^
 FitsCommand (Blob file blob) = IsText file
 FitsCommand (OpenReader snapshot) = IsText snapshot
 FitsCommand (Download file offset) = IsText file × (offset < 2 ^ 64)
+FitsCommand (GetChunk digest) = IsDigest digest
+FitsCommand (Range file offset len) = IsText file × (offset < 2 ^ 64) × (len < 2 ^ 32)
 FitsCommand _ = ⊤
 
 -- the command has a spelling

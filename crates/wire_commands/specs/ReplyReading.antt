@@ -4,9 +4,9 @@ use Rattle.std.specs.Int.{w64}
 use Rattle.store_types.specs.Chain.Reading.{◌>>=◌, only_if}
 use Rattle.wire_frames.specs.Frames.{body_limit}
 use Rattle.wire_commands.specs.declared.reply.Reply.{Reply}
-use Rattle.wire_commands.specs.declared.reply.Reply.TheVariants.{Done, Base, Part, Number, Refused}
+use Rattle.wire_commands.specs.declared.reply.Reply.TheVariants.{Done, Base, Part, Data, Number, Refused}
 use Rattle.wire_commands.specs.Fields.{whole, byte_at, number_at, text_at}
-use Rattle.wire_commands.specs.ReplyText.{Form, empty, base, part, number, reply_form}
+use Rattle.wire_commands.specs.ReplyText.{Form, empty, base, part, rest, number, reply_form}
 use Rattle.wire_commands.specs.RefusalReading.{refusal_from}
 
 unfoldable pub part_in : List ℕ → Option Reply
@@ -23,6 +23,7 @@ unfoldable pub fields_in : Form → List ℕ → Option Reply
 fields_in empty bytes = if length bytes == 0 then Some Done else None
 fields_in base bytes = made Base (whole (text_at bytes))
 fields_in part bytes = part_in bytes
+fields_in rest bytes = Some (Data bytes)
 fields_in number bytes = made Number (whole (byte_at bytes))
 
 abbrev pub accepted : Option Form → List ℕ → Option Reply

@@ -4,10 +4,10 @@ ghost use Rattle.std.specs.Prelude.{◌≡◌, ◌≤◌, ◌++◌, length, IsSo
 ghost use Rattle.std.specs.Result.{result_ok};
 ghost use Rattle.wire_commands.specs.HasText.{HasText, FitsCommand};
 ghost use Rattle.std.specs.List.{flat_map};
-ghost use Rattle.wire_commands.specs.CommandText.{entry_text, entries_of, command_text, command_of, fields_of, nothing_more, one_text, text_and_offset, chunk, append, close_index, blob};
+ghost use Rattle.wire_commands.specs.CommandText.{entry_text, entries_of, command_text, command_of, fields_of, nothing_more, one_text, text_and_offset, new_fixed, chunk, append, close_index, blob, get_chunk, range};
 
 use crate::entries::{ENTRY_SIZE, entries_in, push_entries};
-use crate::fields::{byte_at, copied, digest_at, only_text, text_at, u64_at, whole};
+use crate::fields::{byte_at, copied, digest_at, only_text, text_at, u32_at, u64_at, whole};
 use crate::head::{Head, Spelling};
 use std::alloc::{AllocError, Global};
 use store_types::{AppendEntry, Bytes, Digest32, Rows};
@@ -20,6 +20,19 @@ pub enum Command {
     /// 10: a writer of the snapshot.
     OpenWriter {
         snapshot: Bytes,
+    },
+    /// 11: a part of a file of the writer's base, from an offset in bytes. The pieces of an index may be
+    /// named from then on.
+    Previous {
+        file: Bytes,
+        offset: u64,
+    },
+    /// 12: a fixed index is begun, as the file of this name, for an archive of so many bytes, in pieces
+    /// of so many bytes.
+    NewFixed {
+        file: Bytes,
+        size: u64,
+        chunk_size: u64,
     },
     /// 13: a dynamic index is begun, as the file of this name.
     NewDynamic {
@@ -60,6 +73,16 @@ pub enum Command {
     Download {
         file: Bytes,
         offset: u64,
+    },
+    /// 22: the blob of a piece that the reader's indexes name.
+    GetChunk {
+        digest: Digest32,
+    },
+    /// 23: so many bytes of an archive of the reader's snapshot, from an offset in bytes.
+    Range {
+        file: Bytes,
+        offset: u64,
+        length: u32,
     },
     /// 24: the reader ends.
     CloseReader,
@@ -116,6 +139,17 @@ impl Command {
     {
         match self {
             Command::OpenWriter { snapshot } => Spelling::of(Head::new(10).text(snapshot)),
+            Command::Previous { file, offset } => {
+                Spelling::of(Head::new(11).text(file).u64(*offset))
+            }
+            Command::NewFixed {
+                file,
+                size,
+                chunk_size,
+            } => {
+                let head = Head::new(12).text(file).u64(*size);
+                Spelling::of(head.u64(*chunk_size))
+            }
             Command::NewDynamic { file } => Spelling::of(Head::new(13).text(file)),
             Command::Chunk { digest, blob } => Spelling {
                 head: Head::new(14).bytes(&digest.0),
@@ -143,6 +177,15 @@ impl Command {
             Command::OpenReader { snapshot } => Spelling::of(Head::new(20).text(snapshot)),
             Command::Download { file, offset } => {
                 Spelling::of(Head::new(21).text(file).u64(*offset))
+            }
+            Command::GetChunk { digest } => Spelling::of(Head::new(22).bytes(&digest.0)),
+            Command::Range {
+                file,
+                offset,
+                length,
+            } => {
+                let head = Head::new(23).text(file).u64(*offset);
+                Spelling::of(head.u32(*length))
             }
             Command::CloseReader => Spelling::of(Head::new(24)),
             Command::Bye => Spelling::of(Head::new(63)),
@@ -172,6 +215,8 @@ fn with_code(alloc: Global, code: u8, fields: &[u8]) -> Result<Option<Command>, 
 {
     match code {
         10 => open_writer(alloc, fields),
+        11 => previous(alloc, fields),
+        12 => new_fixed(alloc, fields),
         13 => new_dynamic(alloc, fields),
         14 => chunk(alloc, fields),
         15 => append(alloc, fields),
@@ -181,6 +226,8 @@ fn with_code(alloc: Global, code: u8, fields: &[u8]) -> Result<Option<Command>, 
         19 => Ok(nothing_more(Command::Abort, fields)),
         20 => open_reader(alloc, fields),
         21 => download(alloc, fields),
+        22 => Ok(get_chunk(fields)),
+        23 => range(alloc, fields),
         24 => Ok(nothing_more(Command::CloseReader, fields)),
         63 => Ok(nothing_more(Command::Bye, fields)),
         _ => Ok(None),
@@ -223,6 +270,43 @@ fn new_dynamic(alloc: Global, fields: &[u8]) -> Result<Option<Command>, AllocErr
 {
     let file = only_text(alloc, fields)?;
     Ok(file.map(|file| Command::NewDynamic { file }))
+}
+
+#[tactic(auto, unfolding(crate::specs::CommandText::text_and_offset))]
+fn previous(alloc: Global, fields: &[u8]) -> Result<Option<Command>, AllocError>
+    ensures command { IfOk result (λ c. c ≡ text_and_offset Command.Previous fields.now) }
+    ensures memory { OnErr result ((1 ≤ length fields.now) × IsSome (text_and_offset Command.Previous fields.now)) }
+{
+    let Some((file, rest)) = text_at(fields) else {
+        return Ok(None);
+    };
+    let Some(offset) = whole(u64_at(rest)) else {
+        return Ok(None);
+    };
+    let file = copied(alloc, file)?;
+    Ok(Some(Command::Previous { file, offset }))
+}
+
+#[tactic(auto, unfolding(crate::specs::CommandText::new_fixed))]
+fn new_fixed(alloc: Global, fields: &[u8]) -> Result<Option<Command>, AllocError>
+    ensures command { IfOk result (λ c. c ≡ new_fixed fields.now) }
+    ensures memory { OnErr result ((1 ≤ length fields.now) × IsSome (new_fixed fields.now)) }
+{
+    let Some((file, rest)) = text_at(fields) else {
+        return Ok(None);
+    };
+    let Some((size, rest)) = u64_at(rest) else {
+        return Ok(None);
+    };
+    let Some(chunk_size) = whole(u64_at(rest)) else {
+        return Ok(None);
+    };
+    let file = copied(alloc, file)?;
+    Ok(Some(Command::NewFixed {
+        file,
+        size,
+        chunk_size,
+    }))
 }
 
 #[tactic(auto, unfolding(crate::specs::CommandText::chunk))]
@@ -291,4 +375,34 @@ fn download(alloc: Global, fields: &[u8]) -> Result<Option<Command>, AllocError>
     };
     let file = copied(alloc, file)?;
     Ok(Some(Command::Download { file, offset }))
+}
+
+#[tactic(auto, unfolding(crate::specs::CommandText::get_chunk))]
+fn get_chunk(fields: &[u8]) -> Option<Command>
+    ensures { result ≡ get_chunk fields.now }
+{
+    let digest = whole(digest_at(fields))?;
+    Some(Command::GetChunk { digest })
+}
+
+#[tactic(auto, unfolding(crate::specs::CommandText::range))]
+fn range(alloc: Global, fields: &[u8]) -> Result<Option<Command>, AllocError>
+    ensures command { IfOk result (λ c. c ≡ range fields.now) }
+    ensures memory { OnErr result ((1 ≤ length fields.now) × IsSome (range fields.now)) }
+{
+    let Some((file, rest)) = text_at(fields) else {
+        return Ok(None);
+    };
+    let Some((offset, rest)) = u64_at(rest) else {
+        return Ok(None);
+    };
+    let Some(length) = whole(u32_at(rest)) else {
+        return Ok(None);
+    };
+    let file = copied(alloc, file)?;
+    Ok(Some(Command::Range {
+        file,
+        offset,
+        length,
+    }))
 }

@@ -25,6 +25,8 @@ pub enum Reply {
     Base { snapshot: Bytes },
     /// The size of a file in bytes, and a part of it.
     Part { total: u64, bytes: Bytes },
+    /// Bytes alone: the blob of a piece, or a part of an archive.
+    Data(Bytes),
     /// The number of a new index, 0 to 15.
     Number(u8),
     /// The command was refused.
@@ -71,6 +73,10 @@ impl Reply {
             Reply::Base { snapshot } => Spelling::of(Head::new(0).text(snapshot)),
             Reply::Part { total, bytes } => Spelling {
                 head: Head::new(0).u64(*total),
+                rest: bytes.as_slice(),
+            },
+            Reply::Data(bytes) => Spelling {
+                head: Head::new(0),
                 rest: bytes.as_slice(),
             },
             Reply::Number(number) => Spelling::of(Head::new(0).byte(*number)),
@@ -120,8 +126,9 @@ fn accepted(alloc: Global, code: u8, fields: &[u8]) -> Result<Option<Reply>, All
             let snapshot = only_text(alloc, fields)?;
             Ok(snapshot.map(|snapshot| Reply::Base { snapshot }))
         }
-        13 => Ok(whole(byte_at(fields)).map(Reply::Number)),
-        21 => part(alloc, fields),
+        12 | 13 => Ok(whole(byte_at(fields)).map(Reply::Number)),
+        11 | 21 => part(alloc, fields),
+        22 | 23 => Ok(Some(Reply::Data(bytes_in(alloc, fields)?))),
         14 | 15 | 16 | 17 | 18 | 19 | 20 | 24 | 63 if fields.is_empty() => Ok(Some(Reply::Done)),
         _ => Ok(None),
     }
@@ -137,4 +144,15 @@ fn part(alloc: Global, fields: &[u8]) -> Result<Option<Reply>, AllocError>
     };
     let bytes = copied(alloc, bytes)?;
     Ok(Some(Reply::Part { total, bytes }))
+}
+
+/// Bytes of its own. No memory is taken for none.
+fn bytes_in(alloc: Global, bytes: &[u8]) -> Result<Bytes, AllocError>
+    ensures own { IfOk result (λ own. own ≡ bytes.now) }
+    ensures memory { OnErr result (1 ≤ length bytes.now) }
+{
+    if bytes.is_empty() {
+        return Ok(Bytes::new(alloc));
+    }
+    copied(alloc, bytes)
 }

@@ -5,8 +5,10 @@ use port_traits::{Failed, MemSink, Sink};
 use std::test::Fail;
 
 /// Bodies of commands.
-static COMMANDS: [&[u8]; 16] = [
+static COMMANDS: [&[u8]; 20] = [
     b"\x0a\x1bhost/a/2020-01-15T06:30:03Z",
+    b"\x0b\x09root.didx\x15\0\0\0\0\0\0\0",
+    b"\x0c\x09disk.fidx\x01\x10\0\0\0\0\0\0\0\x20\0\0\0\0\0\0",
     b"\x0d\x09root.didx",
     b"\x0e\xba\x78\x16\xbf\x8f\x01\xcf\xea\x41\x41\x40\xde\x5d\xae\x22\x23\xb0\x03\x61\xa3\x96\x17\x7a\x9c\xb4\x10\xff\x61\xf2\0\x15\xad\x42\xab\x38\x07\xbe\x83\x70\xa1\xc2\x41\x24\x35abc",
     b"\x0e\xba\x78\x16\xbf\x8f\x01\xcf\xea\x41\x41\x40\xde\x5d\xae\x22\x23\xb0\x03\x61\xa3\x96\x17\x7a\x9c\xb4\x10\xff\x61\xf2\0\x15\xad",
@@ -20,18 +22,23 @@ static COMMANDS: [&[u8]; 16] = [
     b"\x14\x1bhost/a/2020-01-15T06:30:03Z",
     b"\x15\x0findex.json.blob\0\0\0\0\0\0\0\0",
     b"\x15\0\x01\x02\x03\x04\x05\x06\x07\x08",
+    b"\x16\xba\x78\x16\xbf\x8f\x01\xcf\xea\x41\x41\x40\xde\x5d\xae\x22\x23\xb0\x03\x61\xa3\x96\x17\x7a\x9c\xb4\x10\xff\x61\xf2\0\x15\xad",
+    b"\x17\x09root.didx\x02\x01\0\0\0\0\0\0\x03\0\0\0",
     b"\x18",
     b"\x3f",
 ];
 
 /// Bodies that are no commands.
-static BAD_BODIES: [&[u8]; 26] = [
+static BAD_BODIES: [&[u8]; 33] = [
     b"",
     b"\0",
     b"\x63",
     b"\x0a",
     b"\x0a\x02a",
     b"\x0a\x01ab",
+    b"\x0b\x01a\0\0\0\0\0\0\0",
+    b"\x0c\x01a\0\0\0\0\0\0\0\0\0\x10\0\0",
+    b"\x0c\x01a\0\0\0\0\0\0\0\0\0\x10\0\0\0\0\0\0\0",
     b"\x0d",
     b"\x0d\x01ab",
     b"\x0e\xba\x78\x16\xbf\x8f\x01\xcf\xea\x41\x41\x40\xde\x5d\xae\x22\x23\xb0\x03\x61\xa3\x96\x17\x7a\x9c\xb4\x10\xff\x61\xf2\0\x15",
@@ -49,21 +56,33 @@ static BAD_BODIES: [&[u8]; 26] = [
     b"\x14\x01",
     b"\x15\x01a\0\0\0\0\0\0\0",
     b"\x15\x01a\0\0\0\0\0\0\0\0\0",
+    b"\x16\xba\x78\x16\xbf\x8f\x01\xcf\xea\x41\x41\x40\xde\x5d\xae\x22\x23\xb0\x03\x61\xa3\x96\x17\x7a\x9c\xb4\x10\xff\x61\xf2\0\x15",
+    b"\x16\xba\x78\x16\xbf\x8f\x01\xcf\xea\x41\x41\x40\xde\x5d\xae\x22\x23\xb0\x03\x61\xa3\x96\x17\x7a\x9c\xb4\x10\xff\x61\xf2\0\x15\xad\0",
+    b"\x17\x01a\0\0\0\0\0\0\0\0\0\0\0",
+    b"\x17\x01a\0\0\0\0\0\0\0\0\0\0\0\0\0\0\0\0",
     b"\x18\0",
     b"\x3f\0",
     b"\xff",
 ];
 
 /// The code of a command, and the frame of a reply to it.
-static REPLIES: [(u8, &[u8]); 54] = [
+static REPLIES: [(u8, &[u8]); 59] = [
     (10, b"\x02\0\0\0\0\0"),
     (10, b"\x1d\0\0\0\0\x1bhost/a/2020-01-15T06:30:03Z"),
+    (11, b"\x0b\0\0\0\0\x15\0\0\0\0\0\0\0\x42\xab"),
+    (12, b"\x02\0\0\0\0\x01"),
     (13, b"\x02\0\0\0\0\x0f"),
     (14, b"\x01\0\0\0\0"),
     (15, b"\x01\0\0\0\0"),
     (16, b"\x01\0\0\0\0"),
     (17, b"\x01\0\0\0\0"),
     (19, b"\x01\0\0\0\0"),
+    (
+        22,
+        b"\x10\0\0\0\0\x42\xab\x38\x07\xbe\x83\x70\xa1\xc2\x41\x24\x35abc",
+    ),
+    (23, b"\x04\0\0\0\0abc"),
+    (23, b"\x01\0\0\0\0"),
     (24, b"\x01\0\0\0\0"),
     (63, b"\x01\0\0\0\0"),
     (
@@ -140,7 +159,9 @@ static REPLIES: [(u8, &[u8]); 54] = [
 ];
 
 /// The code of a command, and a body that is no reply to it.
-static BAD_REPLIES: [(u8, &[u8]); 19] = [
+static BAD_REPLIES: [(u8, &[u8]); 22] = [
+    (11, b"\0"),
+    (12, b"\0"),
     (13, b"\0"),
     (13, b"\0\0\0"),
     (14, b"\0\0"),
@@ -148,6 +169,7 @@ static BAD_REPLIES: [(u8, &[u8]); 19] = [
     (99, b"\0"),
     (10, b"\0"),
     (21, b"\0\x01\x02\x03\x04\x05\x06\x07"),
+    (22, b""),
     (10, b""),
     (10, b"\x1f"),
     (10, b"\x03\x03"),

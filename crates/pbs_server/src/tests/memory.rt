@@ -2,6 +2,15 @@
 
 use super::*;
 
+/// A second backup over a first: an archive of pieces of one size, and a third that takes its piece by PREVIOUS and is aborted;
+/// then a restore of the second by GET_CHUNK and RANGE.
+const OVER_BASE: Session = Session {
+    input: b"\x1d\0\0\0\x0a\x1bhost/a/2020-01-15T06:30:03Zg\0\0\0\x11\x0findex.json.blobB\xab8\x07\xbe\x83p\xa1\xb2\x94\x08E{\"backup-id\":\"a\",\"backup-time\":1579069803,\"backup-type\":\"host\",\"files\":[]}\x01\0\0\0\x12\x1d\0\0\0\x0a\x1bhost/a/2020-01-15T06:30:04Z\x19\0\0\0\x0b\x0findex.json.blobV\0\0\0\0\0\0\0\x1b\0\0\0\x0c\x09root.fidx\x03\0\0\0\0\0\0\0\0\x10\0\0\0\0\0\00\0\0\0\x0e\xbax\x16\xbf\x8f\x01\xcf\xeaAA@\xde]\xae\"#\xb0\x03a\xa3\x96\x17z\x9c\xb4\x10\xffa\xf2\0\x15\xadB\xab8\x07\xbe\x83p\xa1\xc2A$5abc,\0\0\0\x0f\0\x01\0\xbax\x16\xbf\x8f\x01\xcf\xeaAA@\xde]\xae\"#\xb0\x03a\xa3\x96\x17z\x9c\xb4\x10\xffa\xf2\0\x15\xad\0\0\0\0\0\0\0\02\0\0\0\x10\0\x01\0\0\0\0\0\0\0\x03\0\0\0\0\0\0\0O\x8bB\xc2-\xd3r\x9bQ\x9b\xa6\xf6\x8d-\xa7\xcc[-`m\x05\xda\xedZ\xd5\x12\x8c\xc0>lcX\xe6\0\0\0\x11\x0findex.json.blobB\xab8\x07\xbe\x83p\xa1\x94\xf5\xe5\xd3{\"backup-id\":\"a\",\"backup-time\":1579069804,\"backup-type\":\"host\",\"files\":[{\"crypt-mode\":\"none\",\"csum\":\"4f8b42c22dd3729b519ba6f68d2da7cc5b2d606d05daed5ad5128cc03e6c6358\",\"filename\":\"root.fidx\",\"size\":3}]}\x01\0\0\0\x12\x1d\0\0\0\x0a\x1bhost/a/2020-01-15T06:30:05Z\x13\0\0\0\x0b\x09root.fidx \x10\0\0\0\0\0\0\x0b\0\0\0\x0d\x09root.didx,\0\0\0\x0f\0\x01\0\xbax\x16\xbf\x8f\x01\xcf\xeaAA@\xde]\xae\"#\xb0\x03a\xa3\x96\x17z\x9c\xb4\x10\xffa\xf2\0\x15\xad\0\0\0\0\0\0\0\0\x01\0\0\0\x13\x1d\0\0\0\x14\x1bhost/a/2020-01-15T06:30:04Z\x13\0\0\0\x15\x09root.fidx \x10\0\0\0\0\0\0!\0\0\0\x16\xbax\x16\xbf\x8f\x01\xcf\xeaAA@\xde]\xae\"#\xb0\x03a\xa3\x96\x17z\x9c\xb4\x10\xffa\xf2\0\x15\xad\x17\0\0\0\x17\x09root.fidx\x01\0\0\0\0\0\0\0\x02\0\0\0",
+    replies: b"\x02\0\0\0\0\0\x01\0\0\0\0\x01\0\0\0\0\x1d\0\0\0\0\x1bhost/a/2020-01-15T06:30:03Z\x09\0\0\0\0V\0\0\0\0\0\0\0\x02\0\0\0\0\0\x01\0\0\0\0\x01\0\0\0\0\x01\0\0\0\0\x01\0\0\0\0\x01\0\0\0\0\x1d\0\0\0\0\x1bhost/a/2020-01-15T06:30:04Z\x09\0\0\0\0 \x10\0\0\0\0\0\0\x02\0\0\0\0\0\x01\0\0\0\0\x01\0\0\0\0\x01\0\0\0\0\x09\0\0\0\0 \x10\0\0\0\0\0\0\x10\0\0\0\0B\xab8\x07\xbe\x83p\xa1\xc2A$5abc\x03\0\0\0\0bc",
+    marks: &[],
+    reads: 0,
+};
+
 /// The order ends with the lane's end. Before it are commands, and what was answered for want of memory or for a fault.
 fn assert_fits(rt: &impl Abort, order: &[Entry], status: Status) -> Result<(), Fail> {
     let [acts @ .., end] = order else {
@@ -50,11 +59,11 @@ fn assert_answered(
     assert_fits(rt, served.order.as_slice(), served.status)
 }
 
-/// Two sessions, of which at most one growth is refused. The statuses are printed.
+/// Three sessions, of which at most one growth is refused. The statuses are printed.
 #[test]
 fn memory_is_refused(rt: HostRuntime) -> Result<(), Fail> {
     let alloc = rt.alloc();
-    for session in [&TO_THE_END, &TO_BYE] {
+    for session in [&TO_THE_END, &TO_BYE, &OVER_BASE] {
         // what is handed in takes memory too
         let Ok(source) = source_of(alloc, session.input) else {
             continue;

@@ -4,7 +4,7 @@ use Rattle.store_history.specs.Acts.{stepping, wanting, ending, class_of}
 use Rattle.core_state.proofs.Answered.{short_stands}
 use Rattle.core_state.specs.Begins.{short}
 use Rattle.core_state.proofs.Answering.{short_answered, where_some, refused_same}
-use Rattle.store_types.specs.declared.refusal.Refusal.TheVariants.{Unreadable}
+use Rattle.store_types.specs.declared.refusal.Refusal.TheVariants.{Unreadable, Damaged}
 use Rattle.wire_commands.specs.declared.reply.Reply.TheVariants.{Refused}
 use Rattle.core_state.specs.declared.kept.Session.TheVariants.{Idle}
 use Rattle.core_state.specs.Replies.{may_answer}
@@ -12,14 +12,16 @@ use Rattle.core_state.proofs.Caused.{short_caused, no_end_caused}
 use Rattle.core_state.proofs.Recorded.{records_more, short_timely, step_kind, wanting_kind, end_kind, tells_reply, end_tells_reply}
 use Rattle.core_state.proofs.Unchanging.{refused_parts, short_unchanged}
 use Rattle.core_state.proofs.Reserves.{short_keeps, no_end_keeps, end_keeps}
-use Rattle.core_writer.proofs.OtherNames.{acts_stay, acts_unmoved}
+use Rattle.core_uploads.proofs.OtherNames.{acts_stay, acts_unmoved}
 use Rattle.core_writer.proofs.ListedLemmas.{refused_lists}
 use Rattle.core_writer.specs.Closed.{Lists}
 use Rattle.core_writer.specs.Ended.{HasEnded}
-use Rattle.shared_store.proofs.Asking.{readers_list, short_closes, end_closes}
-use Rattle.core_reader.specs.Asked.{asked_path}
-use Rattle.core_reader.specs.ReaderActs.{IsReaders}
-use Rattle.core_reader.proofs.Unreadables.{tells_no_reader}
+use Rattle.shared_store.proofs.Asking.{are_readers, are_writers, readers_step, writers_ask, readers_ask, writers_need, readers_end, readers_list, short_closes, end_closes}
+use Rattle.shared_store.proofs.Damages.{tells_whole, end_tells_whole}
+use Rattle.shared_store.specs.Asked.{asked}
+use Rattle.core_reader.specs.Damages.{needed}
+use Rattle.core_state.proofs.Unreadables.{tells_no_file}
+use Rattle.core_state.specs.Unreadables.{TellsUnreadable}
 use Rattle.shared_store.proofs.apply.Goals as goal
 
 apart : wanting ≡ ending → ⊥
@@ -45,9 +47,9 @@ pub returns-in-Short-clause-cause : goal.returns-in-Short-clause-cause
 returns-in-Short-clause-cause g c = let d = g.D.Disk in
     no_end_caused d.faults _ _ c.args.act _ (λ e. apart (sym (ap class_of c.in-Short.is) ∙ e)) (short_caused d.calls d.faults g.C.Clock.readings _ _ c.args.lane c.args.act _ c.short.ensures)
 
-pub returns-in-Plain-OpenReader-clause-cause : goal.returns-in-Plain-OpenReader-clause-cause
-returns-in-Plain-OpenReader-clause-cause g c =
-    let step : class_of c.args.act ≡ stepping = search rules in
+pub returns-then-is_readers-clause-cause : goal.returns-then-is_readers-clause-cause
+returns-then-is_readers-clause-cause g c =
+    let step = readers_step c.args.act (are_readers c.args.act (sym c.is_readers.ensures ∙ c.if-is_readers.true)) in
     no_end_caused g.D.Disk.faults _ _ c.args.act _ (λ e. steps (sym step ∙ e)) c.reader_act.ensures.cause
 
 pub returns-in-Plain-clause-cause : goal.returns-in-Plain-clause-cause
@@ -58,9 +60,43 @@ returns-in-Plain-clause-cause g c =
 pub returns-in-Short-clause-unreadable : goal.returns-in-Short-clause-unreadable
 returns-in-Short-clause-unreadable g c = let d = g.D.Disk in
     let old = (c.args.core.now).parts in
-    tells_no_reader d.honest d.content d.faults _ _ old.disk _ c.args.act _ (short_caused d.calls d.faults g.C.Clock.readings _ _ c.args.lane c.args.act _ c.short.ensures)
-    (ap (λ a. asked_path a (slice_index_or old.sessions.items c.args.lane Idle) old.catalogue.items) c.in-Short.is)
+    tells_no_file d.honest d.content d.faults _ _ old.disk _ c.args.act _ (short_caused d.calls d.faults g.C.Clock.readings _ _ c.args.lane c.args.act _ c.short.ensures)
+    (ap (λ a. asked a (slice_index_or old.sessions.items c.args.lane Idle) old.catalogue.items) c.in-Short.is)
     (λ name. ap (λ a. may_answer a (Refused (Unreadable name))) c.in-Short.is)
+
+pub returns-then-is_readers-clause-unreadable : goal.returns-then-is_readers-clause-unreadable
+returns-then-is_readers-clause-unreadable g c = let d = g.D.Disk in
+    let old = (c.args.core.now).parts in
+    let reads = are_readers c.args.act (sym c.is_readers.ensures ∙ c.if-is_readers.true) in
+    subst (λ a. TellsUnreadable d.honest d.content old.disk a (c.reader_act.result.entry).kind c.reader_act.result.reply)
+    (sym (readers_ask c.args.act (slice_index_or old.sessions.items c.args.lane Idle) old.catalogue.items reads)) c.reader_act.ensures.unreadable
+
+pub returns-in-Plain-clause-unreadable : goal.returns-in-Plain-clause-unreadable
+returns-in-Plain-clause-unreadable g c = let d = g.D.Disk in
+    let old = (c.args.core.now).parts in
+    let writes = are_writers c.args.act c.requires.formed (search rules) (sym c.is_readers.ensures ∙ c.if-is_readers.false) in
+    subst (λ a. TellsUnreadable d.honest d.content old.disk a (c.writer_act.result.entry).kind c.writer_act.result.reply)
+    (sym (writers_ask c.args.act (slice_index_or old.sessions.items c.args.lane Idle) old.catalogue.items writes)) c.writer_act.ensures.unreadable
+
+pub returns-in-Plain-clause-damaged : goal.returns-in-Plain-clause-damaged
+returns-in-Plain-clause-damaged g c = let d = g.D.Disk in
+    let old = (c.args.core.now).parts in
+    let writes = are_writers c.args.act c.requires.formed (search rules) (sym c.is_readers.ensures ∙ c.if-is_readers.false) in
+    let none = writers_need c.args.act (slice_index_or old.sessions.items c.args.lane Idle) old.catalogue.items writes in
+    tells_whole d.honest d.content d.faults _ _ old.disk _ c.args.act _ c.writer_act.ensures.cause none.0 none.1
+
+pub returns-in-Short-clause-damaged : goal.returns-in-Short-clause-damaged
+returns-in-Short-clause-damaged g c = let d = g.D.Disk in
+    let old = (c.args.core.now).parts in
+    tells_whole d.honest d.content d.faults _ _ old.disk _ c.args.act _ (short_caused d.calls d.faults g.C.Clock.readings _ _ c.args.lane c.args.act _ c.short.ensures)
+    (ap (λ a. needed a (slice_index_or old.sessions.items c.args.lane Idle) old.catalogue.items) c.in-Short.is)
+    (λ digest found. ap (λ a. may_answer a (Refused (Damaged digest found))) c.in-Short.is)
+
+pub returns-in-End-clause-damaged : goal.returns-in-End-clause-damaged
+returns-in-End-clause-damaged g c = let d = g.D.Disk in
+    let old = (c.args.core.now).parts in
+    end_tells_whole d.honest d.content d.faults _ _ old.disk _ _ c.end_act.ensures.cause
+    (ap (λ a. needed a (slice_index_or old.sessions.items c.args.lane Idle) old.catalogue.items) c.in-End.is)
 
 pub returns-in-Short-clause-unchanged : goal.returns-in-Short-clause-unchanged
 returns-in-Short-clause-unchanged g c = let d = g.D.Disk in short_unchanged d.honest d.content d.calls g.C.Clock.readings _ _ c.args.lane _ c.short.ensures
@@ -73,10 +109,10 @@ pub returns-in-End-clause-others : goal.returns-in-End-clause-others
 returns-in-End-clause-others g c = let d = g.D.Disk in
     acts_stay d.honest d.content (c.args.core.now).parts (c.end_act.new.core).parts c.args.lane c.args.act _ c.end_act.ensures.others
 
-pub returns-in-Plain-OpenReader-clause-listed : goal.returns-in-Plain-OpenReader-clause-listed
-returns-in-Plain-OpenReader-clause-listed g c =
+pub returns-then-is_readers-clause-listed : goal.returns-then-is_readers-clause-listed
+returns-then-is_readers-clause-listed g c =
     let old = (c.args.core.now).parts in
-    let reads : IsReaders c.args.act = search rules in
+    let reads = are_readers c.args.act (sym c.is_readers.ensures ∙ c.if-is_readers.true) in
     c.reader_act.ensures.catalogue
     ∙ sym (readers_list c.args.act c.reader_act.result.reply c.reader_act.result.place (slice_index_or old.sessions.items c.args.lane Idle) old.catalogue.items reads)
 
@@ -106,9 +142,9 @@ returns-in-End-clause-memory g c = λ closing. absurd (end_closes _ c.args.act _
 pub returns-in-End-clause-reserve : goal.returns-in-End-clause-reserve
 returns-in-End-clause-reserve g c = end_keeps _ _ c.args.lane c.args.act _ c.in-End.is c.end_act.ensures.reserve
 
-pub returns-in-Plain-OpenReader-clause-records : goal.returns-in-Plain-OpenReader-clause-records
-returns-in-Plain-OpenReader-clause-records g c = let d = g.D.Disk in
-    let step : class_of c.args.act ≡ stepping = search rules in
+pub returns-then-is_readers-clause-records : goal.returns-then-is_readers-clause-records
+returns-then-is_readers-clause-records g c = let d = g.D.Disk in
+    let step = readers_step c.args.act (are_readers c.args.act (sym c.is_readers.ensures ∙ c.if-is_readers.true)) in
     λ h. records_more d.calls d.faults g.C.Clock.readings _ _ c.args.lane c.args.act _ h c.reader_act.ensures.answers c.reader_act.ensures.timely
     (step_kind d.faults _ _ c.args.act _ step c.reader_act.ensures.cause) (tells_reply d.faults _ _ c.args.act _ c.reader_act.ensures.cause c.reader_act.ensures.answers.text)
 
@@ -133,3 +169,9 @@ returns-in-End-clause-records g c = let d = g.D.Disk in
 
 pub returns-in-Short-clause-timely : goal.returns-in-Short-clause-timely
 returns-in-Short-clause-timely g c = short_timely g.D.Disk.calls g.C.Clock.readings _ _ c.args.lane _ c.short.ensures
+
+pub returns-then-is_readers-clause-removed : goal.returns-then-is_readers-clause-removed
+returns-then-is_readers-clause-removed g c = λ ended. absurd (readers_end c.args.act c.reader_act.result (are_readers c.args.act (sym c.is_readers.ensures ∙ c.if-is_readers.true)) ended)
+
+pub writer_act-requires-clause-kind : goal.writer_act-requires-clause-kind
+writer_act-requires-clause-kind g c = are_writers c.args.act c.requires.formed (search rules) (sym c.is_readers.ensures ∙ c.if-is_readers.false)

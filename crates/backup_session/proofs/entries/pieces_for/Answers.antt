@@ -4,6 +4,7 @@ use Rattle.std.specs.FinMap.{entries}
 use Rattle.store_types.specs.declared.refusal.Refusal.{Refusal}
 use Rattle.store_model.specs.Archives.{want_entries}
 use Rattle.dynamic_index.specs.Writing.{Known, known_of}
+use Rattle.backup_session.specs.Indexes.{layout_view}
 use Rattle.backup_session.proofs.StateSteps.{for_refused, for_passed, entries_room, fits_told}
 use Rattle.backup_session.proofs.entries.pieces_for.Goals as goal
 
@@ -15,12 +16,12 @@ returns-in-Err-clause-exact c =
 pub returns-clause-exact : goal.returns-clause-exact
 returns-clause-exact c =
     let passed : want_entries c.len.result (length c.args.entries.now) ≡ Ok tt = search rules in
-    let told = for_passed (entries c.args.pool.now) c.args.index.now c.args.entries.now tt c.end.result
-    (ap (λ n. want_entries n (length c.args.entries.now)) (sym c.len.ensures) ∙ passed) c.end.ensures.value in
+    let told = for_passed (entries c.args.pool.now) c.args.index.now c.args.entries.now tt (layout_view c.layout.result) c.end.result
+    (ap (λ n. want_entries n (length c.args.entries.now)) (sym c.len.ensures) ∙ passed) c.layout.ensures c.end.ensures.value in
     subst (λ (r : Result (List Known) Refusal). IfOk c.pieces_named.result (λ t. MatchResult t (λ pieces. r ≡ Ok (map known_of pieces.items)) (λ refusal. r ≡ Err refusal))) told c.pieces_named.ensures
 
 pub returns-clause-fits : goal.returns-clause-fits
 returns-clause-fits c =
     let passed : want_entries c.len.result (length c.args.entries.now) ≡ Ok tt = search rules in
-    fits_told (λ pieces. map known_of pieces.items) (entries c.args.pool.now) c.args.index.now c.args.entries.now c.end.result c.requires
-    (entries_room _ _ tt (ap (λ n. want_entries n (length c.args.entries.now)) (sym c.len.ensures) ∙ passed)) c.pieces_named.result c.pieces_named.ensures
+    fits_told (λ pieces. map known_of pieces.items) (entries c.args.pool.now) c.args.index.now c.args.entries.now (layout_view c.layout.result) c.end.result c.requires
+    (entries_room _ _ tt (ap (λ n. want_entries n (length c.args.entries.now)) (sym c.len.ensures) ∙ passed)) c.layout.ensures c.end.ensures.value c.pieces_named.result c.pieces_named.ensures

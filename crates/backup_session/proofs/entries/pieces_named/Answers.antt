@@ -1,10 +1,10 @@
-use Rattle.std.proofs.Common.{◌≡◌, ◌+◌, ◌<◌, ◌++◌, [], ◌∷◌, List, Ok, Err, length, map, drop, sym, ap, ap₂, ◌∙◌, arith}
+use Rattle.std.proofs.Common.{◌≡◌, ◌+◌, ◌<◌, ◌++◌, Ok, length, map, drop, sym, ap, ap₂, ◌∙◌, arith}
 use Rattle.std.specs.FinMap.{entries}
 use Rattle.std.proofs.lemmas.List.{map-append}
 use Rattle.store_types.specs.Chain.Refusing.{◌>>=◌}
-use Rattle.store_files.specs.Archive.{dynamic}
 use Rattle.store_model.specs.Archives.{pieces_named}
-use Rattle.dynamic_index.specs.Writing.{Known, known_of}
+use Rattle.dynamic_index.specs.Writing.{known_of}
+use Rattle.backup_session.specs.Indexes.{layout_view}
 use Rattle.backup_session.specs.Steps.{known_in}
 use Rattle.backup_session.proofs.Naming.{named_more, named_refused, named_none, behind_more}
 use Rattle.backup_session.proofs.Lifting.{own_default, drop_end, nothing_more}
@@ -15,19 +15,21 @@ returns-in-Err c =
     let i = c.loop-entry.entry-index in
     let es = c.args.entries.now in
     let find = known_in (entries c.args.pool.now) in
+    let layout = layout_view c.args.layout in
     let before = map known_of c.loop-entry.pieces.items in
     let below : i < length es = omega arith in
     let place : c.len-place.result ≡ i = c.len-place.ensures ∙ c.loop-entry.invariant.count in
     c.loop-entry.invariant.so_far
-    ∙ ap (λ p. pieces_named find (λ k. k.1) dynamic p c.loop-entry.end (drop i es) >>= λ rest. Ok (before ++ rest)) (sym place)
+    ∙ ap (λ p. pieces_named find (λ k. k.1) layout p c.loop-entry.end (drop i es) >>= λ rest. Ok (before ++ rest)) (sym place)
     ∙ ap (λ r. r >>= λ rest. Ok (before ++ rest))
-    (named_refused find (λ k. k.1) dynamic c.len-place.result c.loop-entry.end i es _ c.in-Err.refusal below (own_default es i _ below) c.in-Err.ensures.exact)
+    (named_refused find (λ k. k.1) layout c.len-place.result c.loop-entry.end i es _ c.in-Err.refusal below (own_default es i _ below) c.in-Err.ensures.exact)
 
 pub loop-entry-preserved : goal.loop-entry-preserved
 loop-entry-preserved c =
     let i = c.loop-entry.entry-index in
     let es = c.args.entries.now in
     let find = known_in (entries c.args.pool.now) in
+    let layout = layout_view c.args.layout in
     let before = map known_of c.loop-entry.pieces.items in
     let below : i < length es = omega arith in
     let place : c.len-place.result ≡ i = c.len-place.ensures ∙ c.loop-entry.invariant.count in
@@ -35,11 +37,11 @@ loop-entry-preserved c =
     record {
       so_far =
           c.loop-entry.invariant.so_far
-          ∙ ap (λ p. pieces_named find (λ k. k.1) dynamic p c.loop-entry.end (drop i es) >>= λ rest. Ok (before ++ rest)) (sym place)
+          ∙ ap (λ p. pieces_named find (λ k. k.1) layout p c.loop-entry.end (drop i es) >>= λ rest. Ok (before ++ rest)) (sym place)
           ∙ ap (λ r. r >>= λ rest. Ok (before ++ rest))
-          (named_more find (λ k. k.1) dynamic c.len-place.result c.loop-entry.end i es _ _ below (own_default es i _ below) c.in-Ok.ensures.exact)
-          ∙ behind_more before _ (pieces_named find (λ k. k.1) dynamic (c.len-place.result + 1) (c.loop-entry.end + c.in-Ok.length) (drop (i + 1) es))
-          ∙ ap₂ (λ p bs. pieces_named find (λ k. k.1) dynamic p (c.loop-entry.end + c.in-Ok.length) (drop (i + 1) es) >>= λ rest. Ok (bs ++ rest))
+          (named_more find (λ k. k.1) layout c.len-place.result c.loop-entry.end i es _ _ below (own_default es i _ below) c.in-Ok.ensures.exact)
+          ∙ behind_more before _ (pieces_named find (λ k. k.1) layout (c.len-place.result + 1) (c.loop-entry.end + c.in-Ok.length) (drop (i + 1) es))
+          ∙ ap₂ (λ p bs. pieces_named find (λ k. k.1) layout p (c.loop-entry.end + c.in-Ok.length) (drop (i + 1) es) >>= λ rest. Ok (bs ++ rest))
           (ap (λ p. p + 1) place) (sym (ap (map known_of) pushed ∙ map-append known_of c.loop-entry.pieces.items _));
       count = omega (arith, c.in_ok-push-in-Ok.ensures.len);
       limit = omega (arith, c.in-Ok.ensures.short);
@@ -49,9 +51,10 @@ pub returns : goal.returns
 returns c =
     let es = c.args.entries.now in
     let find = known_in (entries c.args.pool.now) in
+    let layout = layout_view c.args.layout in
     let before = map known_of c.loop-entry.pieces.items in
     c.loop-entry.invariant.so_far
-    ∙ ap (λ rest. pieces_named find (λ k. k.1) dynamic c.loop-entry.entry-index c.loop-entry.end rest >>= λ others. Ok (before ++ others))
+    ∙ ap (λ rest. pieces_named find (λ k. k.1) layout c.loop-entry.entry-index c.loop-entry.end rest >>= λ others. Ok (before ++ others))
     (drop_end es c.loop-entry.entry-index c.loop-entry-test.false)
-    ∙ ap (λ r. r >>= λ others. Ok (before ++ others)) (named_none find (λ k. k.1) dynamic c.loop-entry.entry-index c.loop-entry.end)
+    ∙ ap (λ r. r >>= λ others. Ok (before ++ others)) (named_none find (λ k. k.1) layout c.loop-entry.entry-index c.loop-entry.end)
     ∙ ap (λ ks. Ok ks) (nothing_more before)

@@ -1,9 +1,13 @@
-use Rattle.std.proofs.Common.{◌≡◌, ℕ, List, Ok, rules, sym, ap, ap₂, ◌∙◌}
-use Rattle.store_types.specs.declared.names.Digest32.{Digest32}
+use Rattle.std.proofs.Common.{◌≡◌, ℕ, List, Ok, rules, ap, ap₂, ◌∙◌}
 use Rattle.manifest.specs.declared.facts.FileFact.{FileFact}
 use Rattle.backup_session.specs.Steps.{want_close}
 use Rattle.backup_session.proofs.Numbers.{close_given}
 use Rattle.backup_session.proofs.indexes.closed.Goals as goal
+
+pub close-requires : goal.close-requires
+close-requires c =
+    let passed : want_close c.args.begun.now.index c.args.count c.args.size c.args.csum.now ≡ Ok tt = search rules in
+    (close_given c.args.begun.now.index c.args.count c.args.size c.args.csum.now tt passed).2
 
 pub returns : goal.returns
 returns c =
@@ -11,6 +15,6 @@ returns c =
     let given = close_given c.args.begun.now.index c.args.count c.args.size c.args.csum.now tt passed in
     let fact : List ℕ → ℕ → List ℕ → FileFact = λ name size csum. record { name = name; size = size; csum = record { 0 = csum } } in (
       passed,
-      c.in_ok-text.ensures.text,
+      c.in_ok-text.ensures,
       ap (λ name. fact name c.args.size c.args.csum.now.0) c.in_ok-name.ensures.cases ∙ ap₂ (fact c.args.begun.now.name) given.0 given.1,
     )

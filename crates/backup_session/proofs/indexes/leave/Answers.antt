@@ -1,8 +1,5 @@
 use Rattle.std.proofs.Common.{◌≡◌, ◌<◌, None, rules, length, ap, subst, sym, ◌∙◌, arith}
-use Rattle.std.specs.Prelude.{vec_len}
 use Rattle.std.proofs.lemmas.List.{length-map}
-use Rattle.backup_session.specs.Session.{Open}
-use Rattle.backup_session.specs.declared.state.Begun.{Begun}
 use Rattle.backup_session.specs.Kept.{open_of, opens_of, left_of, IsClosing}
 use Rattle.backup_session.proofs.Places.{remove-map}
 use Rattle.backup_session.proofs.indexes.leave.Goals as goal

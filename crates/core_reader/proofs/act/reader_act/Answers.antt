@@ -11,8 +11,10 @@ use Rattle.core_state.proofs.Recorded.{refused_timely, settled_timely}
 use Rattle.core_state.proofs.Reserves.{refused_keeps, done_keeps}
 use Rattle.core_state.proofs.Unchanging.{refused_parts, refused_unchanged, done_unchanged}
 use Rattle.core_state.proofs.Reserves.{refused_keeps, done_keeps, closing_kind, closing_before}
-use Rattle.core_reader.specs.Asked.{asked_path}
-use Rattle.core_reader.proofs.Unreadables.{tells_refused, tells_done}
+use Rattle.core_state.proofs.Unreadables.{tells_refused, tells_done}
+use Rattle.core_reader.specs.Asked.{asked_file}
+use Rattle.core_reader.specs.Damages.{needed}
+use Rattle.core_reader.proofs.Damaging.{damages_refused, damages_done}
 use Rattle.core_reader.proofs.ActLemmas.{readers_formed, readers_step, readers_safe}
 use Rattle.core_reader.proofs.act.reader_act.Goals as goal
 
@@ -77,8 +79,18 @@ returns-in-Answered-clause-unreadable g c = let d = g.D.Disk in
 pub returns-in-At-clause-unreadable : goal.returns-in-At-clause-unreadable
 returns-in-At-clause-unreadable g c = let d = g.D.Disk in
     tells_done d.honest d.content d.calls g.C.Clock.readings _ c.begin.new.core _ _ c.args.lane c.in-At.moment
-    (λ p. asked_path c.args.act (slice_index_or p.sessions.items c.args.lane Idle) p.catalogue.items) _ _ c.in-At.ensures.begun
+    (λ p. asked_file c.args.act (slice_index_or p.sessions.items c.args.lane Idle) p.catalogue.items) _ _ c.in-At.ensures.begun
     c.perform-outcome.ensures.unreadable c.settle.ensures
+
+pub returns-in-Answered-clause-damaged : goal.returns-in-Answered-clause-damaged
+returns-in-Answered-clause-damaged g c = let d = g.D.Disk in
+    damages_refused d.honest d.content d.calls g.C.Clock.readings _ _ c.args.lane _ _ _ c.in-Answered.ensures.begun
+
+pub returns-in-At-clause-damaged : goal.returns-in-At-clause-damaged
+returns-in-At-clause-damaged g c = let d = g.D.Disk in
+    damages_done d.honest d.content d.calls g.C.Clock.readings _ c.begin.new.core _ _ c.args.lane c.in-At.moment
+    (λ p. needed c.args.act (slice_index_or p.sessions.items c.args.lane Idle) p.catalogue.items) _ _ c.in-At.ensures.begun
+    c.perform-outcome.ensures.damaged c.settle.ensures
 
 pub returns-in-Answered-clause-content : goal.returns-in-Answered-clause-content
 returns-in-Answered-clause-content g c = let d = g.D.Disk in λ h.

@@ -9,9 +9,8 @@ use Rattle.core_state.proofs.NamedLemmas.{list_all-set}
 use Rattle.core_state.proofs.Sessions.{at_lane}
 use Rattle.core_state.proofs.Soundness.{sound_idle, disk_idle, shows_changed}
 use Rattle.core_state.proofs.Texts.{wrong_state_has_text, done_has_text}
-use Rattle.core_reader.proofs.CloseSteps.{not_reading, closes, no_reader}
+use Rattle.core_reader.proofs.CloseSteps.{not_reading, closes, no_reader, session_is, session_set}
 use Rattle.core_reader.proofs.OpenSteps.{does_ok}
-use Rattle.core_writer.proofs.OtherNames.{session_is, session_set}
 use Rattle.core_reader.proofs.closing.close_reader.Goals as goal
 
 pub invariant_of-parts : goal.invariant_of-parts
@@ -46,7 +45,7 @@ pub returns-clause-closed : goal.returns-clause-closed
 returns-clause-closed g c = λ reads.
     let old = c.args.parts.now in
     let within : c.args.lane < length old.sessions.items = omega (arith, old.lanes, old.sessions.ok.0, c.requires) in
-    session_set old.sessions.items c.args.lane Idle Idle within refl
+    session_set old.sessions.items c.args.lane Idle within
 
 pub returns-clause-act : goal.returns-clause-act
 returns-clause-act g c = let d = g.D.Disk in λ m s h.

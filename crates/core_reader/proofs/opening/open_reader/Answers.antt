@@ -14,9 +14,10 @@ use Rattle.core_state.proofs.NamedLemmas.{list_all-set}
 use Rattle.core_state.proofs.Sessions.{at_lane}
 use Rattle.core_state.proofs.Soundness.{shows_changed}
 use Rattle.core_state.proofs.Texts.{wrong_state_has_text, bad_name_has_text, no_snapshot_has_text, done_has_text}
-use Rattle.core_reader.specs.Asked.{kept_named}
-use Rattle.core_reader.proofs.Finding.{mapped, is_some, there_is}
-use Rattle.core_reader.proofs.OpenSteps.{does_ok, open_busy, open_bad, open_missing, open_found, kept_is, not_kept, sound_reader, disk_reader}
+use Rattle.core_state.specs.Found.{kept_named}
+use Rattle.core_state.proofs.Found.{kept_is, not_kept}
+use Rattle.core_state.proofs.Finding.{mapped, is_some, there_is}
+use Rattle.core_reader.proofs.OpenSteps.{does_ok, open_busy, open_bad, open_missing, open_found, sound_reader, disk_reader}
 use Rattle.core_reader.proofs.opening.open_reader.Goals as goal
 
 pub invariant_of-parts : goal.invariant_of-parts
@@ -58,7 +59,6 @@ returns-clause-act g c = let d = g.D.Disk in λ m s h.
     let some : is_none c.snapshot_named.result ≡ false = search rules in
     let there : (k : Kept) × (kept_named c.in-Ok.key (c.args.parts.now).catalogue.items ≡ Some k) = there_is (λ k. k.now) c.snapshot_named.result _ (c.snapshot_named.ensures ∙ ap (kept_named c.in-Ok.key) c.deref.ensures.value) some in
     let shown = mapped shown_snapshot (snapshot_named c.in-Ok.key s.snapshots) there.0 (sym (kept_is (c.args.parts.now).catalogue.items s.snapshots c.in-Ok.key (h.shows).catalogue) ∙ there.1) in
-    let noted : c.new-noted.result ≡ [] = search rules in
     let new : model.Reader = record { key = c.in-Ok.key; noted = [] } in
     let l : c.args.lane < length s.sessions = omega (arith, ((h.shows).sound).lanes, c.requires) in
     let sound = sound_reader s c.args.lane new c.requires (record { finished = is_some _ shown.0 shown.1 }) (h.shows).sound in
@@ -66,7 +66,7 @@ returns-clause-act g c = let d = g.D.Disk in λ m s h.
     (open_found s c.args.lane m c.args.snapshot.now c.in-Ok.key shown.0 (sym c.in-Idle.is ∙ one) named shown.1)
     (record {
       honest = h.honest;
-      shows = shows_changed _ _ s c.args.lane (reader new) _ refl refl (ap (λ n. Reader (record { key = c.in-Ok.key; noted = n })) noted) sound h.shows;
+      shows = shows_changed _ _ s c.args.lane (reader new) _ refl refl (ap (λ r. Reader r) c.open_reader.ensures.opened) sound h.shows;
       files = disk_reader _ s c.args.lane new l h.files;
     })
 

@@ -11,7 +11,8 @@ use Rattle.core_state.proofs.Ended.{ended_stands, end_failed_stands, end_halted_
 use Rattle.core_state.proofs.Caused.{ended_caused, end_failed_caused}
 use Rattle.core_state.proofs.Recorded.{entered_timely}
 use Rattle.core_state.proofs.Unchanging.{not_done, unchanged_between, untold_unchanged}
-use Rattle.core_writer.proofs.OtherNames.{others_same, others_between, removed_elsewhere}
+use Rattle.core_uploads.proofs.OtherNames.{others_same, others_between}
+use Rattle.core_writer.proofs.Elsewhere.{removed_elsewhere}
 use Rattle.core_writer.proofs.ActLemmas.{some_is, none_is, not_none, not_ok}
 use Rattle.core_writer.proofs.EndingLemmas.{gone_between}
 use Rattle.core_state.specs.declared.kept.Session.TheVariants.{Idle}

@@ -8,7 +8,11 @@ use Rattle.core_state.proofs.Caused.{refused_caused, done_caused}
 use Rattle.core_state.proofs.Recorded.{refused_timely, settled_timely}
 use Rattle.core_state.proofs.Reserves.{refused_keeps, done_keeps}
 use Rattle.core_state.proofs.Unchanging.{refused_parts, refused_unchanged, done_unchanged}
-use Rattle.core_writer.proofs.OtherNames.{acts_unmoved, acts_between}
+use Rattle.std.specs.Prelude.{slice_index_or}
+use Rattle.core_state.specs.declared.kept.Session.TheVariants.{Idle}
+use Rattle.core_state.proofs.Unreadables.{tells_refused, tells_done}
+use Rattle.core_writer.specs.WriterActs.{asked_of_writer}
+use Rattle.core_uploads.proofs.OtherNames.{acts_unmoved, acts_between}
 use Rattle.core_writer.proofs.ActLemmas.{writers_formed, writers_step, ended_is, refused_ends, some_same}
 use Rattle.core_writer.proofs.EndingLemmas.{gone_between}
 use Rattle.core_writer.proofs.ListedLemmas.{refused_lists}
@@ -112,3 +116,13 @@ returns-in-Answered-clause-timely g c = refused_timely g.D.Disk.calls g.C.Clock.
 pub returns-in-At-clause-timely : goal.returns-in-At-clause-timely
 returns-in-At-clause-timely g c =
     settled_timely g.D.Disk.calls g.C.Clock.readings _ _ _ c.args.lane c.in-At.moment _ _ (c.in-At.ensures.begun.begun).clock c.settle.ensures
+
+pub returns-in-Answered-clause-unreadable : goal.returns-in-Answered-clause-unreadable
+returns-in-Answered-clause-unreadable g c = let d = g.D.Disk in
+    tells_refused d.honest d.content d.calls g.C.Clock.readings _ _ c.args.lane _ _ _ c.in-Answered.ensures.begun
+
+pub returns-in-At-clause-unreadable : goal.returns-in-At-clause-unreadable
+returns-in-At-clause-unreadable g c = let d = g.D.Disk in
+    tells_done d.honest d.content d.calls g.C.Clock.readings _ c.begin.new.core _ _ c.args.lane c.in-At.moment
+    (λ p. asked_of_writer c.args.act (slice_index_or p.sessions.items c.args.lane Idle) p.catalogue.items) _ _ c.in-At.ensures.begun
+    c.perform-outcome.ensures.unreadable c.settle.ensures

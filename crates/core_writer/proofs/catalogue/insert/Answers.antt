@@ -2,7 +2,7 @@ use Rattle.std.proofs.Common.{◌≡◌, ◌∙◌, ap, cond, length, rules, ari
 use Rattle.std.specs.Prelude.{position, unwrap_or}
 use Rattle.std.specs.List.{insert}
 use Rattle.std.specs.Result.{is_ok}
-use Rattle.core_writer.proofs.Places.{place_is, place_within}
+use Rattle.core_uploads.proofs.Places.{place_is, place_within}
 use Rattle.core_writer.proofs.CatalogueLemmas.{is_after, insert_listed-is}
 use Rattle.core_writer.proofs.catalogue.insert.Goals as goal
 

@@ -6,7 +6,8 @@ use Rattle.core_state.proofs.Sessions.{at_lane, writer_found}
 use Rattle.core_state.proofs.Texts.{done_has_text}
 use Rattle.core_state.proofs.Unchanging.{leaves_same}
 use Rattle.core_writer.proofs.AbortLemmas.{not_writing, aborts, does_abort, no_writer, refused_done}
-use Rattle.core_writer.proofs.OtherNames.{others_unmoved, removed_elsewhere, session_is}
+use Rattle.core_uploads.proofs.OtherNames.{others_unmoved, session_is}
+use Rattle.core_writer.proofs.Elsewhere.{removed_elsewhere}
 use Rattle.core_writer.proofs.ending.abort.Goals as goal
 
 pub returns-in_default-clause-text : goal.returns-in_default-clause-text

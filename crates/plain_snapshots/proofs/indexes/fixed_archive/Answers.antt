@@ -10,12 +10,6 @@ use Rattle.plain_snapshots.proofs.indexes.fixed_archive.Goals as goal
 pub u64_at-requires : goal.u64_at-requires
 u64_at-requires c = omega (arith, (fixed_fields _ _ c.requires).0)
 
-pub u64_at-requires-2 : goal.u64_at-requires-2
-u64_at-requires-2 c = omega (arith, (fixed_fields _ _ c.requires).0)
-
-pub u64_at-requires-3 : goal.u64_at-requires-3
-u64_at-requires-3 c = omega (arith, (fixed_fields _ _ c.requires).0)
-
 pub slice_bounds-from_slice-end : goal.slice_bounds-from_slice-end
 slice_bounds-from_slice-end c = omega (arith, (fixed_fields _ _ c.requires).0)
 
@@ -34,7 +28,7 @@ returns c =
     let x = c.args.view.now in
     let fits : FitsSigned w64 c.cast_signed.result = search rules in
     let is = (fixed_fields c.args.bytes.now x c.requires).1 in
-    made (c.u64_at.ensures ∙ ap (λ (y : FixedIndex). y.size) (sym is)) (c.u64_at-2.ensures ∙ ap (λ (y : FixedIndex). y.chunk_size) (sym is))
+    made c.size.ensures c.chunk_size.ensures
     (c.in_ok-from_slice.ensures ∙ ap (λ (y : FixedIndex). y.uuid) (sym is))
-    (to_z-of_z w64 c.cast_signed.result fits ∙ c.cast_signed.ensures ∙ ap (cast_signed w64) c.u64_at-3.ensures ∙ ap (λ (y : FixedIndex). y.ctime) (sym is))
+    (to_z-of_z w64 c.cast_signed.result fits ∙ c.cast_signed.ensures ∙ ap (cast_signed w64) c.u64_at.ensures ∙ ap (λ (y : FixedIndex). y.ctime) (sym is))
     (c.in_ok-from_slice-2.ensures ∙ ap (λ (y : FixedIndex). y.reserved) (sym is)) c.in_ok-fixed_pieces.ensures

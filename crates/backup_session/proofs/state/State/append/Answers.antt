@@ -1,24 +1,17 @@
-use Rattle.std.proofs.Common.{◌≡◌, ℕ, ◌+◌, ◌<◌, List, [], ◌∷◌, None, Some, Ok, Err, length, map, get_or, set, rules, refl, sym, ap, ap₂, subst, ◌∙◌, arith}
-use Rattle.std.specs.Prelude.{◌==◌, Bool, Option, position, MatchResult}
+use Rattle.std.proofs.Common.{◌≡◌, None, Ok, Err, map, get_or, set, rules, refl, sym, ap, subst, ◌∙◌}
+use Rattle.std.specs.Prelude.{◌==◌, Bool, position}
 use Rattle.std.specs.FinMap.{entries}
-use Rattle.std.specs.List.{find, remove}
-use Rattle.std.specs.Str.{bytes_eq}
-use Rattle.std.proofs.lemmas.List.{length-map}
-use Rattle.std.proofs.lemmas.Result.{MatchResult-at_ok, MatchResult-at_err, on_ok_weaker}
-use Rattle.store_types.specs.FileNames.{manifest_name}
+use Rattle.std.proofs.lemmas.Result.{MatchResult-at_ok, MatchResult-at_err}
 use Rattle.store_types.specs.declared.refusal.Refusal.TheVariants.{NoFile}
-use Rattle.store_files.specs.DynamicIndex.{DynamicIndex, dynamic_text}
-use Rattle.known_chunks.specs.Lengths.{Lengths}
-use Rattle.dynamic_index.specs.Writing.{known_of, with_pieces}
-use Rattle.manifest.specs.declared.facts.FileFact.{FileFact}
+use Rattle.dynamic_index.specs.Writing.{known_of}
+use Rattle.backup_session.specs.Indexes.{with_pieces}
 use Rattle.backup_session.specs.declared.state.Begun.{Begun}
-use Rattle.backup_session.specs.Session.{Pool, Open, Writing}
+use Rattle.backup_session.specs.Session.{Open, Writing}
 use Rattle.backup_session.specs.Steps as steps
-use Rattle.backup_session.specs.Kept.{open_of, opens_of, text_of, HasLengths}
-use Rattle.backup_session.proofs.Pools.{with_length-there, with_length-new}
-use Rattle.backup_session.proofs.Places.{First, place_first, place_none, first_within, first_changed, first_gone}
-use Rattle.backup_session.proofs.StateSteps.{no_number, number_at, append_by, append_refused, append_done, close_none, close_refused, close_done, new_refused, new_done, number_left, blob_refused, blob_done}
-use Rattle.backup_session.proofs.Lifting.{other_default, text_kept, added_lengths}
+use Rattle.backup_session.specs.Kept.{open_of, opens_of}
+use Rattle.backup_session.proofs.Places.{place_first, place_none, first_within, first_changed}
+use Rattle.backup_session.proofs.StateSteps.{no_number, number_at, append_by, append_refused, append_done}
+use Rattle.backup_session.proofs.Lifting.{other_default}
 use Rattle.backup_session.proofs.state.State.append.Goals as goal
 
 pub returns-in_default : goal.returns-in_default
@@ -67,7 +60,7 @@ returns c =
     let named : Open → Open = steps.grown known in
     let grows : open_of new ≡ named (open_of (get_or items c.in-Some.place b)) =
     ap (λ x. record { number = m.number; name = m.name; index = x })
-    (c.in_ok-append_all-in-Ok.ensures.ok ∙ ap (λ ps. with_pieces m.index (map known_of ps)) c.deref-in-Ok.ensures.value)
+    (c.in_ok-append_all-in-Ok.ensures.ok ∙ ap (λ ps. with_pieces (map known_of ps) m.index) c.deref-in-Ok.ensures.value)
     ∙ ap (λ (x : Begun). named (open_of x)) same in
     let after : Writing = record v { begun = opens_of (set items c.in-Some.place new) } in
     record {

@@ -1,25 +1,23 @@
-use Rattle.std.proofs.Common.{◌≡◌, ℕ, ◌+◌, ◌<◌, List, [], ◌∷◌, None, Some, Ok, Err, length, map, get_or, set, rules, refl, sym, ap, ap₂, subst, ◌∙◌, arith}
-use Rattle.std.specs.Prelude.{◌==◌, Option, position, MatchResult}
+use Rattle.std.proofs.Common.{◌≡◌, Ok, rules, refl, sym, ap, ap₂, subst, ◌∙◌}
 use Rattle.std.specs.FinMap.{entries}
-use Rattle.std.specs.List.{find, remove}
 use Rattle.std.specs.Str.{bytes_eq}
-use Rattle.std.proofs.lemmas.List.{length-map}
-use Rattle.std.proofs.lemmas.Result.{MatchResult-at_ok, MatchResult-at_err, on_ok_weaker}
 use Rattle.store_types.specs.FileNames.{manifest_name}
-use Rattle.store_types.specs.declared.refusal.Refusal.TheVariants.{NoFile}
-use Rattle.store_files.specs.DynamicIndex.{DynamicIndex, dynamic_text}
-use Rattle.known_chunks.specs.Lengths.{Lengths}
-use Rattle.dynamic_index.specs.Writing.{known_of, with_pieces}
-use Rattle.manifest.specs.declared.facts.FileFact.{FileFact}
-use Rattle.backup_session.specs.declared.state.Begun.{Begun}
-use Rattle.backup_session.specs.Session.{Pool, Open, Writing}
+use Rattle.backup_session.specs.Session.{Writing}
 use Rattle.backup_session.specs.Steps as steps
-use Rattle.backup_session.specs.Kept.{open_of, opens_of, text_of, HasLengths}
-use Rattle.backup_session.proofs.Pools.{with_length-there, with_length-new}
-use Rattle.backup_session.proofs.Places.{First, place_first, place_none, first_within, first_changed, first_gone}
-use Rattle.backup_session.proofs.StateSteps.{no_number, number_at, append_by, append_refused, append_done, close_none, close_refused, close_done, new_refused, new_done, number_left, blob_refused, blob_done}
-use Rattle.backup_session.proofs.Lifting.{other_default, text_kept, added_lengths}
+use Rattle.backup_session.specs.Kept.{opens_of, text_of, HoldsBlob, Ascends}
+use Rattle.backup_session.proofs.FileLemmas.{ascends-insert, kept_blob}
+use Rattle.backup_session.proofs.StateSteps.{blob_refused, blob_done}
+use Rattle.backup_session.proofs.Lifting.{text_kept}
 use Rattle.backup_session.proofs.state.State.blob.Goals as goal
+
+pub invariant_of-self-2 : goal.invariant_of-self-2
+invariant_of-self-2 c = record {
+  key = c.self.invariant.key;
+  lengths = c.self.invariant.lengths;
+  begun = c.self.invariant.begun;
+  files = subst Ascends (sym c.in_ok-insert.ensures.ok) (ascends-insert _ c.self.inside.files.items c.self.invariant.files);
+  manifest = c.self.invariant.manifest;
+}
 
 pub returns-in-Err : goal.returns-in-Err
 returns-in-Err c = (blob_refused c.args.self.now c.args.name c.args.text.now c.in-Err.refusal (sym c.in-Err.ensures), refl)
@@ -40,5 +38,5 @@ returns c =
           ∙ ap (λ w. Ok (record w { files = steps.insert_fact (steps.blob_fact name text) w.files; manifest = steps.manifest_with name text w.manifest }, tt)) (sym c.self.view_is)
           ∙ ap₂ (λ fs m. Ok (record v { files = fs; manifest = m }, tt)) (sym files) kept;
       back = ap (λ fs. record v { files = fs }) c.in_ok-insert.ensures.place.1 ∙ c.self.view_is;
-      placed = (c.in_ok-insert.ensures.place.0, tt);
+      placed = (c.in_ok-insert.ensures.place.0, tt, subst HoldsBlob (sym c.in_ok-manifest.ensures) (kept_blob (bytes_eq name manifest_name) text c.requires));
     }

@@ -10,6 +10,8 @@ invariant_of-self c = record {
   key = c.self.invariant.key;
   lengths = subst (λ m. HasLengths (entries m)) (sym c.remove.ensures) (has_lengths-remove c.self.inside.pool c.args.digest.now.0 c.self.invariant.lengths);
   begun = c.self.invariant.begun;
+  files = c.self.invariant.files;
+  manifest = c.self.invariant.manifest;
 }
 
 pub returns : goal.returns

@@ -1,10 +1,9 @@
-use Rattle.std.proofs.Common.{◌≡◌, ◌≤◌, List, [], None, length, sym, subst, ap, ◌∙◌, arith}
+use Rattle.std.proofs.Common.{List, [], None, length, sym, subst, ap, ◌∙◌, arith}
 use Rattle.std.specs.FinMap.{entries}
-use Rattle.known_chunks.specs.Lengths.{Lengths}
 use Rattle.manifest.specs.declared.facts.FileFact.{FileFact}
 use Rattle.backup_session.specs.declared.state.Begun.{Begun}
 use Rattle.backup_session.specs.Session.{Pool, Open, Writing}
-use Rattle.backup_session.specs.Kept.{HasLengths, opens_of}
+use Rattle.backup_session.specs.Kept.{HasLengths, Ascends, opens_of}
 use Rattle.backup_session.proofs.Pools.{entries-empty, has_lengths-empty}
 use Rattle.backup_session.proofs.state.State.new.Goals as goal
 
@@ -13,6 +12,8 @@ invariant_of-result c = record {
   key = c.requires;
   lengths = subst HasLengths (sym (ap entries c.new.ensures ∙ entries-empty)) has_lengths-empty;
   begun = omega (arith, ap (λ (bs : List Begun). length (opens_of bs)) c.new-2.ensures.items);
+  files = subst Ascends (sym c.new-3.ensures.items) tt;
+  manifest = tt;
 }
 
 pub returns : goal.returns

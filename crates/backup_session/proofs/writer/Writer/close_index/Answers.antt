@@ -1,12 +1,11 @@
-use Rattle.std.proofs.Common.{◌≡◌, ℕ, List, Ok, Err, refl, sym, ap, subst, ◌∙◌}
+use Rattle.std.proofs.Common.{◌≡◌, ℕ, List, Ok, Err, refl, sym, ap, ◌∙◌}
 use Rattle.std.proofs.lemmas.Result.{MatchResult-at_ok, MatchResult-at_err}
-use Rattle.blob_codec.specs.Blob.{blob as blob_text}
 use Rattle.store_model.specs.WriterCalls as plain
 use Rattle.backup_session.specs.Session.{Writing, held}
 use Rattle.backup_session.specs.Steps as steps
-use Rattle.backup_session.specs.Kept.{before, after, LeavesPending, TellsPending}
+use Rattle.backup_session.specs.Kept.{before, after, LeavesPending}
 use Rattle.backup_session.proofs.Plainly.{plainly}
-use Rattle.backup_session.proofs.Squares.{close_index-agrees, blob-agrees}
+use Rattle.backup_session.proofs.Squares.{close_index-agrees}
 use Rattle.backup_session.proofs.Lifting.{writer_is, held_leaves}
 use Rattle.backup_session.proofs.writer.Writer.close_index.Goals as goal
 

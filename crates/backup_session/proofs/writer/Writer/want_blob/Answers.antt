@@ -1,4 +1,4 @@
-use Rattle.std.proofs.Common.{sym, ap, ◌∙◌}
+use Rattle.std.proofs.Common.{ap, ◌∙◌}
 use Rattle.backup_session.specs.Steps as steps
 use Rattle.backup_session.proofs.Lifting.{writer_is}
 use Rattle.backup_session.proofs.Squares.{takes-agrees}

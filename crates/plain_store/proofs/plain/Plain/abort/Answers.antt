@@ -1,7 +1,6 @@
 use Rattle.std.proofs.Common.{◌≡◌, ◌∙◌, ap, sym, Err, rules}
 use Rattle.store_model.specs.Store.{want_writer}
-use Rattle.plain_store.specs.declared.stop.Stop.TheVariants.{Refused}
-use Rattle.plain_store.specs.Sessions.{shown_writer}
+use Rattle.plain_sessions.specs.declared.stop.Stop.TheVariants.{Refused}
 use Rattle.plain_store.proofs.Spelled.{done_spelled}
 use Rattle.plain_store.proofs.Stopping.{does_refuse}
 use Rattle.plain_store.proofs.WriterLemmas.{abort_not_writer, abort_goes}
@@ -15,7 +14,7 @@ returns-in_err-want_writer-clause-does c =
 
 pub returns-clause-does : goal.returns-clause-does
 returns-clause-does c =
-    abort_goes c.args.self.now c.args.lane (shown_writer c.in_ok-want_writer.field-0.now) c.end.new.self
+    abort_goes c.args.self.now c.args.lane c.in_ok-want_writer.field-0.now c.end.new.self
     (ap want_writer (sym c.held.ensures) ∙ c.in_ok-want_writer.ensures.test) c.end.ensures
 
 pub returns-clause-spelled : goal.returns-clause-spelled

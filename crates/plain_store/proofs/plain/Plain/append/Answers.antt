@@ -3,10 +3,9 @@ use Rattle.store_types.specs.declared.rows.Bytes.{Bytes}
 use Rattle.store_model.specs.Store.{session, want_writer}
 use Rattle.wire_commands.specs.declared.reply.Reply.TheVariants.{Done}
 use Rattle.store_model.specs.ArchiveSteps.{named}
-use Rattle.plain_store.specs.declared.stop.Stop.TheVariants.{Refused}
-use Rattle.plain_store.specs.declared.changes.Change.TheVariants.{Grow}
-use Rattle.plain_store.specs.Sessions.{shown_writer}
-use Rattle.plain_store.specs.Archiving.{appended}
+use Rattle.plain_sessions.specs.declared.stop.Stop.TheVariants.{Refused}
+use Rattle.plain_sessions.specs.declared.changes.Change.TheVariants.{Grow}
+use Rattle.plain_sessions.specs.Archiving.{appended}
 use Rattle.plain_store.proofs.Spelled.{done_spelled}
 use Rattle.plain_store.proofs.Stopping.{does_refuse, refusal_fits, does_stop, stop_fits}
 use Rattle.plain_store.proofs.ArchiveLemmas.{fits_anyway, writer_changed, append_not_writer, append_refused, append_goes}
@@ -25,7 +24,7 @@ returns-in_err-w-clause-spelled c =
 
 pub returns-in_err-pieces-clause-does : goal.returns-in_err-pieces-clause-does
 returns-in_err-pieces-clause-does c =
-    let w = shown_writer c.in_ok-w.w.now in
+    let w = c.in_ok-w.w.now in
     let is : c.from_residual-in_err-pieces.result ≡ Err c.in_err-pieces.field-0.0 = search rules in
     let writes = ap want_writer (sym c.held.ensures) ∙ c.in_ok-w.ensures.test in
     does_stop (λ (pieces : Vec Bytes Global). pieces.items) _ _ c.in_err-pieces.field-0.0 (appended w c.args.number (map named c.args.entries.now)) _ is c.in_err-pieces.ensures.gives
@@ -42,7 +41,7 @@ change-requires-clause-fits c =
 
 pub returns-clause-does : goal.returns-clause-does
 returns-clause-does c =
-    let w = shown_writer c.in_ok-w.w.now in
+    let w = c.in_ok-w.w.now in
     let writes = ap want_writer (sym c.held.ensures) ∙ c.in_ok-w.ensures.test in
     append_goes c.args.self.now c.args.lane c.args.number c.args.entries.now w writes c.in_ok-pieces.pieces.items c.in_ok-pieces.ensures.gives
     ∙ ap (λ a. Ok (a, Done)) (sym (c.in_ok-change.ensures.ok ∙ writer_changed c.args.self.now c.args.lane w writes (Grow c.args.number c.in_ok-pieces.pieces)))

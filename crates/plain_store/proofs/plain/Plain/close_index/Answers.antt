@@ -1,10 +1,9 @@
 use Rattle.std.proofs.Common.{◌≡◌, ◌∙◌, ap, sym, Ok, Err, rules}
 use Rattle.store_model.specs.Store.{session, want_writer}
 use Rattle.wire_commands.specs.declared.reply.Reply.TheVariants.{Done}
-use Rattle.plain_store.specs.declared.stop.Stop.TheVariants.{Refused}
-use Rattle.plain_store.specs.declared.changes.Change.TheVariants.{Close}
-use Rattle.plain_store.specs.Sessions.{shown_writer}
-use Rattle.plain_store.specs.Archiving.{closed_of}
+use Rattle.plain_sessions.specs.declared.stop.Stop.TheVariants.{Refused}
+use Rattle.plain_sessions.specs.declared.changes.Change.TheVariants.{Close}
+use Rattle.plain_sessions.specs.Archiving.{closed_of}
 use Rattle.plain_store.proofs.Spelled.{done_spelled}
 use Rattle.plain_store.proofs.Stopping.{does_refuse, refusal_fits, does_stop, stop_fits}
 use Rattle.plain_store.proofs.ArchiveLemmas.{fits_anyway, writer_changed, close_not_writer, close_refused, close_goes}
@@ -23,7 +22,7 @@ returns-in_err-w-clause-spelled c =
 
 pub returns-in_err-file-clause-does : goal.returns-in_err-file-clause-does
 returns-in_err-file-clause-does c =
-    let w = shown_writer c.in_ok-w.w.now in
+    let w = c.in_ok-w.w.now in
     let is : c.from_residual-in_err-file.result ≡ Err c.in_err-file.field-0.0 = search rules in
     let writes = ap want_writer (sym c.held.ensures) ∙ c.in_ok-w.ensures.test in
     does_stop (λ f. f) _ _ c.in_err-file.field-0.0 (closed_of w c.args.number c.args.count c.args.size c.args.csum.now) _ is c.in_err-file.ensures.gives
@@ -40,7 +39,7 @@ change-requires-clause-fits c =
 
 pub returns-clause-does : goal.returns-clause-does
 returns-clause-does c =
-    let w = shown_writer c.in_ok-w.w.now in
+    let w = c.in_ok-w.w.now in
     let writes = ap want_writer (sym c.held.ensures) ∙ c.in_ok-w.ensures.test in
     close_goes c.args.self.now c.args.lane c.args.number c.args.count c.args.size c.args.csum.now w writes c.in_ok-file.file c.in_ok-file.ensures.gives
     ∙ ap (λ a. Ok (a, Done)) (sym (c.in_ok-change.ensures.ok ∙ writer_changed c.args.self.now c.args.lane w writes (Close c.args.number c.in_ok-file.file)))

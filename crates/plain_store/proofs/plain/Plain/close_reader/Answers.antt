@@ -1,7 +1,6 @@
 use Rattle.std.proofs.Common.{◌≡◌, ◌∙◌, ap, sym, Err, rules}
 use Rattle.store_model.specs.Store.{want_reader}
-use Rattle.plain_store.specs.declared.stop.Stop.TheVariants.{Refused}
-use Rattle.plain_store.specs.Sessions.{shown_reader}
+use Rattle.plain_sessions.specs.declared.stop.Stop.TheVariants.{Refused}
 use Rattle.plain_store.proofs.Spelled.{done_spelled}
 use Rattle.plain_store.proofs.Stopping.{does_refuse}
 use Rattle.plain_store.proofs.ReaderLemmas.{close_not_reader, close_goes}
@@ -15,7 +14,7 @@ returns-in_err-want_reader-clause-does c =
 
 pub returns-clause-does : goal.returns-clause-does
 returns-clause-does c =
-    close_goes c.args.self.now c.args.lane (shown_reader c.in_ok-want_reader.field-0.now) c.end.new.self
+    close_goes c.args.self.now c.args.lane c.in_ok-want_reader.field-0.now c.end.new.self
     (ap want_reader (sym c.held.ensures) ∙ c.in_ok-want_reader.ensures.test) c.end.ensures
 
 pub returns-clause-spelled : goal.returns-clause-spelled

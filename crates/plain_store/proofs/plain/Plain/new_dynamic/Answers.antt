@@ -1,10 +1,9 @@
 use Rattle.std.proofs.Common.{◌≡◌, ◌∙◌, ap, sym, Ok, Err, rules, arith}
 use Rattle.store_model.specs.Store.{Begun, want_writer}
 use Rattle.wire_commands.specs.declared.reply.Reply.TheVariants.{Number}
-use Rattle.plain_store.specs.declared.stop.Stop.TheVariants.{Refused}
-use Rattle.plain_store.specs.declared.changes.Change.TheVariants.{Begin}
-use Rattle.plain_store.specs.Sessions.{shown_writer}
-use Rattle.plain_store.specs.Archiving.{begun_of}
+use Rattle.plain_sessions.specs.declared.stop.Stop.TheVariants.{Refused}
+use Rattle.plain_sessions.specs.declared.changes.Change.TheVariants.{Begin}
+use Rattle.plain_sessions.specs.Archiving.{begun_of}
 use Rattle.plain_store.proofs.Spelled.{number_spelled}
 use Rattle.plain_store.proofs.Stopping.{does_refuse, refusal_fits, does_stop, stop_fits}
 use Rattle.plain_store.proofs.ArchiveLemmas.{writer_changed, writer_fits, new_not_writer, new_refused, new_goes, begun_room}
@@ -23,7 +22,7 @@ returns-in_err-w-clause-spelled c =
 
 pub returns-in_err-begun-clause-does : goal.returns-in_err-begun-clause-does
 returns-in_err-begun-clause-does c =
-    let w = shown_writer c.in_ok-w.w.now in
+    let w = c.in_ok-w.w.now in
     let is : c.from_residual-in_err-begun.result ≡ Err c.in_err-begun.field-0.0 = search rules in
     let writes = ap want_writer (sym c.held.ensures) ∙ c.in_ok-w.ensures.test in
     does_stop (λ b. b) _ _ c.in_err-begun.field-0.0 (begun_of w c.args.name.now c.args.moment) _ is c.in_err-begun.ensures.gives
@@ -36,13 +35,13 @@ returns-in_err-begun-clause-spelled c =
 
 pub change-requires-clause-fits : goal.change-requires-clause-fits
 change-requires-clause-fits c =
-    let w = shown_writer c.in_ok-w.w.now in
+    let w = c.in_ok-w.w.now in
     let writes = ap want_writer (sym c.held.ensures) ∙ c.in_ok-w.ensures.test in
     writer_fits c.args.self.now c.args.lane w writes (Begin c.in_ok-begun.begun) (begun_room w c.args.name.now c.args.moment c.in_ok-begun.begun c.in_ok-begun.ensures.gives)
 
 pub returns-clause-does : goal.returns-clause-does
 returns-clause-does c =
-    let w = shown_writer c.in_ok-w.w.now in
+    let w = c.in_ok-w.w.now in
     let writes = ap want_writer (sym c.held.ensures) ∙ c.in_ok-w.ensures.test in
     new_goes c.args.self.now c.args.lane c.args.moment c.args.name.now w writes c.in_ok-begun.begun c.in_ok-begun.ensures.gives
     ∙ ap (λ a. Ok (a, Number c.in_ok-begun.begun.number)) (sym (c.in_ok-change.ensures.ok ∙ writer_changed c.args.self.now c.args.lane w writes (Begin c.in_ok-begun.begun)))

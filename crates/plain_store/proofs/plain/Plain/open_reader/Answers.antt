@@ -2,7 +2,7 @@ use Rattle.std.proofs.Common.{◌≡◌, ◌∙◌, ap, refl, sym, Ok, Err, Some
 use Rattle.std.specs.Prelude.{option_map}
 use Rattle.store_types.specs.Names.{key_of}
 use Rattle.store_model.specs.Store.{Store, session, snapshot_named, want_idle}
-use Rattle.plain_store.specs.declared.stop.Stop.TheVariants.{Refused}
+use Rattle.plain_sessions.specs.declared.stop.Stop.TheVariants.{Refused}
 use Rattle.plain_store.proofs.Spelled.{done_spelled}
 use Rattle.plain_store.proofs.Stopping.{does_refuse, refusal_fits}
 use Rattle.plain_store.proofs.WriterLemmas.{is_there, is_absent}
@@ -54,7 +54,7 @@ returns-clause-does c =
     let asked = c.snapshot_named.ensures ∙ ap (λ k. snapshot_named k c.deref.result.now) c.as_key.ensures ∙ ap (snapshot_named key) listed in
     let there = is_there c.snapshot_named.result c.if-is_none.ensures in
     let found = sym asked ∙ ap (option_map (λ x. x.now)) there.1 in
-    open_goes s c.args.lane c.args.snapshot.now key there.0.now c.new-noted.result.items c.set_held.new.self idle named found c.new-noted.ensures.items c.set_held.ensures
+    open_goes s c.args.lane c.args.snapshot.now key there.0.now c.new-r.result c.set_held.new.self idle named found c.new-r.ensures c.set_held.ensures
 
 pub returns-clause-spelled : goal.returns-clause-spelled
 returns-clause-spelled c = done_spelled

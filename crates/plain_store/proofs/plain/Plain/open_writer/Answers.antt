@@ -1,7 +1,7 @@
 use Rattle.std.proofs.Common.{◌≡◌, ◌∙◌, ap, refl, sym, Ok, Err, Some, None, rules}
 use Rattle.store_types.specs.Names.{key_of}
 use Rattle.store_model.specs.Store.{session, want_idle}
-use Rattle.plain_store.specs.declared.stop.Stop.TheVariants.{Refused}
+use Rattle.plain_sessions.specs.declared.stop.Stop.TheVariants.{Refused}
 use Rattle.plain_store.specs.Writers.{base_of}
 use Rattle.plain_store.proofs.Spelled.{base_spelled}
 use Rattle.plain_store.proofs.Stopping.{does_refuse, refusal_fits}
@@ -49,8 +49,8 @@ returns-clause-does c =
     let idle : want_idle (session s c.args.lane) ≡ Ok tt = search rules in
     let named : key_of c.args.snapshot.now ≡ Some c.in-Ok.key = search rules in
     let tested = ap (base_of s) (sym c.as_key.ensures) ∙ c.in_ok-base.ensures.test in
-    open_goes s c.args.lane c.args.moment c.args.snapshot.now c.in-Ok.key idle named _ c.in_ok-base-2.base c.new.result.items c.new-2.result c.new-3.result.items c.in_ok-text.text c.set_held.new.self
-    tested c.new.ensures.items c.new-2.ensures c.new-3.ensures.items c.in_ok-base-2.ensures c.in_ok-text.ensures.text c.set_held.ensures
+    open_goes s c.args.lane c.args.moment c.args.snapshot.now c.in-Ok.key idle named _ c.in_ok-base-2.base c.in_ok-text.text c.new-w.result c.set_held.new.self
+    tested c.in_ok-base-2.ensures c.in_ok-text.ensures.text c.new-w.ensures c.set_held.ensures
 
 pub returns-clause-spelled : goal.returns-clause-spelled
 returns-clause-spelled c = base_spelled c.in_ok-text.text c.in_ok-text.ensures.short

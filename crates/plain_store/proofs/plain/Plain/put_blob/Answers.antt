@@ -1,11 +1,10 @@
 use Rattle.std.proofs.Common.{◌≡◌, ◌∙◌, ap, sym, Ok, Err, rules}
 use Rattle.store_model.specs.Store.{session, with_session, want_writer}
 use Rattle.wire_commands.specs.declared.reply.Reply.TheVariants.{Done}
-use Rattle.plain_store.specs.declared.stop.Stop.TheVariants.{Refused}
-use Rattle.plain_store.specs.declared.changes.Change.TheVariants.{Upload}
-use Rattle.plain_store.specs.Sessions.{shown_writer}
-use Rattle.plain_store.specs.Changes.{changed_in}
-use Rattle.plain_store.specs.Writers.{upload_of}
+use Rattle.plain_sessions.specs.declared.stop.Stop.TheVariants.{Refused}
+use Rattle.plain_sessions.specs.declared.changes.Change.TheVariants.{Upload}
+use Rattle.plain_sessions.specs.Changes.{changed_in}
+use Rattle.plain_sessions.specs.Uploading.{upload_of}
 use Rattle.plain_store.proofs.Spelled.{done_spelled}
 use Rattle.plain_store.proofs.Stopping.{does_refuse, refusal_fits, does_stop, stop_fits}
 use Rattle.plain_store.proofs.WriterLemmas.{is_writer, put_not_writer, put_refused, put_goes}
@@ -25,7 +24,7 @@ returns-in_err-w-clause-spelled c =
 
 pub returns-in_err-file-clause-does : goal.returns-in_err-file-clause-does
 returns-in_err-file-clause-does c =
-    let w = shown_writer c.in_ok-w.w.now in
+    let w = c.in_ok-w.w.now in
     let is : c.from_residual-in_err-file.result ≡ Err c.in_err-file.field-0.0 = search rules in
     let writes = ap want_writer (sym c.held.ensures) ∙ c.in_ok-w.ensures.test in
     does_stop (λ x. x) _ _ c.in_err-file.field-0.0 (upload_of w c.args.name.now c.args.blob.now) _ is c.in_err-file.ensures.gives
@@ -38,7 +37,7 @@ returns-in_err-file-clause-spelled c =
 
 pub returns-clause-does : goal.returns-clause-does
 returns-clause-does c =
-    let w = shown_writer c.in_ok-w.w.now in
+    let w = c.in_ok-w.w.now in
     let s = c.args.self.now in
     let writes = ap want_writer (sym c.held.ensures) ∙ c.in_ok-w.ensures.test in
     put_goes s c.args.lane c.args.name.now c.args.blob.now w writes c.in_ok-file.file c.in_ok-file.ensures.gives

@@ -1,10 +1,9 @@
-use Rattle.std.proofs.Common.{◌≡◌, ◌∙◌, ap, sym, Ok, Err, rules}
+use Rattle.std.proofs.Common.{◌≡◌, ◌∙◌, [], ◌∷◌, ap, sym, Ok, Err, rules}
 use Rattle.store_model.specs.Store.{session, want_writer}
 use Rattle.wire_commands.specs.declared.reply.Reply.TheVariants.{Done}
 use Rattle.store_model.specs.ArchiveSteps.{check_chunk}
-use Rattle.plain_store.specs.declared.stop.Stop.TheVariants.{Refused}
-use Rattle.plain_store.specs.declared.changes.Change.TheVariants.{Piece}
-use Rattle.plain_store.specs.Sessions.{shown_writer}
+use Rattle.plain_sessions.specs.declared.stop.Stop.TheVariants.{Refused}
+use Rattle.plain_sessions.specs.declared.changes.Change.TheVariants.{Pool}
 use Rattle.plain_store.proofs.Spelled.{done_spelled}
 use Rattle.plain_store.proofs.Stopping.{does_refuse, refusal_fits, does_stop, stop_fits}
 use Rattle.plain_store.proofs.ArchiveLemmas.{fits_anyway, writer_changed, chunk_not_writer, chunk_refused, chunk_goes}
@@ -23,7 +22,7 @@ returns-in_err-want_writer-clause-spelled c =
 
 pub returns-in_err-piece-clause-does : goal.returns-in_err-piece-clause-does
 returns-in_err-piece-clause-does c =
-    let w = shown_writer c.in_ok-want_writer.field-0.now in
+    let w = c.in_ok-want_writer.field-0.now in
     let is : c.from_residual-in_err-piece.result ≡ Err c.in_err-piece.field-0.0 = search rules in
     let writes = ap want_writer (sym c.held.ensures) ∙ c.in_ok-want_writer.ensures.test in
     does_stop (λ p. p) _ _ c.in_err-piece.field-0.0 (check_chunk c.args.digest.now c.args.blob.now) _ is c.in_err-piece.ensures.gives
@@ -36,14 +35,15 @@ returns-in_err-piece-clause-spelled c =
 
 pub change-requires-clause-fits : goal.change-requires-clause-fits
 change-requires-clause-fits c =
-    fits_anyway (Piece c.in_ok-piece.piece) (session c.args.self.now c.args.lane) (λ w. tt)
+    fits_anyway (Pool c.in_ok-pieces.pieces) (session c.args.self.now c.args.lane) (λ w. tt)
 
 pub returns-clause-does : goal.returns-clause-does
 returns-clause-does c =
-    let w = shown_writer c.in_ok-want_writer.field-0.now in
+    let w = c.in_ok-want_writer.field-0.now in
     let writes = ap want_writer (sym c.held.ensures) ∙ c.in_ok-want_writer.ensures.test in
-    chunk_goes c.args.self.now c.args.lane c.args.digest.now c.args.blob.now w writes c.in_ok-piece.piece c.in_ok-piece.ensures.gives
-    ∙ ap (λ a. Ok (a, Done)) (sym (c.in_ok-change.ensures.ok ∙ writer_changed c.args.self.now c.args.lane w writes (Piece c.in_ok-piece.piece)))
+    let one : c.in_ok-pieces.pieces.items ≡ c.in_ok-piece.piece ∷ [] = search rules in
+    chunk_goes c.args.self.now c.args.lane c.args.digest.now c.args.blob.now w writes c.in_ok-piece.piece c.in_ok-pieces.pieces.items c.in_ok-piece.ensures.gives one
+    ∙ ap (λ a. Ok (a, Done)) (sym (c.in_ok-change.ensures.ok ∙ writer_changed c.args.self.now c.args.lane w writes (Pool c.in_ok-pieces.pieces)))
 
 pub returns-clause-spelled : goal.returns-clause-spelled
 returns-clause-spelled c = done_spelled

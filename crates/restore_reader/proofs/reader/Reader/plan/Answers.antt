@@ -1,10 +1,11 @@
-use Rattle.std.proofs.Common.{◌≡◌, ◌+◌, ◌-◌, None, Some, Ok, Err, take, drop, rules, sym, ap, subst, ◌∙◌, arith}
+use Rattle.std.proofs.Common.{◌≡◌, ◌≤◌, OnOk, ◌+◌, ◌-◌, None, Some, Ok, Err, take, drop, rules, sym, ap, subst, ◌∙◌, arith}
 use Rattle.std.specs.List.{concat, find}
 use Rattle.std.specs.Option.{option_map}
 use Rattle.std.specs.Str.{bytes_eq}
+use Rattle.store_model.specs.ReaderSteps.{want_range}
 use Rattle.restore_reader.specs.Cutting.{Reads}
 use Rattle.restore_reader.specs.Session.{Noted, Reading}
-use Rattle.restore_reader.specs.Steps.{noted_as, want_range}
+use Rattle.restore_reader.specs.Steps.{noted_as}
 use Rattle.restore_reader.proofs.Plainly.{plan_none, plan_noted}
 use Rattle.restore_reader.proofs.reader.Reader.plan.Goals as goal
 
@@ -24,7 +25,7 @@ returns-in-Err-clause-does c =
     let same : c.deref.result.now ≡ s.noted = c.deref.ensures.value ∙ ap (λ (t : Reading). t.noted) c.self.view_is in
     let there : noted_as s name ≡ Some c.in-Some.index.now = sym (c.index_named.ensures ∙ ap (find (λ x. bytes_eq name x.name)) same) ∙ ap (option_map (λ x. x.now)) c.in-Some.is in
     plan_noted s name c.in-Some.index.now c.args.offset c.args.length (Err c.in-Err.refusal) there
-    (ap (λ size. want_range size c.args.offset c.args.length) (sym c.size.ensures) ∙ sym c.want_range.ensures ∙ c.in-Err.is)
+    (ap (λ size. want_range size c.args.offset c.args.length) (sym c.size.ensures) ∙ sym c.want_range.ensures.value ∙ c.in-Err.is)
 
 pub returns-clause-does : goal.returns-clause-does
 returns-clause-does c =
@@ -47,3 +48,9 @@ returns-clause-bytes c = λ x pieces is ends.
     let count : c.args.offset + c.args.length - c.args.offset ≡ c.args.length = omega arith in
     subst (λ n. Reads c.in_ok-parts.parts.items pieces (take n (drop c.args.offset (concat pieces)))) count
     (c.in_ok-parts.ensures.bytes pieces (ends ∙ ap (λ (y : Noted). y.entries) both))
+
+pub returns-clause-total : goal.returns-clause-total
+returns-clause-total c =
+    let total = c.in_ok-parts.ensures.total in
+    let passed : c.want_range.result ≡ Ok tt = search rules in
+    (omega (arith, total), subst (λ r. OnOk r (c.args.length ≤ 4_194_304)) passed c.want_range.ensures.limit)

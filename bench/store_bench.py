@@ -1,0 +1,164 @@
+"""What the benches share: frames of sessions, pieces to back up, and the store as it is run on them.
+
+A session goes to the store through a named pipe, part by part. A part has ended when all its commands are answered.
+"""
+import fcntl, hashlib, json, os, random, struct, subprocess, sys, time, zlib
+
+TOP = os.path.dirname(os.path.dirname(os.path.abspath(__file__)))
+MIB = 1 << 20
+INDEX = "root.didx"
+ENTRIES_AN_APPEND = 4096
+OPEN_WRITER, PREVIOUS, NEW_DYNAMIC, CHUNK, APPEND, CLOSE_INDEX, BLOB, FINISH = 10, 11, 13, 14, 15, 16, 17, 18
+OPEN_READER, DOWNLOAD, GET_CHUNK, RANGE, CLOSE_READER, BYE = 20, 21, 22, 23, 24, 63
+# (snapshots that follow one another, and their times)
+SNAPSHOTS = [("host/bench/2020-01-15T06:30:03Z", 1579069803), ("host/bench/2020-01-15T06:30:04Z", 1579069804)]
+
+
+def text(value):
+    return bytes([len(value)]) + value.encode()
+
+
+def blob(data):
+    return bytes([66, 171, 56, 7, 190, 131, 112, 161]) + struct.pack("<I", zlib.crc32(data)) + data
+
+
+class Part:
+    """Commands in a file, with their number."""
+
+    def __init__(self, path):
+        self.path, self.commands = path, 0
+
+    def add(self, out, code, fields=b""):
+        out.write(struct.pack("<IB", 1 + len(fields), code) + fields)
+        self.commands += 1
+
+
+def make_piece(folder, number, source):
+    """Writes a piece of 1 MiB as a file, and gives its path and its digest."""
+    piece = source.randbytes(MIB)
+    path = os.path.join(folder, f"piece-{number:06}")
+    with open(path, "wb") as out:
+        out.write(piece)
+    return path, hashlib.sha256(piece).digest()
+
+
+def make_pieces(folder, first, count):
+    """So many pieces, with numbers from the first on."""
+    source = random.Random(first)
+    return [make_piece(folder, first + number, source) for number in range(count)]
+
+
+def make_backup(path, snapshot, pieces, sent, over_base):
+    """A backup of the pieces in order, of which these are sent; where it has a base, behind PREVIOUS of its index."""
+    part, (name, seconds) = Part(path), snapshot
+    with open(path, "wb") as out:
+        part.add(out, OPEN_WRITER, text(name))
+        if over_base:
+            part.add(out, PREVIOUS, text(INDEX) + struct.pack("<Q", 0))
+        part.add(out, NEW_DYNAMIC, text(INDEX))
+        for piece, digest in sent:
+            with open(piece, "rb") as it:
+                part.add(out, CHUNK, digest + blob(it.read()))
+        digests = [digest for _, digest in pieces]
+        for first in range(0, len(digests), ENTRIES_AN_APPEND):
+            some = range(first, min(first + ENTRIES_AN_APPEND, len(digests)))
+            part.add(out, APPEND, struct.pack("<BH", 0, len(some)) + b"".join(digests[i] + struct.pack("<Q", i * MIB) for i in some))
+        csum = hashlib.sha256(b"".join(struct.pack("<Q", (i + 1) * MIB) + it for i, it in enumerate(digests))).digest()
+        size = len(digests) * MIB
+        part.add(out, CLOSE_INDEX, struct.pack("<BQQ", 0, len(digests), size) + csum)
+        listed = [{"crypt-mode": "none", "csum": csum.hex(), "filename": INDEX, "size": size}]
+        manifest = {"backup-id": "bench", "backup-time": seconds, "backup-type": "host", "files": listed}
+        part.add(out, BLOB, text("index.json.blob") + blob(json.dumps(manifest, separators=(",", ":")).encode()))
+        part.add(out, FINISH)
+    return part
+
+
+def timed(call):
+    """Seconds that the call takes. What was written before is on the disk when it begins."""
+    os.sync()
+    before = time.monotonic()
+    call()
+    return time.monotonic() - before
+
+
+class Store:
+    """`./pbstore` on a fresh datastore folder, with a session that is sent part by part."""
+
+    def __init__(self, work):
+        # (the program is built where it isn't yet, and not in the time that is measured)
+        subprocess.run([f"{TOP}/pbstore"], stderr=subprocess.DEVNULL)
+        root, session = f"{work}/datastore", f"{work}/session"
+        os.mkdir(root)
+        os.mkfifo(session)
+        self.run = subprocess.Popen([f"{TOP}/pbstore", "run", root, session])
+        self.input = open(self.opened(session), "wb", buffering=0)
+        fcntl.fcntl(self.input, fcntl.F_SETPIPE_SZ, MIB)
+        self.replies = open(self.waited_for(f"{session}.out"), "rb")
+
+    def fail(self, why):
+        sys.exit(f"{os.path.basename(sys.argv[0])}: {why}")
+
+    def wait(self):
+        if self.run.poll() is not None:
+            self.fail(f"pbstore ended with status {self.run.returncode}")
+        time.sleep(0.0005)
+
+    def opened(self, session):
+        """The pipe, once the store reads it."""
+        while True:
+            try:
+                pipe = os.open(session, os.O_WRONLY | os.O_NONBLOCK)
+                os.set_blocking(pipe, True)
+                return pipe
+            except OSError:
+                self.wait()
+
+    def waited_for(self, path):
+        while not os.path.exists(path):
+            self.wait()
+        return path
+
+    def read(self, size):
+        """So many bytes of the replies, once they are there."""
+        got = b""
+        while len(got) < size:
+            more = self.replies.read(size - len(got))
+            got += more
+            if not more:
+                self.wait()
+        return got
+
+    def place(self):
+        """Where the next reply will stand in the file of the replies."""
+        return self.replies.tell()
+
+    def send(self, part):
+        """Sends the commands, and waits for their replies."""
+        with open(part.path, "rb") as it:
+            while some := it.read(MIB):
+                self.input.write(some)
+        at = self.place()
+        for _ in range(part.commands):
+            length, number = struct.unpack("<IB", self.read(5))
+            if number:
+                self.fail(f"a command was refused, with number {number}")
+            at += 4 + length
+            while os.fstat(self.replies.fileno()).st_size < at:
+                self.wait()
+            self.replies.seek(at)
+
+    def end(self):
+        """Ends the session, and gives the store's greatest resident memory in bytes."""
+        self.input.write(struct.pack("<IB", 1, BYE))
+        self.input.close()
+        _, status, used = os.wait4(self.run.pid, 0)
+        self.run.returncode = status
+        if status:
+            self.fail(f"pbstore ended with status {os.waitstatus_to_exitcode(status)}")
+        return used.ru_maxrss * 1024
+
+
+def processor():
+    with open("/proc/cpuinfo") as it:
+        name = next((line.split(":")[1].strip() for line in it if line.startswith("model name")), "unknown")
+    return f"{name}, {os.cpu_count()} processors"

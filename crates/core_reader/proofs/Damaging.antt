@@ -1,0 +1,167 @@
+-- When a chunk is told to be damaged.
+use Rattle.std.proofs.Common.{◌≡◌, ℕ, List, [], ◌∷◌, ◌++◌, Option, Some, None, Result, Ok, Err, refl, sym, ap, subst, ◌∙◌, arith}
+use Rattle.std.specs.List.{Contains}
+use Rattle.port_traits.specs.Readings.{Readings}
+use Rattle.disk_trait.specs.Files.{Files}
+use Rattle.disk_trait.specs.declared.disk.DiskError.{DiskError}
+use Rattle.disk_trait.specs.declared.disk.DiskError.TheVariants.{NoMemory as DiskMemory, Failed as DiskFailed}
+use Rattle.store_types.specs.declared.names.Digest32.{Digest32}
+use Rattle.store_types.specs.declared.refusal.ChunkFault.{ChunkFault}
+use Rattle.store_types.specs.declared.refusal.Refusal.{Refusal}
+use Rattle.store_types.specs.declared.refusal.Refusal.TheVariants.{Damaged, NoMemory, DiskFault, Halted}
+use Rattle.store_types.specs.Chain.Refusing.{◌>>=◌}
+use Rattle.wire_commands.specs.declared.reply.Reply.{Reply}
+use Rattle.wire_commands.specs.declared.reply.Reply.TheVariants.{Refused}
+use Rattle.store_history.specs.declared.act.Answer.{Answer}
+use Rattle.restore_reader.specs.declared.ranges.Part.{Part}
+use Rattle.restore_reader.specs.Cutting.{cut}
+use Rattle.chunk_store.specs.Pieces.{found_at}
+use Rattle.core_state.specs.declared.parts.Parts.{Parts}
+use Rattle.core_state.specs.declared.state.Core.{Core}
+use Rattle.core_state.specs.Begins.{Refuses, short as is_short, halted as is_halted, IsReady}
+use Rattle.core_state.specs.Settles.{Settles, kind_by, reply_by}
+use Rattle.core_reader.specs.Chunks.{or_damaged, chunk_at, parts_at, IsDamageAmong}
+use Rattle.core_reader.specs.Damages.{digests_of, first_damage, TellsDamaged}
+
+-- ---- replies
+
+-- it tells of no damage
+abbrev pub IsUndamaged : Option Reply → Type 0
+IsUndamaged reply = (digest : Digest32) (found : ChunkFault) → reply ≡ Some (Refused (Damaged digest found)) → ⊥
+
+pub memory_undamaged : IsUndamaged (Some (Refused NoMemory))
+memory_undamaged digest found e = cc
+
+pub fault_undamaged : IsUndamaged (Some (Refused DiskFault))
+fault_undamaged digest found e = cc
+
+pub halted_undamaged : (place : ℕ) → IsUndamaged (Some (Refused (Halted place)))
+halted_undamaged place digest found e = cc
+
+-- ---- what is read
+
+pub no_damage : (m : Files) (digest : Digest32) (rest : List Digest32) (p : List ℕ) → chunk_at m digest ≡ Ok p → first_damage m (digest ∷ rest) ≡ first_damage m rest
+no_damage m digest rest p at = by_found (found_at m digest.0) at
+  where
+    by_found : (r : Result (List ℕ) ChunkFault) → or_damaged digest r ≡ Ok p → ◌≡◌ {A = Option (Digest32 × ChunkFault)} (elim r [ Ok piece ↦ first_damage m rest | Err found ↦ Some (digest, found) ]) (first_damage m rest)
+    by_found (Ok piece) e = refl
+    by_found (Err found) e = cc
+
+pub this_damage : (m : Files) (digest d : Digest32) (rest : List Digest32) (found : ChunkFault) → chunk_at m digest ≡ Err (Damaged d found) → first_damage m (digest ∷ rest) ≡ Some (d, found)
+this_damage m digest d rest found at = by_found (found_at m digest.0) at
+  where
+    by_found : (r : Result (List ℕ) ChunkFault) → or_damaged digest r ≡ Err (Damaged d found) → ◌≡◌ {A = Option (Digest32 × ChunkFault)} (elim r [ Ok piece ↦ first_damage m rest | Err fault ↦ Some (digest, fault) ]) (Some (d, found))
+    by_found (Ok piece) e = cc
+    by_found (Err fault) e = cc
+
+pub parts_whole : (m : Files) (parts : List Part) (bytes : List ℕ) → parts_at m parts ≡ Ok bytes → first_damage m (digests_of parts) ≡ None
+parts_whole m [] bytes is = refl
+parts_whole m (x ∷ xs) bytes is = by_chunk (chunk_at m x.digest) refl (λ rest e. parts_whole m xs rest e) is
+  where
+    Later : Type 0
+    Later = (rest : List ℕ) → parts_at m xs ≡ Ok rest → first_damage m (digests_of xs) ≡ None
+
+    by_rest : (r : Result (List ℕ) Refusal) (q : List ℕ) → parts_at m xs ≡ r → Later → (r >>= λ rest. Ok (cut x q ++ rest)) ≡ Ok bytes → first_damage m (digests_of xs) ≡ None
+    by_rest (Ok rest) q e later is = later rest e
+    by_rest (Err refusal) q e later is = cc
+
+    by_chunk : (r : Result (List ℕ) Refusal) → chunk_at m x.digest ≡ r → Later → (r >>= λ q. parts_at m xs >>= λ rest. Ok (cut x q ++ rest)) ≡ Ok bytes → first_damage m (x.digest ∷ digests_of xs) ≡ None
+    by_chunk (Ok q) e later is = no_damage m x.digest (digests_of xs) q e ∙ by_rest (parts_at m xs) q refl later is
+    by_chunk (Err refusal) e later is = cc
+
+pub parts_damage : (m : Files) (parts : List Part) (d : Digest32) (found : ChunkFault) → parts_at m parts ≡ Err (Damaged d found) → first_damage m (digests_of parts) ≡ Some (d, found)
+parts_damage m [] d found is = cc
+parts_damage m (x ∷ xs) d found is = by_chunk (chunk_at m x.digest) refl (λ e. parts_damage m xs d found e) is
+  where
+    Later : Type 0
+    Later = parts_at m xs ≡ Err (Damaged d found) → first_damage m (digests_of xs) ≡ Some (d, found)
+
+    errs : (r : Refusal) → ◌≡◌ {A = Result (List ℕ) Refusal} (Err r) (Err (Damaged d found)) → r ≡ Damaged d found
+    errs r e = cc
+
+    by_rest : (r : Result (List ℕ) Refusal) (q : List ℕ) → parts_at m xs ≡ r → Later → (r >>= λ rest. Ok (cut x q ++ rest)) ≡ Err (Damaged d found) → first_damage m (digests_of xs) ≡ Some (d, found)
+    by_rest (Ok rest) q e later is = cc
+    by_rest (Err refusal) q e later is = later (e ∙ ap (λ y. Err y) (errs refusal is))
+
+    by_chunk : (r : Result (List ℕ) Refusal) → chunk_at m x.digest ≡ r → Later → (r >>= λ q. parts_at m xs >>= λ rest. Ok (cut x q ++ rest)) ≡ Err (Damaged d found) → first_damage m (x.digest ∷ digests_of xs) ≡ Some (d, found)
+    by_chunk (Ok q) e later is = no_damage m x.digest (digests_of xs) q e ∙ by_rest (parts_at m xs) q refl later is
+    by_chunk (Err refusal) e later is = this_damage m x.digest d (digests_of xs) found (e ∙ ap (λ y. Err y) (errs refusal is))
+
+-- ---- what is told
+
+nothing_first : {A : Type 0} (x : A) → None ≡ Some x → ⊥
+nothing_first x e = cc
+
+module _ {D : Type 0} (honest : D → Type 0) (content : D → Files) (disk : D) where
+  -- no chunk is needed
+  pub damages_none : (chunks : List Digest32) (kind : ℕ) (reply : Option Reply) → IsUndamaged reply → chunks ≡ [] → TellsDamaged honest content disk chunks kind reply
+  damages_none chunks kind reply other none = record {
+    named = λ d f e. absurd (other d f e);
+    cause = λ d f e h. absurd (other d f e);
+    damaged = λ d f k h first. absurd (nothing_first (d, f) (sym (ap (first_damage (content disk)) none) ∙ first));
+  }
+
+  -- it was not done
+  pub damages_stopped : (chunks : List Digest32) (kind : ℕ) (reply : Option Reply) → IsUndamaged reply → (kind ≡ 0 → ⊥) → TellsDamaged honest content disk chunks kind reply
+  damages_stopped chunks kind reply other is = record {
+    named = λ d f e. absurd (other d f e);
+    cause = λ d f e h. absurd (other d f e);
+    damaged = λ d f k h first. absurd (is k);
+  }
+
+  pub damages_failed : (chunks : List Digest32) (e : DiskError) → TellsDamaged honest content disk chunks (kind_by (Err e)) (Some (reply_by (Err e)))
+  damages_failed chunks DiskMemory = damages_stopped chunks 2 (Some (Refused NoMemory)) memory_undamaged (λ k. omega (arith, k))
+  damages_failed chunks DiskFailed = damages_stopped chunks 5 (Some (Refused DiskFault)) fault_undamaged (λ k. omega (arith, k))
+
+  -- each is whole
+  pub damages_whole : (chunks : List Digest32) (reply : Reply) → IsUndamaged (Some reply) → (honest disk → first_damage (content disk) chunks ≡ None) → TellsDamaged honest content disk chunks 0 (Some reply)
+  damages_whole chunks reply other whole = record {
+    named = λ d f e. absurd (other d f e);
+    cause = λ d f e h. absurd (other d f e);
+    damaged = λ d f k h first. absurd (nothing_first (d, f) (sym (whole h) ∙ first));
+  }
+
+  -- one is damaged
+  pub damages_told : (chunks : List Digest32) (refusal : Refusal) → IsDamageAmong chunks refusal
+      → (honest disk → (d : Digest32) (f : ChunkFault) → refusal ≡ Damaged d f → first_damage (content disk) chunks ≡ Some (d, f)) → TellsDamaged honest content disk chunks 0 (Some (Refused refusal))
+  damages_told chunks refusal among first = record {
+    named = λ d f e. subst (Contains chunks) (digests d f e) among.1;
+    cause = λ d f e h. first h d f (refused d f e);
+    damaged = λ d f k h is. ap (λ r. Some (Refused r)) ((among.2).1 ∙ damages d f (sym (first h among.0 (among.2).0 (among.2).1) ∙ is));
+  }
+    where
+      refused : (d : Digest32) (f : ChunkFault) → Some (Refused refusal) ≡ Some (Refused (Damaged d f)) → refusal ≡ Damaged d f
+      refused d f e = cc
+
+      digest_same : (a b : Digest32) (f g : ChunkFault) → Damaged a f ≡ Damaged b g → a ≡ b
+      digest_same a b f g e = cc
+
+      digests : (d : Digest32) (f : ChunkFault) → Some (Refused refusal) ≡ Some (Refused (Damaged d f)) → among.0 ≡ d
+      digests d f e = digest_same among.0 d (among.2).0 f (sym (among.2).1 ∙ refused d f e)
+
+      both : (x y : Digest32 × ChunkFault) → Some x ≡ Some y → x ≡ y
+      both x y e = cc
+
+      damages : (d : Digest32) (f : ChunkFault) → ◌≡◌ {A = Option (Digest32 × ChunkFault)} (Some (among.0, (among.2).0)) (Some (d, f)) → Damaged among.0 (among.2).0 ≡ Damaged d f
+      damages d f e = ap (λ (x : Digest32 × ChunkFault). Damaged x.0 x.1) (both (among.0, (among.2).0) (d, f) e)
+
+-- ---- acts
+
+-- an act that is refused before it is done
+pub damages_refused : {D E C : Type 0} (honest : D → Type 0) (content : D → Files) (calls_of : D → ℕ) (readings : C → Option Readings) (old new : Core D E C) (lane : ℕ) (disk : D) (chunks : List Digest32) (answer : Answer)
+    → Refuses calls_of readings old new lane answer → TellsDamaged honest content disk chunks (answer.entry).kind answer.reply
+damages_refused honest content calls_of readings old new lane disk chunks answer (is_short is) =
+    let kind : (answer.entry).kind ≡ 2 = ap (λ x. x.kind) (is.entered).entry in
+    damages_stopped honest content disk chunks _ answer.reply (λ d f e. memory_undamaged d f (sym (is.entered).reply_is ∙ e)) (λ k. absurd (omega (arith, k, kind)))
+damages_refused honest content calls_of readings old new lane disk chunks answer (is_halted is) =
+    let kind : (answer.entry).kind ≡ 5 = ap (λ x. x.kind) (is.entered).entry in
+    damages_stopped honest content disk chunks _ answer.reply (λ d f e. halted_undamaged is.first d f (sym (is.entered).reply_is ∙ e)) (λ k. absurd (omega (arith, k, kind)))
+
+-- an act that was done, as its command tells
+pub damages_done : {D E C : Type 0} (honest : D → Type 0) (content : D → Files) (calls_of : D → ℕ) (readings : C → Option Readings) (old mid acted new : Core D E C) (lane moment : ℕ) (chunks : Parts D → List Digest32) (result : Result Reply DiskError) (answer : Answer)
+    → IsReady readings old mid lane moment → TellsDamaged honest content (mid.parts).disk (chunks mid.parts) (kind_by result) (Some (reply_by result)) → Settles calls_of acted new lane moment result answer
+    → TellsDamaged honest content (old.parts).disk (chunks old.parts) (answer.entry).kind answer.reply
+damages_done honest content calls_of readings old mid acted new lane moment chunks result answer ready tells e =
+    subst (λ r. TellsDamaged honest content (old.parts).disk (chunks old.parts) (answer.entry).kind r) (sym e.reply_is)
+    (subst (λ x. TellsDamaged honest content (old.parts).disk (chunks old.parts) x.kind (Some (reply_by result))) (sym e.entry)
+    (subst (λ p. TellsDamaged honest content p.disk (chunks p) (kind_by result) (Some (reply_by result))) (ready.begun).parts tells))

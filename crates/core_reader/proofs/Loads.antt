@@ -1,0 +1,108 @@
+-- Chunks and parts of them as they are read.
+use Rattle.std.proofs.Common.{◌≡◌, ◌<◌, ◌≤◌, ◌+◌, ℕ, zero, suc, List, [], ◌∷◌, ◌++◌, length, drop, get_or, Some, Result, Ok, Err, refl, sym, ap, ◌∙◌, append_assoc, append-nil, arith}
+use Rattle.std.specs.List.{All}
+use Rattle.std.specs.FinMap.{get}
+use Rattle.std.proofs.lemmas.List.Elements.{All-head, All-tail}
+use Rattle.std.proofs.lemmas.List.{length-take}
+use Rattle.disk_trait.specs.Files.{Files}
+use Rattle.store_types.specs.declared.names.Digest32.{Digest32}
+use Rattle.store_types.specs.declared.refusal.BadBlob.{BadBlob}
+use Rattle.store_types.specs.declared.refusal.ChunkFault.{ChunkFault}
+use Rattle.store_types.specs.declared.refusal.Refusal.{Refusal}
+use Rattle.store_types.specs.Chain.Refusing.{◌>>=◌}
+use Rattle.blob_codec.specs.Blob.{blob, data_of}
+use Rattle.store_files.specs.Archive.{digest_of}
+use Rattle.store_model.specs.Stands.{chunk_name}
+use Rattle.restore_reader.specs.declared.ranges.Part.{Part}
+use Rattle.restore_reader.specs.Cutting.{ArePartsOf, cut, joined, total_of}
+use Rattle.chunk_store.specs.Pieces.{IsHeld, by_data, piece_in, found_in, found_at}
+use Rattle.chunk_store.proofs.Blobs.{data_behind_header, data_is, checked_piece}
+use Rattle.core_reader.specs.Chunks.{or_damaged, chunk_at, parts_at}
+
+-- ---- pieces that stand there
+
+-- a piece's blob holds nothing else
+blob_holds : (digest p q : List ℕ) → piece_in digest (blob p) ≡ Ok q → q ≡ p
+blob_holds digest p q is = by_data_of (data_of (blob p)) refl is
+  where
+    by_data_of : (r : Result (List ℕ) BadBlob) → data_of (blob p) ≡ r → by_data digest r ≡ Ok q → q ≡ p
+    by_data_of (Ok y) e is = sym ((checked_piece digest y q is).0) ∙ sym (data_is (blob p) y e) ∙ data_behind_header p
+    by_data_of (Err cause) e is = cc
+
+oks : (digest : Digest32) (r : Result (List ℕ) ChunkFault) (q : List ℕ) → or_damaged digest r ≡ Ok q → r ≡ Ok q
+oks digest (Ok y) q e = ap Ok (same y q e)
+  where
+    same : (a b : List ℕ) → ◌≡◌ {A = Result (List ℕ) Refusal} (Ok a) (Ok b) → a ≡ b
+    same a b e = cc
+oks digest (Err fault) q e = cc
+
+pub held_chunk : (m : Files) (digest : Digest32) (p q : List ℕ) → IsHeld m p → digest ≡ digest_of p → chunk_at m digest ≡ Ok q → q ≡ p
+held_chunk m digest p q held named at =
+    let there : get m (chunk_name digest.0) ≡ Some (blob p) = ap (λ (d : Digest32). get m (chunk_name d.0)) named ∙ held.0 in
+    blob_holds digest.0 p q (sym (ap (found_in digest.0) there) ∙ oks digest (found_at m digest.0) q at)
+
+same_bytes : (a b : List ℕ) → ◌≡◌ {A = Result (List ℕ) Refusal} (Ok a) (Ok b) → a ≡ b
+same_bytes a b e = cc
+
+pub held_joined : (m : Files) (parts : List Part) (pieces : List (List ℕ)) (bytes : List ℕ) → ArePartsOf parts pieces → All (IsHeld m) pieces → parts_at m parts ≡ Ok bytes → bytes ≡ joined parts pieces
+held_joined m [] pieces bytes are held is = sym (same_bytes [] bytes is)
+held_joined m (x ∷ xs) [] bytes are held is = absurd are
+held_joined m (x ∷ xs) (p ∷ ps) bytes are held is =
+    by_chunk (chunk_at m x.digest) refl (λ rest e. held_joined m xs ps rest are.1 (All-tail (IsHeld m) p ps held) e) is
+  where
+    Later : Type 0
+    Later = (rest : List ℕ) → parts_at m xs ≡ Ok rest → rest ≡ joined xs ps
+
+    by_rest : (r : Result (List ℕ) Refusal) (q : List ℕ) → parts_at m xs ≡ r → q ≡ p → Later → (r >>= λ rest. Ok (cut x q ++ rest)) ≡ Ok bytes → bytes ≡ cut x p ++ joined xs ps
+    by_rest (Ok rest) q e same later is =
+        sym (same_bytes (cut x q ++ rest) bytes is) ∙ ap (λ y. cut x y ++ rest) same
+        ∙ ap (λ y. cut x p ++ y) (later rest e)
+    by_rest (Err refusal) q e same later is = cc
+
+    by_chunk : (r : Result (List ℕ) Refusal) → chunk_at m x.digest ≡ r → Later → (r >>= λ q. parts_at m xs >>= λ rest. Ok (cut x q ++ rest)) ≡ Ok bytes → bytes ≡ cut x p ++ joined xs ps
+    by_chunk (Ok q) e later is = by_rest (parts_at m xs) q refl (held_chunk m x.digest p q (All-head (IsHeld m) p ps held) ((are.0).digest) e) later is
+    by_chunk (Err refusal) e later is = cc
+
+-- the piece of which one is a part
+pub held_part : (m : Files) (parts : List Part) (pieces : List (List ℕ)) (i : ℕ) (d : Part) → ArePartsOf parts pieces → All (IsHeld m) pieces → i < length parts
+    → (p : List ℕ) × IsHeld m p × ((get_or parts i d).digest ≡ digest_of p)
+held_part m [] pieces i d are held lt = absurd (omega (arith, lt))
+held_part m (x ∷ xs) [] i d are held lt = absurd are
+held_part m (x ∷ xs) (p ∷ ps) zero d are held lt = (p, All-head (IsHeld m) p ps held, (are.0).digest)
+held_part m (x ∷ xs) (p ∷ ps) (suc i) d are held lt = held_part m xs ps i d are.1 (All-tail (IsHeld m) p ps held) (omega (arith, lt))
+
+-- ---- parts one after another
+
+-- behind bytes that were read before
+abbrev pub behind : List ℕ → Result (List ℕ) Refusal → Result (List ℕ) Refusal
+behind front r = r >>= λ rest. Ok (front ++ rest)
+
+pub none_behind : (r : Result (List ℕ) Refusal) → r ≡ behind [] r
+none_behind (Ok rest) = refl
+none_behind (Err refusal) = refl
+
+-- one part more
+pub part_more : (m : Files) (front : List ℕ) (xs rest : List Part) (x : Part) (piece : List ℕ) → xs ≡ x ∷ rest → chunk_at m x.digest ≡ Ok piece
+    → behind front (parts_at m xs) ≡ behind (front ++ cut x piece) (parts_at m rest)
+part_more m front xs rest x piece next at =
+    ap (λ l. behind front (parts_at m l)) next
+    ∙ ap (λ r. behind front (r >>= λ p. parts_at m rest >>= λ b. Ok (cut x p ++ b))) at
+    ∙ by_rest (parts_at m rest)
+  where
+    by_rest : (r : Result (List ℕ) Refusal) → behind front (r >>= λ b. Ok (cut x piece ++ b)) ≡ behind (front ++ cut x piece) r
+    by_rest (Ok b) = ap Ok (sym (append_assoc front (cut x piece) b))
+    by_rest (Err refusal) = refl
+
+-- a chunk is damaged
+pub part_damaged : (m : Files) (front : List ℕ) (xs rest : List Part) (x : Part) (refusal : Refusal) → xs ≡ x ∷ rest → chunk_at m x.digest ≡ Err refusal → behind front (parts_at m xs) ≡ Err refusal
+part_damaged m front xs rest x refusal next at =
+    ap (λ l. behind front (parts_at m l)) next
+    ∙ ap (λ r. behind front (r >>= λ p. parts_at m rest >>= λ b. Ok (cut x p ++ b))) at
+
+-- nothing more
+pub parts_done : (m : Files) (front : List ℕ) (xs : List Part) → xs ≡ [] → behind front (parts_at m xs) ≡ Ok front
+parts_done m front xs none = ap (λ l. behind front (parts_at m l)) none ∙ ap Ok (append-nil front)
+
+pub total_more : (front : List ℕ) (xs rest : List Part) (x : Part) (piece : List ℕ) (all : ℕ) → xs ≡ x ∷ rest → length front + total_of xs ≤ all → length (front ++ cut x piece) + total_of rest ≤ all
+total_more front xs rest x piece all next le =
+    omega (arith, le, ap total_of next, Rattle.std.proofs.lemmas.List.length-append front (cut x piece), length-take x.length (drop x.from piece))

@@ -1,0 +1,36 @@
+-- Chunks as a reader's answers have them.
+use Rattle.std.specs.Prelude.{◌≡◌, ℕ, List, [], ◌∷◌, ◌++◌, Result, Ok, Err}
+use Rattle.std.specs.List.{Contains}
+use Rattle.disk_trait.specs.Files.{Files}
+use Rattle.store_types.specs.declared.names.Digest32.{Digest32}
+use Rattle.store_types.specs.declared.refusal.ChunkFault.{ChunkFault}
+use Rattle.store_types.specs.declared.refusal.Refusal.{Refusal}
+use Rattle.store_types.specs.declared.refusal.Refusal.TheVariants.{Damaged}
+use Rattle.store_types.specs.Chain.Refusing.{◌>>=◌}
+use Rattle.restore_reader.specs.declared.ranges.Part.{Part}
+use Rattle.restore_reader.specs.Cutting.{cut}
+use Rattle.chunk_store.specs.Pieces.{found_at}
+
+abbrev pub or_damaged : Digest32 → Result (List ℕ) ChunkFault → Result (List ℕ) Refusal
+or_damaged digest (Ok piece) = Ok piece
+or_damaged digest (Err found) = Err (Damaged digest found)
+
+-- the piece with this digest, or that it is damaged by what is found there
+abbrev pub chunk_at : Files → Digest32 → Result (List ℕ) Refusal
+chunk_at files digest = or_damaged digest (found_at files digest.0)
+
+-- the bytes of parts of chunks, one after another
+abbrev pub parts_at : Files → List Part → Result (List ℕ) Refusal
+parts_at files [] = Ok []
+parts_at files (x ∷ xs) = do
+  piece ← chunk_at files x.digest
+  rest ← parts_at files xs
+  Ok (cut x piece ++ rest)
+
+-- it tells of the chunk with this digest
+abbrev pub IsDamageOf : Digest32 → Refusal → Type 0
+IsDamageOf digest refusal = (found : ChunkFault) × (refusal ≡ Damaged digest found)
+
+-- it tells of one of these
+abbrev pub IsDamageAmong : List Digest32 → Refusal → Type 0
+IsDamageAmong digests refusal = (digest : Digest32) × Contains digests digest × IsDamageOf digest refusal

@@ -1,0 +1,38 @@
+-- When a file of a snapshot is told to be unreadable.
+use Rattle.std.specs.Prelude.{◌≡◌, ℕ, Bool, true, false, List, Option, None, Some, option_map, if◌then◌else◌, Result, Ok, Err}
+use Rattle.std.specs.FinMap.{get}
+use Rattle.disk_trait.specs.Files.{Files}
+use Rattle.store_types.specs.Chain.Refusing.{◌>>=◌, or_else}
+use Rattle.store_types.specs.FileNames.{is_fixed_name, is_dynamic_name}
+use Rattle.store_types.specs.declared.refusal.Refusal.{Refusal}
+use Rattle.store_types.specs.declared.refusal.Refusal.TheVariants.{Unreadable}
+use Rattle.wire_commands.specs.declared.reply.Reply.{Reply}
+use Rattle.wire_commands.specs.declared.reply.Reply.TheVariants.{Refused}
+use Rattle.stored_files.specs.Parts.{part_from}
+use Rattle.stored_files.specs.Indexes.{index_at}
+
+-- A file that an act asks for: where it stands; whether it is read whole, as an index, and then whether as a fixed one; and the offset of
+-- the part that is asked for.
+pub record Asked : Type 0 where
+  pub path : List ℕ
+  pub whole : Option Bool
+  pub offset : ℕ
+
+-- a file of this name is read whole where it is an index's
+abbrev pub whole_by : List ℕ → Option Bool
+whole_by name = if is_fixed_name name then Some true else (if is_dynamic_name name then Some false else None)
+
+abbrev pub read_by : Option Bool → Files → List ℕ → ℕ → Result Reply Refusal
+read_by None m path offset = or_else (Unreadable path) (get m path) >>= λ text. part_from text offset
+read_by (Some is_fixed) m path offset = index_at m path is_fixed offset >>= λ x. Ok x.part
+
+-- The part, or its refusal, of what stands there: unreadable where nothing does, or where what is read whole is no index.
+abbrev pub part_read : Files → Asked → Result Reply Refusal
+part_read m a = read_by a.whole m a.path a.offset
+
+-- The file that was asked for is told to be unreadable, by its name in the datastore folder. On an honest disk, whatever it holds,
+-- that is so exactly where it is: want of memory and faults of the disk, which have kinds of their own, apart.
+pub record TellsUnreadable {D : Type 0} (honest : D → Type 0) (content : D → Files) (disk : D) (asked : Option Asked) (kind : ℕ) (reply : Option Reply) : Type 0 where
+  pub named : (name : List ℕ) → reply ≡ Some (Refused (Unreadable name)) → option_map (λ a. a.path) asked ≡ Some name
+  pub cause : (name : List ℕ) (a : Asked) → reply ≡ Some (Refused (Unreadable name)) → asked ≡ Some a → honest disk → part_read (content disk) a ≡ Err (Unreadable name)
+  pub missing : (name : List ℕ) (a : Asked) → kind ≡ 0 → asked ≡ Some a → honest disk → part_read (content disk) a ≡ Err (Unreadable name) → reply ≡ Some (Refused (Unreadable name))

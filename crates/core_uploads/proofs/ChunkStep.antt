@@ -1,0 +1,172 @@
+-- CHUNK is the store's, by what the core keeps: a chunk is noted and put, or known already, or nothing changes.
+use Rattle.std.proofs.Common.{◌≡◌, ◌↔◌, ℕ, ◌+◌, ◌-◌, ◌<◌, ◌≤◌, Bool, true, if◌then◌else◌, List, [], ◌∷◌, length, get_or, set, Some, Result, Ok, Err, OnOk, OnErr, is_some, refl, sym, ap, subst, ◌∙◌, arith, Fits, w8}
+use Rattle.std.specs.FinMap.{get, put}
+use Rattle.std.proofs.lemmas.Bool.{and_parts, and_from}
+use Rattle.std.proofs.lemmas.List.{set-get_or, get_or_default}
+use Rattle.std.proofs.lemmas.List.Elements.{All-nil, All-cons, All-append, All-from_get_or}
+use Rattle.sha2.specs.Sha256.{sha256}
+use Rattle.disk_trait.specs.Files.{Files}
+use Rattle.disk_trait.specs.declared.disk.DiskError.{DiskError}
+use Rattle.store_types.specs.declared.names.Digest32.{Digest32}
+use Rattle.store_types.specs.Names.{text_cmp}
+use Rattle.store_types.specs.declared.refusal.Refusal.{Refusal}
+use Rattle.blob_codec.specs.Blob.{blob}
+use Rattle.blob_codec.specs.Laws.{AreBytes}
+use Rattle.wire_commands.specs.declared.reply.Reply.TheVariants.{Done}
+use Rattle.store_model.specs.Store.{Store, Writer, writer, session, with_session}
+use Rattle.store_model.specs.Steps.{answered}
+use Rattle.store_model.specs.Stands.{chunk_name}
+use Rattle.store_model.specs.WriterCalls as calls
+use Rattle.store_model.specs.ArchiveSteps.{checked_chunk}
+use Rattle.store_history.specs.declared.act.Act.TheVariants.{Chunk}
+use Rattle.store_history.specs.Acts.{IsCheckedChunk}
+use Rattle.store_history.specs.History.{data_in}
+use Rattle.chunk_store.specs.Pieces.{IsChunk, with_chunk}
+use Rattle.backup_session.specs.Session.{Pool, length_at, with_length, settled}
+use Rattle.backup_session.specs.Shown.{shown, pool_of}
+use Rattle.backup_session.proofs.Pools.{pool_of-more}
+use Rattle.core_state.specs.declared.kept.Session.{Session}
+use Rattle.core_state.specs.declared.kept.Session.TheVariants as kept
+use Rattle.core_state.specs.declared.kept.Writing.{Writing}
+use Rattle.core_state.specs.declared.parts.Parts.{Parts}
+use Rattle.core_state.specs.Chunks.{HasChunk, MayStand, AddsChunks}
+use Rattle.core_state.specs.Holds.{HasUploads, Holds, Does}
+use Rattle.core_state.specs.Named.{has_text, is_named}
+use Rattle.core_state.specs.Shown.{shown_writer, shown_files}
+use Rattle.core_uploads.specs.Noted.{noted, with_noted}
+use Rattle.core_uploads.proofs.ArchiveLemmas.{does_go_on}
+use Rattle.core_uploads.proofs.ChunkLemmas.{IsRead, IsSent, read, sent, chunk_of, is_writer_more, done, adds, known_there, holds_chunk}
+
+-- ---- how long a piece is
+
+length_blob : (p : List ℕ) → length (blob p) ≡ 12 + length p
+unfolding blob
+length_blob p = omega arith
+
+-- behind the header
+pub record HasPiece (bytes : List ℕ) : Type 0 where
+  pub header : 12 ≤ length bytes
+  pub least : 1 ≤ length bytes - 12
+  pub most : length bytes - 12 ≤ 16_777_216
+
+pub has_piece : (digest bytes : List ℕ) → IsChunk digest bytes → HasPiece bytes
+has_piece digest bytes h =
+    let size : length bytes ≡ 12 + length h.0 = ap length h.2 ∙ length_blob h.0 in
+    let least = (h.1).0 in
+    let most = (h.1).1 in
+    record { header = omega arith; least = omega arith; most = omega arith }
+
+piece_size : (digest : Digest32) (bytes p : List ℕ) → IsSent digest bytes p → length bytes - 12 ≡ length p
+piece_size digest bytes p h =
+    let size : length bytes ≡ 12 + length p = ap length h.text ∙ length_blob p in omega arith
+
+-- what passed the check is a piece's blob
+pub is_sent : (digest : Digest32) (bytes : List ℕ) → ((i : ℕ) → Fits w8 (get_or bytes i 0)) → IsCheckedChunk digest (Ok bytes) → IsChunk digest.0 bytes
+is_sent digest bytes fits h =
+    let are : AreBytes bytes = All-from_get_or (λ b. b < 256) bytes 0 (λ i within. omega (arith, fits i)) in
+    let (p, is) = read digest bytes h in
+    chunk_of digest bytes p (sent digest bytes p are h is)
+
+-- ---- the session
+
+-- setting back what was found changes nothing
+set_back : (items : List Session) (lane : ℕ) (found : Session) → found ≡ get_or items lane found → set items lane found ≡ items
+set_back items lane found is = ap (set items lane) is ∙ set-get_or items lane found
+
+-- what is found twice is the same
+pub found_again : (items : List Session) (lane : ℕ) (found again : Session) → lane < length items → found ≡ get_or items lane found → again ≡ get_or items lane again → again ≡ found
+found_again items lane found again within at at2 = at2 ∙ get_or_default items lane again found within ∙ sym at
+
+named_noted : (digest : List ℕ) (len : ℕ) (x : Session) → is_named x ≡ true → is_named (with_noted digest len x) ≡ true
+named_noted digest len kept.Idle h = h
+named_noted digest len (kept.Writer w) h = and_from (has_text ((w.session).writer).key) true (and_parts (has_text ((w.session).writer).key) _ h).0 refl
+named_noted digest len (kept.Reader r) h = h
+
+-- whether the chunk was taken or not
+pub named_taken : (result : Result (Unit {0}) DiskError) (digest : List ℕ) (len : ℕ) (x y : Session) → OnOk result (y ≡ with_noted digest len x) → OnErr result (y ≡ x) → is_named x ≡ true → is_named y ≡ true
+named_taken (Ok u) digest len x y ok err h = ap is_named ok ∙ named_noted digest len x h
+named_taken (Err e) digest len x y ok err h = ap is_named err ∙ h
+
+-- ---- what is kept of the writer
+
+abbrev with_pool : Writer → Pool → Writing
+with_pool v pool = record { session = settled (record (shown v) { pool = pool }); files = shown_files v.key v.files }
+
+shown_chunk : (v : Writer) (p : List ℕ) (pool : Pool) → pool_of (calls.chunk v p).pool ≡ pool → shown_writer (calls.chunk v p) ≡ with_pool v pool
+unfolding shown
+shown_chunk v p pool is = ap (with_pool v) is
+
+shown_noted : (v : Writer) (p : List ℕ) → noted (shown_writer v) (sha256 p) (length p) ≡ shown_writer (calls.chunk v p)
+unfolding shown
+shown_noted v p = sym (shown_chunk v p _ (pool_of-more v.pool p))
+
+length_known : (pool : Pool) (digest : List ℕ) (len : ℕ) → is_some (length_at pool digest) ≡ true → with_length pool digest len ≡ pool
+length_known pool digest len known = ap (λ b. if b then pool else put text_cmp digest len pool) known
+
+-- a piece whose digest is known changes nothing
+shown_known : (v : Writer) (p : List ℕ) → is_some (length_at (pool_of v.pool) (sha256 p)) ≡ true → shown_writer (calls.chunk v p) ≡ shown_writer v
+unfolding shown
+shown_known v p known = shown_chunk v p (pool_of v.pool) (pool_of-more v.pool p ∙ length_known (pool_of v.pool) (sha256 p) (length p) known)
+
+pool_shown : (v : Writer) → (shown v).pool ≡ pool_of v.pool
+unfolding shown
+pool_shown v = refl
+
+-- ---- the act
+
+step_done : (s : Store) (lane : ℕ) (v : Writer) (digest : Digest32) (checked : Result (List ℕ) Refusal) (bytes p : List ℕ) → session s lane ≡ writer v → IsRead digest bytes p → checked ≡ Ok bytes
+    → checked_chunk s lane (data_in checked) ≡ Ok (with_session s lane (writer (calls.chunk v p)), Done)
+step_done s lane v digest checked bytes p at is was = done s lane (data_in checked) v p at (ap data_in was ∙ is.data_is)
+
+may_put : (m : Files) (digest : Digest32) (checked : Result (List ℕ) Refusal) (bytes p : List ℕ) → IsRead digest bytes p → checked ≡ Ok bytes → MayStand m digest (data_in checked) → MayStand m digest (Ok p)
+may_put m digest checked bytes p is was may = subst (MayStand m digest) (ap data_in was ∙ is.data_is) may
+
+-- where it is known, its chunk is there
+uploads_known : (m : Files) (v : Writer) (digest : Digest32) (p : List ℕ) → sha256 p ≡ digest.0 → is_some (length_at (pool_of v.pool) digest.0) ≡ true → MayStand m digest (Ok p) → HasUploads m v → HasUploads m (calls.chunk v p)
+uploads_known m v digest p is known may h =
+    let (q, at) = known_there m v digest known h in
+    let there : HasChunk m p = ap (λ d. get m (chunk_name d)) is ∙ at ∙ ap (λ t. Some t) (may (blob q) at) in
+    record { files = h.files; pool = All-append (HasChunk m) v.pool (p ∷ []) h.pool (All-cons (HasChunk m) p [] there (All-nil (HasChunk m))) }
+
+module _ {D : Type 0} (honest : D → Type 0) (content : D → Files) where
+  -- a chunk that was noted and put
+  pub does_taken : (old new : Parts D) (s : Store) (lane : ℕ) (v : Writer) (w : Writing) (x y : Session) (digest : Digest32) (checked : Result (List ℕ) Refusal) (bytes : List ℕ)
+      → lane < 64 → session s lane ≡ writer v → shown_writer v ≡ w → x ≡ kept.Writer w → y ≡ with_noted digest.0 (length bytes - 12) x → AreBytes bytes → checked ≡ Ok bytes → IsCheckedChunk digest checked
+      → (honest old.disk ↔ honest new.disk) → (honest old.disk → content new.disk ≡ with_chunk digest.0 bytes (content old.disk)) → new.catalogue.items ≡ old.catalogue.items
+      → new.sessions.items ≡ set old.sessions.items lane y → MayStand (content old.disk) digest (data_in checked)
+      → Holds honest content old s → Does honest content new s (answered s (checked_chunk s lane (data_in checked))) (Ok Done)
+  does_taken old new s lane v w x y digest checked bytes lt at shows x_is y_is are was h serves now c l may holds =
+      let ok : IsCheckedChunk digest (Ok bytes) = subst (IsCheckedChunk digest) was h in
+      let (p, read_is) = read digest bytes ok in
+      let is = sent digest bytes p are ok read_is in
+      let kept_is : y ≡ kept.Writer (shown_writer (calls.chunk v p)) =
+      y_is ∙ ap (with_noted digest.0 (length bytes - 12)) (x_is ∙ ap (λ u. kept.Writer u) (sym shows))
+      ∙ ap (λ n. kept.Writer (noted (shown_writer v) digest.0 n)) (piece_size digest bytes p is)
+      ∙ ap (λ d. kept.Writer (noted (shown_writer v) d (length p))) (sym is.digest_is) ∙ ap (λ u. kept.Writer u) (shown_noted v p) in
+      let after = holds_chunk honest content old new s lane v digest bytes p lt at is serves now c (l ∙ ap (set old.sessions.items lane) kept_is) (may_put (content old.disk) digest checked bytes p read_is was may) holds in
+      let does : Does honest content new s (with_session s lane (writer (calls.chunk v p)), Done) (Ok Done) = (refl, after) in
+      subst (λ o. Does honest content new s (answered s o) (Ok Done)) (sym (step_done s lane v digest checked bytes p at read_is was)) does
+
+  -- a chunk that is known
+  pub does_known : (old new : Parts D) (s : Store) (lane : ℕ) (v : Writer) (w : Writing) (x : Session) (digest : Digest32) (checked : Result (List ℕ) Refusal) (bytes : List ℕ) (known : Bool)
+      → lane < 64 → session s lane ≡ writer v → shown_writer v ≡ w → x ≡ get_or old.sessions.items lane x → x ≡ kept.Writer w → checked ≡ Ok bytes → IsCheckedChunk digest checked
+      → known ≡ is_some (length_at ((w.session).writer).pool digest.0) → known ≡ true → MayStand (content old.disk) digest (data_in checked)
+      → new.disk ≡ old.disk → new.catalogue.items ≡ old.catalogue.items → new.sessions.items ≡ old.sessions.items → Holds honest content old s → Does honest content new s (answered s (checked_chunk s lane (data_in checked))) (Ok Done)
+  does_known old new s lane v w x digest checked bytes known lt at shows x_at x_is was h value there may d c l holds =
+      let (p, is) = read digest bytes (subst (IsCheckedChunk digest) was h) in
+      let pool : ((w.session).writer).pool ≡ pool_of v.pool = ap (λ u. ((u.session).writer).pool) (sym shows) ∙ pool_shown v in
+      let knows : is_some (length_at (pool_of v.pool) digest.0) ≡ true = ap (λ ps. is_some (length_at ps digest.0)) (sym pool) ∙ sym value ∙ there in
+      let same : x ≡ kept.Writer (shown_writer (calls.chunk v p)) =
+      x_is ∙ ap (λ u. kept.Writer u) (sym shows ∙ sym (shown_known v p (ap (λ d. is_some (length_at (pool_of v.pool) d)) is.digest_is ∙ knows))) in
+      let uploads = uploads_known (content old.disk) v digest p is.digest_is knows (may_put (content old.disk) digest checked bytes p is was may) (holds.files.writers lane v at) in
+      does_go_on honest content old new s lane v (calls.chunk v p) x _ Done lt at refl (is_writer_more s v p is.piece ((holds.shows).sound.writers lane v at)) uploads
+      d c (l ∙ sym (set_back old.sessions.items lane x x_at)) same (step_done s lane v digest checked bytes p at is was) holds
+
+  -- no other chunk was put
+  pub adds_taken : (old : Parts D) (disk : D) (digest : Digest32) (checked : Result (List ℕ) Refusal) (bytes : List ℕ) → AreBytes bytes → checked ≡ Ok bytes → IsCheckedChunk digest checked
+      → (honest old.disk → content disk ≡ with_chunk digest.0 bytes (content old.disk)) → (s : Store) → Holds honest content old s → AddsChunks (content old.disk) (content disk) (Chunk digest checked)
+  adds_taken old disk digest checked bytes are was h now s holds =
+      let ok : IsCheckedChunk digest (Ok bytes) = subst (IsCheckedChunk digest) was h in
+      let (p, is) = read digest bytes ok in
+      subst (λ k. AddsChunks (content old.disk) (content disk) (Chunk digest k)) (sym was)
+      (subst (λ m. AddsChunks (content old.disk) m (Chunk digest (Ok bytes))) (sym (now holds.honest)) (adds (content old.disk) digest bytes p (sent digest bytes p are ok is)))

@@ -1,0 +1,496 @@
+-- PREVIOUS is the store's: what is read of the base's file, and the pieces that the writer may name then.
+use Rattle.std.proofs.Common.{◌≡◌, ◌↔◌, ◌⊎◌, inl, inr, ⊎_elim, ◌<◌, ◌+◌, ◌-◌, ℕ, Bool, true, false, ◌&&◌, ◌||◌, cond, List, [], ◌∷◌, length, nat_lt, nat_le, drop, find, get_or, map, set, Option, Some, None, Result, Ok, Err, OnOk, OnErr, MatchResult, IsOk, refl, sym, ap, ap₂, subst, ◌∙◌, arith}
+use Rattle.std.proofs.lemmas.Bool.{and_parts, and_from}
+use Rattle.std.proofs.Math.ListN.{get_or-append}
+use Rattle.std.proofs.lemmas.List.{length-append, get_or-append-add}
+use Rattle.std.proofs.lemmas.List.Elements.{All-nil}
+use Rattle.std.proofs.lemmas.Slice.Eq.{bytes_eq-Decides}
+use Rattle.std.specs.FinMap.{get}
+use Rattle.std.specs.List.{All, flat_map}
+use Rattle.std.specs.Option.{option_map}
+use Rattle.std.specs.Str.{bytes_eq}
+use Rattle.sha2.specs.Sha256.{sha256}
+use Rattle.disk_trait.specs.Files.{Files}
+use Rattle.disk_trait.specs.declared.disk.DiskError.{DiskError}
+use Rattle.store_types.specs.declared.names.SnapshotKey.{SnapshotKey}
+use Rattle.store_types.specs.declared.refusal.Refusal.{Refusal}
+use Rattle.store_types.specs.declared.refusal.Refusal.TheVariants.{WrongState, BadName, NoSnapshot, NoFile, BadRange, Unreadable}
+use Rattle.store_types.specs.declared.refusal.SessionState.{SessionState}
+use Rattle.store_types.specs.Chain.Refusing.{◌>>=◌, unless, or_else}
+use Rattle.store_types.specs.FileNames.{is_file_name, is_id, is_index_name, is_fixed_name, is_dynamic_name, is_blob_name, has_ending, fixed_ending, dynamic_ending, blob_ending}
+use Rattle.store_types.specs.Names.{same_group, group_of_key}
+use Rattle.store_files.specs.Archive.{Layout, dynamic, fixed, Archive, Content, archive, blob, File, Snapshot, file_named, file_text, pieces_of, ends_from}
+use Rattle.wire_commands.specs.declared.command.Command.TheVariants.{Previous as PreviousCommand}
+use Rattle.wire_commands.specs.declared.reply.Reply.{Reply}
+use Rattle.wire_commands.specs.declared.reply.Reply.TheVariants.{Part, Refused}
+use Rattle.store_model.specs.Store as model
+use Rattle.store_model.specs.Store.{Store, Writer, Outcome, writer, session, with_session, want_writer, snapshot_named}
+use Rattle.store_model.specs.Stands.{IsPiece, IsSnapshot, FitsContent, HoldsPieces, names_content}
+use Rattle.store_model.specs.Steps.{outcome, answered}
+use Rattle.store_model.specs.WriterSteps.{previous, base_of, goes_on, with_pool, part_of}
+use Rattle.dynamic_index.specs.Writing.{Known}
+use Rattle.stored_files.specs.Parts.{part_from, IsPartOf}
+use Rattle.stored_files.specs.Indexes.{index_at, is_fixed_layout, lengths_from, Indexed}
+use Rattle.stored_files.proofs.Archives.{archive_at, lengths_of_pieces}
+use Rattle.backup_session.specs.Session as backups
+use Rattle.backup_session.specs.Session.{Pool, settled}
+use Rattle.backup_session.specs.Steps as rows
+use Rattle.backup_session.specs.Shown.{known_of, shown}
+use Rattle.backup_session.proofs.Pools.{pool_of-all}
+use Rattle.core_state.specs.declared.kept.Kept.{Kept}
+use Rattle.core_state.specs.declared.kept.Listed.{Listed}
+use Rattle.core_state.specs.declared.kept.Session.{Session}
+use Rattle.core_state.specs.declared.kept.Session.TheVariants as kept
+use Rattle.core_state.specs.declared.kept.Writing.{Writing}
+use Rattle.core_state.specs.declared.parts.Parts.{Parts}
+use Rattle.core_state.specs.Chunks.{HasChunk}
+use Rattle.core_state.specs.Found.{kept_named, path_named, path_of_kept, path_in}
+use Rattle.core_state.specs.Holds.{IsWriter, IsOnDisk, HasUploads, Holds, Does}
+use Rattle.core_state.specs.Named.{has_text, is_named}
+use Rattle.core_state.specs.Shown.{shown_session, shown_snapshot, shown_writer, shown_files}
+use Rattle.core_state.specs.Replies.{answers_previous, refuses_previous}
+use Rattle.core_state.specs.States.{state_of}
+use Rattle.core_state.specs.Unchanged.{is_uncalled, Unchanged}
+use Rattle.core_state.specs.Unreadables.{Asked, whole_by, read_by, part_read}
+use Rattle.core_state.proofs.Acting.{holds_same}
+use Rattle.core_state.proofs.Finding.{mapped, found_in}
+use Rattle.core_state.proofs.Found.{IsThere, kept_is, not_kept, is_there, not_there, there_text, there_kind, there_fits}
+use Rattle.core_state.proofs.Soundness.{IsAlone, sound_writer, disk_writer, shows_changed}
+use Rattle.core_uploads.specs.Previous.{kept_by, base_file, asked_at, asked_of_base, Previous, previous_by, shown_given, Tells, with_known}
+use Rattle.core_uploads.specs.declared.base.Given.{Given}
+use Rattle.core_uploads.proofs.Pooled.{is_writer_pooled, has_uploads_pooled}
+use Rattle.core_uploads.proofs.Wanting.{no_writer}
+
+-- ---- the step
+
+module _ (s : Store) (lane : ℕ) (name : List ℕ) (offset : ℕ) where
+  abbrev file_then : Writer → Option File → Outcome
+  file_then w o =
+      or_else NoFile o >>= λ file. unless (BadRange (length (file_text file.content))) (nat_le offset (length (file_text file.content)))
+      >>= λ _. goes_on s lane (with_pool (pieces_of file.content) w) (part_of (file_text file.content) offset)
+
+  abbrev base_then : Writer → Option Snapshot → Outcome
+  base_then w o = or_else NoSnapshot o >>= λ base. file_then w (file_named name base.files)
+
+  abbrev name_then : Writer → Bool → Outcome
+  name_then w good = unless BadName good >>= λ _. base_then w (base_of s w)
+
+  abbrev wanted_then : Result Writer Refusal → Outcome
+  wanted_then r = r >>= λ w. name_then w (is_file_name name)
+
+  step_is : (m : ℕ) → outcome s lane m (PreviousCommand name offset) ≡ wanted_then (want_writer (session s lane))
+  unfolding outcome previous
+  step_is m = refl
+
+  pub not_writing : (m : ℕ) (found : Session) → found ≡ shown_session s.snapshots (session s lane) → ((w : Writing) → found ≡ kept.Writer w → ⊥) → outcome s lane m (PreviousCommand name offset) ≡ Err (WrongState (state_of found))
+  not_writing m found is other = step_is m ∙ ap wanted_then (no_writer s.snapshots (session s lane) found is other)
+
+  writing_is : (m : ℕ) (w : Writer) → session s lane ≡ writer w → outcome s lane m (PreviousCommand name offset) ≡ name_then w (is_file_name name)
+  writing_is m w at = step_is m ∙ ap (λ x. wanted_then (want_writer x)) at
+
+  pub bad_name : (m : ℕ) (w : Writer) → session s lane ≡ writer w → is_file_name name ≡ false → outcome s lane m (PreviousCommand name offset) ≡ Err BadName
+  bad_name m w at bad = writing_is m w at ∙ ap (name_then w) bad
+
+  base_is : (m : ℕ) (w : Writer) → session s lane ≡ writer w → is_file_name name ≡ true → outcome s lane m (PreviousCommand name offset) ≡ base_then w (base_of s w)
+  base_is m w at good = writing_is m w at ∙ ap (name_then w) good
+
+  -- ---- the base, and its file
+
+  -- the writer has this base
+  pub record HasBase (w : Writer) (path : List ℕ) : Type 0 where
+    pub key : SnapshotKey
+    pub base : w.base ≡ Some key
+    pub there : IsThere s.snapshots key name path
+
+  ok_path : (p q : List ℕ) → ◌≡◌ {A = Result (List ℕ) Refusal} (Ok p) (Ok q) → p ≡ q
+  ok_path p q e = cc
+
+  pub has_base : (catalogue : List Listed) (w : Writer) (path : List ℕ) → map (λ x. x.kept) catalogue ≡ map shown_snapshot s.snapshots → base_file w.base name catalogue ≡ Ok path → HasBase w path
+  unfolding base_file
+  has_base catalogue w path is found = by_base w.base refl found
+    where
+      by_path : (key : SnapshotKey) (k : Kept) (o : Option (List ℕ)) → w.base ≡ Some key → kept_named key catalogue ≡ Some k → path_named name k.files ≡ o → or_else NoFile o ≡ Ok path → HasBase w path
+      by_path key k None at kept_at path_at e = cc
+      by_path key k (Some p) at kept_at path_at e =
+          let here : path_in key name catalogue ≡ Some path = ap (path_of_kept name) kept_at ∙ path_at ∙ ap (λ q. Some q) (ok_path p path e) in
+          record { key = key; base = at; there = is_there name catalogue s.snapshots key path is here }
+
+      by_kept : (key : SnapshotKey) (o : Option Kept) → w.base ≡ Some key → kept_named key catalogue ≡ o → (or_else NoSnapshot o >>= λ k. or_else NoFile (path_named name k.files)) ≡ Ok path → HasBase w path
+      by_kept key None at kept_at e = cc
+      by_kept key (Some k) at kept_at e = by_path key k (path_named name k.files) at kept_at refl e
+
+      by_base : (o : Option SnapshotKey) → w.base ≡ o → (or_else NoSnapshot (kept_by o catalogue) >>= λ k. or_else NoFile (path_named name k.files)) ≡ Ok path → HasBase w path
+      by_base None at e = cc
+      by_base (Some key) at e = by_kept key (kept_named key catalogue) at refl e
+
+  err_same : {A B : Type 0} (p q : Refusal) → ◌≡◌ {A = Result A Refusal} (Err p) (Err q) → ◌≡◌ {A = Result B Refusal} (Err p) (Err q)
+  err_same {B = B} p q e = let same : p ≡ q = cc in ap (λ x. let r : Result B Refusal = Err x in r) same
+
+  pub no_base : (m : ℕ) (catalogue : List Listed) (w : Writer) (r : Refusal) → session s lane ≡ writer w → is_file_name name ≡ true → map (λ x. x.kept) catalogue ≡ map shown_snapshot s.snapshots
+      → base_file w.base name catalogue ≡ Err r → outcome s lane m (PreviousCommand name offset) ≡ Err r
+  unfolding base_file
+  no_base m catalogue w r at good is refused = base_is m w at good ∙ by_base w.base refused
+    where
+      by_file : (key : SnapshotKey) (k : Kept) (x : Snapshot) (o : Option (List ℕ)) → kept_named key catalogue ≡ Some k → snapshot_named key s.snapshots ≡ Some x → path_named name k.files ≡ o → or_else NoFile o ≡ Err r
+          → base_then w (Some x) ≡ Err r
+      by_file key k x (Some p) kept_at plain_at path_at e = cc
+      by_file key k x None kept_at plain_at path_at e =
+          let none : path_in key name catalogue ≡ None = ap (path_of_kept name) kept_at ∙ path_at in
+          let missing : file_named name x.files ≡ None =
+          sym (ap (λ o. file_named name (elim o [ None ↦ [] | Some x ↦ x.files ])) plain_at) ∙ not_there name catalogue s.snapshots key is none in
+          ap (file_then w) missing ∙ err_same {A = List ℕ} {B = Store × Reply} NoFile r e
+
+      by_kept : (key : SnapshotKey) (o : Option Kept) → kept_named key catalogue ≡ o → (or_else NoSnapshot o >>= λ k. or_else NoFile (path_named name k.files)) ≡ Err r → base_then w (snapshot_named key s.snapshots) ≡ Err r
+      by_kept key None kept_at e = ap (base_then w) (not_kept catalogue s.snapshots key is kept_at) ∙ err_same {A = List ℕ} {B = Store × Reply} NoSnapshot r e
+      by_kept key (Some k) kept_at e =
+          let x = mapped shown_snapshot (snapshot_named key s.snapshots) k (sym (kept_is catalogue s.snapshots key is) ∙ kept_at) in
+          ap (base_then w) x.1 ∙ by_file key k x.0 (path_named name k.files) kept_at x.1 refl e
+
+      by_base : (o : Option SnapshotKey) → (or_else NoSnapshot (kept_by o catalogue) >>= λ k. or_else NoFile (path_named name k.files)) ≡ Err r → base_then w (elim o [ None ↦ None | Some key ↦ snapshot_named key s.snapshots ]) ≡ Err r
+      by_base None e = err_same {A = List ℕ} {B = Store × Reply} NoSnapshot r e
+      by_base (Some key) e = by_kept key (kept_named key catalogue) refl e
+
+  -- ---- what is read
+
+  -- what comes of a part of a text
+  abbrev with_part : Writer → Content → Result Reply Refusal → Outcome
+  with_part w content part = part >>= λ reply. goes_on s lane (with_pool (pieces_of content) w) reply
+
+  range_then : (w : Writer) (content : Content) (text : List ℕ) (b : Bool) → (unless (BadRange (length text)) b >>= λ _. goes_on s lane (with_pool (pieces_of content) w) (part_of text offset))
+      ≡ with_part w content (unless (BadRange (length text)) b >>= λ _. Ok (part_of text offset))
+  range_then w content text true = refl
+  range_then w content text false = refl
+
+  pub reads : (m : ℕ) (w : Writer) (path : List ℕ) (b : HasBase w path) → session s lane ≡ writer w → is_file_name name ≡ true
+      → outcome s lane m (PreviousCommand name offset) ≡ with_part w ((b.there).file).content (part_from (file_text ((b.there).file).content) offset)
+  reads m w path b at good =
+      let t = b.there in
+      let base : base_of s w ≡ Some t.snapshot = ap (λ o. elim o [ None ↦ None | Some key ↦ snapshot_named key s.snapshots ]) b.base ∙ t.kept in
+      base_is m w at good ∙ ap (base_then w) base ∙ ap (file_then w) t.named
+      ∙ range_then w (t.file).content (file_text (t.file).content) (nat_le offset (length (file_text (t.file).content)))
+
+-- ---- kinds of files
+
+not_both : (a b t : List ℕ) → bytes_eq b a ≡ false → bytes_eq a t ≡ true → bytes_eq b t ≡ false
+not_both a b t other e = ap (bytes_eq b) (sym ((bytes_eq-Decides a t).0 e)) ∙ other
+
+and_none : (a b c : Bool) → b ≡ false → (a && (b && c)) ≡ false
+and_none true b c e = ap (λ x. x && c) e
+and_none false b c e = refl
+
+abbrev last_five : List ℕ → List ℕ
+last_five name = drop (length name - 5) name
+
+-- a name has one ending
+other_ending : (ending other name : List ℕ) → bytes_eq other ending ≡ false → (is_id name && (bytes_eq ending (last_five name) && nat_lt 5 (length name))) ≡ true → (is_id name && (bytes_eq other (last_five name) && nat_lt 5 (length name))) ≡ false
+other_ending ending other name apart h =
+    let both = (and_parts (is_id name) _ h).1 in
+    and_none (is_id name) (bytes_eq other (last_five name)) (nat_lt 5 (length name)) (not_both ending other (last_five name) apart (and_parts (bytes_eq ending (last_five name)) _ both).0)
+
+whole_blob : (name : List ℕ) → is_blob_name name ≡ true → whole_by name ≡ None
+whole_blob name h = by_tests (is_fixed_name name) (is_dynamic_name name) (other_ending blob_ending fixed_ending name refl h) (other_ending blob_ending dynamic_ending name refl h)
+  where
+    by_tests : (a b : Bool) → a ≡ false → b ≡ false → cond a (Some true) (cond b (Some false) None) ≡ None
+    by_tests false false e f = refl
+    by_tests false true e f = cc
+    by_tests true b e f = cc
+
+whole_archive : (layout : Layout) (name : List ℕ) → elim layout [ dynamic ↦ is_dynamic_name name | fixed size chunk_size ↦ is_fixed_name name ] ≡ true → whole_by name ≡ Some (is_fixed_layout layout)
+whole_archive dynamic name h = by_tests (is_fixed_name name) (is_dynamic_name name) (other_ending dynamic_ending fixed_ending name refl h) h
+  where
+    by_tests : (a b : Bool) → a ≡ false → b ≡ true → cond a (Some true) (cond b (Some false) None) ≡ Some false
+    by_tests false true e f = refl
+    by_tests false false e f = cc
+    by_tests true b e f = cc
+whole_archive (fixed size cut) name h = ap (λ b. cond b (Some true) (cond (is_dynamic_name name) (Some false) None)) h
+
+-- ---- what a file of the store gives
+
+abbrev known_pieces : Content → List Known
+known_pieces content = map known_of (pieces_of content)
+
+abbrev gives : Content → Result Reply Refusal → Result Previous Refusal
+gives content part = part >>= λ reply. Ok (record { part = reply; pieces = known_pieces content })
+
+gives_blob : (m : Files) (path bytes : List ℕ) (offset : ℕ) → get m path ≡ Some (file_text (blob bytes)) → previous_by None m path offset ≡ gives (blob bytes) (part_from (file_text (blob bytes)) offset)
+gives_blob m path bytes offset at = ap (λ o. (or_else (Unreadable path) o >>= λ text. part_from text offset) >>= λ part. let r : Result Previous Refusal = Ok (record { part = part; pieces = [] }) in r) at
+
+lengths_part : (a : Archive) (part : Result Reply Refusal)
+    → ((part >>= λ reply. let r : Result Indexed Refusal = Ok (record { part = reply; entries = ends_from 0 a.pieces }) in r) >>= λ x. let r : Result Previous Refusal = Ok (record { part = x.part; pieces = lengths_from 0 x.entries }) in r) ≡ gives (archive a) part
+lengths_part a (Err e) = refl
+lengths_part a (Ok reply) = ap (λ ks. let r : Result Previous Refusal = Ok (record { part = reply; pieces = ks }) in r) (lengths_of_pieces 0 a.pieces)
+
+gives_archive : (m : Files) (path : List ℕ) (offset : ℕ) (a : Archive) → FitsContent (archive a) → get m path ≡ Some (file_text (archive a)) → previous_by (Some (is_fixed_layout a.layout)) m path offset ≡ gives (archive a) (part_from (file_text (archive a)) offset)
+unfolding file_text
+gives_archive m path offset a fits at =
+    ap (λ q. q >>= λ x. let r : Result Previous Refusal = Ok (record { part = x.part; pieces = lengths_from 0 x.entries }) in r) (archive_at m path offset a fits at)
+    ∙ lengths_part a (part_from (file_text (archive a)) offset)
+
+given : (m : Files) (path name : List ℕ) (offset : ℕ) (content : Content) → names_content content name ≡ true → FitsContent content → get m path ≡ Some (file_text content)
+    → previous_by (whole_by name) m path offset ≡ gives content (part_from (file_text content) offset)
+given m path name offset (blob bytes) kind fits at = ap (λ o. previous_by o m path offset) (whole_blob name kind) ∙ gives_blob m path bytes offset at
+given m path name offset (archive a) kind fits at = ap (λ o. previous_by o m path offset) (whole_archive a.layout name kind) ∙ gives_archive m path offset a fits at
+
+-- the part alone
+part_alone : (whole : Option Bool) (m : Files) (path : List ℕ) (offset : ℕ) → (previous_by whole m path offset >>= λ p. Ok p.part) ≡ read_by whole m path offset
+part_alone None m path offset = by_part (read_by None m path offset)
+  where
+    by_part : (r : Result Reply Refusal) → ((r >>= λ part. let q : Result Previous Refusal = Ok (record { part = part; pieces = [] }) in q) >>= λ p. Ok p.part) ≡ r
+    by_part (Ok part) = refl
+    by_part (Err e) = refl
+part_alone (Some is_fixed) m path offset = by_index (index_at m path is_fixed offset)
+  where
+    by_index : (r : Result Indexed Refusal) → ((r >>= λ x. let q : Result Previous Refusal = Ok (record { part = x.part; pieces = lengths_from 0 x.entries }) in q) >>= λ p. Ok p.part) ≡ (r >>= λ x. Ok x.part)
+    by_index (Ok x) = refl
+    by_index (Err e) = refl
+
+pub part_is : (m : Files) (a : Asked) (p : Previous) → previous_by a.whole m a.path a.offset ≡ Ok p → Ok p.part ≡ part_read m a
+part_is m a p is = sym (ap (λ r. r >>= λ p. Ok p.part) is) ∙ part_alone a.whole m a.path a.offset
+
+pub refusal_is : (m : Files) (a : Asked) (r : Refusal) → previous_by a.whole m a.path a.offset ≡ Err r → Err r ≡ part_read m a
+refusal_is m a r is = sym (ap (λ q. q >>= λ p. Ok p.part) is) ∙ part_alone a.whole m a.path a.offset
+
+-- ---- what is kept
+
+pub named_known : (pieces : List Known) (x : Session) → is_named x ≡ true → is_named (with_known pieces x) ≡ true
+named_known pieces kept.Idle h = h
+named_known pieces (kept.Writer w) h = and_from (has_text ((w.session).writer).key) true (and_parts (has_text ((w.session).writer).key) _ h).0 refl
+named_known pieces (kept.Reader r) h = h
+
+pub named_noted : {E : Type 0} (result : Result (Unit {0}) E) (pieces : List Known) (x y : Session) → OnOk result (y ≡ with_known pieces x) → OnErr result (y ≡ x) → is_named x ≡ true → is_named y ≡ true
+named_noted (Ok u) pieces x y ok err h = ap is_named ok ∙ named_known pieces x h
+named_noted (Err e) pieces x y ok err h = ap is_named err ∙ h
+
+-- ---- the pieces are there
+
+in_part : {A : Type 0} (P : A → Type 0) (g : File → List A) (p : File → Bool) (fs : List File) (f : File) → find p fs ≡ Some f → All P (flat_map g fs) → All P (g f)
+in_part P g p [] f e all = cc
+in_part P g p (x ∷ xs) f e all = by_test (p x) e (λ later. in_part P g p xs f later rest_of)
+  where
+    first : All P (g x)
+    first = λ i d lt. subst P (get_or-append (g x) (flat_map g xs) d i lt) (all i d (omega (arith, lt, length-append (g x) (flat_map g xs))))
+
+    rest_of : All P (flat_map g xs)
+    rest_of = λ i d lt. subst P (get_or-append-add (g x) (flat_map g xs) i d) (all (length (g x) + i) d (omega (arith, lt, length-append (g x) (flat_map g xs))))
+
+    by_test : (b : Bool) → cond b (Some x) (find p xs) ≡ Some f → (find p xs ≡ Some f → All P (g f)) → All P (g f)
+    by_test true e later = let same : x ≡ f = cc in subst (λ y. All P (g y)) same first
+    by_test false e later = later e
+
+pieces_held : (m : Files) (snapshots : List Snapshot) (key : SnapshotKey) (name : List ℕ) (x : Snapshot) (f : File) → snapshot_named key snapshots ≡ Some x → file_named name x.files ≡ Some f → All (HoldsPieces m) snapshots
+    → All (HasChunk m) (pieces_of f.content)
+pieces_held m snapshots key name x f kept_at named all =
+    in_part (HasChunk m) (λ f. pieces_of f.content) _ x.files f named (found_in (HoldsPieces m) _ snapshots x all kept_at)
+
+went : (s : Store) (lane : ℕ) (w : Writer) (reply : Reply) → goes_on s lane w reply ≡ Ok (with_session s lane (writer w), reply)
+unfolding goes_on
+went s lane w reply = refl
+
+-- ---- the act
+
+module _ {D : Type 0} (honest : D → Type 0) (content : D → Files) where
+  -- the lane's writer may name more pieces that are there
+  holds_noted : (old new : Parts D) (s : Store) (lane : ℕ) (w : Writer) (pieces : List (List ℕ)) (y : Session) → lane < 64 → session s lane ≡ writer w → All IsPiece pieces → All (HasChunk (content old.disk)) pieces
+      → (honest old.disk ↔ honest new.disk) → (honest old.disk → content new.disk ≡ content old.disk) → new.catalogue.items ≡ old.catalogue.items → new.sessions.items ≡ set old.sessions.items lane y
+      → y ≡ kept.Writer (shown_writer (with_pool pieces w)) → Holds honest content old s → Holds honest content new (with_session s lane (writer (with_pool pieces w)))
+  holds_noted old new s lane w pieces y lt at are there kept_on same c l y_is h =
+      let after = with_pool pieces w in
+      let sound = (h.shows).sound in
+      let within : lane < length s.sessions = omega (arith, sound.lanes, lt) in
+      let alone : IsAlone s lane after = λ i x ne x_at e. ne (sound.apart i lane x w x_at at e) in
+      let is_writer = is_writer_pooled s w pieces are (sound.writers lane w at) in
+      let uploads = has_uploads_pooled (content old.disk) w pieces there ((h.files).writers lane w at) in
+      record {
+        honest = kept_on.0 h.honest;
+        shows = shows_changed old new s lane (writer after) y c l y_is (sound_writer s lane after lt is_writer alone sound) h.shows;
+        files = subst (λ f. IsOnDisk f (with_session s lane (writer after))) (sym (same h.honest)) (disk_writer (content old.disk) s lane after within uploads h.files);
+      }
+
+content_pieces : (x : Content) → FitsContent x → All IsPiece (pieces_of x)
+content_pieces (archive a) fits = fits.1
+content_pieces (blob bytes) fits = All-nil IsPiece
+
+refused_by : (s : Store) (lane : ℕ) (name : List ℕ) (offset : ℕ) (w : Writer) (x : Content) (r : Refusal) (part : Result Reply Refusal) → gives x part ≡ Err r → with_part s lane name offset w x part ≡ Err r
+refused_by s lane name offset w x r (Ok reply) e = cc
+refused_by s lane name offset w x r (Err q) e = let same : q ≡ r = cc in ap (λ x. let y : Outcome = Err x in y) same
+
+-- what is given
+pub record IsGiven (s : Store) (lane : ℕ) (name : List ℕ) (offset : ℕ) (w : Writer) (x : Content) (part : Result Reply Refusal) (p : Previous) : Type 0 where
+  pub step : with_part s lane name offset w x part ≡ Ok (with_session s lane (writer (with_pool (pieces_of x) w)), p.part)
+  pub pieces : p.pieces ≡ known_pieces x
+
+given_by : (s : Store) (lane : ℕ) (name : List ℕ) (offset : ℕ) (w : Writer) (x : Content) (part : Result Reply Refusal) (p : Previous) → gives x part ≡ Ok p → IsGiven s lane name offset w x part p
+given_by s lane name offset w x (Err q) p e = cc
+given_by s lane name offset w x (Ok reply) p e =
+    let made : Previous = record { part = reply; pieces = known_pieces x } in
+    let same : made ≡ p = cc in
+    record {
+      step = went s lane (with_pool (pieces_of x) w) reply ∙ ap (λ (q : Previous). let o : Outcome = Ok (with_session s lane (writer (with_pool (pieces_of x) w)), q.part) in o) same;
+      pieces = ap (λ (q : Previous). q.pieces) (sym same);
+    }
+
+module _ {D : Type 0} (honest : D → Type 0) (content : D → Files) (old new : Parts D) (s : Store) (lane m : ℕ) (name path : List ℕ) (offset : ℕ) (w : Writer)
+    (at : session s lane ≡ writer w) (good : is_file_name name ≡ true) (h : Holds honest content old s) (b : HasBase s lane name offset w path) where
+  abbrev file : Content
+  file = ((b.there).file).content
+
+  fits : FitsContent file
+  fits = there_fits s.snapshots b.key name path b.there ((h.shows).sound).each
+
+  read_is : previous_by (whole_by name) (content old.disk) path offset ≡ gives file (part_from (file_text file) offset)
+  read_is =
+      given (content old.disk) path name offset file (there_kind s.snapshots b.key name path b.there ((h.shows).sound).each) fits
+      (there_text (content old.disk) s.snapshots b.key name path b.there ((h.files).snapshots).files)
+
+  outcome_is : outcome s lane m (PreviousCommand name offset) ≡ with_part s lane name offset w file (part_from (file_text file) offset)
+  outcome_is = reads s lane name offset m w path b at good
+
+  -- the part is refused
+  pub does_refused_part : (r : Refusal) → previous_by (whole_by name) (content old.disk) path offset ≡ Err r
+      → (honest old.disk ↔ honest new.disk) → (honest old.disk → content new.disk ≡ content old.disk) → new.catalogue.items ≡ old.catalogue.items → new.sessions.items ≡ old.sessions.items
+      → Does honest content new s (answered s (outcome s lane m (PreviousCommand name offset))) (Ok (Refused r))
+  does_refused_part r is kept_on same c l =
+      let done : Does honest content new s (s, Refused r) (Ok (Refused r)) = (refl, holds_same honest content old new s kept_on same c l h) in
+      let step : outcome s lane m (PreviousCommand name offset) ≡ Err r = outcome_is ∙ refused_by s lane name offset w file r (part_from (file_text file) offset) (sym read_is ∙ is) in
+      subst (λ o. Does honest content new s (answered s o) (Ok (Refused r))) (sym step) done
+
+  -- it is given, and its pieces may be named
+  pub does_part : (p : Previous) (y : Session) → lane < 64 → previous_by (whole_by name) (content old.disk) path offset ≡ Ok p
+      → (honest old.disk ↔ honest new.disk) → (honest old.disk → content new.disk ≡ content old.disk) → new.catalogue.items ≡ old.catalogue.items → new.sessions.items ≡ set old.sessions.items lane y
+      → ((shown : List (List ℕ)) → p.pieces ≡ map known_of shown → y ≡ kept.Writer (shown_writer (with_pool shown w)))
+      → Does honest content new s (answered s (outcome s lane m (PreviousCommand name offset))) (Ok p.part)
+  does_part p y lt is kept_on same c l noted =
+      let g = given_by s lane name offset w file (part_from (file_text file) offset) p (sym read_is ∙ is) in
+      let there = pieces_held (content old.disk) s.snapshots b.key name (b.there).snapshot (b.there).file (b.there).kept (b.there).named ((h.files).snapshots).pieces in
+      let holds = holds_noted honest content old new s lane w (pieces_of file) y lt at (content_pieces file fits) there kept_on same c l (noted (pieces_of file) g.pieces) h in
+      let done : Does honest content new s (with_session s lane (writer (with_pool (pieces_of file) w)), p.part) (Ok p.part) = (refl, holds) in
+      let step : outcome s lane m (PreviousCommand name offset) ≡ Ok (with_session s lane (writer (with_pool (pieces_of file) w)), p.part) = outcome_is ∙ g.step in
+      subst (λ o. Does honest content new s (answered s o) (Ok p.part)) (sym step) done
+
+-- ---- what was asked for
+
+pub asked_writer : (name : List ℕ) (offset : ℕ) (session : Session) (w : Writing) (catalogue : List Listed) (found : Result (List ℕ) Refusal) → session ≡ kept.Writer w → is_file_name name ≡ true
+    → base_file ((w.session).writer).base name catalogue ≡ found → asked_of_base name offset session catalogue ≡ asked_at name offset found
+asked_writer name offset session w catalogue found is good at =
+    ap (λ x. asked_of_base name offset x catalogue) is ∙ ap (λ b. cond b (asked_at name offset (base_file ((w.session).writer).base name catalogue)) None) good ∙ ap (asked_at name offset) at
+
+pub asked_bad : (name : List ℕ) (offset : ℕ) (session : Session) (catalogue : List Listed) → is_file_name name ≡ false → asked_of_base name offset session catalogue ≡ None
+asked_bad name offset kept.Idle catalogue bad = refl
+asked_bad name offset (kept.Writer w) catalogue bad = ap (λ b. cond b (asked_at name offset (base_file ((w.session).writer).base name catalogue)) None) bad
+asked_bad name offset (kept.Reader r) catalogue bad = refl
+
+pub asked_other : (name : List ℕ) (offset : ℕ) (session : Session) (catalogue : List Listed) → ((w : Writing) → session ≡ kept.Writer w → ⊥) → asked_of_base name offset session catalogue ≡ None
+asked_other name offset kept.Idle catalogue other = refl
+asked_other name offset (kept.Writer w) catalogue other = absurd (other w refl)
+asked_other name offset (kept.Reader r) catalogue other = refl
+
+pub state_apart : (state : SessionState) (name : List ℕ) → Some (Refused (WrongState state)) ≡ Some (Refused (Unreadable name)) → ⊥
+state_apart state name e = cc
+
+pub name_apart : (name : List ℕ) → Some (Refused BadName) ≡ Some (Refused (Unreadable name)) → ⊥
+name_apart name e = cc
+
+-- the refusals of a base's file
+module _ (base : Option SnapshotKey) (name : List ℕ) (catalogue : List Listed) (r : Refusal) where
+  either_is : base_file base name catalogue ≡ Err r → (r ≡ NoSnapshot) ⊎ (r ≡ NoFile)
+  unfolding base_file
+  either_is is = by_kept (kept_by base catalogue) is
+    where
+      by_path : (o : Option (List ℕ)) → or_else NoFile o ≡ Err r → (r ≡ NoSnapshot) ⊎ (r ≡ NoFile)
+      by_path None e = inr cc
+      by_path (Some p) e = cc
+
+      by_kept : (o : Option Kept) → (or_else NoSnapshot o >>= λ k. or_else NoFile (path_named name k.files)) ≡ Err r → (r ≡ NoSnapshot) ⊎ (r ≡ NoFile)
+      by_kept None e = inl cc
+      by_kept (Some k) e = by_path (path_named name k.files) e
+
+  pub base_apart : base_file base name catalogue ≡ Err r → (told : List ℕ) → Some (Refused r) ≡ Some (Refused (Unreadable told)) → ⊥
+  base_apart is told e = ⊎_elim (λ a. snapshot_no told (sym (ap (λ x. Some (Refused x)) a) ∙ e)) (λ b. file_no told (sym (ap (λ x. Some (Refused x)) b) ∙ e)) (either_is is)
+    where
+      snapshot_no : (told : List ℕ) → Some (Refused NoSnapshot) ≡ Some (Refused (Unreadable told)) → ⊥
+      snapshot_no told e = cc
+
+      file_no : (told : List ℕ) → Some (Refused NoFile) ≡ Some (Refused (Unreadable told)) → ⊥
+      file_no told e = cc
+
+  -- it comes without a call of the disk
+  pub base_uncalled : base_file base name catalogue ≡ Err r → is_uncalled r ≡ true
+  base_uncalled is = ⊎_elim (λ a. ap is_uncalled a) (λ b. ap is_uncalled b) (either_is is)
+
+-- ---- what is answered
+
+pub part_answers : (path : List ℕ) (reply : Reply) → IsPartOf path (Ok reply) → answers_previous reply ≡ true
+part_answers path (Part total bytes) h = refl
+part_answers path _ h = absurd h
+
+pub part_unchanged : {D : Type 0} (honest : D → Type 0) (content : D → Files) (old new : Parts D) (path : List ℕ) (reply : Reply) → IsPartOf path (Ok reply) → Unchanged honest content old new reply
+part_unchanged honest content old new path (Part total bytes) h = tt
+part_unchanged honest content old new path _ h = absurd h
+
+pub refusal_answers : (path : List ℕ) (r : Refusal) → IsPartOf path (Err r) → refuses_previous r ≡ true
+refusal_answers path (BadRange size) h = refl
+refusal_answers path (Unreadable name) h = refl
+refusal_answers path _ h = absurd h
+
+-- ---- what the calls tell
+
+pub told_refusal : (wanted : Result Previous Refusal) (told : Result Given Refusal) (r : Refusal) → Tells wanted told → told ≡ Err r → wanted ≡ Err r
+told_refusal wanted told r h is = subst (Tells wanted) is h
+
+pub told_given : (wanted : Result Previous Refusal) (told : Result Given Refusal) (v : Given) → Tells wanted told → told ≡ Ok v → wanted ≡ Ok (shown_given v)
+told_given wanted told v h is = subst (Tells wanted) is h
+
+pub base_of_shown : (v : Writer) (w : Writing) → shown_writer v ≡ w → v.base ≡ ((w.session).writer).base
+unfolding shown
+base_of_shown v w is = ap (λ (x : Writing). ((x.session).writer).base) is
+
+-- ---- the session that notes the pieces
+
+pub noted_ok : {E : Type 0} (r : Result (Unit {0}) E) (found : Session) (w : Writing) (new : backups.Session) (pieces : List Known) → found ≡ kept.Writer w → OnOk r (new ≡ settled (rows.previous (w.session).writer pieces))
+    → OnOk r (kept.Writer (record w { session = new }) ≡ with_known pieces found)
+noted_ok (Ok u) found w new pieces is h = ap (λ x. kept.Writer (record w { session = x })) h ∙ ap (with_known pieces) (sym is)
+noted_ok (Err e) found w new pieces is h = tt
+
+pub noted_err : {E : Type 0} (r : Result (Unit {0}) E) (found : Session) (w : Writing) (new : backups.Session) → found ≡ kept.Writer w → OnErr r (new ≡ w.session) → OnErr r (kept.Writer (record w { session = new }) ≡ found)
+noted_err (Ok u) found w new is h = tt
+noted_err (Err e) found w new is h = ap (λ x. kept.Writer (record w { session = x })) h ∙ sym is
+
+pub shown_known : (v : Writer) (pieces : List (List ℕ)) → with_known (map known_of pieces) (kept.Writer (shown_writer v)) ≡ kept.Writer (shown_writer (with_pool pieces v))
+unfolding shown
+shown_known v pieces =
+    ap (λ (pool : Pool). kept.Writer (record { session = settled (record (shown v) { pool = pool }); files = shown_files v.key v.files })) (sym (pool_of-all v.pool pieces))
+
+-- ---- what was read
+
+whole_index : (name : List ℕ) → is_index_name name ≡ true → Some (is_fixed_name name) ≡ whole_by name
+whole_index name h = by_tests (is_fixed_name name) (is_dynamic_name name) h
+  where
+    by_tests : (a b : Bool) → (a || b) ≡ true → Some a ≡ cond a (Some true) (cond b (Some false) None)
+    by_tests true b e = refl
+    by_tests false true e = refl
+    by_tests false false e = cc
+
+whole_none : (name : List ℕ) → is_index_name name ≡ false → None ≡ whole_by name
+whole_none name h = by_tests (is_fixed_name name) (is_dynamic_name name) h
+  where
+    by_tests : (a b : Bool) → (a || b) ≡ false → None ≡ cond a (Some true) (cond b (Some false) None)
+    by_tests false false e = refl
+    by_tests false true e = cc
+    by_tests true b e = cc
+
+pub whole_read : (m : Files) (path name : List ℕ) (offset : ℕ) (fixed_is : Bool) (P : Result Previous Refusal → Type 0) → is_index_name name ≡ true → fixed_is ≡ is_fixed_name name
+    → P (previous_by (Some fixed_is) m path offset) → P (previous_by (whole_by name) m path offset)
+whole_read m path name offset fixed_is P index is h = subst (λ o. P (previous_by o m path offset)) (ap (λ b. Some b) is ∙ whole_index name index) h
+
+part_at : (m : Files) (path : List ℕ) (offset : ℕ) (r : Result Reply Refusal) → ((text : List ℕ) → get m path ≡ Some text → r ≡ part_from text offset) → (get m path ≡ None → r ≡ Err (Unreadable path)) → read_by None m path offset ≡ r
+part_at m path offset r there nothing = by_text (get m path) refl
+  where
+    by_text : (o : Option (List ℕ)) → get m path ≡ o → (or_else (Unreadable path) o >>= λ text. part_from text offset) ≡ r
+    by_text None e = sym (nothing e)
+    by_text (Some text) e = sym (there text e)
+
+-- a file that is no index
+pub part_read_is : (m : Files) (path name : List ℕ) (offset : ℕ) (r : Result Reply Refusal) → is_index_name name ≡ false → ((text : List ℕ) → get m path ≡ Some text → r ≡ part_from text offset) → (get m path ≡ None → r ≡ Err (Unreadable path))
+    → previous_by (whole_by name) m path offset ≡ (r >>= λ part. Ok (record { part = part; pieces = [] }))
+part_read_is m path name offset r plain there nothing =
+    ap (λ o. previous_by o m path offset) (sym (whole_none name plain)) ∙ ap (λ q. q >>= λ part. let p : Result Previous Refusal = Ok (record { part = part; pieces = [] }) in p) (part_at m path offset r there nothing)

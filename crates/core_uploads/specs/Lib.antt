@@ -1,0 +1,7 @@
+pub mod Uploaded
+pub mod Others
+pub mod Appended
+pub mod Noted
+pub mod Stepped
+pub mod Previous
+pub mod NewIndexes

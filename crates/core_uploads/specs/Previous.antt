@@ -1,0 +1,88 @@
+-- PREVIOUS, by what the core keeps and what the disk holds.
+use Rattle.std.specs.Prelude.{◌≡◌, ◌≤◌, ℕ, Bool, List, [], map, if◌then◌else◌, Option, None, Some, Result, Ok, Err, MatchResult}
+use Rattle.std.specs.List.{AllByRecursion}
+use Rattle.disk_trait.specs.Files.{Files}
+use Rattle.store_types.specs.declared.names.SnapshotKey.{SnapshotKey}
+use Rattle.store_types.specs.declared.refusal.Refusal.{Refusal}
+use Rattle.store_types.specs.declared.refusal.Refusal.TheVariants.{NoSnapshot, NoFile}
+use Rattle.store_types.specs.Chain.Refusing.{◌>>=◌, or_else}
+use Rattle.store_types.specs.FileNames.{is_file_name}
+use Rattle.wire_commands.specs.declared.reply.Reply.{Reply}
+use Rattle.dynamic_index.specs.Writing.{Known, known_of}
+use Rattle.stored_files.specs.Indexes.{index_at, lengths_from}
+use Rattle.backup_session.specs.Session.{settled}
+use Rattle.backup_session.specs.Steps as rows
+use Rattle.core_state.specs.declared.kept.Kept.{Kept}
+use Rattle.core_state.specs.declared.kept.Listed.{Listed}
+use Rattle.core_state.specs.declared.kept.Writing.{Writing}
+use Rattle.core_state.specs.declared.kept.Session.{Session}
+use Rattle.core_state.specs.declared.kept.Session.TheVariants.{Idle, Writer, Reader}
+use Rattle.core_state.specs.Found.{kept_named, path_named}
+use Rattle.core_state.specs.Unreadables.{Asked, whole_by, read_by}
+use Rattle.core_uploads.specs.declared.base.Given.{Given}
+
+-- ---- the file of the base
+
+abbrev pub kept_by : Option SnapshotKey → List Listed → Option Kept
+kept_by None catalogue = None
+kept_by (Some key) catalogue = kept_named key catalogue
+
+-- where it stands, or the refusal
+unfoldable pub base_file : Option SnapshotKey → List ℕ → List Listed → Result (List ℕ) Refusal
+base_file base name catalogue = do
+  kept ← or_else NoSnapshot (kept_by base catalogue)
+  or_else NoFile (path_named name kept.files)
+
+abbrev pub asked_at : List ℕ → ℕ → Result (List ℕ) Refusal → Option Asked
+asked_at name offset (Ok path) = Some (record { path = path; whole = whole_by name; offset = offset })
+asked_at name offset (Err refusal) = None
+
+-- the file that a session's writer asks for
+abbrev pub asked_of_base : List ℕ → ℕ → Session → List Listed → Option Asked
+asked_of_base name offset Idle catalogue = None
+asked_of_base name offset (Writer w) catalogue = if is_file_name name then asked_at name offset (base_file ((w.session).writer).base name catalogue) else None
+asked_of_base name offset (Reader r) catalogue = None
+
+-- ---- what is read of it
+
+-- a part, and the digest and length of each piece of an index
+pub record Previous : Type 0 where
+  pub part : Reply
+  pub pieces : List Known
+
+abbrev pub previous_by : Option Bool → Files → List ℕ → ℕ → Result Previous Refusal
+previous_by None m path offset = read_by None m path offset >>= λ part. Ok (record { part = part; pieces = [] })
+previous_by (Some is_fixed) m path offset = index_at m path is_fixed offset >>= λ x. Ok (record { part = x.part; pieces = lengths_from 0 x.entries })
+
+abbrev pub shown_given : Given → Previous
+shown_given g = record { part = g.part; pieces = map known_of g.pieces.items }
+
+-- this is what is told
+abbrev pub Tells : Result Previous Refusal → Result Given Refusal → Type 0
+Tells wanted told = MatchResult told (λ g. wanted ≡ Ok (shown_given g)) (λ refusal. wanted ≡ Err refusal)
+
+-- the part alone
+abbrev pub part_given : Result Given Refusal → Result Reply Refusal
+part_given (Ok g) = Ok g.part
+part_given (Err refusal) = Err refusal
+
+-- lengths that pieces have
+abbrev pub ArePieces : List Known → Type 0
+ArePieces pieces = AllByRecursion (λ k. (1 ≤ k.1) × (k.1 ≤ 16_777_216)) pieces
+
+-- ---- what the session notes of it
+
+-- the session has a writer, and no file of it is pending
+abbrev pub MayKnow : Session → Type 0
+MayKnow Idle = ⊥
+MayKnow (Writer w) = (w.session).pending ≡ None
+MayKnow (Reader r) = ⊥
+
+-- the writer may name the pieces
+abbrev pub knowing : Writing → List Known → Writing
+knowing w pieces = record w { session = settled (rows.previous (w.session).writer pieces) }
+
+abbrev pub with_known : List Known → Session → Session
+with_known pieces Idle = Idle
+with_known pieces (Writer w) = Writer (knowing w pieces)
+with_known pieces (Reader r) = Reader r

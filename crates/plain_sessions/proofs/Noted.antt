@@ -1,0 +1,62 @@
+-- The pieces of the archives that a reader downloaded, archive by archive.
+use Rattle.std.proofs.Common.{◌≡◌, ℕ, suc, ◌+◌, ◌-◌, ◌<◌, ◌≤◌, Bool, true, false, Ok, Err, List, [], ◌∷◌, ◌++◌, length, get_or, take, drop, drop-cons, add-one, Some, None, refl, sym, ap, ◌∙◌, arith}
+use Rattle.std.specs.List.{concat, find, flat_map}
+use Rattle.std.specs.Option.{option_or}
+use Rattle.std.proofs.lemmas.List.{append-nil, take_more, take_all, length-drop}
+use Rattle.std.proofs.lemmas.List.Folds.{concat-append, find-append}
+use Rattle.blob_codec.specs.Blob.{blob, data_limit}
+use Rattle.store_types.specs.declared.refusal.Refusal.{Refusal}
+use Rattle.store_types.specs.declared.refusal.Refusal.TheVariants.{NotAllowed}
+use Rattle.store_files.specs.Archive.{File}
+use Rattle.store_model.specs.Store.{Reader}
+use Rattle.store_model.specs.ReaderSteps.{is_noted, pieces_at, want_range, range_of}
+
+-- ---- the content of an archive
+
+pub concat_more : (xs : List (List ℕ)) (i : ℕ) (x : List ℕ) → i < length xs → x ≡ get_or xs i x → concat (take (i + 1) xs) ≡ concat (take i xs) ++ x
+concat_more xs i x below is =
+    ap concat (take_more xs i x below ∙ ap (λ y. take i xs ++ y ∷ []) (sym is))
+    ∙ concat-append (take i xs) (x ∷ [])
+    ∙ ap (λ z. concat (take i xs) ++ z) (append-nil x)
+
+-- ---- the blob of a piece
+
+pub blob_short : (bytes piece text : List ℕ) → length piece ≤ data_limit → text ≡ blob piece → bytes ≡ text → length bytes ≤ 16_777_228
+unfolding blob
+blob_short bytes piece text few is same = let size = ap length (same ∙ is) in omega (arith, size, few)
+
+-- ---- archive by archive
+
+module _ {A : Type 0} (p : A → Bool) (f : List ℕ → List A) (names : List (List ℕ)) where
+  from_there : (i : ℕ) (name : List ℕ) → i < length names → name ≡ get_or names i name
+      → find p (flat_map f (drop i names)) ≡ option_or (find p (f name)) (find p (flat_map f (drop (i + 1) names)))
+  from_there i name below is =
+      ap (λ ns. find p (flat_map f ns)) (drop-cons names i name below ∙ ap (λ n. n ∷ drop (suc i) names) (sym is) ∙ ap (λ k. name ∷ drop k names) (sym (add-one i)))
+      ∙ find-append p (f name) (flat_map f (drop (i + 1) names))
+
+  -- the archive has it
+  pub found_there : (i : ℕ) (name : List ℕ) (x : A) → i < length names → name ≡ get_or names i name → find p (f name) ≡ Some x → find p (flat_map f (drop i names)) ≡ Some x
+  found_there i name x below is h = from_there i name below is ∙ ap (λ o. option_or o (find p (flat_map f (drop (i + 1) names)))) h
+
+  -- or those behind it are asked
+  pub asked_on : (i : ℕ) (name : List ℕ) → i < length names → name ≡ get_or names i name → find p (f name) ≡ None → find p (flat_map f (drop i names)) ≡ find p (flat_map f (drop (i + 1) names))
+  asked_on i name below is h = from_there i name below is ∙ ap (λ o. option_or o (find p (flat_map f (drop (i + 1) names)))) h
+
+-- ---- ranges
+
+pub range_bytes : (text bytes : List ℕ) (offset n : ℕ) → bytes ≡ take n (take (length text - offset) (drop offset text)) → bytes ≡ take n (drop offset text)
+range_bytes text bytes offset n is = is ∙ ap (take n) (take_all (length text - offset) (drop offset text) (omega (arith, length-drop offset text)))
+
+module _ (files : List File) (r : Reader) (name : List ℕ) (offset count : ℕ) where
+  pub range_not_noted : is_noted r name ≡ false → range_of files r name offset count ≡ Err NotAllowed
+  unfolding range_of
+  range_not_noted h = rw h refl
+
+  module _ (noted : is_noted r name ≡ true) where
+    pub range_refused : (q : Refusal) → want_range (length (concat (pieces_at files name))) offset count ≡ Err q → range_of files r name offset count ≡ Err q
+    unfolding range_of
+    range_refused q h = rw (noted, h) refl
+
+    pub range_goes : want_range (length (concat (pieces_at files name))) offset count ≡ Ok tt → range_of files r name offset count ≡ Ok (take count (drop offset (concat (pieces_at files name))))
+    unfolding range_of
+    range_goes h = rw (noted, h) refl

@@ -1,0 +1,16 @@
+-- What a reader's commands answer.
+use Rattle.std.specs.Prelude.{ℕ, List, Result, Ok}
+use Rattle.store_types.specs.declared.names.Digest32.{Digest32}
+use Rattle.store_types.specs.declared.refusal.Refusal.{Refusal}
+use Rattle.store_types.specs.declared.refusal.Refusal.TheVariants.{NotAllowed}
+use Rattle.store_types.specs.Chain.Refusing.{◌>>=◌, or_else}
+use Rattle.blob_codec.specs.Blob as blobs
+use Rattle.store_files.specs.Archive.{File, piece_with}
+use Rattle.store_model.specs.Store.{Reader}
+use Rattle.store_model.specs.ReaderSteps.{noted_pieces}
+
+-- the blob of a piece of an archive that was downloaded
+abbrev pub chunk_of : List File → Reader → Digest32 → Result (List ℕ) Refusal
+chunk_of files r digest = do
+  piece ← or_else NotAllowed (piece_with digest (noted_pieces files r))
+  Ok (blobs.blob piece)

@@ -1,0 +1,16 @@
+-- What a lane's session means.
+use Rattle.store_types.specs.declared.refusal.SessionState.{SessionState}
+use Rattle.store_types.specs.declared.refusal.SessionState.TheVariants as states
+use Rattle.store_model.specs.Store as model
+use Rattle.plain_sessions.specs.declared.session.Held.{Held}
+use Rattle.plain_sessions.specs.declared.session.Held.TheVariants as held
+
+abbrev pub shown_held : Held → model.Session
+shown_held held.Nothing = model.none
+shown_held (held.Writing w) = model.writer w
+shown_held (held.Reading r) = model.reader r
+
+abbrev pub state_of : Held → SessionState
+state_of held.Nothing = states.Idle
+state_of (held.Writing w) = states.Writer
+state_of (held.Reading r) = states.Reader

@@ -1,0 +1,123 @@
+//! What a FINISH tests, and the snapshot that comes of it.
+
+ghost use Rattle.std.specs.Prelude.{◌≡◌, map, option_map, IfOk};
+ghost use Rattle.store_types.specs.Chain.Refusing.{if_none};
+ghost use Rattle.manifest.specs.Views.{fact_view, manifest_view, mismatch_view};
+ghost use Rattle.manifest.specs.Checking.{first_mismatch, FitsField};
+ghost use Rattle.wire_commands.specs.HasText.{FitsRefusal};
+ghost use Rattle.store_model.specs.Manifests.{fact_of as listed_of, manifest_data as data_listed, want_manifest, mismatch_refusal as refusal_of, listing_of};
+ghost use Rattle.plain_sessions.specs.Outcomes.{Gives, IsFitRefusal};
+ghost use Rattle.plain_sessions.specs.Finishing.{finished_of};
+
+use crate::stop::Stop;
+use crate::writer::Writer;
+use manifest::{BadManifest, FileFact, Manifest, Mismatch, check};
+use plain_snapshots::{BlobData, Content, File, Snapshot};
+use std::alloc::{AllocError, Global};
+use store_types::{Bytes, Refusal, SnapshotKey};
+
+/// What a manifest lists of a file.
+fn fact_of(alloc: Global, file: &File) -> Result<FileFact, AllocError>
+    ensures { IfOk result (λ fact. fact_view fact ≡ listed_of file.now) }
+{
+    Ok(FileFact {
+        name: file.name.clone()?,
+        size: file.content.size(alloc)?,
+        csum: file.content.csum(alloc)?,
+    })
+}
+
+/// What a manifest lists of each file.
+fn facts_of(alloc: Global, files: &[File]) -> Result<Vec<FileFact>, AllocError>
+    ensures { IfOk result (λ facts. map fact_view facts.items ≡ map listed_of files.now) }
+{
+    let mut facts = Vec::new(alloc);
+    for file in files {
+        facts.push(fact_of(alloc, file)?)?;
+    }
+    Ok(facts)
+}
+
+/// The manifest that these data are.
+fn read_manifest(alloc: Global, contents: &BlobData) -> Result<Manifest, Stop>
+    ensures fits { IsFitRefusal result }
+    ensures gives { Gives manifest_view result (want_manifest contents.now) }
+{
+    match manifest::read(alloc, contents.as_slice())? {
+        Ok(manifest) => Ok(manifest),
+        Err(BadManifest { cause }) => Err(Stop::Refused(Refusal::BadManifest { cause })),
+    }
+}
+
+/// The refusal of a manifest that differs so.
+fn mismatch_refusal(alloc: Global, mismatch: Mismatch) -> Result<Refusal, AllocError>
+    requires { FitsField mismatch.file mismatch.field }
+    ensures fits { IfOk result FitsRefusal }
+    ensures refusal { IfOk result (λ refusal. refusal ≡ refusal_of (mismatch_view mismatch)) }
+{
+    let Mismatch { file, field } = mismatch;
+    let file = match file {
+        Some(name) => Bytes::from_slice(alloc, name.as_slice())?,
+        None => Bytes::new(alloc),
+    };
+    Ok(Refusal::ManifestMismatch { file, field })
+}
+
+/// The manifest has this key, and lists these uploads.
+fn want_listed(
+    alloc: Global,
+    manifest: &Manifest,
+    key: &SnapshotKey,
+    uploads: &[FileFact],
+) -> Result<(), Stop>
+    ensures fits { IsFitRefusal result }
+    ensures gives { Gives (λ u. u) result (if_none refusal_of (first_mismatch manifest.now key.now uploads.now)) }
+{
+    match check(manifest, key, uploads)? {
+        Ok(()) => Ok(()),
+        Err(mismatch) => Err(Stop::Refused(mismatch_refusal(alloc, mismatch)?)),
+    }
+}
+
+impl Writer {
+    /// The data of the manifest among the files.
+    fn manifest_data(&self) -> Option<&BlobData>
+        ensures { option_map (λ bytes. bytes.now) result ≡ data_listed self.now.files }
+    {
+        let file = self.uploads.named(b"index.json.blob")?;
+        match &file.content {
+            Content::Blob(contents) => Some(contents),
+            Content::Archive(_) => None,
+        }
+    }
+
+    /// The manifest among the files lists the others.
+    fn want_listing(&self, alloc: Global) -> Result<Manifest, Stop>
+        ensures fits { IsFitRefusal result }
+        ensures gives { Gives manifest_view result (listing_of self.now.key self.now.files) }
+    {
+        let Some(contents) = self.manifest_data() else {
+            return Err(Stop::Refused(Refusal::NoFile));
+        };
+        let manifest = read_manifest(alloc, contents)?;
+        let facts = facts_of(alloc, self.uploads.as_slice())?;
+        want_listed(alloc, &manifest, self.key.as_key(), &facts)?;
+        Ok(manifest)
+    }
+
+    /// The snapshot that a FINISH makes of the files: no archive is open, and the manifest among them lists the others.
+    pub fn finished(&self, alloc: Global) -> Result<Snapshot, Stop>
+        ensures fits { IsFitRefusal result }
+        ensures gives { Gives (λ x. x) result (finished_of self.now) }
+    {
+        let count = self.begun.len();
+        if count > 0 {
+            return Err(Stop::Refused(Refusal::OpenIndexes { count }));
+        }
+        self.want_listing(alloc)?;
+        Ok(Snapshot {
+            key: self.key.clone()?,
+            files: self.uploads.to_vec()?,
+        })
+    }
+}

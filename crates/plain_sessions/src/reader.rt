@@ -1,0 +1,168 @@
+//! Readers.
+
+ghost use Rattle.std.specs.Prelude.{◌≡◌, ◌≤◌, [], length, option_map, IfOk, IfErr};
+ghost use Rattle.std.specs.List.{concat};
+ghost use Rattle.blob_codec.specs.Blob.{blob};
+ghost use Rattle.store_files.specs.Archive.{piece_with as first_with};
+ghost use Rattle.wire_commands.specs.HasText.{FitsRefusal};
+ghost use Rattle.store_model.specs.ReaderSteps.{is_noted as has_noted, note as noted, pieces_at as pieces_named, noted_pieces, want_range as range_fits, range_of};
+ghost use Rattle.plain_snapshots.specs.Contents.{shown_content};
+ghost use Rattle.plain_sessions.specs.Outcomes.{Gives, IsFitRefusal};
+ghost use Rattle.plain_sessions.specs.Reading.{chunk_of};
+
+use crate::entries::piece_with;
+use crate::stop::Stop;
+use plain_snapshots::{BlobData, Content, File, PlainKey, file_named};
+use std::alloc::{AllocError, Global};
+use std::marker::Model;
+use store_types::{Bytes, Digest32, FileName, Refusal};
+
+/// The most bytes of a range.
+const RANGE_LIMIT: u32 = 4_194_304;
+
+/// The pieces of the archive of this name.
+fn pieces_at<'a>(files: &'a [File], name: &FileName) -> &'a [BlobData]
+    ensures { result.now ≡ pieces_named files.now name.now }
+{
+    match file_named(name.as_slice(), files) {
+        Some(file) => file.content.pieces(),
+        None => &[],
+    }
+}
+
+/// The pieces, one behind another.
+fn content_of(alloc: Global, pieces: &[BlobData]) -> Result<Vec<u8>, AllocError>
+    ensures { IfOk result (λ content. content.items ≡ concat pieces.now) }
+{
+    let mut content = Vec::new(alloc);
+    for piece in pieces {
+        content.extend_from_slice(piece.as_slice())?;
+    }
+    Ok(content)
+}
+
+/// The blob of a piece. A reply holds it.
+fn blob_of(alloc: Global, piece: &BlobData) -> Result<Bytes, AllocError>
+    ensures blob { IfOk result (λ b. b ≡ blob piece.now) }
+    ensures short { IfOk result (λ b. length b ≤ 16_777_228) }
+{
+    let _ = piece.as_slice();
+    let text = piece.text(alloc)?;
+    Ok(Bytes::from_vec(text))
+}
+
+/// A range that content of this size has, and that a reply holds.
+fn want_range(size: u64, offset: u64, length: u32) -> Result<(), Refusal>
+    ensures fits { IfErr result FitsRefusal }
+    ensures test { result ≡ range_fits size offset length }
+{
+    if length > RANGE_LIMIT {
+        return Err(Refusal::TooMany { limit: RANGE_LIMIT });
+    }
+    if offset > size || length as u64 > size - offset {
+        return Err(Refusal::BadRange { size });
+    }
+    Ok(())
+}
+
+/// A reader of a finished snapshot.
+#[derive(Drop)]
+pub struct Reader {
+    key: PlainKey,
+    /// The names of the archives that it downloaded.
+    noted: Vec<FileName>,
+}
+
+impl Model for Reader {
+    ghost use Rattle.store_model.specs.Store as model;
+
+    ghost Value = { model.Reader };
+
+    ghost view = { λ r. record { key = r.key; noted = r.noted.items } };
+}
+
+impl Reader {
+    /// A reader of a snapshot, which has downloaded nothing. It takes no memory.
+    pub fn new(alloc: Global, key: PlainKey) -> Reader
+        ensures { result ≡ record { key = key; noted = [] } }
+    {
+        Reader {
+            key,
+            noted: Vec::new(alloc),
+        }
+    }
+
+    /// The key of its snapshot.
+    pub fn key(&self) -> &PlainKey
+        ensures { result.now ≡ self.now.key }
+    {
+        &self.key
+    }
+
+    fn is_noted(&self, name: &FileName) -> bool
+        ensures { result ≡ has_noted self.now name.now }
+    {
+        self.noted.iter().any(|other| *name == *other)
+    }
+
+    /// The reader after a download: an archive's name is noted, once.
+    pub fn note(&self, name: FileName, content: &Content) -> Result<Reader, AllocError>
+        ensures { IfOk result (λ after. after ≡ noted name (shown_content content.now) self.now) }
+    {
+        let mut names = self.noted.clone()?;
+        if content.is_archive() && !self.is_noted(&name) {
+            names.push(name)?;
+        }
+        Ok(Reader {
+            key: self.key.clone()?,
+            noted: names,
+        })
+    }
+
+    /// The first piece with this digest of the archives that it downloaded.
+    fn noted_piece<'a>(&self, files: &'a [File], digest: &Digest32) -> Option<&'a BlobData>
+        ensures { option_map (λ p. p.now) result ≡ first_with digest.now (noted_pieces files.now self.now) }
+    {
+        for name in &self.noted {
+            if let Some(piece) = piece_with(digest, pieces_at(files, name)) {
+                return Some(piece);
+            }
+        }
+        None
+    }
+
+    /// The blob that a GET_CHUNK gives, where these are the files of its snapshot.
+    pub fn chunk(&self, alloc: Global, files: &[File], digest: &Digest32) -> Result<Bytes, Stop>
+        ensures fits { IsFitRefusal result }
+        ensures gives { Gives (λ b. b) result (chunk_of files.now self.now digest.now) }
+        ensures short { IfOk result (λ b. length b ≤ 16_777_228) }
+    {
+        let Some(piece) = self.noted_piece(files, digest) else {
+            return Err(Stop::Refused(Refusal::NotAllowed));
+        };
+        Ok(blob_of(alloc, piece)?)
+    }
+
+    /// The bytes that a RANGE gives, where these are the files of its snapshot.
+    pub fn range(
+        &self,
+        alloc: Global,
+        files: &[File],
+        name: &FileName,
+        offset: u64,
+        count: u32,
+    ) -> Result<Bytes, Stop>
+        ensures fits { IsFitRefusal result }
+        ensures gives { Gives (λ b. b) result (range_of files.now self.now name.now offset count) }
+        ensures short { IfOk result (λ b. length b ≤ 4_194_304) }
+    {
+        if !self.is_noted(name) {
+            return Err(Stop::Refused(Refusal::NotAllowed));
+        }
+        let content = content_of(alloc, pieces_at(files, name))?;
+        want_range(content.len() as u64, offset, count)?;
+        let rest = &content[offset as usize..];
+        let bytes = Bytes::from_slice(alloc, &rest[..count as usize])?;
+        Ok(bytes)
+    }
+}

@@ -1,0 +1,89 @@
+-- The snapshots that a datastore's files have, and which of them are damaged.
+use Rattle.std.specs.Prelude.{◌≡◌, ◌≤◌, ◌↔◌, ℕ, Bool, true, ◌&&◌, List, [], ◌∷◌, ◌++◌, map, filter, length, nat_le, eqb, if◌then◌else◌, Option, Some, None, is_some, option_map, codes, IsSome, IfSome, IsTrue}
+use Rattle.std.specs.List.{All, Contains, filter_map, starts_with}
+use Rattle.std.specs.FinMap.{get, keys}
+use Rattle.disk_trait.specs.Files.{Files}
+use Rattle.store_types.specs.declared.names.SnapshotKey.{SnapshotKey}
+use Rattle.store_types.specs.Names.{IsKey, key_lt}
+use Rattle.store_types.specs.Chain.Reading.{◌>>=◌}
+use Rattle.store_files.specs.Manifest.{Manifest}
+use Rattle.manifest.specs.Least.{lesser}
+use Rattle.store_model.specs.Uploads.{file_path}
+use Rattle.store_model.specs.Stands.{manifest_path}
+use Rattle.store_model.specs.Load.{read_manifest, key_of_manifest}
+
+-- its manifest, where that reads, and the name of the file that makes it damaged
+pub record FoundSnapshot : Type 0 where
+  pub key : SnapshotKey
+  pub manifest : Option Manifest
+  pub unreadable : Option (List ℕ)
+
+-- ---- damage
+
+-- the name, where the snapshot has no such file
+abbrev pub missing_name : Files → SnapshotKey → List ℕ → Option (List ℕ)
+missing_name files key name = if is_some (get files (file_path key name)) then None else Some name
+
+-- the first of these names, in byte order, of which the snapshot has no file
+abbrev pub first_missing : Files → SnapshotKey → List (List ℕ) → Option (List ℕ)
+first_missing files key [] = None
+first_missing files key (name ∷ names) = lesser (missing_name files key name) (first_missing files key names)
+
+-- the manifest's name where it cannot be read or lists more than 63 files, else that of the first listed file that is missing
+abbrev pub unreadable_by : Files → SnapshotKey → Option Manifest → Option (List ℕ)
+unreadable_by files key None = Some (manifest_path key)
+unreadable_by files key (Some listed) =
+    if nat_le (length listed.files) 63 then option_map (file_path key) (first_missing files key (map (λ f. f.name) listed.files))
+    else Some (manifest_path key)
+
+-- the snapshot whose manifest reads so, whatever snapshot it names
+abbrev pub found_with : Files → SnapshotKey → Option Manifest → FoundSnapshot
+found_with files key manifest = record { key = key; manifest = manifest; unreadable = unreadable_by files key manifest }
+
+-- the snapshot, where its manifest is there
+unfoldable pub found_at : Files → SnapshotKey → Option FoundSnapshot
+found_at files key = do
+  bytes ← get files (manifest_path key)
+  Some (found_with files key (read_manifest bytes))
+
+-- ---- all of them
+
+-- each is above the one before it
+abbrev pub found_rise : List FoundSnapshot → Bool
+found_rise [] = true
+found_rise (x ∷ []) = true
+found_rise (x ∷ y ∷ xs) = key_lt x.key y.key && found_rise (y ∷ xs)
+
+-- These are the snapshots whose manifest is there, whatever it holds, each once and in their order.
+pub record Lists (files : Files) (found : List FoundSnapshot) : Type 0 where
+  pub rising : IsTrue (found_rise found)
+  pub each : All (λ x. IsKey x.key × (found_at files x.key ≡ Some x)) found
+  pub exactly : (key : SnapshotKey) → IsKey key → Contains (map (λ x. x.key) found) key ↔ IsSome (get files (manifest_path key))
+
+-- Its key is in the grammar, and the file's name leaves room for a temporary one's ending.
+abbrev pub HasNames : FoundSnapshot → Type 0
+HasNames x = IsKey x.key × IfSome x.unreadable (λ name. length name ≤ 251)
+
+-- ---- by names
+
+-- the snapshot whose manifest has this name
+unfoldable pub found_named : Files → List ℕ → Option FoundSnapshot
+found_named files name = do
+  key ← key_of_manifest name
+  bytes ← get files name
+  Some (found_with files key (read_manifest bytes))
+
+abbrev pub names_under : List ℕ → Files → List (List ℕ)
+names_under folder files = filter (λ name. starts_with eqb name folder) (keys files)
+
+-- all names in the folders of snapshots
+abbrev pub folder_names : Files → List (List ℕ)
+folder_names files = names_under (codes "ct/") files ++ names_under (codes "host/") files ++ names_under (codes "vm/") files
+
+abbrev pub insert_found : FoundSnapshot → List FoundSnapshot → List FoundSnapshot
+insert_found new [] = new ∷ []
+insert_found new (x ∷ xs) = if key_lt new.key x.key then new ∷ x ∷ xs else x ∷ insert_found new xs
+
+unfoldable pub in_order : List FoundSnapshot → List FoundSnapshot
+in_order [] = []
+in_order (x ∷ xs) = insert_found x (in_order xs)

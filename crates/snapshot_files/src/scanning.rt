@@ -1,0 +1,255 @@
+//! All snapshots on a disk.
+
+ghost use Rattle.std.specs.Prelude.{◌≡◌, ◌≤◌, ◌++◌, [], Some, not, is_some, length, map, option_map, string_bytes, IfSome, IfOk, OnOk, IsErrOf};
+ghost use Rattle.std.specs.List.{All, cons_option, filter_map};
+ghost use Rattle.std.specs.FinMap.{get};
+ghost use Rattle.disk_trait.specs.Disk.{Serves, Ticks, Steps, Same};
+ghost use Rattle.manifest.specs.Least.{lesser as lesser_of};
+ghost use Rattle.manifest.specs.Views.{manifest_view};
+ghost use Rattle.store_types.specs.Names.{IsKey};
+ghost use Rattle.store_model.specs.Load.{key_of_manifest as key_named};
+ghost use Rattle.store_model.specs.Stands.{manifest_path};
+ghost use Rattle.store_model.specs.Uploads.{file_path};
+ghost use Rattle.snapshot_files.specs.OnlyReads.{Reads};
+ghost use Rattle.snapshot_files.specs.Scanned.{Lists, HasNames, found_named as found_of, first_missing as first_missing_of, missing_name as missing_of, unreadable_by, folder_names, in_order as ordered};
+
+use crate::found::{Found, insert_found, read_manifest};
+use crate::path::{manifest_path_of, path_of};
+use disk_trait::{Disk, DiskError};
+use manifest::{FileFact, Manifest};
+use std::alloc::{AllocError, Global};
+use store_types::{Bytes, FileName, SnapshotKey};
+
+/// The most files that a manifest lists.
+const LISTED_LIMIT: usize = 63;
+
+/// The snapshot whose manifest has this name.
+fn key_of_manifest(alloc: Global, path: &str) -> Result<Option<SnapshotKey>, AllocError>
+    ensures value { IfOk result (λ key. key ≡ key_named path.now) }
+    ensures grammar { IfOk result (λ key. IfSome key IsKey) }
+{
+    let text = path.as_bytes();
+    let front = text.len().saturating_sub(b"/index.json.blob".len());
+    let Ok(key) = SnapshotKey::parse(alloc, &text[..front])? else {
+        return Ok(None);
+    };
+    let manifest = manifest_path_of(alloc, &key)?;
+    if path == manifest.as_str() {
+        Ok(Some(key))
+    } else {
+        Ok(None)
+    }
+}
+
+/// Whether the snapshot has no such file.
+fn is_missing<D: Disk>(
+    alloc: Global,
+    disk: &mut D,
+    key: &SnapshotKey,
+    name: &FileName,
+) -> Result<bool, DiskError>
+    requires { IsKey key.now }
+    ensures serves { Serves D.honest D.faults disk.old disk.new (IsErrOf result DiskError.Failed) }
+    ensures reads { Reads D.honest D.content D.calls D.images disk.old disk.new }
+    ensures missing { D.honest disk.old → IfOk result (λ missing. missing ≡ not (is_some (get (D.content disk.old) (file_path key.now name.now)))) }
+{
+    let path = path_of(alloc, key, name)?;
+    let size = disk.size(path.as_str())?;
+    Ok(size.is_none())
+}
+
+/// The lesser of two names.
+fn lesser(first: Option<FileName>, name: FileName) -> Option<FileName>
+    ensures { result ≡ lesser_of first (Some name) }
+{
+    let Some(first) = first else {
+        return Some(name);
+    };
+    if name < first {
+        Some(name)
+    } else {
+        Some(first)
+    }
+}
+
+/// The first of the missing names so far, and of this one, where the snapshot has no such file.
+fn first_with<D: Disk>(
+    alloc: Global,
+    disk: &mut D,
+    key: &SnapshotKey,
+    name: &FileName,
+    first: Option<FileName>,
+) -> Result<Option<FileName>, DiskError>
+    requires { IsKey key.now }
+    ensures serves { Serves D.honest D.faults disk.old disk.new (IsErrOf result DiskError.Failed) }
+    ensures reads { Reads D.honest D.content D.calls D.images disk.old disk.new }
+    ensures first { D.honest disk.old → IfOk result (λ new. new ≡ lesser_of first (missing_of (D.content disk.old) key.now name.now)) }
+{
+    if !is_missing(alloc, disk, key, name)? {
+        return Ok(first);
+    }
+    let name = name.clone()?;
+    Ok(lesser(first, name))
+}
+
+/// The first listed file, in byte order, that the snapshot lacks.
+fn first_missing<D: Disk>(
+    alloc: Global,
+    disk: &mut D,
+    key: &SnapshotKey,
+    listed: &[FileFact],
+) -> Result<Option<FileName>, DiskError>
+    requires { IsKey key.now }
+    ensures serves { Serves D.honest D.faults disk.old disk.new (IsErrOf result DiskError.Failed) }
+    ensures reads { Reads D.honest D.content D.calls D.images disk.old disk.new }
+    ensures first { D.honest disk.old → IfOk result (λ first. first ≡ first_missing_of (D.content disk.old) key.now (map (λ f. f.name) listed.now)) }
+{
+    let mut first = None;
+    for file in listed {
+        first = first_with(alloc, disk, key, &file.name, first)?;
+    }
+    Ok(first)
+}
+
+/// The full name of the snapshot's manifest.
+fn manifest_name_of(alloc: Global, key: &SnapshotKey) -> Result<Bytes, AllocError>
+    requires { IsKey key.now }
+    ensures name { IfOk result (λ name. name ≡ manifest_path key.now) }
+    ensures short { IfOk result (λ name. length name ≤ 251) }
+{
+    let path = manifest_path_of(alloc, key)?;
+    Ok(path.into_bytes())
+}
+
+/// The full name of the file that makes the snapshot with this manifest damaged.
+fn unreadable_of<D: Disk>(
+    alloc: Global,
+    disk: &mut D,
+    key: &SnapshotKey,
+    manifest: &Option<Manifest>,
+) -> Result<Option<Bytes>, DiskError>
+    requires { IsKey key.now }
+    ensures serves { Serves D.honest D.faults disk.old disk.new (IsErrOf result DiskError.Failed) }
+    ensures reads { Reads D.honest D.content D.calls D.images disk.old disk.new }
+    ensures unreadable { D.honest disk.old → IfOk result (λ name. name ≡ unreadable_by (D.content disk.old) key.now (option_map manifest_view manifest.now)) }
+    ensures short { IfOk result (λ name. IfSome name (λ path. length path ≤ 251)) }
+{
+    let Some(listed) = manifest else {
+        return Ok(Some(manifest_name_of(alloc, key)?));
+    };
+    let files = listed.files.as_slice();
+    if files.len() > LISTED_LIMIT {
+        return Ok(Some(manifest_name_of(alloc, key)?));
+    }
+    let Some(name) = first_missing(alloc, disk, key, files)? else {
+        return Ok(None);
+    };
+    let path = path_of(alloc, key, &name)?;
+    Ok(Some(path.into_bytes()))
+}
+
+/// The snapshot whose manifest's file has this name.
+#[tactic(auto, unfolding(crate::specs::Scanned::found_named))]
+fn found_named<D: Disk>(alloc: Global, disk: &mut D, name: &str) -> Result<Option<Found>, DiskError>
+    ensures serves { Serves D.honest D.faults disk.old disk.new (IsErrOf result DiskError.Failed) }
+    ensures reads { Reads D.honest D.content D.calls D.images disk.old disk.new }
+    ensures found { D.honest disk.old → IfOk result (λ found. found ≡ found_of (D.content disk.old) name.now) }
+    ensures names { IfOk result (λ found. IfSome found HasNames) }
+{
+    let Some(key) = key_of_manifest(alloc, name)? else {
+        return Ok(None);
+    };
+    let Some(bytes) = disk.read(alloc, name)? else {
+        return Ok(None);
+    };
+    let manifest = read_manifest(alloc, &bytes)?;
+    let unreadable = unreadable_of(alloc, disk, &key, &manifest)?;
+    Ok(Some(Found {
+        key,
+        manifest,
+        unreadable,
+    }))
+}
+
+/// The snapshot whose manifest's file has this name, behind those before.
+fn find_into<D: Disk>(
+    alloc: Global,
+    disk: &mut D,
+    name: &str,
+    all: &mut Vec<Found>,
+) -> Result<(), DiskError>
+    ensures serves { Serves D.honest D.faults disk.old disk.new (IsErrOf result DiskError.Failed) }
+    ensures reads { Reads D.honest D.content D.calls D.images disk.old disk.new }
+    ensures found { D.honest disk.old → OnOk result (all.new.items ≡ all.old.items ++ cons_option (found_of (D.content disk.old) name.now) []) }
+    ensures names { All HasNames all.old.items → OnOk result (All HasNames all.new.items) }
+{
+    let Some(found) = found_named(alloc, disk, name)? else {
+        return Ok(());
+    };
+    all.push(found)?;
+    Ok(())
+}
+
+/// The snapshots whose manifests have one of these names.
+fn all_named<D: Disk>(
+    alloc: Global,
+    disk: &mut D,
+    names: &[String],
+) -> Result<Vec<Found>, DiskError>
+    ensures serves { Serves D.honest D.faults disk.old disk.new (IsErrOf result DiskError.Failed) }
+    ensures reads { Reads D.honest D.content D.calls D.images disk.old disk.new }
+    ensures found { D.honest disk.old → IfOk result (λ all. all.items ≡ filter_map (found_of (D.content disk.old)) (map string_bytes names.now)) }
+    ensures names { IfOk result (λ all. All HasNames all.items) }
+{
+    let mut all = Vec::new(alloc);
+    for name in names {
+        find_into(alloc, disk, name.as_str(), &mut all)?;
+    }
+    Ok(all)
+}
+
+/// All names in the folders of snapshots.
+fn names_in_folders<D: Disk>(alloc: Global, disk: &mut D) -> Result<Vec<String>, DiskError>
+    ensures serves { Serves D.honest D.faults disk.old disk.new (IsErrOf result DiskError.Failed) }
+    ensures moment { Ticks D.honest D.calls disk.old disk.new }
+    ensures reads { Reads D.honest D.content D.calls D.images disk.old disk.new }
+    ensures names { D.honest disk.old → IfOk result (λ names. map string_bytes names.items ≡ folder_names (D.content disk.old)) }
+{
+    let mut names = disk.list(alloc, "ct/")?;
+    let mut hosts = disk.list(alloc, "host/")?;
+    let mut machines = disk.list(alloc, "vm/")?;
+    names.append(&mut hosts)?;
+    names.append(&mut machines)?;
+    Ok(names)
+}
+
+/// The snapshots in their order.
+fn in_order(alloc: Global, mut all: Vec<Found>) -> Result<Vec<Found>, AllocError>
+    ensures { IfOk result (λ sorted. sorted.items ≡ ordered all.items) }
+{
+    let mut sorted = Vec::new(alloc);
+    while let Some(found) = all.pop() {
+        insert_found(&mut sorted, found)?;
+    }
+    Ok(sorted)
+}
+
+/// All snapshots whose manifest's file is there, each once, in the order of snapshots: by type, by the bytes of the id,
+/// by time. A snapshot is damaged where that file is no blob of a manifest, or lists more than 63 files, or one that is
+/// not there. A manifest that names another snapshot than its folder makes none damaged.
+///
+/// Other names in the folders are passed over, and chunks are not looked at. The calls of the disk, all of which only
+/// read, are a list for each type, and for each snapshot a read of its manifest and a `size` of each listed file. At
+/// an error nothing is told, whatever was read before it.
+pub fn scan<D: Disk>(alloc: Global, disk: &mut D) -> Result<Vec<Found>, DiskError>
+    ensures serves { Serves D.honest D.faults disk.old disk.new (IsErrOf result DiskError.Failed) }
+    ensures moment { Ticks D.honest D.calls disk.old disk.new }
+    ensures crash { Steps D.calls D.images disk.old disk.new Same }
+    ensures same { D.honest disk.old → D.content disk.new ≡ D.content disk.old }
+    ensures found { D.honest disk.old → IfOk result (λ found. Lists (D.content disk.old) found.items) }
+    ensures names { IfOk result (λ found. All HasNames found.items) }
+{
+    let names = names_in_folders(alloc, disk)?;
+    let all = all_named(alloc, disk, &names)?;
+    Ok(in_order(alloc, all)?)
+}

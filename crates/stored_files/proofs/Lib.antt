@@ -1,0 +1,5 @@
+mod Texts
+mod PartLemmas
+mod Entries
+mod Indexed
+pub mod Archives
