@@ -1,11 +1,16 @@
 //! Chunks on a disk in memory, as a reader's answers need them.
 
+use crate::chunks::get_chunk;
 use crate::loading::{read_chunk, read_parts};
 use chunk_store::Chunk;
+use core_state::{Parts, Session, open_on};
 use disk_trait::{Disk, MemoryDisk};
-use restore_reader::Part;
+use port_traits::SetClock;
+use restore_reader::{Part, open_reader};
+use std::alloc::Global;
 use std::test::Fail;
-use store_types::{ChunkFault, Digest32, Refusal};
+use store_types::{ChunkFault, Digest32, FileName, Refusal, SnapshotKey};
+use wire_commands::Reply;
 
 /// SHA-256 of `abc`.
 const ABC: [u8; 32] = [
@@ -32,8 +37,13 @@ const DE_BLOB: &[u8] = b"\x42\xab\x38\x07\xbe\x83\x70\xa1\x8b\x29\x90\x7dde";
 /// `abc`'s blob with another last byte.
 const TORN_BLOB: &[u8] = b"\x42\xab\x38\x07\xbe\x83\x70\xa1\xc2\x41\x24\x35abd";
 
+/// It tells so of the piece `abc`.
+fn tells(refusal: &Refusal, found: ChunkFault) -> bool {
+    matches!(refusal, Refusal::Damaged { digest, fault } if *digest == Digest32(ABC) && *fault == found)
+}
+
 fn is_damaged(told: &Result<Chunk, Refusal>, found: ChunkFault) -> bool {
-    matches!(told, Err(Refusal::Damaged { digest, fault }) if *digest == Digest32(ABC) && *fault == found)
+    matches!(told, Err(refusal) if tells(refusal, found))
 }
 
 /// A chunk that is there, and each way in which it is not.
@@ -82,5 +92,47 @@ fn parts_are_read_in_order(rt: HostRuntime) -> Result<(), Fail> {
     assert!(rt;
         matches!(&missing, Err(Refusal::Damaged { digest, fault: ChunkFault::Nothing }) if *digest == Digest32(DE))
     );
+    Ok(())
+}
+
+/// Lane 5 gets a reader that downloaded an archive of the piece `abc` alone.
+fn put_reader(parts: &mut Parts<MemoryDisk>, alloc: Global) -> Result<(), Fail> {
+    let key = SnapshotKey::parse(alloc, b"host/a/2020-01-15T06:30:03Z")??;
+    let name = FileName::check(alloc, b"root.didx")??;
+    let mut reader = open_reader(alloc, key);
+    reader.downloaded(alloc, name, &[(Digest32(ABC), 3)])?;
+    parts.sessions[5] = Session::Reader(reader);
+    Ok(())
+}
+
+/// The reply to GET_CHUNK of the piece `abc`, where this stands under its chunk's name.
+fn given_over(parts: &mut Parts<MemoryDisk>, alloc: Global, text: &[u8]) -> Result<Reply, Fail> {
+    parts.disk.put(alloc, ABC_CHUNK, text)?;
+    Ok(get_chunk(parts, alloc, 5, &Digest32(ABC))?)
+}
+
+fn is_refused(reply: &Reply, found: ChunkFault) -> bool {
+    matches!(reply, Reply::Refused(refusal) if tells(refusal, found))
+}
+
+/// A reader is given a chunk that is there, and told each way in which it is not.
+#[test]
+fn damaged_chunks_are_not_given(rt: HostRuntime) -> Result<(), Fail> {
+    let alloc = rt.alloc();
+    let clock = SetClock::new(Vec::new(alloc), 0);
+    let opened = open_on(alloc, MemoryDisk::new(alloc), None::<MemoryDisk>, clock);
+    let mut parts = opened.ok().ok_or("not opened")?.parts;
+    put_reader(&mut parts, alloc)?;
+    let unknown = get_chunk(&mut parts, alloc, 5, &Digest32(DE))?;
+    assert!(rt; matches!(unknown, Reply::Refused(Refusal::NotAllowed)));
+    let whole = given_over(&mut parts, alloc, ABC_BLOB)?;
+    assert!(rt; matches!(&whole, Reply::Data(bytes) if bytes.as_slice() == ABC_BLOB));
+    let torn = given_over(&mut parts, alloc, TORN_BLOB)?;
+    assert!(rt; is_refused(&torn, ChunkFault::NotABlob));
+    let other = given_over(&mut parts, alloc, DE_BLOB)?;
+    assert!(rt; is_refused(&other, ChunkFault::Other(Digest32(DE))));
+    assert!(rt; parts.disk.remove(ABC_CHUNK)?);
+    let nothing = get_chunk(&mut parts, alloc, 5, &Digest32(ABC))?;
+    assert!(rt; is_refused(&nothing, ChunkFault::Nothing));
     Ok(())
 }
