@@ -1,3 +1,3 @@
-mod Entries
+pub mod Entries
 mod Chunks
 mod Whole

@@ -12,8 +12,6 @@ ghost use Rattle.store_files.specs.Book.{touch_text, signed_text, book_text, boo
 ghost use Rattle.atime_book.specs.Touches.{touches_of, cutoff_of, empty, last_of, is_stale, TouchedAt, SweptAt, NoneAfter};
 
 mod reading;
-#[cfg(test)]
-mod tests;
 
 use sha2::{Digest, Sha256};
 use std::alloc::{AllocError, Global};

@@ -8,8 +8,6 @@ mod finishing;
 mod index;
 mod indexes;
 mod state;
-#[cfg(test)]
-mod tests;
 mod writer;
 
 pub use writer::{Writer, open_writer};

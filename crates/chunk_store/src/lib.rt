@@ -13,6 +13,3 @@ pub use chunk::{Chunk, LoadFault};
 pub use listing::scan;
 pub use name::ChunkName;
 pub use store::{insert, insert_blob, load, remove};
-
-#[cfg(test)]
-mod tests;

@@ -1,8 +1,8 @@
 -- The acts of readers are well-formed commands.
 use Rattle.std.proofs.Common.{◌≡◌, refl}
-use Rattle.wire_commands.specs.declared.command.Command.TheVariants.{OpenWriter, Previous, NewFixed, NewDynamic, Chunk as ChunkCommand, Append, CloseIndex, Blob as BlobCommand, Finish, Abort, OpenReader, Download, GetChunk, Range, CloseReader, Bye}
+use Rattle.wire_commands.specs.declared.command.Command.TheVariants.{OpenWriter, Previous, NewFixed, NewDynamic, Chunk as ChunkCommand, Append, CloseIndex, Blob as BlobCommand, Finish, Abort, OpenReader, Download, GetChunk, Range, CloseReader, List as ListAll, Files as FilesOf, Forget, Prune, Group, Bye}
 use Rattle.store_history.specs.declared.act.Act.{Act}
-use Rattle.store_history.specs.declared.act.Act.TheVariants.{Plain, Blob, Chunk, Short, End}
+use Rattle.store_history.specs.declared.act.Act.TheVariants.{Plain, JobGroup, Blob, Chunk, Short, End}
 use Rattle.store_history.specs.Acts.{IsWellFormed, class_of, stepping}
 use Rattle.disk_trait.specs.Files.{Files}
 use Rattle.core_state.specs.Chunks.{IsSafe}
@@ -24,7 +24,13 @@ readers_formed (Plain (CloseIndex number count size csum)) h = absurd h
 readers_formed (Plain Finish) h = absurd h
 readers_formed (Plain Abort) h = absurd h
 readers_formed (Plain (BlobCommand file blob)) h = absurd h
+readers_formed (Plain (ListAll after)) h = absurd h
+readers_formed (Plain (FilesOf snapshot)) h = absurd h
+readers_formed (Plain (Forget snapshot)) h = absurd h
+readers_formed (Plain (Prune group keep dry)) h = absurd h
+readers_formed (Plain (Group group)) h = absurd h
 readers_formed (Plain Bye) h = absurd h
+readers_formed (JobGroup command) h = absurd h
 readers_formed (Blob name checked) h = absurd h
 readers_formed (Chunk digest checked) h = absurd h
 readers_formed Short h = absurd h
@@ -32,6 +38,7 @@ readers_formed End h = absurd h
 
 pub readers_step : (a : Act) → IsReaders a → class_of a ≡ stepping
 readers_step (Plain c) h = refl
+readers_step (JobGroup command) h = absurd h
 readers_step (Blob name checked) h = absurd h
 readers_step (Chunk digest checked) h = absurd h
 readers_step Short h = absurd h
@@ -40,6 +47,7 @@ readers_step End h = absurd h
 -- they put no chunk
 pub readers_safe : (m : Files) (a : Act) → IsReaders a → IsSafe m a
 readers_safe m (Plain c) h = tt
+readers_safe m (JobGroup command) h = tt
 readers_safe m (Blob name checked) h = tt
 readers_safe m (Chunk digest checked) h = absurd h
 readers_safe m Short h = tt

@@ -31,10 +31,12 @@ use Rattle.core_state.specs.States.{state_of}
 use Rattle.core_state.specs.Holds.{IsReader, IsOnDisk, Holds, Does}
 use Rattle.core_state.specs.Unreadables.{read_by}
 use Rattle.core_state.proofs.Acting.{holds_same}
+use Rattle.core_state.proofs.LockLemmas.{locked_reads_on}
 use Rattle.core_state.proofs.Soundness.{shows_changed}
 use Rattle.core_state.proofs.Finding.{is_some}
 use Rattle.core_state.proofs.Found.{IsThere, is_there, there_named, there_text, there_kind, there_fits}
-use Rattle.core_reader.specs.Asked.{whole_for, reply_told}
+use Rattle.core_state.specs.Replies.{reply_told}
+use Rattle.core_reader.specs.Asked.{whole_for}
 use Rattle.core_reader.proofs.Getting.{IsNoReader}
 use Rattle.core_reader.proofs.Noted.{note_key, note_none, whole_archive}
 use Rattle.core_reader.proofs.OpenSteps.{sound_reader, disk_reader}
@@ -154,36 +156,36 @@ module _ {D : Type 0} (honest : D → Type 0) (content : D → Files) (old new :
 
   -- the part is refused
   does_refused_there : (refusal : Refusal) → part_from (file_text stored) offset ≡ Err refusal
-      → (honest old.disk ↔ honest new.disk) → (honest old.disk → content new.disk ≡ content old.disk) → new.catalogue.items ≡ old.catalogue.items → new.sessions.items ≡ old.sessions.items
+      → (honest old.disk ↔ honest new.disk) → (honest old.disk → content new.disk ≡ content old.disk) → new.catalogue.items ≡ old.catalogue.items → new.sessions.items ≡ old.sessions.items → new.locks ≡ old.locks
       → Does honest content new s (answered s (outcome s lane m (Download name offset))) (Ok (Refused refusal))
-  does_refused_there refusal gives kept same c l =
-      let done : Does honest content new s (s, Refused refusal) (Ok (Refused refusal)) = (refl, holds_same honest content old new s kept same c l h) in
+  does_refused_there refusal gives kept same c l k =
+      let done : Does honest content new s (s, Refused refusal) (Ok (Refused refusal)) = (refl, holds_same honest content old new s kept same c l k h) in
       subst (λ o. Does honest content new s (answered s o) (Ok (Refused refusal))) (sym (step_there ∙ ap (with_part s lane (note name stored r)) gives)) done
 
   does_refused_part : (refusal : Refusal) → ((text : List ℕ) → get (content old.disk) path ≡ Some text → Err refusal ≡ part_from text offset)
-      → (honest old.disk ↔ honest new.disk) → (honest old.disk → content new.disk ≡ content old.disk) → new.catalogue.items ≡ old.catalogue.items → new.sessions.items ≡ old.sessions.items
+      → (honest old.disk ↔ honest new.disk) → (honest old.disk → content new.disk ≡ content old.disk) → new.catalogue.items ≡ old.catalogue.items → new.sessions.items ≡ old.sessions.items → new.locks ≡ old.locks
       → Does honest content new s (answered s (outcome s lane m (Download name offset))) (Ok (Refused refusal))
   does_refused_part refusal gives = does_refused_there refusal (sym (gives (file_text stored) text_there))
 
   -- it is given, and nothing is noted
   does_part : (part : Reply) → whole_for (shown_reader s.snapshots r) name ≡ None → ((text : List ℕ) → get (content old.disk) path ≡ Some text → Ok part ≡ part_from text offset)
-      → (honest old.disk ↔ honest new.disk) → (honest old.disk → content new.disk ≡ content old.disk) → new.catalogue.items ≡ old.catalogue.items → new.sessions.items ≡ old.sessions.items
+      → (honest old.disk ↔ honest new.disk) → (honest old.disk → content new.disk ≡ content old.disk) → new.catalogue.items ≡ old.catalogue.items → new.sessions.items ≡ old.sessions.items → new.locks ≡ old.locks
       → Does honest content new s (answered s (outcome s lane m (Download name offset))) (Ok part)
-  does_part part whole gives kept same c l =
+  does_part part whole gives kept same c l k =
       let stays : with_session s lane (reader r) ≡ s = ap (λ items. record s { sessions = items }) (ap (set s.sessions lane) (sym at) ∙ set-get_or s.sessions lane none) in
       let step : outcome s lane m (Download name offset) ≡ Ok (s, part) =
       step_there ∙ ap (λ x. with_part s lane x (part_from (file_text stored) offset)) (note_none s.snapshots r name stored kind_there whole)
       ∙ ap (with_part s lane r) (sym (gives (file_text stored) text_there)) ∙ ap (λ t. Ok (t, part)) stays in
-      let done : Does honest content new s (s, part) (Ok part) = (refl, holds_same honest content old new s kept same c l h) in
+      let done : Does honest content new s (s, part) (Ok part) = (refl, holds_same honest content old new s kept same c l k h) in
       subst (λ o. Does honest content new s (answered s o) (Ok part)) (sym step) done
 
   pub does_read : (told : Result Reply Refusal) (reply : Reply) → reply ≡ reply_told told → whole_for (shown_reader s.snapshots r) name ≡ None → ((text : List ℕ) → get (content old.disk) path ≡ Some text → told ≡ part_from text offset)
-      → (honest old.disk ↔ honest new.disk) → (honest old.disk → content new.disk ≡ content old.disk) → new.catalogue.items ≡ old.catalogue.items → new.sessions.items ≡ old.sessions.items
+      → (honest old.disk ↔ honest new.disk) → (honest old.disk → content new.disk ≡ content old.disk) → new.catalogue.items ≡ old.catalogue.items → new.sessions.items ≡ old.sessions.items → new.locks ≡ old.locks
       → Does honest content new s (answered s (outcome s lane m (Download name offset))) (Ok reply)
-  does_read (Ok part) reply is whole gives kept same c l =
-      subst (λ x. Does honest content new s (answered s (outcome s lane m (Download name offset))) (Ok x)) (sym is) (does_part part whole gives kept same c l)
-  does_read (Err refusal) reply is whole gives kept same c l =
-      subst (λ x. Does honest content new s (answered s (outcome s lane m (Download name offset))) (Ok x)) (sym is) (does_refused_part refusal gives kept same c l)
+  does_read (Ok part) reply is whole gives kept same c l k =
+      subst (λ x. Does honest content new s (answered s (outcome s lane m (Download name offset))) (Ok x)) (sym is) (does_part part whole gives kept same c l k)
+  does_read (Err refusal) reply is whole gives kept same c l k =
+      subst (λ x. Does honest content new s (answered s (outcome s lane m (Download name offset))) (Ok x)) (sym is) (does_refused_part refusal gives kept same c l k)
 
   -- an archive's index, read whole
   pub record IsIndex (is_fixed : Bool) : Type 0 where
@@ -208,7 +210,7 @@ module _ {D : Type 0} (honest : D → Type 0) (content : D → Files) (old new :
       }
 
   pub does_refused_index : (refusal : Refusal) (is_fixed : Bool) → whole_for (shown_reader s.snapshots r) name ≡ Some is_fixed → index_at (content old.disk) path is_fixed offset ≡ Err refusal
-      → (honest old.disk ↔ honest new.disk) → (honest old.disk → content new.disk ≡ content old.disk) → new.catalogue.items ≡ old.catalogue.items → new.sessions.items ≡ old.sessions.items
+      → (honest old.disk ↔ honest new.disk) → (honest old.disk → content new.disk ≡ content old.disk) → new.catalogue.items ≡ old.catalogue.items → new.sessions.items ≡ old.sessions.items → new.locks ≡ old.locks
       → Does honest content new s (answered s (outcome s lane m (Download name offset))) (Ok (Refused refusal))
   does_refused_index refusal is_fixed whole tells =
       let x = index_there is_fixed whole in
@@ -218,9 +220,9 @@ module _ {D : Type 0} (honest : D → Type 0) (content : D → Files) (old new :
   pub does_index : (part : Reply) (entries : List Ended) (is_fixed : Bool) (noted : Session) → lane < 64 → whole_for (shown_reader s.snapshots r) name ≡ Some is_fixed
       → index_at (content old.disk) path is_fixed offset ≡ Ok (record { part = part; entries = entries })
       → ((a : Archive) → content_at (files_named r.key s.snapshots) name ≡ Some (archive a) → entries ≡ ends_from 0 a.pieces → noted ≡ shown_session s.snapshots (reader (note name (archive a) r)))
-      → (honest old.disk ↔ honest new.disk) → (honest old.disk → content new.disk ≡ content old.disk) → new.catalogue.items ≡ old.catalogue.items → new.sessions.items ≡ set old.sessions.items lane noted
+      → (honest old.disk ↔ honest new.disk) → (honest old.disk → content new.disk ≡ content old.disk) → new.catalogue.items ≡ old.catalogue.items → new.sessions.items ≡ set old.sessions.items lane noted → new.locks ≡ old.locks
       → Does honest content new s (answered s (outcome s lane m (Download name offset))) (Ok part)
-  does_index part entries is_fixed noted lt whole tells notes kept same c l =
+  does_index part entries is_fixed noted lt whole tells notes kept same c l k =
       let sound = (h.shows).sound in
       let i = index_there is_fixed whole in
       let a = i.one in
@@ -232,7 +234,8 @@ module _ {D : Type 0} (honest : D → Type 0) (content : D → Files) (old new :
       let within : lane < length s.sessions = omega (arith, sound.lanes, lt) in
       let holds : Holds honest content new (with_session s lane (reader x)) = record {
         honest = kept.0 h.honest;
-        shows = shows_changed old new s lane (reader x) noted c l (notes a at_name told.1) (sound_reader s lane x lt reads sound) h.shows;
+        shows = shows_changed old new s lane (reader x) noted c l (notes a at_name told.1)
+            (locked_reads_on old.locks new.locks s lane r x within k at (note_key name (archive a) r) (h.shows).locks) (sound_reader s lane x lt reads sound) h.shows;
         files = disk_reader (content new.disk) s lane x within (subst (λ f. IsOnDisk f s) (sym (same h.honest)) h.files);
       } in
       let done : Does honest content new s (with_session s lane (reader x), part) (Ok part) = (refl, holds) in

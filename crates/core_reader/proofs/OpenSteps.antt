@@ -44,7 +44,7 @@ busy s lane text (reader r) f is ne = ap (λ g. Err (WrongState (state_of g))) (
 pub open_busy : (s : Store) (lane m : ℕ) (text : List ℕ) (f : Session) → f ≡ shown_session s.snapshots (session s lane) → f ≢ Idle → outcome s lane m (OpenReader text) ≡ Err (WrongState (state_of f))
 open_busy s lane m text f is ne = open_is s lane m text ∙ busy s lane text (session s lane) f is ne
 
-idle_none : (ss : List Snapshot) (x : model.Session) → Idle ≡ shown_session ss x → x ≡ none
+pub idle_none : (ss : List Snapshot) (x : model.Session) → Idle ≡ shown_session ss x → x ≡ none
 idle_none ss none e = refl
 idle_none ss (writer w) e = cc
 idle_none ss (reader r) e = cc

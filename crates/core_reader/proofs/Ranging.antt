@@ -163,9 +163,9 @@ data_short bytes total len a b c = omega (arith, a, b, c)
 -- ---- acts that are refused so
 
 pub does_refused_as : {D : Type 0} (honest : D → Type 0) (content : D → Files) (old new : Parts D) (s : Store) (o : Outcome) (refusal : Refusal) (reply : Reply) → reply ≡ Refused refusal
-    → new.disk ≡ old.disk → new.catalogue.items ≡ old.catalogue.items → new.sessions.items ≡ old.sessions.items → o ≡ Err refusal → Holds honest content old s → Does honest content new s (answered s o) (Ok reply)
-does_refused_as honest content old new s o refusal reply is d c l e h =
-    subst (λ x. Does honest content new s (answered s o) (Ok x)) (sym is) (does_refused honest content old new s o refusal d c l e h)
+    → new.disk ≡ old.disk → new.catalogue.items ≡ old.catalogue.items → new.sessions.items ≡ old.sessions.items → new.locks ≡ old.locks → o ≡ Err refusal → Holds honest content old s → Does honest content new s (answered s o) (Ok reply)
+does_refused_as honest content old new s o refusal reply is d c l k e h =
+    subst (λ x. Does honest content new s (answered s o) (Ok x)) (sym is) (does_refused honest content old new s o refusal d c l k e h)
 
 pub unchanged_as : {D : Type 0} (honest : D → Type 0) (content : D → Files) (old new : Parts D) (refusal : Refusal) (reply : Reply) → reply ≡ Refused refusal → LeavesAll honest content old new refusal → Unchanged honest content old new reply
 unchanged_as honest content old new refusal reply is leaves = subst (Unchanged honest content old new) (sym is) leaves

@@ -18,10 +18,10 @@ use Rattle.core_state.specs.declared.kept.Session.{Session}
 use Rattle.core_state.specs.declared.kept.Session.TheVariants.{Idle, Writer, Reader}
 use Rattle.core_state.specs.declared.parts.Parts.{Parts}
 use Rattle.core_state.specs.Found.{path_in}
-use Rattle.core_state.specs.Replies.{answers_download, refuses_download, refuses_get, refuses_range}
+use Rattle.core_state.specs.Replies.{answers_download, refuses_download, refuses_get, refuses_range, reply_told}
 use Rattle.core_state.specs.Unchanged.{is_uncalled, SameContent, SameKept, Unchanged}
 use Rattle.core_state.proofs.Unreadables.{refusal_called}
-use Rattle.core_reader.specs.Asked.{asked_at, downloaded, reply_told}
+use Rattle.core_reader.specs.Asked.{asked_at, downloaded}
 use Rattle.core_reader.specs.Chunks.{IsDamageOf}
 
 -- ---- parts of files

@@ -1,10 +1,8 @@
 -- What a reader asks for.
-use Rattle.std.specs.Prelude.{ℕ, Bool, true, false, List, Option, None, Some, option_map, if◌then◌else◌, Result, Ok, Err}
+use Rattle.std.specs.Prelude.{ℕ, Bool, true, false, List, Option, None, option_map, if◌then◌else◌}
 use Rattle.store_types.specs.declared.refusal.Refusal.{Refusal}
 use Rattle.store_types.specs.declared.refusal.Refusal.TheVariants.{NotAllowed, TooMany, BadRange}
 use Rattle.store_types.specs.FileNames.{is_file_name}
-use Rattle.wire_commands.specs.declared.reply.Reply.{Reply}
-use Rattle.wire_commands.specs.declared.reply.Reply.TheVariants.{Refused}
 use Rattle.wire_commands.specs.declared.command.Command.TheVariants.{Download}
 use Rattle.store_history.specs.declared.act.Act.{Act}
 use Rattle.store_history.specs.declared.act.Act.TheVariants.{Plain}
@@ -15,14 +13,14 @@ use Rattle.core_state.specs.declared.kept.Listed.{Listed}
 use Rattle.core_state.specs.declared.kept.Session.{Session}
 use Rattle.core_state.specs.declared.kept.Session.TheVariants.{Idle, Writer, Reader}
 use Rattle.core_state.specs.Found.{path_in}
-use Rattle.core_state.specs.Unreadables.{Asked, whole_by}
+use Rattle.core_state.specs.Unreadables.{Asked, from_offset, whole_by}
 
 -- an index that was not downloaded before is read whole
 abbrev pub whole_for : Reading → List ℕ → Option Bool
 whole_for r file = if steps.is_downloaded r file then None else whole_by file
 
 abbrev pub asked_at : Reading → List ℕ → ℕ → List ℕ → Asked
-asked_at r file offset path = record { path = path; whole = whole_for r file; offset = offset }
+asked_at r file offset path = record { path = path; way = from_offset (whole_for r file) offset }
 
 -- what is downloaded: a file of the snapshot of the lane's reader
 abbrev pub downloaded : List ℕ → ℕ → Session → List Listed → Option Asked
@@ -46,8 +44,3 @@ refuses_plan NotAllowed = true
 refuses_plan (TooMany limit) = true
 refuses_plan (BadRange size) = true
 refuses_plan _ = false
-
--- what was read, or its refusal, as a reply
-abbrev pub reply_told : Result Reply Refusal → Reply
-reply_told (Ok reply) = reply
-reply_told (Err refusal) = Refused refusal

@@ -91,7 +91,7 @@ pub fn reader_act<D: Disk, E, C: Clock>(
     ensures cause { HasCause D.faults core.old core.new act result }
     ensures unreadable { TellsUnreadable D.honest D.content core.old.parts.disk (asked_file act (slice_index_or core.old.parts.sessions.items lane Idle) core.old.parts.catalogue.items) result.entry.kind result.reply }
     ensures damaged { TellsDamaged D.honest D.content core.old.parts.disk (needed act (slice_index_or core.old.parts.sessions.items lane Idle) core.old.parts.catalogue.items) result.entry.kind result.reply }
-    // a refused act leaves catalogue and sessions as before, and the disk too unless it failed
+    // a refused act leaves catalogue, sessions and locks as before, and the disk too unless it failed
     ensures unchanged { IfSome result.reply (Unchanged D.honest D.content core.old.parts core.new.parts) }
     // an honest disk reads as before in any case
     ensures content { SameContent D.honest D.content core.old.parts.disk core.new.parts.disk }

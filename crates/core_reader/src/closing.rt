@@ -12,12 +12,12 @@ ghost use Rattle.core_state.specs.Settles.{reply_by};
 ghost use Rattle.core_state.specs.Unchanged.{SameContent, Unchanged};
 ghost use Rattle.core_state.specs.declared.kept.Session.TheVariants.{Idle};
 
-use core_state::{Parts, Session};
+use core_state::{Parts, Session, end_session};
 use disk_trait::{Disk, DiskError};
 use store_types::Refusal;
 use wire_commands::Reply;
 
-/// The lane's reader ends. It makes no disk call, and takes no memory.
+/// The lane's reader ends, and the lane holds nothing. It makes no disk call, and takes no memory.
 ///
 /// It is refused where the lane has no reader.
 pub fn close_reader<D: Disk>(parts: &mut Parts<D>, lane: u32) -> Result<Reply, DiskError>
@@ -32,10 +32,10 @@ pub fn close_reader<D: Disk>(parts: &mut Parts<D>, lane: u32) -> Result<Reply, D
     ensures closed { is_reader (slice_index_or parts.old.sessions.items lane Idle) ≡ true → HasClosed parts.new lane result }
     ensures act { (moment : ℕ) → Acts D.honest D.content parts.old parts.new (λ s. outcome s lane moment commands.CloseReader) result }
 {
-    let lane = lane as usize;
-    let Session::Reader(_) = &parts.sessions[lane] else {
-        return Ok(Reply::Refused(Refusal::WrongState(parts.sessions[lane].state())));
+    let session = &parts.sessions[lane as usize];
+    let Session::Reader(_) = session else {
+        return Ok(Reply::Refused(Refusal::WrongState(session.state())));
     };
-    parts.sessions[lane] = Session::Idle;
+    end_session(parts, lane);
     Ok(Reply::Done)
 }

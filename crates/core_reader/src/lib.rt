@@ -16,8 +16,3 @@ pub use closing::close_reader;
 pub use opening::open_reader;
 pub use parts::download;
 pub use ranges::range;
-
-#[cfg(test)]
-mod loading_tests;
-#[cfg(test)]
-mod tests;

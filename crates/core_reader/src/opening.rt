@@ -17,7 +17,7 @@ use std::alloc::Global;
 use store_types::{Refusal, SnapshotKey};
 use wire_commands::Reply;
 
-/// The lane gets a reader of the snapshot. It makes no disk call.
+/// The lane gets a reader of the snapshot, and holds the snapshot. It makes no disk call.
 ///
 /// The refusals, in the order in which they are tested: the lane has a session; the text names no snapshot; there is no
 /// such snapshot.
@@ -37,9 +37,9 @@ pub fn open_reader<D: Disk>(
     ensures catalogue { parts.new.catalogue.items ≡ parts.old.catalogue.items }
     ensures act { (moment : ℕ) → Acts D.honest D.content parts.old parts.new (λ s. outcome s lane moment (commands.OpenReader snapshot.now)) result }
 {
-    let lane = lane as usize;
-    let Session::Idle = &parts.sessions[lane] else {
-        return Ok(Reply::Refused(Refusal::WrongState(parts.sessions[lane].state())));
+    let session = &parts.sessions[lane as usize];
+    let Session::Idle = session else {
+        return Ok(Reply::Refused(Refusal::WrongState(session.state())));
     };
     let Ok(key) = SnapshotKey::parse(alloc, snapshot)? else {
         return Ok(Reply::Refused(Refusal::BadName));
@@ -47,6 +47,7 @@ pub fn open_reader<D: Disk>(
     if snapshot_named(&parts.catalogue, &key).is_none() {
         return Ok(Reply::Refused(Refusal::NoSnapshot));
     }
-    parts.sessions[lane] = Session::Reader(reader_of(alloc, key));
+    parts.locks.shared_take(lane, &key)?;
+    parts.sessions[lane as usize] = Session::Reader(reader_of(alloc, key));
     Ok(Reply::Done)
 }

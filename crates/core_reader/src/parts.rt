@@ -10,13 +10,13 @@ ghost use Rattle.store_model.specs.ReaderSteps.{content_at, note as noted};
 ghost use Rattle.store_model.specs.Steps.{outcome};
 ghost use Rattle.restore_reader.specs.Session.{FitsIndex, ends_of};
 ghost use Rattle.core_state.specs.Holds.{Acts};
-ghost use Rattle.core_state.specs.Replies.{answers_download};
+ghost use Rattle.core_state.specs.Replies.{answers_download, reply_told};
 ghost use Rattle.core_state.specs.Settles.{kind_by, reply_by};
 ghost use Rattle.core_state.specs.Shown.{files_named, shown_session};
 ghost use Rattle.core_state.specs.Unchanged.{SameContent, Unchanged};
 ghost use Rattle.core_state.specs.Unreadables.{TellsUnreadable};
 ghost use Rattle.core_state.specs.declared.kept.Session.TheVariants.{Idle};
-ghost use Rattle.core_reader.specs.Asked.{downloaded, noting, reply_told, whole_for};
+ghost use Rattle.core_reader.specs.Asked.{downloaded, noting, whole_for};
 
 use crate::files::path_in_snapshot;
 use core_state::{Parts, Session};

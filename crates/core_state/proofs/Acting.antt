@@ -9,38 +9,40 @@ use Rattle.wire_commands.specs.declared.reply.Reply.TheVariants.{Refused}
 use Rattle.store_model.specs.Store.{Store, Outcome}
 use Rattle.store_model.specs.Steps.{answered}
 use Rattle.core_state.specs.declared.parts.Parts.{Parts}
+use Rattle.core_state.specs.Locked.{Locked}
 use Rattle.core_state.specs.Holds.{Shows, IsOnDisk, Holds, Does, Refuses}
 
-pub shows_same : {D : Type 0} (old new : Parts D) (s : Store) → new.catalogue.items ≡ old.catalogue.items → new.sessions.items ≡ old.sessions.items → Shows old s → Shows new s
-shows_same old new s c l h = record {
+pub shows_same : {D : Type 0} (old new : Parts D) (s : Store) → new.catalogue.items ≡ old.catalogue.items → new.sessions.items ≡ old.sessions.items → new.locks ≡ old.locks → Shows old s → Shows new s
+shows_same old new s c l k h = record {
   catalogue = ap (λ items. map (λ x. x.kept) items) c ∙ h.catalogue;
   sessions = l ∙ h.sessions;
+  locks = subst (λ locks. Locked locks s) (sym k) h.locks;
   sound = h.sound;
 }
 
 module _ {D : Type 0} (honest : D → Type 0) (content : D → Files) where
   pub holds_same : (old new : Parts D) (s : Store) → (honest old.disk ↔ honest new.disk) → (honest old.disk → content new.disk ≡ content old.disk) → new.catalogue.items ≡ old.catalogue.items → new.sessions.items ≡ old.sessions.items
-      → Holds honest content old s → Holds honest content new s
-  holds_same old new s kept same c l h = record {
+      → new.locks ≡ old.locks → Holds honest content old s → Holds honest content new s
+  holds_same old new s kept same c l k h = record {
     honest = kept.0 h.honest;
-    shows = shows_same old new s c l h.shows;
+    shows = shows_same old new s c l k h.shows;
     files = subst (λ m. IsOnDisk m s) (sym (same h.honest)) h.files;
   }
 
   -- what is refused leaves everything
-  pub does_refused : (old new : Parts D) (s : Store) (outcome : Outcome) (r : Refusal) → new.disk ≡ old.disk → new.catalogue.items ≡ old.catalogue.items → new.sessions.items ≡ old.sessions.items → outcome ≡ Err r
+  pub does_refused : (old new : Parts D) (s : Store) (outcome : Outcome) (r : Refusal) → new.disk ≡ old.disk → new.catalogue.items ≡ old.catalogue.items → new.sessions.items ≡ old.sessions.items → new.locks ≡ old.locks → outcome ≡ Err r
       → Holds honest content old s → Does honest content new s (answered s outcome) (Ok (Refused r))
-  does_refused old new s outcome r d c l is h =
-      let holds : Holds honest content new s = holds_same old new s ((λ x. subst honest (sym d) x), (λ x. subst honest d x)) (λ _. ap content d) c l h in
+  does_refused old new s outcome r d c l k is h =
+      let holds : Holds honest content new s = holds_same old new s ((λ x. subst honest (sym d) x), (λ x. subst honest d x)) (λ _. ap content d) c l k h in
       let done : Does honest content new s (s, Refused r) (Ok (Refused r)) = (refl, holds) in
       subst (λ o. Does honest content new s (answered s o) (Ok (Refused r))) (sym is) done
 
   -- want of memory, or a fault of the disk
   pub does_not : (old new : Parts D) (s : Store) (outcome : Outcome) (e : DiskError) (result : Result Reply DiskError) → result ≡ Err e → (honest old.disk ↔ honest new.disk)
       → (e ≡ NoMemory → honest old.disk → content new.disk ≡ content old.disk) → new.catalogue.items ≡ old.catalogue.items → new.sessions.items ≡ old.sessions.items
-      → Holds honest content old s → Does honest content new s (answered s outcome) result
-  does_not old new s outcome NoMemory result is kept same c l h =
-      subst (Does honest content new s (answered s outcome)) (sym is) (holds_same old new s kept (same refl) c l h)
-  does_not old new s outcome DiskFailed result is kept same c l h =
-      let failed : Refuses honest content new s DiskFailed = (kept.0 h.honest, shows_same old new s c l h.shows) in
+      → new.locks ≡ old.locks → Holds honest content old s → Does honest content new s (answered s outcome) result
+  does_not old new s outcome NoMemory result is kept same c l k h =
+      subst (Does honest content new s (answered s outcome)) (sym is) (holds_same old new s kept (same refl) c l k h)
+  does_not old new s outcome DiskFailed result is kept same c l k h =
+      let failed : Refuses honest content new s DiskFailed = (kept.0 h.honest, shows_same old new s c l k h.shows) in
       subst (Does honest content new s (answered s outcome)) (sym is) failed

@@ -8,7 +8,7 @@ use Rattle.store_types.specs.declared.refusal.Refusal.TheVariants.{DiskFault}
 use Rattle.wire_commands.specs.declared.reply.Reply.{Reply}
 use Rattle.wire_commands.specs.declared.reply.Reply.TheVariants.{Refused}
 use Rattle.store_history.specs.declared.act.Act.{Act}
-use Rattle.store_history.specs.declared.act.Act.TheVariants.{Plain, Blob, Chunk, Short, End}
+use Rattle.store_history.specs.declared.act.Act.TheVariants.{Plain, JobGroup, Blob, Chunk, Short, End}
 use Rattle.store_history.specs.declared.act.Answer.{Answer}
 use Rattle.store_history.specs.Acts.{ending, class_of}
 use Rattle.core_state.specs.declared.state.Core.{Core}
@@ -58,6 +58,7 @@ end_failed_caused honest calls_of faults_of readings has_failed old mid acted ne
 
 pub no_end_caused : {D E C : Type 0} (faults_of : D → ℕ) (old new : Core D E C) (act : Act) (answer : Answer) → (class_of act ≡ ending → ⊥) → HasCause faults_of old new act answer → IsCaused faults_of old new act answer
 no_end_caused faults_of old new (Plain command) answer other h = h
+no_end_caused faults_of old new (JobGroup command) answer other h = h
 no_end_caused faults_of old new (Blob name checked) answer other h = h
 no_end_caused faults_of old new (Chunk digest checked) answer other h = h
 no_end_caused faults_of old new Short answer other h = h

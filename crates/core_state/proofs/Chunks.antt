@@ -151,6 +151,7 @@ may_stand m ps digest (Ok p) whole only named clear = λ found at.
 
 pub safe : (m : Files) (ps : List (List ℕ)) (act : Act) → HasWholeChunks m → HoldsOnly m ps → IsWellFormed act → NoClash (ps ++ sent_by act) → IsSafe m act
 safe m ps (acts.Plain c) whole only formed clear = tt
+safe m ps (acts.JobGroup command) whole only formed clear = tt
 safe m ps (acts.Blob name checked) whole only formed clear = tt
 safe m ps acts.Short whole only formed clear = tt
 safe m ps acts.End whole only formed clear = tt

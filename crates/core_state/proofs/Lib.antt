@@ -8,6 +8,7 @@ pub mod PathLengths
 pub mod NamedLemmas
 pub mod Reserves
 pub mod Sessions
+pub mod LockLemmas
 pub mod Acting
 pub mod Soundness
 pub mod OnDisk

@@ -4,6 +4,7 @@ use Rattle.std.proofs.lemmas.Bool.{cases_lt}
 use Rattle.std.proofs.lemmas.List.{get_or-replicate, get_or_past, length-replicate}
 use Rattle.port_traits.specs.Readings.{Readings}
 use Rattle.disk_trait.specs.Files.{Files}
+use Rattle.lock_book.specs.Locks.{no_locks}
 use Rattle.store_files.specs.Archive.{Snapshot}
 use Rattle.store_model.specs.Store.{Writer, Reader, none, writer, reader, store_of, session, lane_count}
 use Rattle.store_model.specs.Stands.{StandsFor as Stands}
@@ -12,10 +13,12 @@ use Rattle.store_history.specs.History.{after_all}
 use Rattle.core_state.specs.declared.state.Core.{Core}
 use Rattle.core_state.specs.declared.kept.Session.TheVariants.{Idle}
 use Rattle.core_state.specs.Shown.{shown_session}
+use Rattle.core_state.specs.Locked.{Locked}
 use Rattle.core_state.specs.Holds.{IsSound}
 use Rattle.core_state.specs.History.{StandsFor, began}
 use Rattle.core_state.specs.Opening.{opening_at}
 use Rattle.core_state.proofs.Chunks.{opened_only, only_same}
+use Rattle.core_state.proofs.LockLemmas.{locked_none}
 
 -- no lane has a session
 no_session : (lane : ℕ) → session (store_of []) lane ≡ none
@@ -59,10 +62,10 @@ keeps_time readings clock (Some c) is = (tt, is)
 pub opened_stands : {D E C : Type 0} (is_honest : D → Type 0) (content : D → Files) (calls_of : D → ℕ) (readings : C → Option Readings) (core : Core D E C) (R : Option (List Snapshot))
     → is_honest (core.parts).disk → Stands (content (core.parts).disk) []
     → (core.journal).entries.items ≡ [] → (core.journal).calls.items ≡ [] → core.fault ≡ None → core.last ≡ 0
-    → (core.parts).catalogue.items ≡ [] → (core.parts).sessions.items ≡ replicate 64 Idle
+    → (core.parts).catalogue.items ≡ [] → (core.parts).sessions.items ≡ replicate 64 Idle → (core.parts).locks ≡ no_locks
     → StandsFor is_honest content calls_of readings core (began (opening_at (content (core.parts).disk) (calls_of (core.parts).disk)) R (readings core.clock))
 unfolding after_all
-opened_stands is_honest content calls_of readings core R honest stands entries calls fault last catalogue sessions = record {
+opened_stands is_honest content calls_of readings core R honest stands entries calls fault last catalogue sessions locks = record {
   legal = tt;
   entries = entries;
   calls = calls;
@@ -74,6 +77,7 @@ opened_stands is_honest content calls_of readings core R honest stands entries c
   shows = record {
     catalogue = ap (map (λ x. x.kept)) catalogue;
     sessions = sessions ∙ sym (map_replicate 64);
+    locks = subst (λ l. Locked l (store_of [])) (sym locks) (locked_none (store_of []) no_session);
     sound = empty_is_sound;
   };
   files = λ _. record { snapshots = stands; writers = λ lane w e. absurd (no_writer lane w e) };

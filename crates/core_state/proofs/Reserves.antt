@@ -91,7 +91,13 @@ closing_two None (acts.Plain (commands.OpenReader snapshot)) x h = absurd (true_
 closing_two None (acts.Plain (commands.Download file offset)) x h = absurd (true_false (sym h))
 closing_two None (acts.Plain (commands.GetChunk digest)) x h = absurd (true_false (sym h))
 closing_two None (acts.Plain (commands.Range file offset len)) x h = absurd (true_false (sym h))
+closing_two None (acts.Plain (commands.List after)) x h = absurd (true_false (sym h))
+closing_two None (acts.Plain (commands.Files snapshot)) x h = absurd (true_false (sym h))
+closing_two None (acts.Plain (commands.Forget snapshot)) x h = absurd (true_false (sym h))
+closing_two None (acts.Plain (commands.Prune group keep dry)) x h = absurd (true_false (sym h))
+closing_two None (acts.Plain (commands.Group group)) x h = absurd (true_false (sym h))
 closing_two None (acts.Plain commands.Bye) x h = absurd (true_false (sym h))
+closing_two None (acts.JobGroup command) x h = absurd (true_false (sym h))
 closing_two None (acts.Blob name checked) x h = absurd (true_false (sym h))
 closing_two None (acts.Chunk digest checked) x h = absurd (true_false (sym h))
 closing_two None acts.Short x h = absurd (true_false (sym h))
@@ -258,6 +264,7 @@ end_failed_keeps calls_of readings old mid acted new lane moment answer none bus
 
 pub no_end_keeps : {D E C : Type 0} (old new : Core D E C) (lane : ℕ) (act : Act) (answer : Answer) → (class_of act ≡ ending → ⊥) → KeepsReserve old new lane (is_closing old lane act) answer → Keeps act old new lane answer
 no_end_keeps old new lane (acts.Plain command) answer other h = h
+no_end_keeps old new lane (acts.JobGroup command) answer other h = h
 no_end_keeps old new lane (acts.Blob name checked) answer other h = h
 no_end_keeps old new lane (acts.Chunk digest checked) answer other h = h
 no_end_keeps old new lane acts.Short answer other h = h

@@ -7,7 +7,7 @@ use Rattle.disk_trait.specs.declared.disk.DiskError.TheVariants.{NoMemory as Dis
 use Rattle.store_types.specs.declared.refusal.Refusal.{Refusal}
 use Rattle.store_types.specs.declared.refusal.Refusal.TheVariants.{NoMemory, Halted}
 use Rattle.wire_commands.specs.declared.reply.Reply.{Reply}
-use Rattle.wire_commands.specs.declared.reply.Reply.TheVariants.{Done, Base, Part, Data, Number, Refused}
+use Rattle.wire_commands.specs.declared.reply.Reply.TheVariants.{Done, Base, Part, Data, Number, Listing, Files as FileRows, Keys, Marks, Refused}
 use Rattle.store_history.specs.declared.act.Answer.{Answer}
 use Rattle.core_state.specs.declared.parts.Parts.{Parts}
 use Rattle.core_state.specs.declared.state.Core.{Core}
@@ -29,7 +29,11 @@ module _ {D : Type 0} (honest : D → Type 0) (content : D → Files) where
   same_unchanged old new (Part total bytes) is = tt
   same_unchanged old new (Data bytes) is = tt
   same_unchanged old new (Number number) is = tt
-  same_unchanged old new (Refused r) is = leaves_same old new r (ap (λ p. p.disk) is) (record { catalogue = ap (λ p. p.catalogue.items) is; sessions = ap (λ p. p.sessions.items) is })
+  same_unchanged old new (Listing rows) is = tt
+  same_unchanged old new (FileRows rows) is = tt
+  same_unchanged old new (Keys snapshots) is = tt
+  same_unchanged old new (Marks rows) is = tt
+  same_unchanged old new (Refused r) is = leaves_same old new r (ap (λ p. p.disk) is) (record { catalogue = ap (λ p. p.catalogue.items) is; sessions = ap (λ p. p.sessions.items) is; locks = ap (λ p. p.locks) is })
 
   -- the disk was read alone
   pub leaves_read : (old new : Parts D) (r : Refusal) → is_uncalled r ≡ false → SameContent honest content old.disk new.disk → SameKept old new → LeavesAll honest content old new r

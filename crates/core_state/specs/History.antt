@@ -49,7 +49,7 @@ abbrev pub KeepsTime : {C : Type 0} → (C → Option Readings) → C → Histor
 KeepsTime readings clock h =
     IfSome h.clock (λ c. IsTimed c (h.opening).moment h.events × (readings clock ≡ Some (readings_left c h.events)))
 
--- The core stands for the history. Order and calls are the history's; catalogue and sessions, and so the locks, are
+-- The core stands for the history. Order and calls are the history's; catalogue, sessions and locks are
 -- those of the plain store that it gives; on the disk are this store's files, until the disk failed, and no chunk file but of a piece
 -- that was there at opening or was sent.
 pub record StandsFor {D E C : Type 0} (is_honest : D → Type 0) (content : D → Files) (calls_of : D → ℕ) (readings : C → Option Readings) (core : Core D E C) (h : History) : Type 0 where

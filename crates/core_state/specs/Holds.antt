@@ -23,6 +23,7 @@ use Rattle.store_model.specs.Stands.{StandsFor, IsPiece, IsSnapshot, names_conte
 use Rattle.backup_session.specs.Shown.{IsOpen}
 use Rattle.core_state.specs.declared.parts.Parts.{Parts}
 use Rattle.core_state.specs.Shown.{shown_snapshot, shown_session}
+use Rattle.core_state.specs.Locked.{Locked}
 
 -- ---- what holds of every plain store that is reached
 
@@ -83,10 +84,11 @@ pub record IsSound (s : Store) : Type 0 where
 
 -- ---- the parts
 
--- catalogue and sessions are those of the store
+-- catalogue, sessions and locks are those of the store
 pub record Shows {D : Type 0} (parts : Parts D) (s : Store) : Type 0 where
   pub catalogue : map (λ x. x.kept) parts.catalogue.items ≡ map shown_snapshot s.snapshots
   pub sessions : parts.sessions.items ≡ map (shown_session s.snapshots) s.sessions
+  pub locks : Locked parts.locks s
   pub sound : IsSound s
 
 -- a writer's files but the manifest are there
@@ -111,7 +113,7 @@ pub record Holds {D : Type 0} (is_honest : D → Type 0) (content : D → Files)
 
 -- ---- acts
 
--- Want of memory has changed nothing. After a fault of the disk catalogue and sessions are as before.
+-- Want of memory has changed nothing. After a fault of the disk catalogue, sessions and locks are as before.
 abbrev pub Refuses : {D : Type 0} → (D → Type 0) → (D → Files) → Parts D → Store → DiskError → Type 0
 Refuses honest content parts s NoMemory = Holds honest content parts s
 Refuses honest content parts s DiskFailed = honest parts.disk × Shows parts s

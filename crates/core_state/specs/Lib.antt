@@ -1,6 +1,7 @@
 pub mod Named
 pub mod Entering
 pub mod Shown
+pub mod Locked
 pub mod Holds
 pub mod Chunks
 pub mod History
@@ -15,4 +16,5 @@ pub mod Closing
 pub mod Reserved
 pub mod Records
 pub mod Found
+pub mod Listing
 pub mod Unreadables

@@ -1,11 +1,12 @@
 -- What a command's own tests may answer: what it was asked for, or one of its refusals.
-use Rattle.std.specs.Prelude.{Bool, true, false}
+use Rattle.std.specs.Prelude.{Bool, true, false, Result, Ok, Err, length, nat_le}
 use Rattle.store_types.specs.declared.refusal.Refusal.{Refusal}
-use Rattle.store_types.specs.declared.refusal.Refusal.TheVariants.{WrongState, BadName, GroupBusy, NotNewer, NoSnapshot, NoFile, Exists, BadBlob, WrongDigest, WrongSize, UnknownChunk, BadOffset, BadClose, OpenIndexes, TooMany, BadRange, Unreadable, BadManifest, ManifestMismatch, NotAllowed, Damaged}
+use Rattle.store_types.specs.declared.refusal.Refusal.TheVariants.{WrongState, BadName, GroupBusy, SnapshotBusy, NotNewer, NoSnapshot, NoFile, Exists, BadBlob, WrongDigest, WrongSize, UnknownChunk, BadOffset, BadClose, OpenIndexes, TooMany, BadRange, Unreadable, BadManifest, ManifestMismatch, NotAllowed, Damaged}
 use Rattle.wire_commands.specs.declared.command.Command.{Command}
 use Rattle.wire_commands.specs.declared.command.Command.TheVariants as commands
 use Rattle.wire_commands.specs.declared.reply.Reply.{Reply}
-use Rattle.wire_commands.specs.declared.reply.Reply.TheVariants.{Done, Base, Part, Data, Number, Refused}
+use Rattle.wire_commands.specs.declared.reply.Reply.TheVariants.{Done, Base, Part, Data, Number, Listing, Files, Keys, Refused}
+use Rattle.store_model.specs.Stands.{group_limit}
 use Rattle.store_history.specs.declared.act.Act.{Act}
 use Rattle.store_history.specs.declared.act.Act.TheVariants as acts
 
@@ -120,6 +121,31 @@ abbrev pub refuses_close : Refusal → Bool
 refuses_close (WrongState state) = true
 refuses_close _ = false
 
+-- a LIST, or a GROUP
+abbrev pub refuses_name : Refusal → Bool
+refuses_name BadName = true
+refuses_name _ = false
+
+abbrev pub refuses_files : Refusal → Bool
+refuses_files BadName = true
+refuses_files NoSnapshot = true
+refuses_files (Unreadable name) = true
+refuses_files _ = false
+
+abbrev pub refuses_forget : Refusal → Bool
+refuses_forget (WrongState state) = true
+refuses_forget BadName = true
+refuses_forget NoSnapshot = true
+refuses_forget (SnapshotBusy lane) = true
+refuses_forget _ = false
+
+-- the first step of a PRUNE
+abbrev pub refuses_prune : Refusal → Bool
+refuses_prune (WrongState state) = true
+refuses_prune BadName = true
+refuses_prune (TooMany limit) = true
+refuses_prune _ = false
+
 -- ---- the replies
 
 abbrev pub answers_writer : Reply → Bool
@@ -192,6 +218,32 @@ answers_close Done = true
 answers_close (Refused refusal) = refuses_close refusal
 answers_close _ = false
 
+abbrev pub answers_list : Reply → Bool
+answers_list (Listing rows) = true
+answers_list (Refused refusal) = refuses_name refusal
+answers_list _ = false
+
+abbrev pub answers_files : Reply → Bool
+answers_files (Files rows) = true
+answers_files (Refused refusal) = refuses_files refusal
+answers_files _ = false
+
+abbrev pub answers_forget : Reply → Bool
+answers_forget Done = true
+answers_forget (Refused refusal) = refuses_forget refusal
+answers_forget _ = false
+
+abbrev pub answers_group : Reply → Bool
+answers_group (Keys snapshots) = true
+answers_group (Refused refusal) = refuses_name refusal
+answers_group _ = false
+
+-- the first step of a PRUNE is answered as a GROUP, of as many snapshots as a group has at most
+abbrev pub answers_prune : Reply → Bool
+answers_prune (Keys snapshots) = nat_le (length snapshots) group_limit
+answers_prune (Refused refusal) = refuses_prune refusal
+answers_prune _ = false
+
 abbrev pub command_answers : Command → Reply → Bool
 command_answers (commands.OpenWriter snapshot) reply = answers_writer reply
 command_answers (commands.Previous file offset) reply = answers_previous reply
@@ -206,10 +258,25 @@ command_answers (commands.OpenReader snapshot) reply = answers_reader reply
 command_answers (commands.Download file offset) reply = answers_download reply
 command_answers (commands.GetChunk digest) reply = answers_get reply
 command_answers (commands.Range file offset len) reply = answers_range reply
+command_answers (commands.List after) reply = answers_list reply
+command_answers (commands.Files snapshot) reply = answers_files reply
+command_answers (commands.Forget snapshot) reply = answers_forget reply
+command_answers (commands.Group name) reply = answers_group reply
 command_answers _ reply = false
+
+-- the first step of a job
+abbrev pub job_answers : Command → Reply → Bool
+job_answers (commands.Prune group keep dry) reply = answers_prune reply
+job_answers _ reply = false
 
 abbrev pub may_answer : Act → Reply → Bool
 may_answer (acts.Plain command) reply = command_answers command reply
+may_answer (acts.JobGroup command) reply = job_answers command reply
 may_answer (acts.Blob name checked) reply = answers_blob reply
 may_answer (acts.Chunk digest checked) reply = answers_chunk reply
 may_answer _ reply = false
+
+-- what a command gives, or its refusal, as a reply
+abbrev pub reply_told : Result Reply Refusal → Reply
+reply_told (Ok reply) = reply
+reply_told (Err refusal) = Refused refusal

@@ -7,10 +7,11 @@ use Rattle.wire_commands.specs.declared.reply.Reply.{Reply}
 use Rattle.wire_commands.specs.declared.reply.Reply.TheVariants.{Refused}
 use Rattle.core_state.specs.declared.parts.Parts.{Parts}
 
--- catalogue and sessions are as before, on any disk
+-- catalogue, sessions and locks are as before, on any disk
 pub record SameKept {D : Type 0} (old new : Parts D) : Type 0 where
   pub catalogue : new.catalogue.items ≡ old.catalogue.items
   pub sessions : new.sessions.items ≡ old.sessions.items
+  pub locks : new.locks ≡ old.locks
 
 -- An honest disk reads as before, whatever it holds. Of another disk no content is told.
 abbrev pub SameContent : {D : Type 0} → (D → Type 0) → (D → Files) → D → D → Type 0
@@ -25,7 +26,7 @@ is_uncalled DiskFault = false
 is_uncalled NoMemory = false
 is_uncalled _ = true
 
--- Catalogue and sessions are as before, and the disk reads as before unless it failed. Where it wasn't called it is the same,
+-- Catalogue, sessions and locks are as before, and the disk reads as before unless it failed. Where it wasn't called it is the same,
 -- whatever disk it is.
 pub record LeavesAll {D : Type 0} (honest : D → Type 0) (content : D → Files) (old new : Parts D) (refusal : Refusal) : Type 0 where
   pub kept : SameKept old new

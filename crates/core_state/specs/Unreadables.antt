@@ -7,16 +7,22 @@ use Rattle.store_types.specs.FileNames.{is_fixed_name, is_dynamic_name}
 use Rattle.store_types.specs.declared.refusal.Refusal.{Refusal}
 use Rattle.store_types.specs.declared.refusal.Refusal.TheVariants.{Unreadable}
 use Rattle.wire_commands.specs.declared.reply.Reply.{Reply}
-use Rattle.wire_commands.specs.declared.reply.Reply.TheVariants.{Refused}
+use Rattle.wire_commands.specs.declared.reply.Reply.TheVariants.{Done, Refused}
 use Rattle.stored_files.specs.Parts.{part_from}
 use Rattle.stored_files.specs.Indexes.{index_at}
+use Rattle.core_state.specs.Listing.{listing_at}
 
--- A file that an act asks for: where it stands; whether it is read whole, as an index, and then whether as a fixed one; and the offset of
--- the part that is asked for.
+-- how a file is read that an act asks for
+pub data Way : Type 0 where
+  -- a part of it from an offset; of an index that is read whole, and then whether as a fixed one
+  from_offset : Option Bool → ℕ → Way
+  -- whole, as a manifest
+  as_listing : Way
+
+-- a file that an act asks for: where it stands, and how it is read
 pub record Asked : Type 0 where
   pub path : List ℕ
-  pub whole : Option Bool
-  pub offset : ℕ
+  pub way : Way
 
 -- a file of this name is read whole where it is an index's
 abbrev pub whole_by : List ℕ → Option Bool
@@ -26,9 +32,14 @@ abbrev pub read_by : Option Bool → Files → List ℕ → ℕ → Result Reply
 read_by None m path offset = or_else (Unreadable path) (get m path) >>= λ text. part_from text offset
 read_by (Some is_fixed) m path offset = index_at m path is_fixed offset >>= λ x. Ok x.part
 
--- The part, or its refusal, of what stands there: unreadable where nothing does, or where what is read whole is no index.
+abbrev pub read_so : Way → Files → List ℕ → Result Reply Refusal
+read_so (from_offset whole offset) m path = read_by whole m path offset
+read_so as_listing m path = or_else (Unreadable path) (listing_at m path) >>= λ read. Ok Done
+
+-- The part, or that it was read, or the refusal, of what stands there: unreadable where nothing does, or where what is read whole is not
+-- what it is read as.
 abbrev pub part_read : Files → Asked → Result Reply Refusal
-part_read m a = read_by a.whole m a.path a.offset
+part_read m a = read_so a.way m a.path
 
 -- The file that was asked for is told to be unreadable, by its name in the datastore folder. On an honest disk, whatever it holds,
 -- that is so exactly where it is: want of memory and faults of the disk, which have kinds of their own, apart.

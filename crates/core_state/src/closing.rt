@@ -1,10 +1,15 @@
 //! Acts that end a session, and the entries of the order that are to be had without memory.
 
-ghost use Rattle.std.specs.Prelude.{◌≡◌, ◌<◌, ◌+◌, ◌⊎◌, ◌↔◌, IsTrue, OnOk, OnErr, slice_index};
+ghost use Rattle.std.specs.Prelude.{◌≡◌, ◌<◌, ◌+◌, ◌⊎◌, ◌↔◌, IsTrue, OnOk, OnErr, slice_index, slice_set};
+ghost use Rattle.lock_book.specs.Locks.{Releases};
+ghost use Rattle.store_model.specs.Store.{Store, ended};
 ghost use Rattle.core_state.specs.Closing as closing;
 ghost use Rattle.core_state.specs.Entering.{SameEntries};
+ghost use Rattle.core_state.specs.Holds.{Shows};
+ghost use Rattle.core_state.specs.declared.kept.Session.TheVariants.{Idle};
 
 use crate::kept::Session;
+use crate::parts::Parts;
 use crate::state::Core;
 use std::alloc::AllocError;
 use store_history::Act;
@@ -19,6 +24,20 @@ pub fn closes(session: &Session, act: &Act) -> bool
         Act::Plain(Command::CloseReader) => matches!(session, Session::Reader(_)),
         _ => false,
     }
+}
+
+/// The lane has no session any more, and holds nothing. It takes no memory, and the disk is not called: what is left of a
+/// writer stays where it is.
+pub fn end_session<D>(parts: &mut Parts<D>, lane: u32)
+    requires { lane < 64 }
+    ensures disk { parts.new.disk ≡ parts.old.disk }
+    ensures catalogue { parts.new.catalogue.items ≡ parts.old.catalogue.items }
+    ensures sessions { parts.new.sessions.items ≡ slice_set parts.old.sessions.items lane Idle }
+    ensures locks { Releases parts.old.locks parts.new.locks lane }
+    ensures shows { (s : Store) → Shows parts.old s → Shows parts.new (ended s lane) }
+{
+    parts.sessions[lane as usize] = Session::Idle;
+    parts.locks.release(lane);
 }
 
 impl<D, E, C> Core<D, E, C> {

@@ -12,7 +12,7 @@ mod path;
 mod state;
 
 pub use catalogue::{path_named, snapshot_named};
-pub use closing::closes;
+pub use closing::{closes, end_session};
 pub use entering::{Begun, begin, begin_end, enter, settle, short};
 pub use journal::{HELD, Journal, LANES};
 pub use kept::{Kept, Listed, Session, StoredFile, Writing};
@@ -21,6 +21,3 @@ pub use parts::Parts;
 pub use path::{Path, path_of};
 pub use state::{Core, CoreParts};
 pub use store_history::{Act, Answer};
-
-#[cfg(test)]
-mod tests;

@@ -2,6 +2,7 @@
 
 ghost use Rattle.std.specs.Prelude.{◌≡◌, ℕ, List, [], ◌≤◌, length, replicate, map, option_map, IfOk, IfErr, Option, None, vec_len};
 ghost use Rattle.std.specs.List.{list_all};
+ghost use Rattle.lock_book.specs.Locks.{no_locks};
 ghost use Rattle.store_files.specs.Archive.{Snapshot};
 ghost use Rattle.store_model.specs.Stands.{StandsFor as Stands};
 ghost use Rattle.core_state.specs.Entering.{AllHeld};
@@ -15,6 +16,7 @@ use crate::kept::Session;
 use crate::parts::Parts;
 use crate::state::{Core, CoreParts};
 use disk_trait::Disk;
+use lock_book::LockBook;
 use port_traits::Clock;
 use std::alloc::{AllocError, Global};
 use thiserror::Error;
@@ -77,6 +79,7 @@ pub fn open_on<D: Disk, E, C: Clock>(
     ensures calls { IfOk result (λ core. core.journal.calls.items ≡ []) }
     ensures catalogue { IfOk result (λ core. core.parts.catalogue.items ≡ []) }
     ensures sessions { IfOk result (λ core. core.parts.sessions.items ≡ replicate 64 Idle) }
+    ensures locks { IfOk result (λ core. core.parts.locks ≡ no_locks) }
     // all is handed on, or back
     ensures disk { IfOk result (λ core. core.parts.disk ≡ disk) }
     ensures remote { IfOk result (λ core. core.remote ≡ remote) }
@@ -89,6 +92,7 @@ pub fn open_on<D: Disk, E, C: Clock>(
                 disk,
                 catalogue: Vec::new(alloc),
                 sessions,
+                locks: LockBook::new(alloc),
             },
             remote,
             clock,
@@ -126,6 +130,7 @@ impl<D, E, C> Core<D, E, C> {
             disk,
             catalogue: _,
             sessions: _,
+            locks: _,
         } = parts;
         let Journal { entries, calls, .. } = journal;
         CoreParts {

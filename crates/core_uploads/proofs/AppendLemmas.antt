@@ -1,7 +1,7 @@
 -- APPEND is the store's.
-use Rattle.std.proofs.Common.{◌≡◌, ℕ, ◌<◌, true, List, [], ◌∷◌, map, length, get_or, set, IfOk, Result, Ok, Err, refl, sym, ap, subst, ◌∙◌, arith}
+use Rattle.std.proofs.Common.{◌≡◌, ℕ, ◌<◌, List, [], ◌∷◌, map, get_or, set, IfOk, Result, Ok, Err, refl, sym, ap, subst, ◌∙◌}
 use Rattle.std.proofs.lemmas.List.{set-get_or}
-use Rattle.std.specs.List.{AllByRecursion, list_all}
+use Rattle.std.specs.List.{AllByRecursion}
 use Rattle.disk_trait.specs.Files.{Files}
 use Rattle.store_types.specs.declared.append.AppendEntry.{AppendEntry}
 use Rattle.store_types.specs.declared.refusal.Refusal.{Refusal}
@@ -122,19 +122,19 @@ set_back items lane found y at is = ap (set items lane) (is ∙ at) ∙ set-get_
 
 module _ {D : Type 0} (honest : D → Type 0) (content : D → Files) where
   by_step : (old new : Parts D) (s : Store) (lane moment number : ℕ) (entries : List AppendEntry) (found y : Session) (reply : Reply) (r : Result model.Writer Refusal) → lane < 64
-      → found ≡ get_or old.sessions.items lane found → new.disk ≡ old.disk → new.catalogue.items ≡ old.catalogue.items → new.sessions.items ≡ set old.sessions.items lane y
+      → found ≡ get_or old.sessions.items lane found → new.disk ≡ old.disk → new.catalogue.items ≡ old.catalogue.items → new.sessions.items ≡ set old.sessions.items lane y → new.locks ≡ old.locks
       → StaysRefused found y reply → appended (session s lane) number entries ≡ r → Appends r y reply → Holds honest content old s
       → Does honest content new s (answered s (outcome s lane moment (Append number entries))) (Ok reply)
-  by_step old new s lane moment number entries found y reply (Err r) lt at d c l stays is told h =
+  by_step old new s lane moment number entries found y reply (Err r) lt at d c l k stays is told h =
       let same : y ≡ found = subst (StaysRefused found y) told stays in
       subst (λ q. Does honest content new s (answered s (outcome s lane moment (Append number entries))) (Ok q)) (sym told)
-      (does_refused honest content old new s _ r d c (l ∙ set_back old.sessions.items lane found y at same) (refuses number entries s lane moment r is) h)
-  by_step old new s lane moment number entries found y reply (Ok v) lt at d c l stays is told h =
+      (does_refused honest content old new s _ r d c (l ∙ set_back old.sessions.items lane found y at same) k (refuses number entries s lane moment r is) h)
+  by_step old new s lane moment number entries found y reply (Ok v) lt at d c l k stays is told h =
       let (w, here, grown) = appended_from number entries (session s lane) v is in
       subst (λ q. Does honest content new s (answered s (outcome s lane moment (Append number entries))) (Ok q)) (sym told.0)
-      (does_go_on honest content old new s lane w v y _ Done lt here (ap (λ (x : model.Writer). x.key) grown.same)
+      (does_go_on honest content old new s lane w v y _ Done lt here (ap (λ (x : model.Writer). x.key) grown.same) (ap (λ (x : model.Writer). x.base) grown.same)
       (is_writer_appended s number w v grown (((h.shows).sound).writers lane w here)) (has_uploads_appended (content old.disk) number w v grown ((h.files).writers lane w here))
-      d c l told.1 (grows number entries s lane moment v is) h)
+      d c l k told.1 (grows number entries s lane moment v is) h)
 
   open_at : (parts : Parts D) (s : Store) (lane : ℕ) (x : model.Session) → session s lane ≡ x → Holds honest content parts s → HasOpen x
   open_at parts s lane model.none at h = tt
@@ -142,9 +142,9 @@ module _ {D : Type 0} (honest : D → Type 0) (content : D → Files) where
   open_at parts s lane (model.reader r) at h = tt
 
   pub does_append : (old new : Parts D) (s : Store) (lane moment number : ℕ) (entries : List AppendEntry) (found y : Session) (reply : Reply) → lane < 64
-      → found ≡ get_or old.sessions.items lane found → found ≡ shown_session s.snapshots (session s lane) → new.disk ≡ old.disk → new.catalogue.items ≡ old.catalogue.items → new.sessions.items ≡ set old.sessions.items lane y
+      → found ≡ get_or old.sessions.items lane found → found ≡ shown_session s.snapshots (session s lane) → new.disk ≡ old.disk → new.catalogue.items ≡ old.catalogue.items → new.sessions.items ≡ set old.sessions.items lane y → new.locks ≡ old.locks
       → StaysRefused found y reply → ((ss : List Snapshot) (x : model.Session) → found ≡ shown_session ss x → HasOpen x → Appends (appended x number entries) y reply) → Holds honest content old s
       → Does honest content new s (answered s (outcome s lane moment (Append number entries))) (Ok reply)
-  does_append old new s lane moment number entries found y reply lt at here d c l stays told h =
-      by_step old new s lane moment number entries found y reply (appended (session s lane) number entries) lt at d c l stays refl
+  does_append old new s lane moment number entries found y reply lt at here d c l k stays told h =
+      by_step old new s lane moment number entries found y reply (appended (session s lane) number entries) lt at d c l k stays refl
       (told s.snapshots (session s lane) here (open_at old s lane (session s lane) refl h)) h

@@ -1,9 +1,9 @@
 -- A writer that has appended pieces to an open archive is sound, and its files are there.
-use Rattle.std.proofs.Common.{◌≡◌, ℕ, ◌+◌, ◌<◌, ◌≤◌, Bool, true, false, not, ◌||◌, ◌&&◌, cond, length, get_or, set, Option, Some, None, List, [], ◌∷◌, ◌++◌, Result, Ok, Err, nat_le, nat_lt, ◌==◌, refl, sym, ap, ap₂, subst, ◌∙◌, arith}
-use Rattle.std.proofs.lemmas.Bool.{and_from, lt-ltb, le-leb, leb-true}
+use Rattle.std.proofs.Common.{◌≡◌, ℕ, ◌+◌, ◌≤◌, Bool, true, false, not, ◌||◌, ◌&&◌, cond, length, Option, Some, None, List, [], ◌∷◌, Result, Ok, Err, nat_le, ◌==◌, refl, sym, ap, ap₂, subst, ◌∙◌, arith}
+use Rattle.std.proofs.lemmas.Bool.{and_from, leb-true}
 use Rattle.std.proofs.lemmas.List.{length-append}
 use Rattle.std.proofs.lemmas.List.Elements.{All-nil, All-cons, All-head, All-tail, All-append, All-contains, All-from_recursion, recursion_from_All, Contains-append_right}
-use Rattle.std.specs.List.{All, AllByRecursion, Contains, list_any, find}
+use Rattle.std.specs.List.{All, Contains, list_any, find}
 use Rattle.std.specs.Str.{bytes_eq}
 use Rattle.sha2.specs.Sha256.{sha256}
 use Rattle.disk_trait.specs.Files.{Files}

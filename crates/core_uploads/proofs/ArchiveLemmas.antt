@@ -1,12 +1,12 @@
 -- NEW_DYNAMIC and NEW_FIXED are the store's: a writer's open archives, and what goes on with them.
-use Rattle.std.proofs.Common.{◌≡◌, ℕ, zero, suc, ◌+◌, ◌*◌, ◌<◌, ◌≤◌, Bool, true, false, not, ◌||◌, nat_le, length, get_or, set, None, take, pos, slice_index, List, [], ◌∷◌, ◌++◌, Result, Ok, Err, refl, sym, ap, ap₂, subst, ◌∙◌, arith}
+use Rattle.std.proofs.Common.{◌≡◌, ℕ, zero, suc, ◌*◌, ◌<◌, ◌≤◌, Bool, true, false, not, ◌||◌, nat_le, length, get_or, set, None, take, pos, slice_index, List, [], ◌∷◌, ◌++◌, Result, Ok, Err, refl, sym, ap, ap₂, subst, ◌∙◌, arith}
 use Rattle.std.proofs.lemmas.Bool.{or_parts, and_parts, and_from, leb-true}
 use Rattle.std.proofs.lemmas.List.{length-append, length-replicate, length-set, length-take-le}
 use Rattle.std.proofs.lemmas.List.Elements.{All-nil, All-cons, All-append}
 use Rattle.std.proofs.lemmas.Slice.Eq.{bytes_eq-Decides}
 use Rattle.std.specs.Bool.{IsTrue}
 use Rattle.std.specs.Int.{w32, w64, to_be_bytes}
-use Rattle.std.specs.List.{All, AllByRecursion, list_any, list_all}
+use Rattle.std.specs.List.{AllByRecursion, list_any, list_all}
 use Rattle.std.specs.Prelude.{FitsSigned}
 use Rattle.std.specs.Str.{bytes_eq}
 use Rattle.sha1.specs.Sha1.{sha1, digest_bytes}
@@ -43,6 +43,7 @@ use Rattle.core_state.specs.States.{state_of}
 use Rattle.core_state.specs.Holds.{IsBegun, reserved_len, has_named, names_differ, IsWriter, IsOnDisk, HasUploads, Holds, Does}
 use Rattle.core_state.specs.Named.{is_named}
 use Rattle.core_state.proofs.NamedLemmas.{list_all-at, writer_named}
+use Rattle.core_state.proofs.LockLemmas.{locked_writes_on}
 use Rattle.core_state.proofs.Soundness.{IsAlone, sound_writer, disk_writer, shows_changed}
 use Rattle.core_uploads.specs.declared.archives.NewIndex.{NewIndex}
 use Rattle.core_uploads.specs.declared.archives.NewIndex.TheVariants.{Dynamic, Fixed}
@@ -55,17 +56,17 @@ use Rattle.core_uploads.proofs.Wanting.{no_writer}
 
 module _ {D : Type 0} (honest : D → Type 0) (content : D → Files) where
   pub does_go_on : (old new : Parts D) (s : Store) (lane : ℕ) (w v : Writer) (y : Session) (o : Outcome) (reply : Reply)
-      → lane < 64 → session s lane ≡ writer w → v.key ≡ w.key → IsWriter s.snapshots v → HasUploads (content old.disk) v
-      → new.disk ≡ old.disk → new.catalogue.items ≡ old.catalogue.items → new.sessions.items ≡ set old.sessions.items lane y → y ≡ kept.Writer (shown_writer v)
+      → lane < 64 → session s lane ≡ writer w → v.key ≡ w.key → v.base ≡ w.base → IsWriter s.snapshots v → HasUploads (content old.disk) v
+      → new.disk ≡ old.disk → new.catalogue.items ≡ old.catalogue.items → new.sessions.items ≡ set old.sessions.items lane y → new.locks ≡ old.locks → y ≡ kept.Writer (shown_writer v)
       → o ≡ Ok (with_session s lane (writer v), reply) → Holds honest content old s → Does honest content new s (answered s o) (Ok reply)
-  does_go_on old new s lane w v y o reply lt at key is_writer uploads d c l y_is step h =
+  does_go_on old new s lane w v y o reply lt at key base is_writer uploads d c l k y_is step h =
       let sound = (h.shows).sound in
       let within : lane < length s.sessions = omega (arith, sound.lanes, lt) in
       let alone : IsAlone s lane v = λ i x ne is same.
       ne (sound.apart i lane x w is at (subst (λ (k : SnapshotKey). IsTrue (same_group (group_of_key x.key) (group_of_key k))) key same)) in
       let holds : Holds honest content new (with_session s lane (writer v)) = record {
         honest = subst honest (sym d) h.honest;
-        shows = shows_changed old new s lane (writer v) y c l y_is (sound_writer s lane v lt is_writer alone sound) h.shows;
+        shows = shows_changed old new s lane (writer v) y c l y_is (locked_writes_on old.locks new.locks s lane w v within k at key base (h.shows).locks) (sound_writer s lane v lt is_writer alone sound) h.shows;
         files = subst (λ m. IsOnDisk m (with_session s lane (writer v))) (sym (ap content d)) (disk_writer (content old.disk) s lane v within uploads h.files);
       } in
       let done : Does honest content new s (with_session s lane (writer v), reply) (Ok reply) = (refl, holds) in

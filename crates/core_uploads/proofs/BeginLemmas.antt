@@ -14,7 +14,7 @@ use Rattle.store_types.specs.Names.{IsKey}
 use Rattle.store_types.specs.Times.{last_moment}
 use Rattle.wire_commands.specs.declared.reply.Reply.TheVariants.{Number, Refused}
 use Rattle.wire_commands.specs.HasText.{ReplyHasText}
-use Rattle.store_model.specs.Store.{Begun, Store, Writer, writer, session}
+use Rattle.store_model.specs.Store.{Begun, Store, Writer, session}
 use Rattle.store_model.specs.Steps.{outcome}
 use Rattle.backup_session.specs.Answers.{Does, LeavesShown, Tells, TellsPlainly}
 use Rattle.backup_session.specs.Session as sessions
@@ -180,6 +180,7 @@ module _ (s : Store) (lane moment : ℕ) (kind : NewIndex) (name : List ℕ) (fo
         step = begins s lane moment kind name f.0 t.plain n f.1 t.stepped;
         shown = kept_begun w f.0 t.plain new t.after f.2 key (ap (λ x. x.files) begun.same) t.left (t.shows).same;
         key = key;
+        base = ap (λ x. x.base) begun.same;
         is_writer = is_writer_begun s kind f.0 t.plain name moment (uuid_length (f.0).key name) (moment_fits moment in_time) begun is_writer;
         uploads = λ m. has_uploads_begun m kind f.0 t.plain name moment begun;
       }

@@ -143,13 +143,13 @@ module _ {D : Type 0} (honest : D → Type 0) (content : D → Files) where
       → ((p : List ℕ) → text ≡ blobs.blob p → (x : Writer) → Shows (found.session).writer x → LeavesShown (held (found.session).writer) mid (calls.put_data x name p) tt)
       → key ≡ ((found.session).writer).key → file.name ≡ name → file.path ≡ file_path key name → left ≡ kept mid → files ≡ insert_stored file found.files
       → (honest old.disk ↔ honest new.disk) → (honest old.disk → content new.disk ≡ with_put file text (content old.disk))
-      → new.catalogue.items ≡ old.catalogue.items → new.sessions.items ≡ set old.sessions.items lane (sessions.Writer (record { session = left; files = files }))
+      → new.catalogue.items ≡ old.catalogue.items → new.sessions.items ≡ set old.sessions.items lane (sessions.Writer (record { session = left; files = files })) → new.locks ≡ old.locks
       → Holds honest content old s → Does honest content new s (answered s (checked_blob s lane asked (data_in checked))) (Ok Done)
-  does_blob old new s lane asked name text checked w found file key mid left files lt at shown_is asked_is was is bytes takes put key_is name_is path left_is files_is served placed c l h =
+  does_blob old new s lane asked name text checked w found file key mid left files lt at shown_is asked_is was is bytes takes put key_is name_is path left_is files_is served placed c l k h =
       let (p, spelled) = blob_of text (subst IsChecked is was) bytes in
       let leaves = put p spelled.text_is w (shows_found s lane w found (h.shows).sound at shown_is) in
       let after = taken name p w leaves.plain leaves.stepped in
       let may = blob_may_add s w name p leaves.plain (((h.shows).sound).writers lane w at) after spelled.fits in
       let step = ap (λ n. checked_blob s lane n (data_in checked)) (sym asked_is) ∙ done s lane name (data_in checked) w p at takes (ap data_in is ∙ spelled.wanted) in
       does_grow honest content old new s lane w leaves.plain (blob_file name p) w.begun found file key leaves.after mid left files text _ lt at shown_is may after.same (spelled.text_is ∙ sym (text_is p))
-      leaves.left leaves.shows key_is name_is path left_is files_is served placed c l step h
+      leaves.left leaves.shows key_is name_is path left_is files_is served placed c l k step h

@@ -1,14 +1,14 @@
 -- CHUNK is refused, and done, as the store does it.
-use Rattle.std.proofs.Common.{◌≡◌, ◌≢◌, ◌↔◌, ◌⊎◌, inl, inr, ℕ, ◌<◌, ◌≤◌, Bool, true, false, cond, if◌then◌else◌, List, [], ◌∷◌, ◌++◌, length, get_or, set, map, Option, Some, None, Result, Ok, Err, IsOk, IsSome, is_some, refl, sym, ap, subst, ◌∙◌, arith, nat_lt}
+use Rattle.std.proofs.Common.{◌≡◌, ◌↔◌, ◌⊎◌, inl, inr, ℕ, ◌<◌, ◌≤◌, Bool, true, false, cond, List, [], ◌∷◌, length, get_or, set, map, Option, Some, None, Result, Ok, Err, IsOk, IsSome, is_some, refl, sym, ap, subst, ◌∙◌, arith, nat_lt}
 use Rattle.std.specs.Option.{option_map}
-use Rattle.std.specs.List.{All, AllByRecursion, Contains}
+use Rattle.std.specs.List.{Contains}
 use Rattle.std.specs.FinMap.{get}
 use Rattle.std.specs.Str.{bytes_eq}
 use Rattle.std.proofs.lemmas.Bool.{ltb-true}
-use Rattle.std.proofs.lemmas.List.Elements.{All-nil, All-cons, All-append, All-contains, Contains-append_left, Contains-append_right}
+use Rattle.std.proofs.lemmas.List.Elements.{All-nil, All-cons, All-append, All-contains, Contains-append_right}
 use Rattle.std.proofs.lemmas.Slice.Eq.{bytes_eq-Decides}
 use Rattle.sha2.specs.Sha256.{sha256}
-use Rattle.disk_trait.specs.Files.{Files, placed}
+use Rattle.disk_trait.specs.Files.{Files}
 use Rattle.disk_trait.specs.Laws.{by_name, placed_same}
 use Rattle.store_types.specs.declared.names.Digest32.{Digest32}
 use Rattle.store_types.specs.declared.refusal.Refusal.{Refusal}
@@ -20,7 +20,7 @@ use Rattle.blob_codec.specs.Blob.{blob, data_of}
 use Rattle.blob_codec.specs.Laws.{AreBytes}
 use Rattle.blob_codec.proofs.Reading.{HasParts-from_data_of}
 use Rattle.blob_codec.proofs.RoundTrips.{blob-from_data_of}
-use Rattle.store_files.specs.Archive.{Snapshot, digest_of, piece_with, pieces_of}
+use Rattle.store_files.specs.Archive.{Snapshot, digest_of, piece_with}
 use Rattle.wire_commands.specs.declared.reply.Reply.TheVariants.{Done}
 use Rattle.store_model.specs.Store as model
 use Rattle.store_model.specs.Store.{Begun, Store, Writer, writer, session, with_session}
@@ -36,7 +36,6 @@ use Rattle.chunk_store.specs.Pieces.{IsChunk, with_chunk}
 use Rattle.chunk_store.proofs.Blobs.{same_data}
 use Rattle.chunk_store.proofs.Maps.{with_absent, with_present, with_other, with_file, whole_with}
 use Rattle.backup_session.specs.Session.{length_at}
-use Rattle.backup_session.specs.Steps.{known_in}
 use Rattle.backup_session.specs.Shown.{known_of, pool_of}
 use Rattle.backup_session.proofs.Pools.{known_in-pool}
 use Rattle.core_state.specs.declared.kept.Session.{Session}
@@ -49,6 +48,7 @@ use Rattle.core_state.specs.Shown.{shown_session, shown_writer}
 use Rattle.core_state.specs.States.{state_of}
 use Rattle.core_state.proofs.Chunks.{is_digest}
 use Rattle.core_state.proofs.Sessions.{changed, writers_same}
+use Rattle.core_state.proofs.LockLemmas.{locked_writes_on}
 use Rattle.core_state.proofs.Soundness.{IsAlone, sound_writer, shows_changed}
 use Rattle.core_uploads.proofs.Pooled.{is_writer_pooled}
 
@@ -248,14 +248,16 @@ known_there m w digest known h =
 module _ {D : Type 0} (honest : D → Type 0) (content : D → Files) where
   pub holds_chunk : (old new : Parts D) (s : Store) (lane : ℕ) (w : Writer) (digest : Digest32) (bytes p : List ℕ) → lane < 64 → session s lane ≡ writer w → IsSent digest bytes p
       → (honest old.disk ↔ honest new.disk) → (honest old.disk → content new.disk ≡ with_chunk digest.0 bytes (content old.disk)) → new.catalogue.items ≡ old.catalogue.items
-      → new.sessions.items ≡ set old.sessions.items lane (kept.Writer (shown_writer (calls.chunk w p))) → MayStand (content old.disk) digest (Ok p)
+      → new.sessions.items ≡ set old.sessions.items lane (kept.Writer (shown_writer (calls.chunk w p))) → new.locks ≡ old.locks → MayStand (content old.disk) digest (Ok p)
       → Holds honest content old s → Holds honest content new (with_session s lane (writer (calls.chunk w p)))
-  holds_chunk old new s lane w digest bytes p lt at is serves now c l may h =
+  holds_chunk old new s lane w digest bytes p lt at is serves now c l k may h =
+      let within : lane < length s.sessions = omega (arith, (h.shows).sound.lanes, lt) in
       let alone : IsAlone s lane (calls.chunk w p) = λ i v ne was same. ne ((h.shows).sound.apart i lane v w was at same) in
       let sound = sound_writer s lane (calls.chunk w p) lt (is_writer_more s w p is.piece ((h.shows).sound.writers lane w at)) alone (h.shows).sound in
       record {
         honest = serves.0 h.honest;
-        shows = shows_changed old new s lane (writer (calls.chunk w p)) (kept.Writer (shown_writer (calls.chunk w p))) c l refl sound h.shows;
+        shows = shows_changed old new s lane (writer (calls.chunk w p)) (kept.Writer (shown_writer (calls.chunk w p))) c l refl
+            (locked_writes_on old.locks new.locks s lane w (calls.chunk w p) within k at refl refl (h.shows).locks) sound h.shows;
         files = subst (λ f. IsOnDisk f (with_session s lane (writer (calls.chunk w p)))) (sym (now h.honest))
             (on_disk (content old.disk) digest bytes p is s lane w lt (h.shows).sound at may h.files);
       }

@@ -133,9 +133,9 @@ module _ {D : Type 0} (honest : D → Type 0) (content : D → Files) where
   pub does_taken : (old new : Parts D) (s : Store) (lane : ℕ) (v : Writer) (w : Writing) (x y : Session) (digest : Digest32) (checked : Result (List ℕ) Refusal) (bytes : List ℕ)
       → lane < 64 → session s lane ≡ writer v → shown_writer v ≡ w → x ≡ kept.Writer w → y ≡ with_noted digest.0 (length bytes - 12) x → AreBytes bytes → checked ≡ Ok bytes → IsCheckedChunk digest checked
       → (honest old.disk ↔ honest new.disk) → (honest old.disk → content new.disk ≡ with_chunk digest.0 bytes (content old.disk)) → new.catalogue.items ≡ old.catalogue.items
-      → new.sessions.items ≡ set old.sessions.items lane y → MayStand (content old.disk) digest (data_in checked)
+      → new.sessions.items ≡ set old.sessions.items lane y → new.locks ≡ old.locks → MayStand (content old.disk) digest (data_in checked)
       → Holds honest content old s → Does honest content new s (answered s (checked_chunk s lane (data_in checked))) (Ok Done)
-  does_taken old new s lane v w x y digest checked bytes lt at shows x_is y_is are was h serves now c l may holds =
+  does_taken old new s lane v w x y digest checked bytes lt at shows x_is y_is are was h serves now c l k may holds =
       let ok : IsCheckedChunk digest (Ok bytes) = subst (IsCheckedChunk digest) was h in
       let (p, read_is) = read digest bytes ok in
       let is = sent digest bytes p are ok read_is in
@@ -143,7 +143,7 @@ module _ {D : Type 0} (honest : D → Type 0) (content : D → Files) where
       y_is ∙ ap (with_noted digest.0 (length bytes - 12)) (x_is ∙ ap (λ u. kept.Writer u) (sym shows))
       ∙ ap (λ n. kept.Writer (noted (shown_writer v) digest.0 n)) (piece_size digest bytes p is)
       ∙ ap (λ d. kept.Writer (noted (shown_writer v) d (length p))) (sym is.digest_is) ∙ ap (λ u. kept.Writer u) (shown_noted v p) in
-      let after = holds_chunk honest content old new s lane v digest bytes p lt at is serves now c (l ∙ ap (set old.sessions.items lane) kept_is) (may_put (content old.disk) digest checked bytes p read_is was may) holds in
+      let after = holds_chunk honest content old new s lane v digest bytes p lt at is serves now c (l ∙ ap (set old.sessions.items lane) kept_is) k (may_put (content old.disk) digest checked bytes p read_is was may) holds in
       let does : Does honest content new s (with_session s lane (writer (calls.chunk v p)), Done) (Ok Done) = (refl, after) in
       subst (λ o. Does honest content new s (answered s o) (Ok Done)) (sym (step_done s lane v digest checked bytes p at read_is was)) does
 
@@ -151,16 +151,17 @@ module _ {D : Type 0} (honest : D → Type 0) (content : D → Files) where
   pub does_known : (old new : Parts D) (s : Store) (lane : ℕ) (v : Writer) (w : Writing) (x : Session) (digest : Digest32) (checked : Result (List ℕ) Refusal) (bytes : List ℕ) (known : Bool)
       → lane < 64 → session s lane ≡ writer v → shown_writer v ≡ w → x ≡ get_or old.sessions.items lane x → x ≡ kept.Writer w → checked ≡ Ok bytes → IsCheckedChunk digest checked
       → known ≡ is_some (length_at ((w.session).writer).pool digest.0) → known ≡ true → MayStand (content old.disk) digest (data_in checked)
-      → new.disk ≡ old.disk → new.catalogue.items ≡ old.catalogue.items → new.sessions.items ≡ old.sessions.items → Holds honest content old s → Does honest content new s (answered s (checked_chunk s lane (data_in checked))) (Ok Done)
-  does_known old new s lane v w x digest checked bytes known lt at shows x_at x_is was h value there may d c l holds =
+      → new.disk ≡ old.disk → new.catalogue.items ≡ old.catalogue.items → new.sessions.items ≡ old.sessions.items → new.locks ≡ old.locks
+      → Holds honest content old s → Does honest content new s (answered s (checked_chunk s lane (data_in checked))) (Ok Done)
+  does_known old new s lane v w x digest checked bytes known lt at shows x_at x_is was h value there may d c l k holds =
       let (p, is) = read digest bytes (subst (IsCheckedChunk digest) was h) in
       let pool : ((w.session).writer).pool ≡ pool_of v.pool = ap (λ u. ((u.session).writer).pool) (sym shows) ∙ pool_shown v in
       let knows : is_some (length_at (pool_of v.pool) digest.0) ≡ true = ap (λ ps. is_some (length_at ps digest.0)) (sym pool) ∙ sym value ∙ there in
       let same : x ≡ kept.Writer (shown_writer (calls.chunk v p)) =
       x_is ∙ ap (λ u. kept.Writer u) (sym shows ∙ sym (shown_known v p (ap (λ d. is_some (length_at (pool_of v.pool) d)) is.digest_is ∙ knows))) in
       let uploads = uploads_known (content old.disk) v digest p is.digest_is knows (may_put (content old.disk) digest checked bytes p is was may) (holds.files.writers lane v at) in
-      does_go_on honest content old new s lane v (calls.chunk v p) x _ Done lt at refl (is_writer_more s v p is.piece ((holds.shows).sound.writers lane v at)) uploads
-      d c (l ∙ sym (set_back old.sessions.items lane x x_at)) same (step_done s lane v digest checked bytes p at is was) holds
+      does_go_on honest content old new s lane v (calls.chunk v p) x _ Done lt at refl refl (is_writer_more s v p is.piece ((holds.shows).sound.writers lane v at)) uploads
+      d c (l ∙ sym (set_back old.sessions.items lane x x_at)) k same (step_done s lane v digest checked bytes p at is was) holds
 
   -- no other chunk was put
   pub adds_taken : (old : Parts D) (disk : D) (digest : Digest32) (checked : Result (List ℕ) Refusal) (bytes : List ℕ) → AreBytes bytes → checked ≡ Ok bytes → IsCheckedChunk digest checked

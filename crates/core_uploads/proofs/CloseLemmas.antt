@@ -318,12 +318,12 @@ module _ {D : Type 0} (honest : D → Type 0) (content : D → Files) where
       → LeavesShown (held (found.session).writer) mid (calls.close_index w number count size csum) text
       → key ≡ ((found.session).writer).key → file.name ≡ name → file.path ≡ file_path key name → left ≡ kept mid → files ≡ insert_stored file found.files
       → (honest old.disk ↔ honest new.disk) → (honest old.disk → content new.disk ≡ with_put file text (content old.disk))
-      → new.catalogue.items ≡ old.catalogue.items → new.sessions.items ≡ set old.sessions.items lane (states.Writer (record { session = left; files = files }))
+      → new.catalogue.items ≡ old.catalogue.items → new.sessions.items ≡ set old.sessions.items lane (states.Writer (record { session = left; files = files })) → new.locks ≡ old.locks
       → Holds honest content old s → Does honest content new s (answered s (outcome s lane moment (CloseIndex number count size csum))) (Ok Done)
-  does_close old new s lane moment number count size csum w found file key name mid left files text lt at is named leaves key_is name_is path left_is files_is served placed c l h =
+  does_close old new s lane moment number count size csum w found file key name mid left files text lt at is named leaves key_is name_is path left_is files_is served placed c l k h =
       let closed = is_closed number count size csum w leaves.plain text leaves.stepped in
       let same = name_at number w found name closed.b is named closed.found in
       let may = close_may_add s w number closed.b (((h.shows).sound).writers lane w at) closed.found closed.full in
       let step = closes s lane moment number count size csum w leaves.plain text at leaves.stepped ∙ ap (λ v. Ok (with_session s lane (writer v), Done)) closed.same in
       does_grow honest content old new s lane w leaves.plain (index_file closed.b) (left_open number w) found file key leaves.after mid left files text _ lt at is may closed.same (closed.text_is ∙ text_is (closed.b).archive)
-      leaves.left leaves.shows key_is (name_is ∙ same) (path ∙ ap (file_path key) same) left_is files_is served placed c l step h
+      leaves.left leaves.shows key_is (name_is ∙ same) (path ∙ ap (file_path key) same) left_is files_is served placed c l k step h

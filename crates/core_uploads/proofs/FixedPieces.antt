@@ -1,11 +1,11 @@
 -- How many pieces of a fixed archive reach its size, and where they end.
-use Rattle.std.proofs.Common.{◌≡◌, ℕ, ◌+◌, ◌-◌, ◌*◌, ◌/◌, ◌^◌, ◌<◌, ◌≤◌, Bool, true, false, ◌&&◌, ◌==◌, min, List, [], ◌∷◌, ◌++◌, length, inl, inr, refl, sym, ap, subst, ◌∙◌, arith}
-use Rattle.std.proofs.Math.Nat.{div-lt_iff_lt-mul, mul-le-mul, mul-le-mul_right, suc-mul, lt-div-mul-add}
+use Rattle.std.proofs.Common.{◌≡◌, ℕ, ◌+◌, ◌-◌, ◌*◌, ◌/◌, ◌^◌, ◌<◌, ◌≤◌, Bool, true, ◌&&◌, ◌==◌, min, List, [], ◌∷◌, ◌++◌, length, inl, inr, sym, subst, arith}
+use Rattle.std.proofs.Math.Nat.{div-lt_iff_lt-mul, mul-le-mul, suc-mul, lt-div-mul-add}
 use Rattle.std.proofs.lemmas.Bool.{and_parts, and_from, cases_lt, eq-eqb, eqb-true, leb-true}
 use Rattle.std.proofs.lemmas.List.{length-append}
 use Rattle.std.specs.List.{AllByRecursion, concat}
 use Rattle.store_files.specs.Cells.{entry_limit}
-use Rattle.store_files.specs.Archive.{Layout, dynamic, fixed}
+use Rattle.store_files.specs.Archive.{Layout, fixed}
 use Rattle.store_files.specs.FixedIndex.{is_chunk_size, piece_count, piece_len}
 use Rattle.store_model.specs.Archives.{fits_layout}
 use Rattle.store_model.specs.Stands.{IsPiece, fills_size}

@@ -1,5 +1,5 @@
 -- A writer's session when a file of it was pending: as before, or with the file.
-use Rattle.std.proofs.Common.{◌≡◌, ◌↔◌, ◌<◌, ℕ, true, List, [], ◌∷◌, Option, None, Result, Ok, Err, OnOk, OnErr, get_or, set, refl, sym, ap, ap₂, subst, ◌∙◌}
+use Rattle.std.proofs.Common.{length, ◌≡◌, ◌↔◌, ◌<◌, ℕ, true, List, [], ◌∷◌, Option, None, Result, Ok, Err, OnOk, OnErr, get_or, set, refl, sym, ap, ap₂, subst, ◌∙◌, arith}
 use Rattle.std.proofs.lemmas.List.{set-get_or}
 use Rattle.std.specs.List.{AllByRecursion}
 use Rattle.disk_trait.specs.Files.{Files}
@@ -30,6 +30,7 @@ use Rattle.core_state.specs.Shown.{shown_file, shown_files, shown_writer}
 use Rattle.core_state.specs.Settles.{reply_by}
 use Rattle.core_state.specs.Unchanged.{SameKept, SameContent, Unchanged}
 use Rattle.core_state.proofs.NamedLemmas.{writer_named, writer_stays_named}
+use Rattle.core_state.proofs.LockLemmas.{locked_writes_on}
 use Rattle.core_state.proofs.Soundness.{sound_writer, shows_changed}
 use Rattle.core_state.proofs.Unchanging.{not_done}
 use Rattle.core_uploads.specs.Uploaded.{insert_stored, with_put}
@@ -125,15 +126,17 @@ module _ {D : Type 0} (honest : D → Type 0) (content : D → Files) where
       → lane < 64 → session s lane ≡ model.writer w → shown_writer w ≡ found → MayAdd w f begun → after ≡ grown w f begun → text ≡ file_text f.content
       → mid ≡ held (found.session).writer x → Shows x after → key ≡ ((found.session).writer).key → file.name ≡ f.name → file.path ≡ file_path key f.name → left ≡ kept mid → files ≡ insert_stored file found.files
       → (honest old.disk ↔ honest new.disk) → (honest old.disk → content new.disk ≡ with_put file text (content old.disk))
-      → new.catalogue.items ≡ old.catalogue.items → new.sessions.items ≡ set old.sessions.items lane (Writer (record { session = left; files = files }))
+      → new.catalogue.items ≡ old.catalogue.items → new.sessions.items ≡ set old.sessions.items lane (Writer (record { session = left; files = files })) → new.locks ≡ old.locks
       → o ≡ Ok (with_session s lane (model.writer (grown w f begun)), Done) → Holds honest content old s → Does honest content new s (answered s o) (Ok Done)
-  does_grow old new s lane w after f begun found file key x mid left files text o lt at is may after_is text_is mid_is shows key_is name_is path left_is files_is served placed c l step h =
+  does_grow old new s lane w after f begun found file key x mid left files text o lt at is may after_is text_is mid_is shows key_is name_is path left_is files_is served placed c l k step h =
       let sound = (h.shows).sound in
+      let within : lane < length s.sessions = omega (arith, sound.lanes, lt) in
       let named = file_is w found f file key is key_is name_is path in
       let shown = shown_with w after f begun found file x mid left files is after_is named mid_is shows left_is files_is ∙ ap (λ v. Writer (shown_writer v)) after_is in
       let holds : Holds honest content new (with_session s lane (model.writer (grown w f begun))) = record {
         honest = served.0 h.honest;
         shows = shows_changed old new s lane (model.writer (grown w f begun)) _ c l shown
+            (locked_writes_on old.locks new.locks s lane w (grown w f begun) within k at refl refl (h.shows).locks)
             (sound_writer s lane (grown w f begun) lt (is_writer_grown s w f begun (sound.writers lane w at) may) (alone_grown s lane w f begun sound at) sound) h.shows;
         files = grown_on_disk (content old.disk) (content new.disk) s lane w f begun file text lt sound at may.named may.free named text_is (placed h.honest) h.files;
       } in

@@ -1,9 +1,8 @@
 -- Under names that are not an act's own all stays.
-use Rattle.std.proofs.Common.{◌≡◌, ◌<◌, ℕ, Bool, true, false, not, ◌&&◌, ◌||◌, cond, List, [], ◌∷◌, length, get_or, set, Option, Some, None, Err, refl, sym, ap, subst, ◌∙◌}
+use Rattle.std.proofs.Common.{◌≡◌, ◌<◌, ℕ, Bool, true, false, cond, List, [], ◌∷◌, length, get_or, set, Option, Some, Err, refl, sym, ap, subst, ◌∙◌}
 use Rattle.std.proofs.lemmas.Bool.{or_parts}
 use Rattle.std.proofs.lemmas.List.{get_or-set_same, get_or_default}
 use Rattle.std.specs.FinMap.{get}
-use Rattle.std.specs.List.{list_any, find}
 use Rattle.std.specs.Str.{bytes_eq}
 use Rattle.disk_trait.specs.Files.{Files, placed}
 use Rattle.disk_trait.specs.Laws.{get_placed}
@@ -15,12 +14,11 @@ use Rattle.wire_commands.specs.declared.reply.Reply.{Reply}
 use Rattle.store_history.specs.declared.act.Act.{Act}
 use Rattle.core_state.specs.declared.kept.StoredFile.{StoredFile}
 use Rattle.core_state.specs.declared.kept.Session.{Session}
-use Rattle.core_state.specs.declared.kept.Session.TheVariants.{Idle, Writer, Reader}
-use Rattle.core_state.specs.declared.kept.Writing.{Writing}
+use Rattle.core_state.specs.declared.kept.Session.TheVariants.{Idle}
 use Rattle.core_state.specs.declared.parts.Parts.{Parts}
 use Rattle.core_state.specs.Settles.{reply_by}
 use Rattle.core_state.specs.Unchanged.{SameContent}
-use Rattle.core_uploads.specs.Others.{stand_at, OthersStay, ActLeaves, stored_files}
+use Rattle.core_uploads.specs.Others.{stand_at, OthersStay, ActLeaves}
 use Rattle.core_uploads.specs.Uploaded.{insert_stored, with_put}
 
 -- ---- lists of files

@@ -1,5 +1,5 @@
 -- PREVIOUS is the store's: what is read of the base's file, and the pieces that the writer may name then.
-use Rattle.std.proofs.Common.{◌≡◌, ◌↔◌, ◌⊎◌, inl, inr, ⊎_elim, ◌<◌, ◌+◌, ◌-◌, ℕ, Bool, true, false, ◌&&◌, ◌||◌, cond, List, [], ◌∷◌, length, nat_lt, nat_le, drop, find, get_or, map, set, Option, Some, None, Result, Ok, Err, OnOk, OnErr, MatchResult, IsOk, refl, sym, ap, ap₂, subst, ◌∙◌, arith}
+use Rattle.std.proofs.Common.{◌≡◌, ◌↔◌, ◌⊎◌, inl, inr, ⊎_elim, ◌<◌, ◌+◌, ◌-◌, ℕ, Bool, true, false, ◌&&◌, ◌||◌, cond, List, [], ◌∷◌, length, nat_lt, nat_le, drop, find, map, set, Option, Some, None, Result, Ok, Err, OnOk, OnErr, refl, sym, ap, subst, ◌∙◌, arith}
 use Rattle.std.proofs.lemmas.Bool.{and_parts, and_from}
 use Rattle.std.proofs.Math.ListN.{get_or-append}
 use Rattle.std.proofs.lemmas.List.{length-append, get_or-append-add}
@@ -7,25 +7,20 @@ use Rattle.std.proofs.lemmas.List.Elements.{All-nil}
 use Rattle.std.proofs.lemmas.Slice.Eq.{bytes_eq-Decides}
 use Rattle.std.specs.FinMap.{get}
 use Rattle.std.specs.List.{All, flat_map}
-use Rattle.std.specs.Option.{option_map}
 use Rattle.std.specs.Str.{bytes_eq}
-use Rattle.sha2.specs.Sha256.{sha256}
 use Rattle.disk_trait.specs.Files.{Files}
-use Rattle.disk_trait.specs.declared.disk.DiskError.{DiskError}
 use Rattle.store_types.specs.declared.names.SnapshotKey.{SnapshotKey}
 use Rattle.store_types.specs.declared.refusal.Refusal.{Refusal}
 use Rattle.store_types.specs.declared.refusal.Refusal.TheVariants.{WrongState, BadName, NoSnapshot, NoFile, BadRange, Unreadable}
 use Rattle.store_types.specs.declared.refusal.SessionState.{SessionState}
 use Rattle.store_types.specs.Chain.Refusing.{◌>>=◌, unless, or_else}
-use Rattle.store_types.specs.FileNames.{is_file_name, is_id, is_index_name, is_fixed_name, is_dynamic_name, is_blob_name, has_ending, fixed_ending, dynamic_ending, blob_ending}
-use Rattle.store_types.specs.Names.{same_group, group_of_key}
+use Rattle.store_types.specs.FileNames.{is_file_name, is_id, is_index_name, is_fixed_name, is_dynamic_name, is_blob_name, fixed_ending, dynamic_ending, blob_ending}
 use Rattle.store_files.specs.Archive.{Layout, dynamic, fixed, Archive, Content, archive, blob, File, Snapshot, file_named, file_text, pieces_of, ends_from}
 use Rattle.wire_commands.specs.declared.command.Command.TheVariants.{Previous as PreviousCommand}
 use Rattle.wire_commands.specs.declared.reply.Reply.{Reply}
 use Rattle.wire_commands.specs.declared.reply.Reply.TheVariants.{Part, Refused}
-use Rattle.store_model.specs.Store as model
 use Rattle.store_model.specs.Store.{Store, Writer, Outcome, writer, session, with_session, want_writer, snapshot_named}
-use Rattle.store_model.specs.Stands.{IsPiece, IsSnapshot, FitsContent, HoldsPieces, names_content}
+use Rattle.store_model.specs.Stands.{IsPiece, FitsContent, HoldsPieces, names_content}
 use Rattle.store_model.specs.Steps.{outcome, answered}
 use Rattle.store_model.specs.WriterSteps.{previous, base_of, goes_on, with_pool, part_of}
 use Rattle.dynamic_index.specs.Writing.{Known}
@@ -45,16 +40,17 @@ use Rattle.core_state.specs.declared.kept.Writing.{Writing}
 use Rattle.core_state.specs.declared.parts.Parts.{Parts}
 use Rattle.core_state.specs.Chunks.{HasChunk}
 use Rattle.core_state.specs.Found.{kept_named, path_named, path_of_kept, path_in}
-use Rattle.core_state.specs.Holds.{IsWriter, IsOnDisk, HasUploads, Holds, Does}
+use Rattle.core_state.specs.Holds.{IsOnDisk, Holds, Does}
 use Rattle.core_state.specs.Named.{has_text, is_named}
 use Rattle.core_state.specs.Shown.{shown_session, shown_snapshot, shown_writer, shown_files}
 use Rattle.core_state.specs.Replies.{answers_previous, refuses_previous}
 use Rattle.core_state.specs.States.{state_of}
 use Rattle.core_state.specs.Unchanged.{is_uncalled, Unchanged}
-use Rattle.core_state.specs.Unreadables.{Asked, whole_by, read_by, part_read}
+use Rattle.core_state.specs.Unreadables.{whole_by, read_by}
 use Rattle.core_state.proofs.Acting.{holds_same}
 use Rattle.core_state.proofs.Finding.{mapped, found_in}
 use Rattle.core_state.proofs.Found.{IsThere, kept_is, not_kept, is_there, not_there, there_text, there_kind, there_fits}
+use Rattle.core_state.proofs.LockLemmas.{locked_writes_on}
 use Rattle.core_state.proofs.Soundness.{IsAlone, sound_writer, disk_writer, shows_changed}
 use Rattle.core_uploads.specs.Previous.{kept_by, base_file, asked_at, asked_of_base, Previous, previous_by, shown_given, Tells, with_known}
 use Rattle.core_uploads.specs.declared.base.Given.{Given}
@@ -244,11 +240,11 @@ part_alone (Some is_fixed) m path offset = by_index (index_at m path is_fixed of
     by_index (Ok x) = refl
     by_index (Err e) = refl
 
-pub part_is : (m : Files) (a : Asked) (p : Previous) → previous_by a.whole m a.path a.offset ≡ Ok p → Ok p.part ≡ part_read m a
-part_is m a p is = sym (ap (λ r. r >>= λ p. Ok p.part) is) ∙ part_alone a.whole m a.path a.offset
+pub part_is : (m : Files) (path : List ℕ) (whole : Option Bool) (offset : ℕ) (p : Previous) → previous_by whole m path offset ≡ Ok p → Ok p.part ≡ read_by whole m path offset
+part_is m path whole offset p is = sym (ap (λ r. r >>= λ p. Ok p.part) is) ∙ part_alone whole m path offset
 
-pub refusal_is : (m : Files) (a : Asked) (r : Refusal) → previous_by a.whole m a.path a.offset ≡ Err r → Err r ≡ part_read m a
-refusal_is m a r is = sym (ap (λ q. q >>= λ p. Ok p.part) is) ∙ part_alone a.whole m a.path a.offset
+pub refusal_is : (m : Files) (path : List ℕ) (whole : Option Bool) (offset : ℕ) (r : Refusal) → previous_by whole m path offset ≡ Err r → Err r ≡ read_by whole m path offset
+refusal_is m path whole offset r is = sym (ap (λ q. q >>= λ p. Ok p.part) is) ∙ part_alone whole m path offset
 
 -- ---- what is kept
 
@@ -291,9 +287,9 @@ went s lane w reply = refl
 module _ {D : Type 0} (honest : D → Type 0) (content : D → Files) where
   -- the lane's writer may name more pieces that are there
   holds_noted : (old new : Parts D) (s : Store) (lane : ℕ) (w : Writer) (pieces : List (List ℕ)) (y : Session) → lane < 64 → session s lane ≡ writer w → All IsPiece pieces → All (HasChunk (content old.disk)) pieces
-      → (honest old.disk ↔ honest new.disk) → (honest old.disk → content new.disk ≡ content old.disk) → new.catalogue.items ≡ old.catalogue.items → new.sessions.items ≡ set old.sessions.items lane y
+      → (honest old.disk ↔ honest new.disk) → (honest old.disk → content new.disk ≡ content old.disk) → new.catalogue.items ≡ old.catalogue.items → new.sessions.items ≡ set old.sessions.items lane y → new.locks ≡ old.locks
       → y ≡ kept.Writer (shown_writer (with_pool pieces w)) → Holds honest content old s → Holds honest content new (with_session s lane (writer (with_pool pieces w)))
-  holds_noted old new s lane w pieces y lt at are there kept_on same c l y_is h =
+  holds_noted old new s lane w pieces y lt at are there kept_on same c l k y_is h =
       let after = with_pool pieces w in
       let sound = (h.shows).sound in
       let within : lane < length s.sessions = omega (arith, sound.lanes, lt) in
@@ -302,7 +298,7 @@ module _ {D : Type 0} (honest : D → Type 0) (content : D → Files) where
       let uploads = has_uploads_pooled (content old.disk) w pieces there ((h.files).writers lane w at) in
       record {
         honest = kept_on.0 h.honest;
-        shows = shows_changed old new s lane (writer after) y c l y_is (sound_writer s lane after lt is_writer alone sound) h.shows;
+        shows = shows_changed old new s lane (writer after) y c l y_is (locked_writes_on old.locks new.locks s lane w after within k at refl refl (h.shows).locks) (sound_writer s lane after lt is_writer alone sound) h.shows;
         files = subst (λ f. IsOnDisk f (with_session s lane (writer after))) (sym (same h.honest)) (disk_writer (content old.disk) s lane after within uploads h.files);
       }
 
@@ -347,22 +343,22 @@ module _ {D : Type 0} (honest : D → Type 0) (content : D → Files) (old new :
 
   -- the part is refused
   pub does_refused_part : (r : Refusal) → previous_by (whole_by name) (content old.disk) path offset ≡ Err r
-      → (honest old.disk ↔ honest new.disk) → (honest old.disk → content new.disk ≡ content old.disk) → new.catalogue.items ≡ old.catalogue.items → new.sessions.items ≡ old.sessions.items
+      → (honest old.disk ↔ honest new.disk) → (honest old.disk → content new.disk ≡ content old.disk) → new.catalogue.items ≡ old.catalogue.items → new.sessions.items ≡ old.sessions.items → new.locks ≡ old.locks
       → Does honest content new s (answered s (outcome s lane m (PreviousCommand name offset))) (Ok (Refused r))
-  does_refused_part r is kept_on same c l =
-      let done : Does honest content new s (s, Refused r) (Ok (Refused r)) = (refl, holds_same honest content old new s kept_on same c l h) in
+  does_refused_part r is kept_on same c l k =
+      let done : Does honest content new s (s, Refused r) (Ok (Refused r)) = (refl, holds_same honest content old new s kept_on same c l k h) in
       let step : outcome s lane m (PreviousCommand name offset) ≡ Err r = outcome_is ∙ refused_by s lane name offset w file r (part_from (file_text file) offset) (sym read_is ∙ is) in
       subst (λ o. Does honest content new s (answered s o) (Ok (Refused r))) (sym step) done
 
   -- it is given, and its pieces may be named
   pub does_part : (p : Previous) (y : Session) → lane < 64 → previous_by (whole_by name) (content old.disk) path offset ≡ Ok p
-      → (honest old.disk ↔ honest new.disk) → (honest old.disk → content new.disk ≡ content old.disk) → new.catalogue.items ≡ old.catalogue.items → new.sessions.items ≡ set old.sessions.items lane y
+      → (honest old.disk ↔ honest new.disk) → (honest old.disk → content new.disk ≡ content old.disk) → new.catalogue.items ≡ old.catalogue.items → new.sessions.items ≡ set old.sessions.items lane y → new.locks ≡ old.locks
       → ((shown : List (List ℕ)) → p.pieces ≡ map known_of shown → y ≡ kept.Writer (shown_writer (with_pool shown w)))
       → Does honest content new s (answered s (outcome s lane m (PreviousCommand name offset))) (Ok p.part)
-  does_part p y lt is kept_on same c l noted =
+  does_part p y lt is kept_on same c l k noted =
       let g = given_by s lane name offset w file (part_from (file_text file) offset) p (sym read_is ∙ is) in
       let there = pieces_held (content old.disk) s.snapshots b.key name (b.there).snapshot (b.there).file (b.there).kept (b.there).named ((h.files).snapshots).pieces in
-      let holds = holds_noted honest content old new s lane w (pieces_of file) y lt at (content_pieces file fits) there kept_on same c l (noted (pieces_of file) g.pieces) h in
+      let holds = holds_noted honest content old new s lane w (pieces_of file) y lt at (content_pieces file fits) there kept_on same c l k (noted (pieces_of file) g.pieces) h in
       let done : Does honest content new s (with_session s lane (writer (with_pool (pieces_of file) w)), p.part) (Ok p.part) = (refl, holds) in
       let step : outcome s lane m (PreviousCommand name offset) ≡ Ok (with_session s lane (writer (with_pool (pieces_of file) w)), p.part) = outcome_is ∙ g.step in
       subst (λ o. Does honest content new s (answered s o) (Ok p.part)) (sym step) done

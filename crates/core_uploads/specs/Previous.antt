@@ -18,7 +18,7 @@ use Rattle.core_state.specs.declared.kept.Writing.{Writing}
 use Rattle.core_state.specs.declared.kept.Session.{Session}
 use Rattle.core_state.specs.declared.kept.Session.TheVariants.{Idle, Writer, Reader}
 use Rattle.core_state.specs.Found.{kept_named, path_named}
-use Rattle.core_state.specs.Unreadables.{Asked, whole_by, read_by}
+use Rattle.core_state.specs.Unreadables.{Asked, from_offset, whole_by, read_by}
 use Rattle.core_uploads.specs.declared.base.Given.{Given}
 
 -- ---- the file of the base
@@ -34,7 +34,7 @@ base_file base name catalogue = do
   or_else NoFile (path_named name kept.files)
 
 abbrev pub asked_at : List ℕ → ℕ → Result (List ℕ) Refusal → Option Asked
-asked_at name offset (Ok path) = Some (record { path = path; whole = whole_by name; offset = offset })
+asked_at name offset (Ok path) = Some (record { path = path; way = from_offset (whole_by name) offset })
 asked_at name offset (Err refusal) = None
 
 -- the file that a session's writer asks for

@@ -30,6 +30,7 @@ pub record GoesOn (s : Store) (lane : ℕ) (new : Session) (o : Outcome) (reply 
   pub step : o ≡ Ok (with_session s lane (writer after), reply)
   pub shown : new ≡ kept.Writer (shown_writer after)
   pub key : after.key ≡ before.key
+  pub base : after.base ≡ before.base
   pub is_writer : IsWriter s.snapshots after
   pub uploads : (m : Files) → HasUploads m before → HasUploads m after
 

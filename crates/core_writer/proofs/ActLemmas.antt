@@ -7,11 +7,11 @@ use Rattle.port_traits.specs.Readings.{Readings}
 use Rattle.store_types.specs.declared.refusal.Refusal.TheVariants.{NoMemory, Halted, Unreadable}
 use Rattle.disk_trait.specs.Files.{Files}
 use Rattle.disk_trait.specs.declared.disk.DiskError.{DiskError}
-use Rattle.wire_commands.specs.declared.command.Command.TheVariants.{OpenWriter, Previous, NewFixed, NewDynamic, Chunk as ChunkCommand, Append, CloseIndex, Blob as BlobCommand, Finish, Abort, OpenReader, Download, GetChunk, Range, CloseReader, Bye}
+use Rattle.wire_commands.specs.declared.command.Command.TheVariants.{OpenWriter, Previous, NewFixed, NewDynamic, Chunk as ChunkCommand, Append, CloseIndex, Blob as BlobCommand, Finish, Abort, OpenReader, Download, GetChunk, Range, CloseReader, List as ListAll, Files as FilesOf, Forget, Prune, Group, Bye}
 use Rattle.wire_commands.specs.declared.reply.Reply.{Reply}
 use Rattle.wire_commands.specs.declared.reply.Reply.TheVariants.{Done, Refused}
 use Rattle.store_history.specs.declared.act.Act.{Act}
-use Rattle.store_history.specs.declared.act.Act.TheVariants.{Plain, Blob, Chunk, Short, End}
+use Rattle.store_history.specs.declared.act.Act.TheVariants.{Plain, JobGroup, Blob, Chunk, Short, End}
 use Rattle.store_history.specs.declared.act.Answer.{Answer}
 use Rattle.store_history.specs.Acts.{IsWellFormed, class_of, stepping}
 use Rattle.core_state.specs.Begins.{Refuses, short, halted}
@@ -41,7 +41,13 @@ writers_formed (Plain (Download file offset)) h = absurd h
 writers_formed (Plain (GetChunk digest)) h = absurd h
 writers_formed (Plain (Range file offset len)) h = absurd h
 writers_formed (Plain CloseReader) h = absurd h
+writers_formed (Plain (ListAll after)) h = absurd h
+writers_formed (Plain (FilesOf snapshot)) h = absurd h
+writers_formed (Plain (Forget snapshot)) h = absurd h
+writers_formed (Plain (Prune group keep dry)) h = absurd h
+writers_formed (Plain (Group group)) h = absurd h
 writers_formed (Plain Bye) h = absurd h
+writers_formed (JobGroup command) h = absurd h
 writers_formed (Blob name checked) h = h
 writers_formed (Chunk digest checked) h = h
 writers_formed Short h = absurd h
@@ -49,6 +55,7 @@ writers_formed End h = absurd h
 
 pub writers_step : (a : Act) → IsWriters a → class_of a ≡ stepping
 writers_step (Plain c) h = refl
+writers_step (JobGroup command) h = refl
 writers_step (Blob name checked) h = refl
 writers_step (Chunk digest checked) h = refl
 writers_step Short h = absurd h
@@ -85,7 +92,13 @@ ended_is (Plain (Download file offset)) x h ended = absurd ended
 ended_is (Plain (GetChunk digest)) x h ended = absurd ended
 ended_is (Plain (Range file offset len)) x h ended = absurd ended
 ended_is (Plain CloseReader) x h ended = absurd ended
+ended_is (Plain (ListAll after)) x h ended = absurd ended
+ended_is (Plain (FilesOf snapshot)) x h ended = absurd ended
+ended_is (Plain (Forget snapshot)) x h ended = absurd ended
+ended_is (Plain (Prune group keep dry)) x h ended = absurd ended
+ended_is (Plain (Group group)) x h ended = absurd ended
 ended_is (Plain Bye) x h ended = absurd ended
+ended_is (JobGroup command) x h ended = absurd ended
 ended_is (Blob name checked) x h ended = absurd ended
 ended_is (Chunk digest checked) x h ended = absurd ended
 ended_is Short x h ended = absurd ended

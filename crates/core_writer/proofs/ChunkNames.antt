@@ -1,5 +1,5 @@
 -- An act that puts a writer's files alone adds no chunk.
-use Rattle.std.proofs.Common.{◌≡◌, ◌≢◌, ◌<◌, inl, ℕ, Bool, true, false, ◌||◌, cond, List, [], ◌∷◌, length, get_or, map, Option, Some, None, Result, Ok, Err, IfOk, IsTrue, refl, sym, ap, ap₂, subst, ◌∙◌, arith}
+use Rattle.std.proofs.Common.{◌≡◌, ◌≢◌, ◌<◌, inl, ℕ, Bool, true, false, ◌||◌, cond, List, [], ◌∷◌, length, get_or, Some, None, Result, Ok, Err, IfOk, IsTrue, refl, sym, ap, ap₂, ◌∙◌, arith}
 use Rattle.std.proofs.lemmas.List.{get_or_default, length-map}
 use Rattle.std.proofs.lemmas.Slice.Eq.{bytes_eq-Decides}
 use Rattle.std.specs.FinMap.{get}
@@ -22,10 +22,9 @@ use Rattle.store_model.specs.Stands.{chunk_name}
 use Rattle.store_model.proofs.Paths.{chunk_apart}
 use Rattle.store_history.specs.declared.act.Act.{Act}
 use Rattle.store_history.specs.declared.act.Act.TheVariants as acts
-use Rattle.core_state.specs.declared.kept.Session.{Session}
 use Rattle.core_state.specs.declared.kept.Session.TheVariants.{Idle}
 use Rattle.core_state.specs.declared.parts.Parts.{Parts}
-use Rattle.core_state.specs.Chunks.{HasChunk, AddsChunks, Adds}
+use Rattle.core_state.specs.Chunks.{AddsChunks, Adds}
 use Rattle.core_state.specs.Holds.{Shows, Holds, Acts}
 use Rattle.core_state.specs.Replies.{may_answer}
 use Rattle.core_state.specs.Settles.{reply_by}
@@ -83,10 +82,20 @@ not_fault_command (commands.Download file offset) = refl
 not_fault_command (commands.GetChunk digest) = refl
 not_fault_command (commands.Range file offset len) = refl
 not_fault_command commands.CloseReader = refl
+not_fault_command (commands.List after) = refl
+not_fault_command (commands.Files snapshot) = refl
+not_fault_command (commands.Forget snapshot) = refl
+not_fault_command (commands.Prune group keep dry) = refl
+not_fault_command (commands.Group group) = refl
 not_fault_command commands.Bye = refl
+
+not_fault_job : (c : Rattle.wire_commands.specs.declared.command.Command.Command) → may_answer (acts.JobGroup c) (Refused refusals.DiskFault) ≡ false
+not_fault_job (commands.Prune group keep dry) = refl
+not_fault_job _ = refl
 
 not_fault : (a : Act) → may_answer a (Refused refusals.DiskFault) ≡ false
 not_fault (acts.Plain c) = not_fault_command c
+not_fault (acts.JobGroup c) = not_fault_job c
 not_fault (acts.Blob name checked) = refl
 not_fault (acts.Chunk digest checked) = refl
 not_fault acts.Short = refl

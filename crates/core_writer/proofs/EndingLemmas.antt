@@ -1,5 +1,5 @@
 -- What is left of a disk as a writer's files are removed.
-use Rattle.std.proofs.Common.{◌≡◌, ◌≢◌, ◌↔◌, ⊎_elim, ℕ, ◌+◌, ◌<◌, Bool, true, false, not, cond, ◌&&◌, ◌||◌, length, get_or, set, take, List, [], ◌∷◌, ◌++◌, Option, None, refl, sym, ap, subst, ◌∙◌, arith}
+use Rattle.std.proofs.Common.{◌≡◌, ◌≢◌, ◌↔◌, ⊎_elim, ℕ, ◌+◌, ◌<◌, Bool, true, false, not, cond, ◌&&◌, ◌||◌, length, get_or, take, List, [], ◌∷◌, ◌++◌, Option, None, refl, sym, ap, subst, ◌∙◌, arith}
 use Rattle.std.proofs.lemmas.Bool.{or_cases, false_from_ne_true}
 use Rattle.std.proofs.lemmas.List.{take_more}
 use Rattle.std.proofs.lemmas.List.Elements.{All-head, All-tail}
@@ -12,7 +12,6 @@ use Rattle.disk_trait.specs.Files.{Files}
 use Rattle.disk_trait.specs.Laws.{get_placed, same_files}
 use Rattle.core_state.specs.declared.kept.StoredFile.{StoredFile}
 use Rattle.core_state.specs.declared.kept.Session.{Session}
-use Rattle.core_state.specs.declared.kept.Session.TheVariants.{Idle}
 use Rattle.core_state.specs.declared.parts.Parts.{Parts}
 use Rattle.store_types.specs.declared.names.SnapshotKey.{SnapshotKey}
 use Rattle.store_files.specs.Archive.{File}
@@ -21,9 +20,9 @@ use Rattle.store_model.specs.Store.{Store, Writer, none, writer, session, with_s
 use Rattle.store_model.specs.Uploads.{file_path}
 use Rattle.store_model.proofs.StandsLemmas.{Apart, agrees_off, stands_agree}
 use Rattle.core_state.specs.Shown.{shown_file, shown_files, shown_session}
-use Rattle.core_state.specs.Holds.{IsSound, IsOnDisk, HasUploads, Holds}
+use Rattle.core_state.specs.Holds.{IsSound, Shows, IsOnDisk, HasUploads, Holds}
 use Rattle.core_state.proofs.Sessions.{at_lane, changed, no_writer_none}
-use Rattle.core_state.proofs.Soundness.{sound_idle, disk_idle, shows_changed}
+use Rattle.core_state.proofs.Soundness.{disk_idle}
 use Rattle.core_state.proofs.OnDisk.{IsOff, apart_upload, names_plain, keys_apart, off_other, uploads_off}
 use Rattle.core_writer.specs.Ended.{FilesGone, is_removed, removed_by}
 use Rattle.core_uploads.specs.Others.{stored_files}
@@ -128,14 +127,13 @@ ended_on_disk m n s lane (model.reader r) lt h at removed disk =
 module _ {D : Type 0} (honest : D → Type 0) (content : D → Files) where
   pub has_ended : (old new : Parts D) (s : Store) (lane : ℕ) (found : Session) → lane < 64 → found ≡ get_or old.sessions.items lane found → (honest old.disk ↔ honest new.disk)
       → (honest old.disk → (q : List ℕ) → get (content new.disk) q ≡ removed_by (stored_files found) (content old.disk) q)
-      → new.catalogue.items ≡ old.catalogue.items → new.sessions.items ≡ set old.sessions.items lane Idle
-      → Holds honest content old s → Holds honest content new (with_session s lane none)
-  has_ended old new s lane found lt at kept removed c l h =
+      → Shows new (with_session s lane none) → Holds honest content old s → Holds honest content new (with_session s lane none)
+  has_ended old new s lane found lt at kept removed shows h =
       let sound = (h.shows).sound in
       let is = at_lane old.sessions.items s lane found (h.shows).sessions sound.lanes lt at in
       record {
         honest = kept.0 h.honest;
-        shows = shows_changed old new s lane none Idle c l refl (sound_idle s lane lt sound) h.shows;
+        shows = shows;
         files = ended_on_disk (content old.disk) (content new.disk) s lane (session s lane) lt sound refl
             (λ q. removed h.honest q ∙ ap (λ x. removed_by (stored_files x) (content old.disk) q) is) h.files;
       }

@@ -1,7 +1,7 @@
 -- FINISH is the store's.
-use Rattle.std.proofs.Common.{◌≡◌, ◌≢◌, ◌↔◌, ℕ, ◌<◌, ◌≤◌, Bool, true, false, not, ◌==◌, cond, length, get_or, set, map, List, [], ◌∷◌, Option, Some, None, Result, Ok, Err, MatchResult, refl, sym, ap, subst, ◌∙◌, arith}
-use Rattle.std.proofs.lemmas.Bool.{and_parts, and_from, false_from_ne_true, eq-eqb, eqb-true}
-use Rattle.std.proofs.lemmas.List.{length-set, length-map}
+use Rattle.std.proofs.Common.{◌≡◌, ◌≢◌, ◌↔◌, ℕ, ◌<◌, Bool, true, false, not, ◌==◌, cond, length, get_or, set, map, List, [], ◌∷◌, Option, Some, None, Result, Ok, Err, MatchResult, refl, sym, ap, subst, ◌∙◌, arith}
+use Rattle.std.proofs.lemmas.Bool.{and_parts, and_from, false_from_ne_true}
+use Rattle.std.proofs.lemmas.List.{length-set}
 use Rattle.std.proofs.lemmas.Option.{some_pair_parts}
 use Rattle.std.proofs.lemmas.Slice.Eq.{bytes_eq-Decides}
 use Rattle.std.specs.FinMap.{get}
@@ -19,6 +19,7 @@ use Rattle.store_types.specs.Names.{key_lt, same_group, group_of_key}
 use Rattle.store_files.specs.Archive.{File, Snapshot, file_text, file_named}
 use Rattle.store_files.specs.Manifest.{Manifest, manifest_of as manifest_of_bytes}
 use Rattle.store_files.specs.Manifest.Mismatch.{Mismatch}
+use Rattle.lock_book.specs.Locks.{Releases}
 use Rattle.wire_commands.specs.HasText.{FitsRefusal, ReplyHasText}
 use Rattle.wire_commands.specs.declared.command.Command.TheVariants.{Finish}
 use Rattle.wire_commands.specs.declared.reply.Reply.TheVariants.{Done, Refused}
@@ -47,6 +48,7 @@ use Rattle.core_state.specs.Named.{has_text, is_named, is_named_snapshot}
 use Rattle.core_state.specs.Shown.{shown_file, shown_files, shown_snapshot, shown_writer, shown_session}
 use Rattle.core_state.specs.Holds.{IsBegun, IsSound, IsWriter, IsReader, IsOlder, HasUploads, IsOnDisk, Holds, Does}
 use Rattle.core_state.proofs.Sessions.{changed, shown_set, no_writer_none, no_reader_none}
+use Rattle.core_state.proofs.LockLemmas.{locked_ended}
 use Rattle.core_state.proofs.Soundness.{sound_idle}
 use Rattle.core_state.proofs.OnDisk.{IsOff, fresh, off_other, keys_apart, uploads_off, pieces_there}
 use Rattle.core_state.specs.States.{state_of}
@@ -324,12 +326,14 @@ named_closed number (sessions.Reader r) xs is h = h
 module _ {D : Type 0} (honest : D → Type 0) (content : D → Files) where
   pub does_finish : (old new : Parts D) (s : Store) (lane moment number : ℕ) (found : Session) (w : Writer) (path text : List ℕ) (listing : Manifest) → lane < 64 → session s lane ≡ writer w → finish_check w ≡ Ok listing → found ≡ sessions.Writer (shown_writer w) → kept_manifest (shown_writer w) ≡ Some (path, text)
       → (honest old.disk ↔ honest new.disk) → (honest old.disk → content new.disk ≡ placed (content old.disk) path (Some text))
-      → new.catalogue.items ≡ closed number found old.catalogue.items → new.sessions.items ≡ set old.sessions.items lane sessions.Idle
+      → new.catalogue.items ≡ closed number found old.catalogue.items → new.sessions.items ≡ set old.sessions.items lane sessions.Idle → Releases old.locks new.locks lane
       → Holds honest content old s → Does honest content new s (answered s (outcome s lane moment Finish)) (Ok Done)
   unfolding shown
-  does_finish old new s lane moment number found w path text listing lt at check is manifest kept put c l h =
+  does_finish old new s lane moment number found w path text listing lt at check is manifest kept put c l k h =
       let sound = (h.shows).sound in
       let m = has_manifest w path text manifest in
+      let within : lane < length s.sessions = omega (arith, sound.lanes, lt) in
+      let locks = locked_ended old.locks new.locks s lane within sound (sound_idle s lane lt sound) k (h.shows).locks in
       let now : content new.disk ≡ placed (content old.disk) (manifest_path w.key) (Some text) = put h.honest ∙ ap (λ q. placed (content old.disk) q (Some text)) m.is_path in
       let puts : Puts (content old.disk) (content new.disk) (manifest_path w.key) text = record {
         there = ap (λ f. get f (manifest_path w.key)) now ∙ placed_same (content old.disk) (manifest_path w.key) (Some text);
@@ -341,6 +345,7 @@ module _ {D : Type 0} (honest : D → Type 0) (content : D → Files) where
           catalogue = ap all_kept (c ∙ ap (λ x. closed number x old.catalogue.items) is) ∙ kept_listed (listed_of number (shown_writer w)) old.catalogue.items
               ∙ ap (insert_kept (shown_snapshot (snapshot_of w))) (h.shows).catalogue ∙ sym (shown_listed (snapshot_of w) s.snapshots);
           sessions = l ∙ ap (λ k. set k lane sessions.Idle) ((h.shows).sessions ∙ sym (sessions_finished s lane w sound at)) ∙ sym (shown_set (insert_snapshot (snapshot_of w) s.snapshots) s lane none);
+          locks = record { groups = locks.groups; shared = locks.shared };
           sound = sound_finished s lane w path text listing lt sound at m check;
         };
         files = finished_on_disk s lane w path text listing lt sound at m check (content old.disk) (content new.disk) puts h.files;

@@ -1,9 +1,9 @@
 -- What OPEN_WRITER tests of what is kept is what the store tests.
-use Rattle.std.proofs.Common.{◌≡◌, ℕ, ◌+◌, ◌<◌, Bool, true, false, not, cond, length, map, List, [], ◌∷◌, Option, Some, None, Result, Ok, Err, refl, ap, subst, ◌∙◌}
+use Rattle.std.proofs.Common.{◌≡◌, ℕ, ◌<◌, Bool, true, false, cond, length, map, List, [], ◌∷◌, Option, Some, None, Result, Ok, Err, refl, ap, subst, ◌∙◌}
 use Rattle.std.proofs.lemmas.Bool.{and_parts, ltb-true}
 use Rattle.std.proofs.lemmas.List.{length-map}
-use Rattle.std.specs.List.{last_or, list_all, position_or_len}
-use Rattle.std.specs.Prelude.{nat_lt, position}
+use Rattle.std.specs.List.{last_or, list_all}
+use Rattle.std.specs.Prelude.{nat_lt}
 use Rattle.store_types.specs.declared.names.SnapshotKey.{SnapshotKey}
 use Rattle.store_types.specs.declared.names.GroupKey.{GroupKey}
 use Rattle.store_types.specs.declared.refusal.Refusal.{Refusal}
@@ -12,15 +12,13 @@ use Rattle.store_types.specs.Chain.Refusing.{◌>>=◌, unless, if_none}
 use Rattle.store_types.specs.Names.{same_group, group_of_key}
 use Rattle.store_files.specs.Archive.{Snapshot}
 use Rattle.store_model.specs.Store as model
-use Rattle.store_model.specs.Store.{writes_group, group_holder, in_group, keys_in, latest_in}
+use Rattle.store_model.specs.Store.{in_group, latest_in}
 use Rattle.store_model.specs.WriterSteps.{want_newer}
-use Rattle.backup_session.specs.Shown.{shown}
 use Rattle.core_state.specs.declared.kept.Kept.{Kept}
 use Rattle.core_state.specs.declared.kept.Listed.{Listed}
-use Rattle.core_state.specs.declared.kept.Session.{Session}
 use Rattle.core_state.specs.Named.{has_text, is_named_snapshot}
 use Rattle.core_state.specs.Shown.{shown_session, shown_snapshot}
-use Rattle.core_writer.specs.Opened.{want_idle, writes, kept_in, latest_kept, base_kept}
+use Rattle.core_writer.specs.Opened.{want_idle, kept_in, latest_kept, base_kept}
 
 -- ---- each test
 
@@ -28,26 +26,6 @@ pub shown_idle : (ss : List Snapshot) (x : model.Session) → want_idle (shown_s
 shown_idle ss model.none = refl
 shown_idle ss (model.writer w) = refl
 shown_idle ss (model.reader r) = refl
-
-shown_key : (w : model.Writer) → (shown w).key ≡ w.key
-unfolding shown
-shown_key w = refl
-
-shown_writes : (ss : List Snapshot) (group : GroupKey) (x : model.Session) → writes group (shown_session ss x) ≡ writes_group group x
-shown_writes ss group model.none = refl
-shown_writes ss group (model.writer w) = ap (λ k. same_group group (group_of_key k)) (shown_key w)
-shown_writes ss group (model.reader r) = refl
-
-place_shown : (ss : List Snapshot) (group : GroupKey) (xs : List model.Session) → position_or_len (writes group) (map (shown_session ss) xs) ≡ position_or_len (writes_group group) xs
-place_shown ss group [] = refl
-place_shown ss group (x ∷ xs) =
-    ap (λ b. cond (not b) (1 + position_or_len (writes group) (map (shown_session ss) xs)) 0) (shown_writes ss group x)
-    ∙ ap (λ n. cond (not (writes_group group x)) (1 + n) 0) (place_shown ss group xs)
-
-pub position_shown : (ss : List Snapshot) (group : GroupKey) (xs : List model.Session) → position (writes group) (map (shown_session ss) xs) ≡ position (writes_group group) xs
-position_shown ss group xs =
-    ap (λ n. cond (nat_lt n (length (map (shown_session ss) xs))) (Some n) None) (place_shown ss group xs)
-    ∙ ap (λ n. cond (nat_lt (position_or_len (writes_group group) xs) n) (Some (position_or_len (writes_group group) xs)) None) (length-map xs (shown_session ss))
 
 cond_shown : (b : Bool) (x : Snapshot) (xs : List Snapshot) (ys : List Kept) → ys ≡ map shown_snapshot xs → cond b (shown_snapshot x ∷ ys) ys ≡ map shown_snapshot (cond b (x ∷ xs) xs)
 cond_shown true x xs ys e = ap (λ (l : List Kept). shown_snapshot x ∷ l) e
@@ -70,8 +48,8 @@ count_shown group xs = ap length (kept_in-shown group xs) ∙ length-map (in_gro
 -- ---- the tests in a row
 
 -- what the tests find, where none refuses
-pub record MayOpen (kept : List Kept) (sessions : List Session) (key : SnapshotKey) (base : Option SnapshotKey) : Type 0 where
-  pub free : position (writes (group_of_key key)) sessions ≡ None
+pub record MayOpen (kept : List Kept) (holder : Option ℕ) (key : SnapshotKey) (base : Option SnapshotKey) : Type 0 where
+  pub free : holder ≡ None
   pub newer : want_newer key.time (latest_kept (group_of_key key) kept) ≡ Ok tt
   pub room : length (kept_in (group_of_key key) kept) < 4096
   pub latest : latest_kept (group_of_key key) kept ≡ base
@@ -86,10 +64,10 @@ may_by None (Ok u) true l base e = (refl, refl, refl, same l base e)
     same : (l base : Option SnapshotKey) → let k : Result (Option SnapshotKey) Refusal = Ok l in k ≡ Ok base → l ≡ base
     same l base e = cc
 
-pub may_open : (kept : List Kept) (sessions : List Session) (key : SnapshotKey) (base : Option SnapshotKey) → base_kept kept sessions key ≡ Ok base → MayOpen kept sessions key base
+pub may_open : (kept : List Kept) (holder : Option ℕ) (key : SnapshotKey) (base : Option SnapshotKey) → base_kept kept holder key ≡ Ok base → MayOpen kept holder key base
 unfolding base_kept
-may_open kept sessions key base e =
-    let all = may_by (position (writes (group_of_key key)) sessions) (want_newer key.time (latest_kept (group_of_key key) kept)) (nat_lt (length (kept_in (group_of_key key) kept)) 4096) (latest_kept (group_of_key key) kept) base e in
+may_open kept holder key base e =
+    let all = may_by holder (want_newer key.time (latest_kept (group_of_key key) kept)) (nat_lt (length (kept_in (group_of_key key) kept)) 4096) (latest_kept (group_of_key key) kept) base e in
     record { free = all.0; newer = all.1; room = ltb-true (length (kept_in (group_of_key key) kept)) 4096 all.2; latest = all.3 }
 
 -- ---- the base has a text

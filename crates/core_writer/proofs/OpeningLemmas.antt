@@ -1,8 +1,6 @@
 -- OPEN_WRITER is the store's.
-use Rattle.std.proofs.Common.{◌≡◌, ℕ, zero, suc, ◌+◌, ◌<◌, ◌≤◌, Bool, true, false, not, cond, length, get_or, set, map, List, [], ◌∷◌, Option, Some, None, Result, Ok, Err, refl, sym, ap, subst, ◌∙◌, arith}
-use Rattle.std.proofs.lemmas.Bool.{ltb-false}
+use Rattle.std.proofs.Common.{◌≡◌, ℕ, ◌<◌, Bool, true, false, length, get_or, set, map, List, [], Option, Some, None, Result, Ok, Err, refl, sym, ap, subst, ◌∙◌, arith}
 use Rattle.std.proofs.lemmas.List.Elements.{All-nil}
-use Rattle.std.specs.List.{position_or_len}
 use Rattle.std.specs.Prelude.{nat_lt}
 use Rattle.disk_trait.specs.Files.{Files}
 use Rattle.store_types.specs.declared.names.SnapshotKey.{SnapshotKey}
@@ -11,6 +9,8 @@ use Rattle.store_types.specs.declared.refusal.Refusal.TheVariants.{BadName, Grou
 use Rattle.store_types.specs.Chain.Refusing.{◌>>=◌, unless, if_none}
 use Rattle.store_types.specs.KeyOrder.{same_group_equiv}
 use Rattle.store_types.specs.Names.{IsKey, key_of, same_group, group_of_key}
+use Rattle.lock_book.specs.Locks as book
+use Rattle.lock_book.specs.Locks.{other_than, TakesWriter}
 use Rattle.wire_commands.specs.declared.reply.Reply.{Reply}
 use Rattle.wire_commands.specs.declared.reply.Reply.TheVariants.{Base}
 use Rattle.wire_commands.specs.declared.command.Command.TheVariants.{OpenWriter}
@@ -29,12 +29,13 @@ use Rattle.backup_session.specs.Shown as shows
 use Rattle.core_state.specs.declared.kept.Session.{Session}
 use Rattle.core_state.specs.declared.kept.Session.TheVariants as kept
 use Rattle.core_state.specs.declared.parts.Parts.{Parts}
-use Rattle.core_state.specs.Shown.{shown_session, shown_snapshot}
+use Rattle.core_state.specs.Shown.{shown_snapshot}
 use Rattle.core_state.specs.Holds.{IsSound, IsWriter, Shows, IsOnDisk, HasUploads, Holds, Does}
+use Rattle.core_state.proofs.LockLemmas.{idle_holds, locked_writer, no_holder}
 use Rattle.core_state.proofs.Sessions.{at_lane}
 use Rattle.core_state.proofs.Soundness.{IsAlone, sound_writer, disk_writer, shows_changed}
 use Rattle.core_writer.specs.Opened.{want_idle, base_kept, new_writing}
-use Rattle.core_writer.proofs.OpenedLemmas.{shown_idle, position_shown, latest_shown, count_shown, may_open}
+use Rattle.core_writer.proofs.OpenedLemmas.{shown_idle, latest_shown, count_shown, may_open}
 
 -- ---- the store's tests
 
@@ -79,15 +80,15 @@ module _ (s : Store) (lane moment : ℕ) (text : List ℕ) where
   unfolding outcome open_writer
   in_turn key idle is = rw (idle, is) refl
 
-  kept_tests : (key : SnapshotKey) → base_kept (map shown_snapshot s.snapshots) (map (shown_session s.snapshots) s.sessions) key ≡ store_tests key (Ok (latest_in (group_of_key key) s.snapshots))
+  kept_tests : (key : SnapshotKey) → base_kept (map shown_snapshot s.snapshots) (group_holder s (group_of_key key)) key ≡ store_tests key (Ok (latest_in (group_of_key key) s.snapshots))
   unfolding base_kept
   kept_tests key =
-      rw (position_shown s.snapshots (group_of_key key) s.sessions, latest_shown (group_of_key key) s.snapshots, count_shown (group_of_key key) s.snapshots) refl
+      rw (latest_shown (group_of_key key) s.snapshots, count_shown (group_of_key key) s.snapshots) refl
 
-  pub refused : (key : SnapshotKey) (r : Refusal) → model.want_idle (session s lane) ≡ Ok tt → key_of text ≡ Some key → base_kept (map shown_snapshot s.snapshots) (map (shown_session s.snapshots) s.sessions) key ≡ Err r → step ≡ Err r
+  pub refused : (key : SnapshotKey) (r : Refusal) → model.want_idle (session s lane) ≡ Ok tt → key_of text ≡ Some key → base_kept (map shown_snapshot s.snapshots) (group_holder s (group_of_key key)) key ≡ Err r → step ≡ Err r
   refused key r idle is e = in_turn key idle is ∙ refuses_alike (group_holder s (group_of_key key)) (want_newer key.time (latest_in (group_of_key key) s.snapshots)) (nat_lt (length (in_group (group_of_key key) s.snapshots)) 4096) (latest_in (group_of_key key) s.snapshots) (after_tests key) r (sym (kept_tests key) ∙ e)
 
-  pub opened : (key : SnapshotKey) (base : Option SnapshotKey) → model.want_idle (session s lane) ≡ Ok tt → key_of text ≡ Some key → base_kept (map shown_snapshot s.snapshots) (map (shown_session s.snapshots) s.sessions) key ≡ Ok base
+  pub opened : (key : SnapshotKey) (base : Option SnapshotKey) → model.want_idle (session s lane) ≡ Ok tt → key_of text ≡ Some key → base_kept (map shown_snapshot s.snapshots) (group_holder s (group_of_key key)) key ≡ Ok base
       → step ≡ Ok (with_session s lane (writer (new_writer key moment base)), Base (base_text base))
   unfolding goes_on
   opened key base idle is e =
@@ -101,28 +102,11 @@ not_true : (b : Bool) → b ≡ false → b ≡ true → ⊥
 not_true true e f = cc
 not_true false e f = cc
 
-none_at : (n m : ℕ) → (let o : Option ℕ = cond (nat_lt n m) (Some n) None in o ≡ None) → m ≤ n
-none_at n m e = by_test (nat_lt n m) refl e
-  where
-    by_test : (b : Bool) → nat_lt n m ≡ b → (let o : Option ℕ = cond b (Some n) None in o ≡ None) → m ≤ n
-    by_test true is e = cc
-    by_test false is e = ltb-false n m is
-
--- no session passes that is past the end, or before the first that does
-none_passes : (p : model.Session → Bool) (xs : List model.Session) (i : ℕ) → p model.none ≡ false → length xs ≤ position_or_len p xs → p (get_or xs i model.none) ≡ false
-none_passes p [] i e le = e
-none_passes p (x ∷ xs) i e le = by_test (p x) refl le (λ j l. none_passes p xs j e l) i
-  where
-    by_test : (b : Bool) → p x ≡ b → suc (length xs) ≤ cond (not b) (1 + position_or_len p xs) 0 → ((j : ℕ) → length xs ≤ position_or_len p xs → p (get_or xs j model.none) ≡ false) → (i : ℕ) → p (get_or (x ∷ xs) i model.none) ≡ false
-    by_test true is le go i = absurd (omega arith)
-    by_test false is le go zero = is
-    by_test false is le go (suc i) = go i (omega (arith, le))
-
 -- no writer has the group
-pub alone : (s : Store) (lane : ℕ) (x : Writer) → group_holder s (group_of_key x.key) ≡ None → IsAlone s lane x
-alone s lane x free = λ i w ne is same.
+pub alone : (s : Store) (lane : ℕ) (x : Writer) → IsSound s → group_holder s (group_of_key x.key) ≡ None → IsAlone s lane x
+alone s lane x sound free = λ i w ne is same.
     let group = group_of_key x.key in
-    let none : writes_group group (session s i) ≡ false = none_passes (writes_group group) s.sessions i refl (none_at (position_or_len (writes_group group) s.sessions) (length s.sessions) free) in
+    let none : writes_group group (session s i) ≡ false = no_holder s group free i sound in
     not_true (same_group group (group_of_key w.key)) (ap (writes_group group) (sym is) ∙ none) (same_group_equiv.symm group (group_of_key w.key) ∙ same)
 
 pub is_new_writer : (s : Store) (key : SnapshotKey) (moment : ℕ) (base : Option SnapshotKey) → IsSound s → IsKey key → want_newer key.time (latest_in (group_of_key key) s.snapshots) ≡ Ok tt → length (in_group (group_of_key key) s.snapshots) < 4096
@@ -155,30 +139,40 @@ named_new v files key moment base is named =
 pub idle_is : {D : Type 0} (old : Parts D) (s : Store) (lane : ℕ) (found : Session) (r : Result (Unit {0}) Refusal) → lane < 64 → found ≡ get_or old.sessions.items lane found → want_idle found ≡ r → Shows old s → model.want_idle (session s lane) ≡ r
 idle_is old s lane found r lt at is h = sym (shown_idle s.snapshots (session s lane)) ∙ ap want_idle (sym (at_lane old.sessions.items s lane found h.sessions (h.sound).lanes lt at)) ∙ is
 
-pub tests_are : {D : Type 0} (old : Parts D) (s : Store) (key : SnapshotKey) (r : Result (Option SnapshotKey) Refusal) → base_kept (map (λ x. x.kept) old.catalogue.items) old.sessions.items key ≡ r → Shows old s
-    → base_kept (map shown_snapshot s.snapshots) (map (shown_session s.snapshots) s.sessions) key ≡ r
-tests_are old s key r is h =
-    ap (λ k. base_kept k (map (shown_session s.snapshots) s.sessions) key) (sym h.catalogue) ∙ ap (λ l. base_kept (map (λ x. x.kept) old.catalogue.items) l key) (sym h.sessions) ∙ is
+pub no_session : (x : model.Session) → model.want_idle x ≡ Ok tt → x ≡ model.none
+no_session model.none e = refl
+no_session (model.writer w) e = cc
+no_session (model.reader r) e = cc
+
+-- a lane without a session finds the groups of other lanes alone
+pub tests_are : {D : Type 0} (old : Parts D) (s : Store) (lane : ℕ) (key : SnapshotKey) (r : Result (Option SnapshotKey) Refusal)
+    → base_kept (map (λ x. x.kept) old.catalogue.items) (other_than lane (book.group_holder old.locks (group_of_key key))) key ≡ r → session s lane ≡ model.none → Shows old s
+    → base_kept (map shown_snapshot s.snapshots) (group_holder s (group_of_key key)) key ≡ r
+tests_are old s lane key r is idle h =
+    let holder = (idle_holds old.locks s lane idle h.locks).groups (group_of_key key) ∙ (h.locks).groups (group_of_key key) in
+    ap (λ k. base_kept k (group_holder s (group_of_key key)) key) (sym h.catalogue) ∙ ap (λ o. base_kept (map (λ x. x.kept) old.catalogue.items) o key) (sym holder) ∙ is
 
 module _ {D : Type 0} (honest : D → Type 0) (content : D → Files) where
   pub does_open : (old new : Parts D) (s : Store) (lane moment : ℕ) (text : List ℕ) (found : Session) (key : SnapshotKey) (base : Option SnapshotKey) (y : Session) (reply : Reply)
       → lane < 64 → found ≡ get_or old.sessions.items lane found → want_idle found ≡ Ok tt → key_of text ≡ Some key → IsKey key
-      → base_kept (map (λ x. x.kept) old.catalogue.items) old.sessions.items key ≡ Ok base
-      → new.disk ≡ old.disk → new.catalogue.items ≡ old.catalogue.items → new.sessions.items ≡ set old.sessions.items lane y → y ≡ kept.Writer (new_writing key moment base) → shows.Shows (rows.opened key moment base) (new_writer key moment base) → reply ≡ Base (base_text base)
+      → base_kept (map (λ x. x.kept) old.catalogue.items) (other_than lane (book.group_holder old.locks (group_of_key key))) key ≡ Ok base
+      → new.disk ≡ old.disk → new.catalogue.items ≡ old.catalogue.items → new.sessions.items ≡ set old.sessions.items lane y → TakesWriter old.locks new.locks lane (group_of_key key) base → y ≡ kept.Writer (new_writing key moment base) → shows.Shows (rows.opened key moment base) (new_writer key moment base) → reply ≡ Base (base_text base)
       → Holds honest content old s → Does honest content new s (answered s (outcome s lane moment (OpenWriter text))) (Ok reply)
-  does_open old new s lane moment text found key base y reply lt at idle named is_key tested d c l y_is shown reply_is h =
+  does_open old new s lane moment text found key base y reply lt at idle named is_key tested d c l k y_is shown reply_is h =
       let sound = (h.shows).sound in
       let within : lane < length s.sessions = omega (arith, sound.lanes, lt) in
       let idle2 = idle_is old s lane found (Ok tt) lt at idle h.shows in
-      let tested2 = tests_are old s key (Ok base) tested h.shows in
-      let may = may_open (map shown_snapshot s.snapshots) (map (shown_session s.snapshots) s.sessions) key base tested2 in
+      let none = no_session (session s lane) idle2 in
+      let tested2 = tests_are old s lane key (Ok base) tested none h.shows in
+      let may = may_open (map shown_snapshot s.snapshots) (group_holder s (group_of_key key)) key base tested2 in
       let w = new_writer key moment base in
       let is_writer = is_new_writer s key moment base sound is_key (ap (want_newer key.time) (sym (latest_shown (group_of_key key) s.snapshots)) ∙ may.newer) (subst (λ n. n < 4096) (count_shown (group_of_key key) s.snapshots) may.room) in
-      let is_alone = alone s lane w (sym (position_shown s.snapshots (group_of_key key) s.sessions) ∙ may.free) in
+      let sound_after = sound_writer s lane w lt is_writer (alone s lane w sound may.free) sound in
+      let locks = locked_writer old.locks new.locks s lane w within sound sound_after none k (h.shows).locks in
       let disk2 = disk_writer (content old.disk) s lane w within (no_uploads (content old.disk) key moment base) h.files in
       let holds : Holds honest content new (with_session s lane (writer w)) = record {
         honest = subst honest (sym d) h.honest;
-        shows = shows_changed old new s lane (writer w) y c l (y_is ∙ ap (λ v. kept.Writer (record { session = settled v; files = [] })) shown.same) (sound_writer s lane w lt is_writer is_alone sound) h.shows;
+        shows = shows_changed old new s lane (writer w) y c l (y_is ∙ ap (λ v. kept.Writer (record { session = settled v; files = [] })) shown.same) locks sound_after h.shows;
         files = subst (λ m. IsOnDisk m (with_session s lane (writer w))) (sym (ap content d)) disk2;
       } in
       let done : Does honest content new s (with_session s lane (writer w), Base (base_text base)) (Ok reply) = (reply_is, holds) in

@@ -1,10 +1,11 @@
--- How a finished snapshot comes into the catalogue, and what each act leaves there.
-use Rattle.std.specs.Prelude.{◌≡◌, ℕ, List, [], ◌∷◌, if◌then◌else◌, Option, Some, None}
+-- How a finished snapshot comes into the catalogue and goes out of it, and what each act leaves there.
+use Rattle.std.specs.Prelude.{◌≡◌, ℕ, not, List, [], ◌∷◌, filter, if◌then◌else◌, Option, Some, None}
 use Rattle.std.specs.List.{find}
 use Rattle.std.specs.Str.{bytes_eq}
 use Rattle.store_types.specs.FileNames.{manifest_name}
-use Rattle.store_types.specs.Names.{key_lt}
-use Rattle.wire_commands.specs.declared.command.Command.TheVariants.{Finish}
+use Rattle.store_types.specs.declared.names.SnapshotKey.{SnapshotKey}
+use Rattle.store_types.specs.Names.{key_lt, key_of, same_key}
+use Rattle.wire_commands.specs.declared.command.Command.TheVariants.{Finish, Forget}
 use Rattle.wire_commands.specs.declared.reply.Reply.{Reply}
 use Rattle.wire_commands.specs.declared.reply.Reply.TheVariants.{Done}
 use Rattle.store_history.specs.declared.act.Act.{Act}
@@ -46,13 +47,28 @@ abbrev pub closed_by : Option Reply → ℕ → Session → List Listed → List
 closed_by (Some Done) number session catalogue = closed number session catalogue
 closed_by reply number session catalogue = catalogue
 
+-- without the snapshot
+abbrev pub without_listed : SnapshotKey → List Listed → List Listed
+without_listed key catalogue = filter (λ x. not (same_key (x.kept).key key)) catalogue
+
+-- without the one that the text names, if it names one
+abbrev pub without_named : Option SnapshotKey → List Listed → List Listed
+without_named None catalogue = catalogue
+without_named (Some key) catalogue = without_listed key catalogue
+
+-- the catalogue after a FORGET with this reply
+abbrev pub forgotten_by : List ℕ → Option Reply → List Listed → List Listed
+forgotten_by snapshot (Some Done) catalogue = without_named (key_of snapshot) catalogue
+forgotten_by snapshot reply catalogue = catalogue
+
 -- and after any act with this reply: no other act changes the catalogue
 abbrev pub listed_by : Act → Option Reply → ℕ → Session → List Listed → List Listed
 listed_by (Plain Finish) reply number session catalogue = closed_by reply number session catalogue
+listed_by (Plain (Forget snapshot)) reply number session catalogue = forgotten_by snapshot reply catalogue
 listed_by act reply number session catalogue = catalogue
 
--- A FINISH that was done has listed the snapshot of the lane's writer, with the number of the order's entry of this act. No other
--- act has changed the catalogue.
+-- A FINISH that was done has listed the snapshot of the lane's writer, with the number of the order's entry of this act. A FORGET that
+-- was done has taken out the one that it names. No other act has changed the catalogue.
 abbrev pub Lists : {D E C : Type 0} → Core D E C → Core D E C → ℕ → Act → Answer → Type 0
 Lists old new lane act answer =
     (new.parts).catalogue.items ≡ listed_by act answer.reply answer.place (session_at old lane) (old.parts).catalogue.items

@@ -25,10 +25,10 @@ ghost use Rattle.core_writer.specs.Ended.{FilesGone, Removes};
 ghost use Rattle.core_uploads.specs.Others.{OthersStay, ActLeaves};
 ghost use Rattle.core_writer.specs.WriterActs.{IsWriters, asked_of_writer};
 
-use crate::ending::{abort, end, forget_session};
+use crate::ending::{abort, end};
 use crate::finishing::finish;
 use crate::opening::open_writer;
-use core_state::{Act, Answer, Begun, Core, Parts, begin, begin_end, enter, settle};
+use core_state::{Act, Answer, Begun, Core, Parts, begin, begin_end, end_session, enter, settle};
 use core_uploads::{append, blob, chunk, close_index, new_dynamic, new_fixed, previous};
 use disk_trait::{Disk, DiskError};
 use port_traits::Clock;
@@ -124,7 +124,7 @@ pub fn writer_act<D: Disk, E, C: Clock>(
     ensures cause { HasCause D.faults core.old core.new act result }
     // a file of the base is unreadable exactly where it is, as far as the disk tells
     ensures unreadable { TellsUnreadable D.honest D.content core.old.parts.disk (asked_of_writer act (slice_index_or core.old.parts.sessions.items lane Idle) core.old.parts.catalogue.items) result.entry.kind result.reply }
-    // a refused act leaves catalogue and sessions as before, and the disk too unless it failed
+    // a refused act leaves catalogue, sessions and locks as before, and the disk too unless it failed
     ensures unchanged { IfSome result.reply (Unchanged D.honest D.content core.old.parts core.new.parts) }
     // under names that are no file's of the lane's writer all stays, but at that of a chunk that the act puts
     ensures others { ActLeaves D.honest D.content core.old.parts core.new.parts lane act result.reply }
@@ -161,7 +161,7 @@ pub fn end_act<D: Disk, E, C: Clock>(core: &mut Core<D, E, C>, lane: u32) -> Ans
     ensures told { EndIsTold result }
     // why it is answered so, on any disk
     ensures cause { EndHasCause D.faults core.old core.new result }
-    // a refused act leaves catalogue and sessions as before, and the disk too unless it failed
+    // a refused act leaves catalogue, sessions and locks as before, and the disk too unless it failed
     ensures unchanged { IfSome result.reply (Unchanged D.honest D.content core.old.parts core.new.parts) }
     // under names that are no file's of the lane's writer all stays
     ensures others { OthersStay D.honest D.content core.old.parts core.new.parts lane result.reply }
@@ -176,7 +176,7 @@ pub fn end_act<D: Disk, E, C: Clock>(core: &mut Core<D, E, C>, lane: u32) -> Ans
 {
     let moment = begin_end(core);
     if core.fault.is_some() {
-        forget_session(&mut core.parts, lane);
+        end_session(&mut core.parts, lane);
         return enter(core, lane, moment, 6, None);
     }
     match end(&mut core.parts, lane) {

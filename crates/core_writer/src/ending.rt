@@ -3,12 +3,11 @@
 ghost use Rattle.std.specs.Prelude.{◌≡◌, ◌<◌, ◌≤◌, ℕ, List, [], Some, None, true, if◌then◌else◌, IsOk, IsErr, IfOk, IsErrOf, IsTrue, OnOk, OnErr, slice_index_or};
 ghost use Rattle.std.specs.FinMap.{get};
 ghost use Rattle.disk_trait.specs.Disk.{Serves};
-ghost use Rattle.store_model.specs.Store.{Store, ended};
 ghost use Rattle.store_model.specs.Steps.{outcome};
 ghost use Rattle.wire_commands.specs.HasText.{ReplyHasText};
 ghost use Rattle.wire_commands.specs.declared.command.Command.TheVariants as commands;
 ghost use Rattle.core_state.specs.Closing.{HasClosed, is_writer};
-ghost use Rattle.core_state.specs.Holds.{Acts, Ends, Shows};
+ghost use Rattle.core_state.specs.Holds.{Acts, Ends};
 ghost use Rattle.core_state.specs.Replies.{answers_close};
 ghost use Rattle.core_state.specs.Settles.{reply_by};
 ghost use Rattle.core_state.specs.declared.kept.Session.TheVariants.{Idle};
@@ -16,7 +15,7 @@ ghost use Rattle.core_state.specs.Unchanged.{SameKept, Unchanged};
 ghost use Rattle.core_writer.specs.Ended.{FilesGone, is_removed, removed_by};
 ghost use Rattle.core_uploads.specs.Others.{OthersStay, stored_files};
 
-use core_state::{Parts, Session, StoredFile};
+use core_state::{Parts, Session, StoredFile, end_session};
 use core_uploads::wrong_state;
 use disk_trait::{Disk, DiskError, Failed};
 use wire_commands::Reply;
@@ -58,8 +57,8 @@ fn files_of(session: &Session) -> &[StoredFile]
     }
 }
 
-/// The lane's session ends, and the files of its writer are removed. It takes no memory. After a fault of the disk the
-/// session is as before.
+/// The lane's session ends, the files of its writer are removed, and the lane holds nothing. It takes no memory. After a
+/// fault of the disk the session is as before.
 pub fn end<D: Disk>(parts: &mut Parts<D>, lane: u32) -> Result<(), Failed>
     requires { lane < 64 }
     ensures serves { Serves D.honest D.faults parts.old.disk parts.new.disk (IsErr result) }
@@ -72,9 +71,8 @@ pub fn end<D: Disk>(parts: &mut Parts<D>, lane: u32) -> Result<(), Failed>
     ensures ended { OnOk result (slice_index_or parts.new.sessions.items lane Idle ≡ Idle) }
     ensures act { Ends D.honest D.content parts.old parts.new lane result }
 {
-    let lane = lane as usize;
-    remove_files(&mut parts.disk, files_of(&parts.sessions[lane]))?;
-    parts.sessions[lane] = Session::Idle;
+    remove_files(&mut parts.disk, files_of(&parts.sessions[lane as usize]))?;
+    end_session(parts, lane);
     Ok(())
 }
 
@@ -100,14 +98,4 @@ pub fn abort<D: Disk>(parts: &mut Parts<D>, lane: u32) -> Result<Reply, DiskErro
     };
     end(parts, lane)?;
     Ok(Reply::Done)
-}
-
-/// The lane has no session any more, and the disk is not called: what is left of its writer stays where it is.
-pub fn forget_session<D>(parts: &mut Parts<D>, lane: u32)
-    requires { lane < 64 }
-    ensures catalogue { parts.new.catalogue.items ≡ parts.old.catalogue.items }
-    ensures disk { parts.new.disk ≡ parts.old.disk }
-    ensures shows { (s : Store) → Shows parts.old s → Shows parts.new (ended s lane) }
-{
-    parts.sessions[lane as usize] = Session::Idle;
 }

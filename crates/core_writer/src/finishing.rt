@@ -85,7 +85,7 @@ fn close(catalogue: &mut Vec<Listed>, session: &mut Session, number: u64)
     }
 }
 
-/// The files of the lane's writer become a finished snapshot.
+/// The files of the lane's writer become a finished snapshot, and the lane holds nothing any more.
 ///
 /// The number is that of the order's entry of this act. The refusals, in the order in which they are tested: the lane has
 /// no writer; it has open indexes; it has no manifest; the manifest is none, by its cause; the first mismatch between the
@@ -108,8 +108,7 @@ pub fn finish<D: Disk>(
     ensures listed { parts.new.catalogue.items ≡ closed_by (Some (reply_by result)) number (slice_index_or parts.old.sessions.items lane Idle) parts.old.catalogue.items }
     ensures act { (moment : ℕ) → Acts D.honest D.content parts.old parts.new (λ s. outcome s lane moment commands.Finish) result }
 {
-    let lane = lane as usize;
-    let session = &parts.sessions[lane];
+    let session = &parts.sessions[lane as usize];
     let Session::Writer(w) = session else {
         return Ok(Reply::Refused(wrong_state(session)));
     };
@@ -122,6 +121,11 @@ pub fn finish<D: Disk>(
     };
     parts.catalogue.reserve(1)?;
     put_manifest(&mut parts.disk, alloc, path, text)?;
-    close(&mut parts.catalogue, &mut parts.sessions[lane], number);
+    close(
+        &mut parts.catalogue,
+        &mut parts.sessions[lane as usize],
+        number,
+    );
+    parts.locks.release(lane);
     Ok(Reply::Done)
 }

@@ -13,6 +13,3 @@ pub use act::{end_act, writer_act};
 pub use ending::{abort, end};
 pub use finishing::finish;
 pub use opening::open_writer;
-
-#[cfg(test)]
-mod tests;

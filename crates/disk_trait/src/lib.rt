@@ -15,6 +15,3 @@ pub use failing::FailingDisk;
 pub use file_disk::FileDisk;
 pub use memory::MemoryDisk;
 pub use step_log::{LoggedStep, Step};
-
-#[cfg(test)]
-mod tests;

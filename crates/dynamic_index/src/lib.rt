@@ -4,8 +4,6 @@
 //! each: the piece's end offset and its digest. A piece has 1 to 16,777,216 bytes. Numbers are little-endian.
 #![tactic(auto)]
 
-#[cfg(test)]
-mod tests;
 mod view;
 mod writer;
 

@@ -1,3 +1,2 @@
 pub mod Crash
 pub mod InstallLaws
-pub mod SnapshotLemmas

@@ -92,6 +92,3 @@ pub fn drop_firm<D: Disk>(disk: &mut D, name: &str) -> Result<(), Failed>
     disk.sync()?; // the removal lasts
     Ok(())
 }
-
-#[cfg(test)]
-mod tests;

@@ -5,8 +5,6 @@
 #![tactic(auto)]
 
 mod sizes;
-#[cfg(test)]
-mod tests;
 mod view;
 mod writer;
 

@@ -1,34 +1,46 @@
 -- What the answer of an act tells.
-use Rattle.std.proofs.Common.{◌≡◌, ◌+◌, inl, inr, ℕ, false, List, [], ◌∷◌, ◌++◌, Option, Some, None, IsSome, refl, ap, subst, arith}
+use Rattle.std.proofs.Common.{◌≡◌, ◌+◌, ◌⊎◌, inl, inr, ℕ, true, List, [], ◌∷◌, ◌++◌, Option, Some, None, IsSome, IsTrue, refl, sym, ap, subst, ◌∙◌, arith}
 use Rattle.std.specs.Option.{unwrap_or}
 use Rattle.wire_commands.specs.declared.command.Command.{Command}
 use Rattle.wire_commands.specs.declared.command.Command.TheVariants as commands
+use Rattle.store_types.specs.declared.refusal.Refusal.{Refusal}
+use Rattle.store_types.specs.declared.refusal.Refusal.TheVariants.{NoMemory}
 use Rattle.wire_commands.specs.declared.reply.Reply.{Reply}
+use Rattle.wire_commands.specs.declared.reply.Reply.TheVariants.{Refused}
+use Rattle.store_model.specs.declared.step.Step.{Step}
+use Rattle.store_model.specs.declared.step.Step.TheVariants as steps
 use Rattle.store_history.specs.declared.act.Act.{Act}
 use Rattle.store_history.specs.declared.act.Act.TheVariants as acts
 use Rattle.store_history.specs.declared.act.Answer.{Answer}
 use Rattle.store_history.specs.declared.act.Event.{Event}
-use Rattle.store_history.specs.Acts.{act_of_command, ending, class_of}
+use Rattle.store_history.specs.Acts.{act_of_command, act_of_step, ending, class_of}
 use Rattle.store_history.specs.History.{moment, kind}
 use Rattle.store_model.specs.Weave.{first_fault}
 use Rattle.store_model.specs.declared.ending.Ending.{Ending}
 use Rattle.store_model.specs.declared.ending.Ending.TheVariants as endings
 use Rattle.core_state.specs.declared.state.Core.{Core}
-use Rattle.core_state.specs.Answers.{IsTold, fault_after}
+use Rattle.core_state.specs.Answers.{IsTold, IsCaused, HasCause, done, short, failed, halted, fault_after}
+use Rattle.core_state.specs.Replies.{may_answer}
 use Rattle.core_state.specs.Records.{FitsKind, AreKept}
 use Rattle.core_state.specs.Closing.{is_closing}
 use Rattle.core_state.specs.Reserved.{Keeps, KeepsReserve}
-use Rattle.lane.specs.Acting.{IsNoEnd, LeavesReserve, short_ending}
+use Rattle.lane.specs.declared.acts.Told.{Told}
+use Rattle.lane.specs.Acting.{IsNoEnd, IsWant, IsRefused, MayTell, LeavesReserve, short_ending}
 
 -- ---- acts other than a lane's end
 
 pub no_end : (c : Command) → IsNoEnd (act_of_command c)
 no_end (commands.Chunk digest blob) = tt
 no_end (commands.Blob file blob) = tt
+no_end (commands.Prune group keep dry) = tt
 no_end c = tt
+
+pub step_no_end : (s : Step) → IsNoEnd (act_of_step s)
+step_no_end (steps.Command c) = no_end c
 
 pub is_told : (a : Act) (x : Answer) → IsNoEnd a → IsTold a x → IsSome x.reply
 is_told (acts.Plain c) x h told = told
+is_told (acts.JobGroup c) x h told = told
 is_told (acts.Blob name checked) x h told = told
 is_told (acts.Chunk digest checked) x h told = told
 is_told acts.Short x h told = told
@@ -36,30 +48,61 @@ is_told acts.End x h told = absurd h
 
 pub keeps : {D E C : Type 0} (a : Act) (old new : Core D E C) (k : ℕ) (x : Answer) → IsNoEnd a → Keeps a old new k x → KeepsReserve old new k (is_closing old k a) x
 keeps (acts.Plain c) old new k x h kept = kept
+keeps (acts.JobGroup c) old new k x h kept = kept
 keeps (acts.Blob name checked) old new k x h kept = kept
 keeps (acts.Chunk digest checked) old new k x h kept = kept
 keeps acts.Short old new k x h kept = kept
 keeps acts.End old new k x h kept = absurd h
 
-pub leaves_ended : {D E C : Type 0} (a : Act) (old new : Core D E C) (k : ℕ) (x : Answer) (e : Ending) → IsNoEnd a → Keeps a old new k x → LeavesReserve old new k (Some e)
-leaves_ended a old new k x e h kept = record { left = (keeps a old new k x h kept).left; kept = λ none. absurd (some_none none) }
-  where
-    some_none : Some e ≡ None → ⊥
-    some_none is = cc
-
-pub leaves_going : {D E C : Type 0} (a : Act) (old new : Core D E C) (k : ℕ) (x : Answer) → IsNoEnd a → Keeps a old new k x → x.last ≡ false → LeavesReserve old new k None
-leaves_going a old new k x h kept going = let r = keeps a old new k x h kept in record { left = r.left; kept = λ _. r.kept going }
+pub leaves : {D E C : Type 0} (a : Act) (old new : Core D E C) (k : ℕ) (x : Answer) → IsNoEnd a → Keeps a old new k x → LeavesReserve old new k x.last
+leaves a old new k x h kept = let r = keeps a old new k x h kept in record { left = r.left; kept = r.kept }
 
 pub none_some : (o : Option Reply) → o ≡ None → IsSome o → ⊥
 none_some None is some = cc
 none_some (Some r) is some = cc
 
--- ---- kinds by the history
+-- ---- what is told
+
+caused : {D E C : Type 0} (faults_of : D → ℕ) (a : Act) (old new : Core D E C) (x : Answer) → IsNoEnd a → IsCaused faults_of old new a x → HasCause faults_of old new a x
+caused faults_of (acts.Plain c) old new x h cause = cause
+caused faults_of (acts.JobGroup c) old new x h cause = cause
+caused faults_of (acts.Blob name checked) old new x h cause = cause
+caused faults_of (acts.Chunk digest checked) old new x h cause = cause
+caused faults_of acts.Short old new x h cause = cause
+caused faults_of acts.End old new x h cause = absurd h
+
+same_reply : (o : Option Reply) (r s : Reply) → o ≡ Some r → o ≡ Some s → r ≡ s
+same_reply o r s is also = inner (sym is ∙ also)
+  where
+    inner : Some r ≡ Some s → r ≡ s
+    inner e = cc
+
+as_refused : (r : Reply) (refusal : Refusal) → r ≡ Refused refusal → IsRefused r
+as_refused r refusal is = subst IsRefused (sym is) tt
 
 -- want of memory has its kind
-pub short_kind_is : (place : ℕ) (fault : Option ℕ) (before : ℕ) (h : List Event) (v : Event) → AreKept place fault before (h ++ v ∷ []) → v.act ≡ acts.Short → kind v ≡ 2
-short_kind_is place fault before [] v kept asks = subst (λ c. FitsKind c fault (kind v)) (ap class_of asks) (kept.0).kind_is
-short_kind_is place fault before (u ∷ h) v kept asks = short_kind_is (place + 1) (fault_after place (kind u) fault) (moment u) h v kept.1 asks
+pub want_kind : (a : Act) (x : Answer) (told : Told) → (a ≡ acts.Short → (x.entry).kind ≡ 2) → (x.last ≡ true → (x.entry).kind ≡ 2) → x.last ≡ told.last → IsWant a told → (x.entry).kind ≡ 2
+want_kind a x told wanting last same (inl is) = wanting is
+want_kind a x told wanting last same (inr is) = last (same ∙ is)
+
+want_reply : {D E C : Type 0} (faults_of : D → ℕ) (old new : Core D E C) (a : Act) (x : Answer) (r : Reply) → HasCause faults_of old new a x → x.reply ≡ Some r → (x.entry).kind ≡ 2 → r ≡ Refused NoMemory
+want_reply faults_of old new a x r (done before is reply told may) tells two = absurd (omega (arith, is, two))
+want_reply faults_of old new a x r (short is told) tells two = same_reply x.reply r _ tells told
+want_reply faults_of old new a x r (failed before is told first rose) tells two = absurd (omega (arith, is, two))
+want_reply faults_of old new a x r (halted place before is told) tells two = absurd (omega (arith, is, two))
+
+may_reply : {D E C : Type 0} (faults_of : D → ℕ) (old new : Core D E C) (a : Act) (x : Answer) (r : Reply) → HasCause faults_of old new a x → x.reply ≡ Some r → IsTrue (may_answer a r) ⊎ IsRefused r
+may_reply faults_of old new a x r (done before is reply told may) tells = inl (subst (λ s. IsTrue (may_answer a s)) (same_reply x.reply reply r told tells) may)
+may_reply faults_of old new a x r (short is told) tells = inr (as_refused r _ (same_reply x.reply r _ tells told))
+may_reply faults_of old new a x r (failed before is told first rose) tells = inr (as_refused r _ (same_reply x.reply r _ tells told))
+may_reply faults_of old new a x r (halted place before is told) tells = inr (as_refused r _ (same_reply x.reply r _ tells told))
+
+pub may_tell : {D E C : Type 0} (faults_of : D → ℕ) (old new : Core D E C) (a : Act) (x : Answer) (told : Told) → IsNoEnd a → IsCaused faults_of old new a x
+    → x.reply ≡ Some told.reply → (IsWant a told → (x.entry).kind ≡ 2) → MayTell a told
+may_tell faults_of old new a x told no_end cause tells two = let has = caused faults_of a old new x no_end cause in record {
+  reply_is = may_reply faults_of old new a x told.reply has tells;
+  want = λ wants. want_reply faults_of old new a x told.reply has tells (two wants);
+}
 
 -- ---- an end that met a fault
 

@@ -1,20 +1,23 @@
 -- What stands at the front, by the frame there.
-use Rattle.std.proofs.Common.{◌≡◌, ◌≢◌, ℕ, ◌+◌, ◌<◌, ◌≤◌, ◌^◌, Bool, true, false, ◌&&◌, List, [], ◌∷◌, ◌++◌, length, take, drop, Some, None, refl, sym, ap, subst, ◌∙◌, arith, nat_le}
+use Rattle.std.proofs.Common.{◌≡◌, ◌≢◌, ℕ, ◌+◌, ◌<◌, ◌≤◌, ◌^◌, Bool, true, false, ◌&&◌, List, [], ◌∷◌, ◌++◌, length, take, drop, Option, Some, None, IsSome, refl, sym, ap, subst, ◌∙◌, arith, nat_le}
 use Rattle.std.specs.Int.{w32, from_le_bytes}
 use Rattle.std.proofs.lemmas.Bool.Decides.{nat_tests}
 use Rattle.std.proofs.lemmas.List.{length-take, length-append, length-drop, take-append-le}
+use Rattle.store_types.specs.declared.names.Keep.{Keep}
 use Rattle.store_types.specs.declared.refusal.Refusal.TheVariants.{BadFrame, TooLong}
 use Rattle.wire_frames.specs.Frames.{Tail, Front, short, too_long, whole, cut, advanced, advanced_by}
 use Rattle.wire_frames.proofs.FramesLemmas.{cut-few, cut-whole, cut-length, cut-is_whole}
 use Rattle.wire_commands.specs.declared.command.Command.{Command}
 use Rattle.wire_commands.specs.declared.command.Command.TheVariants as commands
 use Rattle.wire_commands.specs.declared.reply.Reply.TheVariants.{Refused}
-use Rattle.wire_commands.specs.CommandText.{command_of}
+use Rattle.wire_commands.specs.CommandText.{command_of, command_text}
 use Rattle.wire_commands.specs.HasText.{ReplyHasText}
 use Rattle.wire_commands.specs.Inputs.{front, cut_front, body_front}
 use Rattle.wire_commands.specs.RefusalText.{refusal_text}
 use Rattle.wire_commands.specs.ReplyText.{reply_text}
-use Rattle.store_model.specs.Lanes.{plain, broken, front_next, command_next}
+use Rattle.store_model.specs.Job.{Asking}
+use Rattle.store_model.specs.Jobs.{job_of}
+use Rattle.store_model.specs.Lanes.{bye, broken, front_next, command_next}
 use Rattle.store_history.specs.LaneRun.{may_want}
 use Rattle.lane.specs.Fronts.{next_in, IsCommandAhead, IsLastAhead, IsAhead, IsFrontSize, ahead_of}
 
@@ -58,42 +61,6 @@ broken_ahead t body rest is none = record {
 advanced_is : (t : Tail) (body rest : List ℕ) → cut t.bytes ≡ whole body rest → advanced t ≡ record { offset = t.offset + (4 + length body); bytes = rest }
 advanced_is t body rest is = ap (advanced_by t) is
 
-pub command_ahead : (t : Tail) (body rest : List ℕ) (c : Command) → cut t.bytes ≡ whole body rest → command_of body ≡ Some c → IsAhead t (ahead_of c)
-unfolding front_next command_next
-command_ahead t body rest c is some = by_command c (next_is t (whole body rest) is (whole_seen body rest) ∙ ap (λ o. front_next t.offset (body_front o rest)) some)
-  where
-    seen : cut t.bytes ≢ short
-    seen h = whole_seen body rest (sym is ∙ h)
-
-    past : advanced t ≡ record { offset = t.offset + (4 + length body); bytes = rest }
-    past = advanced_is t body rest is
-
-    other : (d : Command) → next_in t ≡ plain d rest → d ≢ commands.Bye → IsCommandAhead t d
-    other d next ne = record {
-      next = next ∙ ap (λ (s : Tail). plain d s.bytes) (sym past);
-      other = ne;
-      behind = omega (arith, ap (λ (s : Tail). s.offset) past);
-      rest = omega (arith, ap (λ (s : Tail). s.offset) past, ap (λ (s : Tail). length s.bytes) past, cut-length t.bytes body rest is);
-    }
-
-    by_command : (d : Command) → next_in t ≡ command_next d rest → IsAhead t (ahead_of d)
-    by_command commands.Bye next = record { next = next; seen = seen }
-    by_command (commands.OpenWriter snapshot) next = other (commands.OpenWriter snapshot) next (λ h. cc)
-    by_command (commands.Previous file offset) next = other (commands.Previous file offset) next (λ h. cc)
-    by_command (commands.NewFixed file size chunk_size) next = other (commands.NewFixed file size chunk_size) next (λ h. cc)
-    by_command (commands.NewDynamic file) next = other (commands.NewDynamic file) next (λ h. cc)
-    by_command (commands.Chunk digest blob) next = other (commands.Chunk digest blob) next (λ h. cc)
-    by_command (commands.Append number entries) next = other (commands.Append number entries) next (λ h. cc)
-    by_command (commands.CloseIndex number count size csum) next = other (commands.CloseIndex number count size csum) next (λ h. cc)
-    by_command (commands.Blob file blob) next = other (commands.Blob file blob) next (λ h. cc)
-    by_command commands.Finish next = other commands.Finish next (λ h. cc)
-    by_command commands.Abort next = other commands.Abort next (λ h. cc)
-    by_command (commands.OpenReader snapshot) next = other (commands.OpenReader snapshot) next (λ h. cc)
-    by_command (commands.Download file offset) next = other (commands.Download file offset) next (λ h. cc)
-    by_command (commands.GetChunk digest) next = other (commands.GetChunk digest) next (λ h. cc)
-    by_command (commands.Range file offset len) next = other (commands.Range file offset len) next (λ h. cc)
-    by_command commands.CloseReader next = other commands.CloseReader next (λ h. cc)
-
 -- ---- where memory may be wanting
 
 both : (a b : Bool) → a ≡ true → b ≡ true → (a && b) ≡ true
@@ -109,6 +76,67 @@ whole_wants bytes body rest is two =
     let w = cut-whole bytes body rest is in
     let size : length body ≤ from_le_bytes w32 (take 4 bytes) = omega (arith, ap length ((w.behind).body_is), length-take {A = ℕ}) in
     wants bytes w.enough (omega arith)
+
+-- ---- a command
+
+next_bye : (rest : List ℕ) → command_next commands.Bye rest ≡ bye
+unfolding command_next
+next_bye rest = refl
+
+-- a PRUNE has a text, and more
+prune_two : (body group : List ℕ) (keep : Keep) (dry : Bool) → body ≡ command_text (commands.Prune group keep dry) → 2 ≤ length body
+unfolding command_text
+prune_two body group keep dry is = let size = ap length is in omega (arith, size)
+
+none_some : (o : Option Asking) → o ≡ None → IsSome o → ⊥
+none_some None is some = cc
+none_some (Some j) is some = cc
+
+pub command_ahead : (t : Tail) (body rest : List ℕ) (c : Command) → cut t.bytes ≡ whole body rest → command_of body ≡ Some c → body ≡ command_text c → IsAhead t (ahead_of c)
+unfolding front_next
+command_ahead t body rest c is some spelled = by_command c (next_is t (whole body rest) is (whole_seen body rest) ∙ ap (λ o. front_next t.offset (body_front o rest)) some) spelled
+  where
+    seen : cut t.bytes ≢ short
+    seen h = whole_seen body rest (sym is ∙ h)
+
+    past : advanced t ≡ record { offset = t.offset + (4 + length body); bytes = rest }
+    past = advanced_is t body rest is
+
+    other : (d : Command) → next_in t ≡ command_next d rest → d ≢ commands.Bye → (IsSome (job_of d) → 2 ≤ length body) → IsCommandAhead t d
+    other d next ne two = record {
+      next = next ∙ ap (λ (s : Tail). command_next d s.bytes) (sym past);
+      other = ne;
+      wants = λ job. whole_wants t.bytes body rest is (two job);
+      behind = omega (arith, ap (λ (s : Tail). s.offset) past);
+      rest = omega (arith, ap (λ (s : Tail). s.offset) past, ap (λ (s : Tail). length s.bytes) past, cut-length t.bytes body rest is);
+    }
+
+    -- no job's
+    alone : (d : Command) → next_in t ≡ command_next d rest → d ≢ commands.Bye → job_of d ≡ None → IsCommandAhead t d
+    alone d next ne none = other d next ne (λ job. absurd (none_some (job_of d) none job))
+
+    by_command : (d : Command) → next_in t ≡ command_next d rest → body ≡ command_text d → IsAhead t (ahead_of d)
+    by_command commands.Bye next text = record { next = next ∙ next_bye rest; seen = seen }
+    by_command (commands.Prune group keep dry) next text = other (commands.Prune group keep dry) next (λ h. cc) (λ job. prune_two body group keep dry text)
+    by_command (commands.OpenWriter snapshot) next text = alone (commands.OpenWriter snapshot) next (λ h. cc) refl
+    by_command (commands.Previous file offset) next text = alone (commands.Previous file offset) next (λ h. cc) refl
+    by_command (commands.NewFixed file size chunk_size) next text = alone (commands.NewFixed file size chunk_size) next (λ h. cc) refl
+    by_command (commands.NewDynamic file) next text = alone (commands.NewDynamic file) next (λ h. cc) refl
+    by_command (commands.Chunk digest blob) next text = alone (commands.Chunk digest blob) next (λ h. cc) refl
+    by_command (commands.Append number entries) next text = alone (commands.Append number entries) next (λ h. cc) refl
+    by_command (commands.CloseIndex number count size csum) next text = alone (commands.CloseIndex number count size csum) next (λ h. cc) refl
+    by_command (commands.Blob file blob) next text = alone (commands.Blob file blob) next (λ h. cc) refl
+    by_command commands.Finish next text = alone commands.Finish next (λ h. cc) refl
+    by_command commands.Abort next text = alone commands.Abort next (λ h. cc) refl
+    by_command (commands.OpenReader snapshot) next text = alone (commands.OpenReader snapshot) next (λ h. cc) refl
+    by_command (commands.Download file offset) next text = alone (commands.Download file offset) next (λ h. cc) refl
+    by_command (commands.GetChunk digest) next text = alone (commands.GetChunk digest) next (λ h. cc) refl
+    by_command (commands.Range file offset len) next text = alone (commands.Range file offset len) next (λ h. cc) refl
+    by_command commands.CloseReader next text = alone commands.CloseReader next (λ h. cc) refl
+    by_command (commands.List after) next text = alone (commands.List after) next (λ h. cc) refl
+    by_command (commands.Files snapshot) next text = alone (commands.Files snapshot) next (λ h. cc) refl
+    by_command (commands.Forget snapshot) next text = alone (commands.Forget snapshot) next (λ h. cc) refl
+    by_command (commands.Group group) next text = alone (commands.Group group) next (λ h. cc) refl
 
 -- ---- past a frame
 

@@ -1,6 +1,9 @@
 pub mod Fronts
 pub mod Chunks
 pub mod Acting
+pub mod Replies
+pub mod Doing
+pub mod Stepping
 pub mod Caused
 pub mod Entries
 pub mod Turning

@@ -13,7 +13,7 @@ use Rattle.wire_commands.specs.ReplyText.{reply_text}
 use Rattle.wire_commands.specs.Inputs.{front, cut_front}
 use Rattle.store_model.specs.declared.ending.Ending.{Ending}
 use Rattle.store_model.specs.declared.ending.Ending.TheVariants as endings
-use Rattle.store_model.specs.Lanes.{Next, plain, bye, broken, end, front_next}
+use Rattle.store_model.specs.Lanes.{Next, job_step, plain, bye, broken, end, front_next}
 use Rattle.store_model.specs.Weave.{is_replied}
 use Rattle.store_history.specs.declared.act.Event.{Event}
 use Rattle.store_history.specs.LaneRun.{Position, begin, text, next_at, last_words, EndsSo}
@@ -125,9 +125,9 @@ here : (stands : History → Type 0) (start : Start) (k : ℕ) (left taken : Opt
     → HasServed stands start k left taken tail size given → Position
 here stands start k left taken tail size given s = position s.input tail.bytes s.is_short s.told
 
-next_here : (tail : Tail) (p : Position) → p.left ≡ tail.bytes → p.size ≡ tail.offset + length tail.bytes → next_at p ≡ next_in tail
-next_here tail p left size =
-    next_is p (front p.left) refl
+next_here : (tail : Tail) (p : Position) → p.job ≡ None → p.left ≡ tail.bytes → p.size ≡ tail.offset + length tail.bytes → next_at p ≡ next_in tail
+next_here tail p off left size =
+    next_is p (front p.left) off refl
     ∙ ap (λ n. front_next n (front p.left)) (let e = ap length left in let at : p.size - length p.left ≡ tail.offset = omega arith in at)
     ∙ ap (λ xs. front_next tail.offset (front xs)) left
 
@@ -138,14 +138,17 @@ unfolding last_words
 silent endings.NoMemory p bye h = refl
 silent endings.NoMemory p (broken r) h = refl
 silent endings.NoMemory p (plain c left) h = refl
+silent endings.NoMemory p (job_step j left) h = refl
 silent endings.NoMemory p end h = refl
 silent endings.SourceFault p bye h = refl
 silent endings.SourceFault p (broken r) h = refl
 silent endings.SourceFault p (plain c left) h = refl
+silent endings.SourceFault p (job_step j left) h = refl
 silent endings.SourceFault p end h = refl
 silent endings.SourceTooLong p bye h = refl
 silent endings.SourceTooLong p (broken r) h = refl
 silent endings.SourceTooLong p (plain c left) h = refl
+silent endings.SourceTooLong p (job_step j left) h = refl
 silent endings.SourceTooLong p end h = refl
 silent endings.Clean p n h = cc
 silent (endings.Broken place) p n h = cc
@@ -169,6 +172,7 @@ stopped stands start k left left' taken tail size given e words s all took so sa
   lanes = s.lanes;
   runs = λ f vs told. leads_runs f s.events vs (begin s.input) (position s.input tail.bytes s.is_short s.told) told refl s.leads;
   on = refl;
+  off = refl;
   size_is = s.size_is;
   took = took;
   gave = subst (λ b. WritesCounted start.taken taken 0 given (text s.told) b) (sym all) s.gave;
@@ -180,7 +184,7 @@ stopped stands start k left left' taken tail size given e words s all took so sa
 pub at_next : (stands : History → Type 0) (start : Start) (k : ℕ) (left taken : Option (List ℕ)) (tail : Tail) (size given : ℕ)
     → (s : HasServed stands start k left taken tail size given) → next_at (position s.input tail.bytes s.is_short s.told) ≡ next_in tail
 at_next stands start k left taken tail size given s =
-    next_here tail (position s.input tail.bytes s.is_short s.told) refl (s.size_is ∙ sym s.held)
+    next_here tail (position s.input tail.bytes s.is_short s.told) refl refl (s.size_is ∙ sym s.held)
 
 bye_words : (p : Position) (n : Next) → n ≡ bye → (last_words endings.Clean p n).told ≡ p.told ++ Done ∷ []
 unfolding last_words
@@ -236,7 +240,7 @@ pub end_stops : (stands : History → Type 0) (start : Start) (k : ℕ) (left le
     → HasStopped stands start k left' taken size given endings.Clean None
 end_stops stands start k left left' taken tail size given s all took none =
     let p = position s.input tail.bytes s.is_short s.told in
-    let next = next_end p all in
+    let next = next_end p refl all in
     stopped stands start k left left' taken tail size given endings.Clean None s refl
     (subst (λ xs. TakesFrom start.left left' xs) (append-nil s.input) (taken_on start.left left left' s.input [] s.took took))
     (subst (λ n. EndsSo endings.Clean p n) (sym next) refl)
@@ -261,14 +265,14 @@ pub fault_stops : (stands : History → Type 0) (start : Start) (k : ℕ) (left 
     → HasServed stands start k left taken tail size given → cut tail.bytes ≡ short → HasStopped stands start k left' taken size given endings.SourceFault None
 fault_stops stands start k left left' taken tail size given s part =
     let p = position s.input tail.bytes s.is_short s.told in
-    stopped stands start k left left' taken tail size given endings.SourceFault None s refl (begins start.left left s.input s.took) (refl, part) (no_words endings.SourceFault p refl) tt
+    stopped stands start k left left' taken tail size given endings.SourceFault None s refl (begins start.left left s.input s.took) (refl, refl, part) (no_words endings.SourceFault p refl) tt
 
 -- the lane took as much as it may
 pub long_stops : (stands : History → Type 0) (start : Start) (k : ℕ) (left taken : Option (List ℕ)) (tail : Tail) (size given : ℕ)
     → HasServed stands start k left taken tail size given → cut tail.bytes ≡ short → HasStopped stands start k left taken size given endings.SourceTooLong None
 long_stops stands start k left taken tail size given s part =
     let p = position s.input tail.bytes s.is_short s.told in
-    stopped stands start k left left taken tail size given endings.SourceTooLong None s refl s.took (refl, part) (no_words endings.SourceTooLong p refl) tt
+    stopped stands start k left left taken tail size given endings.SourceTooLong None s refl s.took (refl, refl, part) (no_words endings.SourceTooLong p refl) tt
 
 -- ---- the same by what a read gave
 

@@ -1,23 +1,58 @@
--- What one act of a lane does, with its reply.
-use Rattle.std.specs.Prelude.{ℕ, ◌≡◌, Bool, true, false, List, Option, Some, None}
+-- What one act of a lane does, and how its reply is given.
+use Rattle.std.specs.Prelude.{ℕ, ◌≡◌, ◌⊎◌, Bool, true, false, List, Option, Some, None, IsTrue}
 use Rattle.port_traits.specs.Bytes.{WritesCounted}
 use Rattle.wire_frames.specs.Frames.{frame}
+use Rattle.store_types.specs.declared.refusal.Refusal.TheVariants.{NoMemory}
 use Rattle.wire_commands.specs.declared.reply.Reply.{Reply}
+use Rattle.wire_commands.specs.declared.reply.Reply.TheVariants.{Refused}
 use Rattle.wire_commands.specs.ReplyText.{reply_text}
 use Rattle.store_model.specs.declared.ending.Ending.{Ending}
 use Rattle.store_model.specs.declared.ending.Ending.TheVariants as endings
 use Rattle.store_history.specs.declared.act.Act.{Act}
 use Rattle.store_history.specs.declared.act.Act.TheVariants as acts
-use Rattle.store_history.specs.declared.act.Answer.{Answer}
 use Rattle.store_history.specs.declared.act.Event.{Event}
-use Rattle.store_history.specs.History.{reply, lane}
+use Rattle.store_history.specs.History.{reply, lane, kind}
 use Rattle.core_state.specs.declared.state.Core.{Core}
+use Rattle.core_state.specs.Replies.{may_answer}
 use Rattle.core_state.specs.Reserved.{CanEnd, Reserved}
 use Rattle.core_state.specs.History.{History, then_event}
+use Rattle.lane.specs.declared.acts.Told.{Told}
 
 abbrev pub IsNoEnd : Act → Type 0
 IsNoEnd acts.End = ⊥
 IsNoEnd a = Unit {0}
+
+-- ---- an act
+
+-- memory was wanting
+abbrev pub IsWant : Act → Told → Type 0
+IsWant act told = (act ≡ acts.Short) ⊎ (told.last ≡ true)
+
+-- One act: it was entered, and this is its reply.
+pub record Did (before after : History → Type 0) (k : ℕ) (act : Act) (told : Told) : Type 0 where
+  pub event : Event
+  pub asks : event.act ≡ act
+  pub lane_is : lane event ≡ k
+  pub tells : reply event ≡ Some told.reply
+  pub last : (event.answer).last ≡ told.last
+  pub kind_is : IsWant act told → kind event ≡ 2
+  pub history : (h : History) → before h → after (then_event h event)
+
+abbrev pub IsRefused : Reply → Type 0
+IsRefused (Refused refusal) = Unit {0}
+IsRefused r = ⊥
+
+-- what an act may tell on any disk: what its command's tests may answer, or another refusal
+pub record MayTell (act : Act) (told : Told) : Type 0 where
+  pub reply_is : IsTrue (may_answer act told.reply) ⊎ IsRefused told.reply
+  pub want : IsWant act told → told.reply ≡ Refused NoMemory
+
+-- what the lane's reserve of entries is after an answer, which may be the last
+pub record LeavesReserve {D E C : Type 0} (old new : Core D E C) (k : ℕ) (is_last : Bool) : Type 0 where
+  pub left : Reserved old k → CanEnd new k
+  pub kept : is_last ≡ false → Reserved old k → Reserved new k
+
+-- ---- its reply
 
 -- all of the replies were given
 abbrev pub gave_all : Ending → Bool
@@ -28,35 +63,29 @@ abbrev pub went_on : Option Ending → Bool
 went_on None = true
 went_on (Some e) = gave_all e
 
--- an act ends its lane where the sink failed, or where the answer is the last
-abbrev pub IsEndedBy : Answer → Option Ending → Type 0
-IsEndedBy a None = a.last ≡ false
-IsEndedBy a (Some endings.NoMemory) = (a.last ≡ true) × ((a.entry).kind ≡ 2)
-IsEndedBy a (Some endings.SinkFault) = Unit {0}
-IsEndedBy a (Some e) = ⊥
+-- the lane ends where the sink failed, or where the answer is the last
+abbrev pub IsEndedBy : Bool → Option Ending → Type 0
+IsEndedBy is_last None = is_last ≡ false
+IsEndedBy is_last (Some endings.NoMemory) = is_last ≡ true
+IsEndedBy is_last (Some endings.SinkFault) = Unit {0}
+IsEndedBy is_last (Some e) = ⊥
 
--- One act more: it was entered, and its reply was given to the sink, or a front of it.
-pub record Answers (before after : History → Type 0) (k : ℕ) (act : Act) (taken taken' : Option (List ℕ)) (given given' : ℕ) (ending : Option Ending) : Type 0 where
-  pub event : Event
-  pub told : Reply
-  pub asks : event.act ≡ act
-  pub lane_is : lane event ≡ k
-  pub tells : reply event ≡ Some told
-  pub history : (h : History) → before h → after (then_event h event)
-  pub gave : WritesCounted taken taken' given given' (frame (reply_text told)) (went_on ending)
-  pub ended : IsEndedBy event.answer ending
+-- the reply was given to the sink, or a front of it
+pub record Gives (told : Told) (taken taken' : Option (List ℕ)) (given given' : ℕ) (ending : Option Ending) : Type 0 where
+  pub gave : WritesCounted taken taken' given given' (frame (reply_text told.reply)) (went_on ending)
+  pub ended : IsEndedBy told.last ending
 
--- what the lane's reserve of entries is then
-pub record LeavesReserve {D E C : Type 0} (old new : Core D E C) (k : ℕ) (ending : Option Ending) : Type 0 where
-  pub left : Reserved old k → CanEnd new k
-  pub kept : ending ≡ None → Reserved old k → Reserved new k
+-- ---- want of memory for a frame
 
--- want of memory ends the lane, where the sink took its reply
+-- it ends the lane, where the sink took its reply
 abbrev pub short_ending : Option Ending → Ending
 short_ending None = endings.NoMemory
 short_ending (Some e) = e
 
 pub record AnswersShort (before after : History → Type 0) (k : ℕ) (taken taken' : Option (List ℕ)) (given given' : ℕ) (ending : Ending) : Type 0 where
+  pub told : Told
   pub stop : Option Ending
-  pub answers : Answers before after k acts.Short taken taken' given given' stop
+  pub did : Did before after k acts.Short told
+  pub tells : MayTell acts.Short told
+  pub gives : Gives told taken taken' given given' stop
   pub ending_is : ending ≡ short_ending stop

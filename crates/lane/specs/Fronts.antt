@@ -1,12 +1,13 @@
 -- What stands at the front of what a lane took of its input.
-use Rattle.std.specs.Prelude.{ℕ, ◌≡◌, ◌≢◌, ◌+◌, ◌<◌, true, length}
+use Rattle.std.specs.Prelude.{ℕ, ◌≡◌, ◌≢◌, ◌+◌, ◌<◌, true, length, IsSome}
 use Rattle.wire_frames.specs.Frames.{Tail, short, cut, advanced}
 use Rattle.wire_commands.specs.HasText.{ReplyHasText}
 use Rattle.wire_commands.specs.Inputs.{front}
 use Rattle.wire_commands.specs.declared.command.Command.{Command}
 use Rattle.wire_commands.specs.declared.command.Command.TheVariants as commands
 use Rattle.wire_commands.specs.declared.reply.Reply.TheVariants.{Refused}
-use Rattle.store_model.specs.Lanes.{Next, plain, bye, broken, front_next}
+use Rattle.store_model.specs.Jobs.{job_of}
+use Rattle.store_model.specs.Lanes.{Next, bye, broken, front_next, command_next}
 use Rattle.store_history.specs.LaneRun.{may_want}
 use Rattle.lane.specs.declared.commands.Ahead.{Ahead}
 use Rattle.lane.specs.declared.commands.Ahead.TheVariants as aheads
@@ -15,10 +16,11 @@ use Rattle.lane.specs.declared.commands.Ahead.TheVariants as aheads
 abbrev pub next_in : Tail → Next
 next_in t = front_next t.offset (front t.bytes)
 
--- a command other than BYE is next, and more may come behind its frame
+-- A command other than BYE is next, and more may come behind its frame. For a job's memory may be wanting.
 pub record IsCommandAhead (t : Tail) (c : Command) : Type 0 where
-  pub next : next_in t ≡ plain c (advanced t).bytes
+  pub next : next_in t ≡ command_next c (advanced t).bytes
   pub other : c ≢ commands.Bye
+  pub wants : IsSome (job_of c) → may_want t.bytes ≡ true
   pub behind : t.offset < (advanced t).offset
   pub rest : (advanced t).offset + length (advanced t).bytes ≡ t.offset + length t.bytes
 

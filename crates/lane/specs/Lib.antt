@@ -4,6 +4,8 @@ pub mod Causes
 pub mod Entries
 pub mod Acting
 pub mod Ran
+pub mod Doing
+pub mod Stepping
 pub mod Progress
 pub mod Closing
 pub mod Turns

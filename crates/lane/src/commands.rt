@@ -1,8 +1,9 @@
 //! What stands next in a lane's input, and the act that it asks for.
 
-ghost use Rattle.std.specs.Prelude.{◌≡◌, ℕ, List, IsOk, MatchResult, Err};
+ghost use Rattle.std.specs.Prelude.{◌≡◌, ℕ, List, IsOk, MatchResult, Err, is_some};
 ghost use Rattle.wire_frames.specs.Frames.{Tail, cut, too_long, whole};
 ghost use Rattle.store_model.specs.ArchiveSteps.{check_chunk as piece_of};
+ghost use Rattle.store_model.specs.Jobs.{job_of};
 ghost use Rattle.store_history.specs.Acts.{check_blob, checked_by, act_of_command};
 ghost use Rattle.lane.specs.Fronts.{IsAhead, ahead_of};
 
@@ -105,7 +106,15 @@ fn check_chunk(digest: Digest32, blob: Bytes) -> Result<Bytes, Refusal>
     }
 }
 
-/// The act for a command. An upload is checked here, and not in the act. Its bytes are moved, not copied.
+/// The command is a job's.
+pub fn is_job(command: &Command) -> bool
+    ensures { result ≡ is_some (job_of command.now) }
+{
+    matches!(command, Command::Prune { .. })
+}
+
+/// The act for a command, or for the first step of a job's. An upload is checked here, and not in the act. Its bytes are
+/// moved, not copied.
 pub fn act_of(command: Command) -> Act
     ensures { result ≡ act_of_command command }
 {
@@ -118,6 +127,7 @@ pub fn act_of(command: Command) -> Act
             digest,
             checked: check_chunk(digest, blob),
         },
+        Command::Prune { group, keep, dry } => Act::JobGroup(Command::Prune { group, keep, dry }),
         command => Act::Plain(command),
     }
 }

@@ -1,15 +1,14 @@
 //! A lane: one command session, from the bytes of a source to the bytes of a sink.
 #![tactic(auto)]
 
+mod acts;
 mod commands;
 mod ending;
 mod input;
+mod jobs;
 mod port;
 mod run;
 
 pub use port::{LaneReport, Port};
 pub use run::run_alone;
 pub use store_model::Ending;
-
-#[cfg(test)]
-mod tests;

@@ -1,28 +1,30 @@
 //! The loop of a lane.
 
-ghost use Rattle.std.specs.Prelude.{◌≡◌, ◌≤◌, ◌<◌, ◌+◌, ◌^◌, ◌⊎◌, ℕ, [], Some, IfSome, IfNone};
+ghost use Rattle.std.specs.Prelude.{◌≡◌, ◌≢◌, ◌≤◌, ◌<◌, ◌+◌, ◌^◌, ℕ, [], true, Some, IfSome, IfNone};
 ghost use Rattle.wire_commands.specs.HasText.{ReplyHasText};
-ghost use Rattle.store_history.specs.Acts.{IsWellFormed};
+ghost use Rattle.store_model.specs.Lanes.{command_next};
 ghost use Rattle.core_state.specs.Entering.{held_by};
 ghost use Rattle.core_state.specs.History.{History};
 ghost use Rattle.core_state.specs.Records.{Records, Reaches};
 ghost use Rattle.core_state.specs.Reserved.{CanEnd, Reserved};
-ghost use Rattle.lane.specs.Acting.{IsNoEnd, Answers, AnswersShort, LeavesReserve};
+ghost use Rattle.lane.specs.Acting.{AnswersShort, LeavesReserve};
 ghost use Rattle.lane.specs.Causes.{HasCauses};
+ghost use Rattle.lane.specs.Doing.{Does};
 ghost use Rattle.lane.specs.Entries.{HasEntered};
 ghost use Rattle.lane.specs.Fronts.{IsCommandAhead};
 ghost use Rattle.lane.specs.Ran.{RanAlone};
 ghost use Rattle.lane.specs.Turns.{GoesOn, LeavesHeld, ending_of, HasEnded};
 ghost use Rattle.wire_frames.specs.Frames.{short, cut};
 
-use crate::commands::{Ahead, act_of, read_front};
+use crate::acts::{Told, ask};
+use crate::commands::{Ahead, act_of, is_job, read_front};
 use crate::ending::{Last, close};
 use crate::input::{Input, Taken};
+use crate::jobs::do_job;
 use crate::port::{LaneReport, Port};
-use core_state::{Act, Answer, Core};
+use core_state::{Act, Core};
 use disk_trait::Disk;
 use port_traits::{Clock, Gate, Sink, Source};
-use shared_store::apply;
 use std::alloc::Global;
 use store_model::Ending;
 use store_types::Refusal;
@@ -195,13 +197,35 @@ fn serve<D: Disk, E, C: Clock, S: Source, K: Sink, G: Gate>(
     ensures remote { core.new.remote ≡ core.old.remote }
     ensures entered { HasEntered D.faults core.old core.new lane (ending_of result ≡ Some Ending.NoMemory) }
 {
-    let act = act_of(command);
     gate.before(lane, progress.number);
-    let ending = do_act(core, alloc, lane, &mut port.sink, &mut progress.given, act);
+    let told = do_command(core, alloc, lane, command);
+    let ending = told.give(&mut port.sink, &mut progress.given);
     gate.after(lane, progress.number);
     progress.number = progress.number.saturating_add(1);
     progress.input.advance();
     Some(untold(ending?))
+}
+
+/// Does a command, or the whole job of one.
+fn do_command<D: Disk, E, C: Clock>(
+    core: &mut Core<D, E, C>,
+    alloc: Global,
+    lane: u32,
+    command: Command,
+) -> Told
+    requires lane { lane < 64 }
+    requires room { Reserved core.old lane }
+    requires other { command ≢ Command.Bye }
+    ensures does { (first : Core D E C) (began : History) → Does (Reaches D.honest D.content D.calls C.readings first began core.old) (Reaches D.honest D.content D.calls C.readings first began core.new) lane (command_next command) result }
+    ensures text { ReplyHasText result.reply }
+    ensures room { LeavesReserve core.old core.new lane result.last }
+    ensures remote { core.new.remote ≡ core.old.remote }
+    ensures entered { HasEntered D.faults core.old core.new lane (result.last ≡ true) }
+{
+    if is_job(&command) {
+        return do_job(core, alloc, lane, &command);
+    }
+    ask(core, alloc, lane, act_of(command))
 }
 
 /// Answers want of memory, which ends the commands.
@@ -220,35 +244,6 @@ fn short<D: Disk, E, C: Clock, K: Sink>(
     ensures remote { core.new.remote ≡ core.old.remote }
     ensures entered { HasEntered D.faults core.old core.new lane (result ≡ Ending.NoMemory) }
 {
-    do_act(core, alloc, lane, sink, given, Act::Short).unwrap_or(Ending::NoMemory)
-}
-
-/// Does an act, and gives its reply to the sink. Some is how the commands come to an end.
-fn do_act<D: Disk, E, C: Clock, K: Sink>(
-    core: &mut Core<D, E, C>,
-    alloc: Global,
-    lane: u32,
-    sink: &mut K,
-    given: &mut u64,
-    act: Act,
-) -> Option<Ending>
-    requires lane { lane < 64 }
-    requires room { Reserved core.old lane }
-    requires formed { IsWellFormed act }
-    requires no_end { IsNoEnd act }
-    ensures answers { (first : Core D E C) (began : History) → Answers (Reaches D.honest D.content D.calls C.readings first began core.old) (Reaches D.honest D.content D.calls C.readings first began core.new) lane act (K.taken sink.old) (K.taken sink.new) given.old given.new result }
-    ensures room { LeavesReserve core.old core.new lane result }
-    ensures causes { (source size : ℕ) → HasCauses source source (K.faults sink.old) (K.faults sink.new) size result }
-    ensures remote { core.new.remote ≡ core.old.remote }
-    ensures entered { HasEntered D.faults core.old core.new lane ((act ≡ Act.Short) ⊎ (result ≡ Some Ending.NoMemory)) }
-{
-    let Answer { reply, last, .. } = apply(core, alloc, lane, act);
-    let Some(reply) = reply else {
-        unreachable!();
-    };
-    match reply.put_counted(sink, given) {
-        Err(_) => Some(Ending::SinkFault),
-        Ok(()) if last => Some(Ending::NoMemory),
-        Ok(()) => None,
-    }
+    let told = ask(core, alloc, lane, Act::Short);
+    told.give(sink, given).unwrap_or(Ending::NoMemory)
 }

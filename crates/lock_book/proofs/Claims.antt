@@ -1,5 +1,6 @@
 -- What a change of the lists of claims does to who holds what.
-use Rattle.std.proofs.Common.{◌≡◌, ℕ, Bool, true, false, not, cond, eqb, List, [], ◌∷◌, map, filter, Option, Some, None, refl, sym, ap, ◌∙◌}
+use Rattle.std.proofs.Common.{◌≡◌, ℕ, Bool, true, false, not, cond, eqb, List, [], ◌∷◌, ◌++◌, append-nil, map, filter, Option, Some, None, refl, sym, ap, ◌∙◌}
+use Rattle.std.specs.Option.{option_map, option_to_list}
 use Rattle.std.specs.Map.{lookup, keys_of}
 use Rattle.std.specs.List.{IsDistinct}
 use Rattle.std.proofs.lemmas.Map.Entries.{option_filter, lookup-filter-values}
@@ -7,15 +8,24 @@ use Rattle.store_types.specs.declared.names.SnapshotKey.{SnapshotKey}
 use Rattle.store_types.specs.declared.names.GroupKey.{GroupKey}
 use Rattle.store_types.specs.Names.{same_key, same_group}
 use Rattle.store_types.specs.KeyOrder.{same_group_equiv}
-use Rattle.lock_book.specs.Locks.{Locks, group_holder, other_than, TakesGroup, Releases}
+use Rattle.lock_book.specs.Locks.{Locks, group_holder, other_than, claims_of, TakesGroup, TakesWriter, Releases}
 
-pub takes_group : (locks : Locks) (entries : List (GroupKey × ℕ)) (lane : ℕ) (group copy : GroupKey) → copy ≡ group →
+option_claims : (lane : ℕ) (base : Option SnapshotKey) → option_to_list (option_map (λ key. (key, lane)) base) ≡ claims_of lane base
+option_claims lane None = refl
+option_claims lane (Some key) = refl
+
+pub takes_writer : (locks : Locks) (entries : List (GroupKey × ℕ)) (claims : List (SnapshotKey × ℕ)) (lane : ℕ) (group copy : GroupKey) (base : Option SnapshotKey) → copy ≡ group →
     ((g : GroupKey) → lookup (same_group g) entries ≡ cond (same_group copy g) (Some lane) (group_holder locks g)) →
-    TakesGroup locks (record { groups = entries; shared = locks.shared }) lane group
-takes_group locks entries lane group copy is updates = record {
+    claims ≡ locks.shared ++ option_to_list (option_map (λ key. (key, lane)) base) →
+    TakesWriter locks (record { groups = entries; shared = claims }) lane group base
+takes_writer locks entries claims lane group copy base is updates more = record {
   groups = λ g. updates g ∙ ap (λ c. cond (same_group c g) (Some lane) (group_holder locks g)) is;
-  shared = refl;
+  shared = more ∙ ap (λ l. locks.shared ++ l) (option_claims lane base);
 }
+
+-- without a base the group alone is taken
+pub takes_group : (old new : Locks) (lane : ℕ) (group : GroupKey) → TakesWriter old new lane group None → TakesGroup old new lane group
+takes_group old new lane group takes = record { groups = takes.groups; shared = takes.shared ∙ append-nil old.shared }
 
 abbrev not_of : ℕ → ℕ → Bool
 not_of lane l = not (eqb l lane)

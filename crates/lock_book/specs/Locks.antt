@@ -26,10 +26,20 @@ abbrev pub other_than : ℕ → Option ℕ → Option ℕ
 other_than lane None = None
 other_than lane (Some holder) = if holder == lane then None else Some holder
 
+-- the lane's claim to the snapshot, where there is one
+abbrev pub claims_of : ℕ → Option SnapshotKey → List (SnapshotKey × ℕ)
+claims_of lane None = []
+claims_of lane (Some key) = (key, lane) ∷ []
+
 -- The lane has the group too, and nothing else has changed.
 pub record TakesGroup (old new : Locks) (lane : ℕ) (group : GroupKey) : Type 0 where
   pub groups : (g : GroupKey) → group_holder new g ≡ (if same_group group g then Some lane else group_holder old g)
   pub shared : new.shared ≡ old.shared
+
+-- The lane has the group too, and holds the base, where there is one. Nothing else has changed.
+pub record TakesWriter (old new : Locks) (lane : ℕ) (group : GroupKey) (base : Option SnapshotKey) : Type 0 where
+  pub groups : (g : GroupKey) → group_holder new g ≡ (if same_group group g then Some lane else group_holder old g)
+  pub shared : new.shared ≡ old.shared ++ claims_of lane base
 
 -- The lane holds the snapshot too, and nothing else has changed.
 pub record TakesShare (old new : Locks) (lane : ℕ) (key : SnapshotKey) : Type 0 where

@@ -1,8 +1,9 @@
 //! Which lane's writer has which group, and which lanes hold which snapshots.
 #![tactic(auto)]
 
-ghost use Rattle.std.specs.Prelude.{◌≡◌, ◌≤◌, [], All, Contains, IfOk, OnOk, OnErr, IfErr, option_map, min};
+ghost use Rattle.std.specs.Prelude.{◌≡◌, ◌≤◌, ◌<◌, ◌++◌, None, [], All, Contains, IfOk, OnOk, OnErr, IfErr, option_map, min, vec_len, vec_capacity};
 ghost use Rattle.std.specs.List.{reduce};
+ghost use Rattle.std.specs.Option.{option_to_list};
 ghost use Rattle.std.specs.Result.{result_err};
 
 use std::alloc::{AllocError, Global};
@@ -33,8 +34,28 @@ impl Model for LockBook {
     ghost view = { λ b. record { groups = b.groups.entries; shared = b.shared.items } };
 }
 
+/// The lane's claim to the snapshot, where there is one.
+fn claim_of(lane: u32, key: Option<&SnapshotKey>) -> Result<Option<(SnapshotKey, u32)>, AllocError>
+    ensures { IfOk result (λ claim. claim ≡ option_map (λ k. (k, lane)) (option_map (λ k. k.now) key.entry)) }
+{
+    match key {
+        None => Ok(None),
+        Some(key) => Ok(Some((key.clone()?, lane))),
+    }
+}
+
+/// Places the claim behind the others, where there is one. It takes no memory.
+fn add_claim(claims: &mut Vec<(SnapshotKey, u32)>, claim: Option<(SnapshotKey, u32)>)
+    requires { vec_len claims.old < vec_capacity claims.old }
+    ensures { claims.new.items ≡ claims.old.items ++ option_to_list claim }
+{
+    if let Some(claim) = claim {
+        claims.push_reserved(claim);
+    }
+}
+
 impl LockBook {
-    ghost use Rattle.lock_book.specs.Locks.{Locks, no_locks, group_holder, other_than, sharers, TakesGroup, TakesShare, Releases};
+    ghost use Rattle.lock_book.specs.Locks.{Locks, no_locks, group_holder, other_than, sharers, TakesGroup, TakesWriter, TakesShare, Releases};
 
     /// No lane holds anything. It takes no memory.
     pub fn new(alloc: Global) -> LockBook
@@ -56,6 +77,40 @@ impl LockBook {
         }
     }
 
+    /// `Ok` where no other lane has the group, else the lane that has it. It takes no memory.
+    pub fn free_for_writer(&self, lane: u32, group: &GroupKey) -> Result<(), LaneHolds>
+        ensures { option_map (λ e. e.lane) (result_err result) ≡ other_than lane (group_holder self.now group.now) }
+    {
+        match self.other_holder(lane, group) {
+            None => Ok(()),
+            Some(holder) => Err(LaneHolds { lane: holder }),
+        }
+    }
+
+    /// Takes a group for a lane, and shares the base with it, where there is one; or tells which other lane has the
+    /// group. At that, and at want of memory, nothing has changed.
+    pub fn writer_take(
+        &mut self,
+        lane: u32,
+        group: &GroupKey,
+        base: Option<&SnapshotKey>,
+    ) -> Result<Result<(), LaneHolds>, AllocError>
+        ensures held { IfOk result (λ taken. option_map (λ e. e.lane) (result_err taken) ≡ other_than lane (group_holder self.old group.now)) }
+        ensures taken { IfOk result (λ taken. OnOk taken (TakesWriter self.old self.new lane group.now (option_map (λ k. k.now) base.entry))) }
+        ensures refused { IfOk result (λ taken. OnErr taken (self.new ≡ self.old)) }
+        ensures err { OnErr result (self.new ≡ self.old) }
+    {
+        if let Some(lane) = self.other_holder(lane, group) {
+            return Ok(Err(LaneHolds { lane }));
+        }
+        let claim = claim_of(lane, base)?;
+        let group = group.clone()?;
+        self.shared.reserve(1)?;
+        self.groups.insert(group, lane)?;
+        add_claim(&mut self.shared, claim);
+        Ok(Ok(()))
+    }
+
     /// Takes a group for a lane, or tells which other lane has it. At that, and at want of memory, nothing has changed.
     pub fn group_take(
         &mut self,
@@ -67,12 +122,7 @@ impl LockBook {
         ensures refused { IfOk result (λ taken. OnErr taken (self.new ≡ self.old)) }
         ensures err { OnErr result (self.new ≡ self.old) }
     {
-        if let Some(lane) = self.other_holder(lane, group) {
-            return Ok(Err(LaneHolds { lane }));
-        }
-        let group = group.clone()?;
-        self.groups.insert(group, lane)?;
-        Ok(Ok(()))
+        self.writer_take(lane, group, None)
     }
 
     /// Shares a snapshot with a lane. At want of memory nothing has changed.
@@ -110,54 +160,5 @@ impl LockBook {
     {
         let sharers = self.shared.iter().filter(|claim| claim.0 == *key);
         sharers.map(|claim| claim.1).min()
-    }
-}
-
-#[cfg(test)]
-mod tests {
-    use super::*;
-    use std::test::Fail;
-
-    fn group(alloc: Global, text: &str) -> Result<GroupKey, Fail> {
-        Ok(GroupKey::parse(alloc, text.as_bytes())??)
-    }
-
-    fn snapshot(alloc: Global, text: &str) -> Result<SnapshotKey, Fail> {
-        Ok(SnapshotKey::parse(alloc, text.as_bytes())??)
-    }
-
-    #[test]
-    fn a_group_has_one_lane(rt: HostRuntime) -> Result<(), Fail> {
-        let (a, b) = (group(rt.alloc(), "host/a")?, group(rt.alloc(), "host/b")?);
-        let mut book = LockBook::new(rt.alloc());
-        assert_eq!(rt; book.group_take(3, &a)?, Ok(()));
-        assert_eq!(rt; book.group_take(1, &a)?, Err(LaneHolds { lane: 3 }));
-        assert_eq!(rt; book.group_take(63, &a)?, Err(LaneHolds { lane: 3 }));
-        assert_eq!(rt; book.group_take(3, &a)?, Ok(()));
-        assert_eq!(rt; book.group_take(1, &b)?, Ok(()));
-        book.release(3);
-        assert_eq!(rt; book.group_take(2, &a)?, Ok(()));
-        assert_eq!(rt; book.group_take(2, &b)?, Err(LaneHolds { lane: 1 }));
-        Ok(())
-    }
-
-    #[test]
-    fn a_snapshot_is_shared(rt: HostRuntime) -> Result<(), Fail> {
-        let key = snapshot(rt.alloc(), "vm/a/2020-01-15T06:30:03Z")?;
-        let later = snapshot(rt.alloc(), "vm/a/2020-01-15T06:30:04Z")?;
-        let mut book = LockBook::new(rt.alloc());
-        assert_eq!(rt; book.free_for_removal(&key), Ok(()));
-        for lane in [5, 3, 7] {
-            book.shared_take(lane, &key)?;
-        }
-        book.shared_take(0, &later)?;
-        assert_eq!(rt; book.free_for_removal(&key), Err(LaneHolds { lane: 3 }));
-        book.release(3);
-        assert_eq!(rt; book.free_for_removal(&key), Err(LaneHolds { lane: 5 }));
-        book.release(5);
-        book.release(7);
-        assert_eq!(rt; book.free_for_removal(&key), Ok(()));
-        assert_eq!(rt; book.free_for_removal(&later), Err(LaneHolds { lane: 0 }));
-        Ok(())
     }
 }

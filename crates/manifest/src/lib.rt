@@ -5,8 +5,6 @@ mod checking;
 mod facts;
 mod fields;
 mod reading;
-#[cfg(test)]
-mod tests;
 
 pub use checking::check;
 pub use facts::{BadManifest, FileFact, Manifest, Mismatch};

@@ -4,7 +4,7 @@ use Rattle.store_types.specs.declared.refusal.Refusal.{Refusal}
 use Rattle.wire_commands.specs.declared.reply.Reply.{Reply}
 use Rattle.store_model.specs.declared.ending.Ending.{Ending}
 use Rattle.store_model.specs.declared.ending.Ending.TheVariants as endings
-use Rattle.store_model.specs.Lanes.{Next, plain, bye, broken, end}
+use Rattle.store_model.specs.Lanes.{Next, job_step, plain, bye, broken, end}
 use Rattle.store_history.specs.declared.act.Event.{Event}
 use Rattle.store_history.specs.Acts.{Class, stepping, wanting, ending, class_of}
 use Rattle.store_history.specs.LaneRun.{Position, begin, next_at, heard, heard_as, position_after, EndsSo, Does, Runs, LaneRan}
@@ -40,6 +40,7 @@ ends_so e q (v ∷ vs) told are r = (subst (λ c. Does c e q v vs) (ap class_of 
 so_broken : (place : ℕ) (q : Position) (n : Next) → EndsSo (endings.Broken place) q n → (r : Refusal) × (n ≡ broken r)
 so_broken place q (broken r) so = (r, refl)
 so_broken place q (plain c left) so = absurd so
+so_broken place q (job_step j left) so = absurd so
 so_broken place q bye so = absurd so
 so_broken place q end so = absurd so
 

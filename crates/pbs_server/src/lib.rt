@@ -11,6 +11,3 @@ pub use plan::{Plan, WordFault, plan_words};
 pub use served::{RunReport, Served, Unequal};
 pub use serving::serve;
 pub use status::Status;
-
-#[cfg(test)]
-mod tests;

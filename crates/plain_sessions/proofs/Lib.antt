@@ -6,3 +6,4 @@ pub mod Standing
 pub mod Listing
 pub mod Finished
 pub mod Noted
+pub mod Counts

@@ -1,5 +1,6 @@
 -- What the commands change of a writer.
-use Rattle.std.specs.Prelude.{◌<◌, [], ◌∷◌, ◌++◌, length}
+use Rattle.std.specs.Prelude.{IsTrue, ◌+◌, ◌<◌, [], ◌∷◌, ◌++◌, length}
+use Rattle.std.specs.List.{list_any}
 use Rattle.store_model.specs.Store.{Writer, Session, none, writer, reader, insert_file}
 use Rattle.store_model.specs.WriterSteps.{with_pool}
 use Rattle.store_model.specs.Archives.{change_first, without_first}
@@ -20,9 +21,15 @@ changed_in c none = none
 changed_in c (writer w) = writer (changed c w)
 changed_in c (reader r) = reader r
 
--- there is room for an archive that is begun
+-- there is room for one more file
+abbrev pub HasRoom : Writer → Type 0
+HasRoom w = length w.files + length w.begun < 64
+
+-- there is room for an archive that is begun and for a file, and one that is closed is open
 abbrev pub FitsWriter : Change → Writer → Type 0
-FitsWriter (Begin b) w = length w.begun < 16
+FitsWriter (Begin b) w = (length w.begun < 16) × HasRoom w
+FitsWriter (Close number f) w = IsTrue (list_any (has_number number) w.begun)
+FitsWriter (Upload f) w = HasRoom w
 FitsWriter _ w = Unit {0}
 
 abbrev pub FitsSession : Change → Session → Type 0

@@ -116,6 +116,7 @@ pub fn want_sizes(size: u64, chunk_size: u64) -> Result<(), Refusal>
 pub fn want_number(begun: u8) -> Result<(), Refusal>
     ensures fits { IfErr result FitsRefusal }
     ensures test { result ≡ number_left begun }
+    ensures room { OnOk result (begun < 16) }
 {
     if begun < 16 {
         Ok(())

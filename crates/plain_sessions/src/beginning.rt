@@ -1,7 +1,8 @@
 //! What a NEW_DYNAMIC or a NEW_FIXED tests, and the archive that it begins.
 
-ghost use Rattle.std.specs.Prelude.{◌≡◌, ◌<◌, ◌≤◌, IfOk};
+ghost use Rattle.std.specs.Prelude.{◌≡◌, ◌<◌, ◌≤◌, length, IfOk, OnOk};
 ghost use Rattle.store_types.specs.Times.{last_moment};
+ghost use Rattle.plain_sessions.specs.Changes.{HasRoom};
 ghost use Rattle.plain_sessions.specs.Outcomes.{Gives, IsFitRefusal};
 ghost use Rattle.plain_sessions.specs.Archiving.{begun_of, fixed_begun_of};
 
@@ -19,6 +20,7 @@ impl Writer {
         ensures fits { IsFitRefusal result }
         ensures gives { Gives (λ b. b) result (begun_of self.now name.now moment) }
         ensures number { IfOk result (λ b. b.number < 256) }
+        ensures room { OnOk result ((length self.now.begun < 16) × HasRoom self.now) }
     {
         let Ok(name) = FileName::check(alloc, name)? else {
             return Err(Stop::Refused(Refusal::BadName));
@@ -50,6 +52,7 @@ impl Writer {
         ensures fits { IsFitRefusal result }
         ensures gives { Gives (λ b. b) result (fixed_begun_of self.now name.now size chunk_size moment) }
         ensures number { IfOk result (λ b. b.number < 256) }
+        ensures room { OnOk result ((length self.now.begun < 16) × HasRoom self.now) }
     {
         let Ok(name) = FileName::check(alloc, name)? else {
             return Err(Stop::Refused(Refusal::BadName));

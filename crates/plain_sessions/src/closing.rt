@@ -1,9 +1,11 @@
 //! What a CLOSE_INDEX tests, and the file that comes of it.
 
-ghost use Rattle.std.specs.Prelude.{◌≡◌, length, IfErr};
+ghost use Rattle.std.specs.Prelude.{◌≡◌, length, IsTrue, IfErr, OnOk};
+ghost use Rattle.std.specs.List.{list_any};
 ghost use Rattle.store_files.specs.Archive.{content_of, csum_by};
 ghost use Rattle.wire_commands.specs.HasText.{FitsRefusal};
 ghost use Rattle.store_model.specs.Archives.{want_size as size_reached, want_facts as facts_are};
+ghost use Rattle.store_model.specs.WriterCalls.{has_number};
 ghost use Rattle.plain_snapshots.specs.Shown.{shown_layout};
 ghost use Rattle.store_types.specs.declared.refusal.Refusal.TheVariants.{BadClose};
 ghost use Rattle.plain_sessions.specs.declared.stop.Stop.TheVariants.{Refused};
@@ -79,6 +81,7 @@ impl Writer {
     ) -> Result<File, Stop>
         ensures fits { IsFitRefusal result }
         ensures gives { Gives (λ f. f) result (closed_of self.now number count size csum.now) }
+        ensures stands { OnOk result (IsTrue (list_any (has_number number) self.now.begun)) }
     {
         let Some(begun) = self.begun.at(number) else {
             return Err(Stop::Refused(Refusal::NoFile));

@@ -1,31 +1,20 @@
 //! What a FINISH tests, and the snapshot that comes of it.
 
-ghost use Rattle.std.specs.Prelude.{◌≡◌, map, option_map, IfOk};
+ghost use Rattle.std.specs.Prelude.{◌≡◌, map, IfOk};
 ghost use Rattle.store_types.specs.Chain.Refusing.{if_none};
 ghost use Rattle.manifest.specs.Views.{fact_view, manifest_view, mismatch_view};
 ghost use Rattle.manifest.specs.Checking.{first_mismatch, FitsField};
 ghost use Rattle.wire_commands.specs.HasText.{FitsRefusal};
-ghost use Rattle.store_model.specs.Manifests.{fact_of as listed_of, manifest_data as data_listed, want_manifest, mismatch_refusal as refusal_of, listing_of};
+ghost use Rattle.store_model.specs.Manifests.{fact_of as listed_of, want_manifest, mismatch_refusal as refusal_of, listing_of};
 ghost use Rattle.plain_sessions.specs.Outcomes.{Gives, IsFitRefusal};
 ghost use Rattle.plain_sessions.specs.Finishing.{finished_of};
 
 use crate::stop::Stop;
 use crate::writer::Writer;
 use manifest::{BadManifest, FileFact, Manifest, Mismatch, check};
-use plain_snapshots::{BlobData, Content, File, Snapshot};
+use plain_snapshots::{BlobData, File, Snapshot, manifest_data};
 use std::alloc::{AllocError, Global};
 use store_types::{Bytes, Refusal, SnapshotKey};
-
-/// What a manifest lists of a file.
-fn fact_of(alloc: Global, file: &File) -> Result<FileFact, AllocError>
-    ensures { IfOk result (λ fact. fact_view fact ≡ listed_of file.now) }
-{
-    Ok(FileFact {
-        name: file.name.clone()?,
-        size: file.content.size(alloc)?,
-        csum: file.content.csum(alloc)?,
-    })
-}
 
 /// What a manifest lists of each file.
 fn facts_of(alloc: Global, files: &[File]) -> Result<Vec<FileFact>, AllocError>
@@ -33,7 +22,7 @@ fn facts_of(alloc: Global, files: &[File]) -> Result<Vec<FileFact>, AllocError>
 {
     let mut facts = Vec::new(alloc);
     for file in files {
-        facts.push(fact_of(alloc, file)?)?;
+        facts.push(file.fact(alloc)?)?;
     }
     Ok(facts)
 }
@@ -80,23 +69,12 @@ fn want_listed(
 }
 
 impl Writer {
-    /// The data of the manifest among the files.
-    fn manifest_data(&self) -> Option<&BlobData>
-        ensures { option_map (λ bytes. bytes.now) result ≡ data_listed self.now.files }
-    {
-        let file = self.uploads.named(b"index.json.blob")?;
-        match &file.content {
-            Content::Blob(contents) => Some(contents),
-            Content::Archive(_) => None,
-        }
-    }
-
     /// The manifest among the files lists the others.
     fn want_listing(&self, alloc: Global) -> Result<Manifest, Stop>
         ensures fits { IsFitRefusal result }
         ensures gives { Gives manifest_view result (listing_of self.now.key self.now.files) }
     {
-        let Some(contents) = self.manifest_data() else {
+        let Some(contents) = manifest_data(self.uploads.as_slice()) else {
             return Err(Stop::Refused(Refusal::NoFile));
         };
         let manifest = read_manifest(alloc, contents)?;

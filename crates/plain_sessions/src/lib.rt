@@ -21,6 +21,6 @@ pub use archives::Begun;
 pub use changes::Change;
 pub use chunks::checked_piece;
 pub use reader::Reader;
-pub use session::{Held, Session, want_free};
+pub use session::{Held, Session, want_free, want_unheld};
 pub use stop::Stop;
 pub use writer::Writer;

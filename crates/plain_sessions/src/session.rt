@@ -3,8 +3,8 @@
 ghost use Rattle.std.specs.Prelude.{◌≡◌, length, Ok, Err, MatchResult, IfErr, OnOk, OnErr, position};
 ghost use Rattle.store_types.specs.Chain.Refusing.{if_none};
 ghost use Rattle.store_types.specs.Names.{group_of_key};
-ghost use Rattle.store_model.specs.Store.{writes_group as has_group};
-ghost use Rattle.store_types.specs.declared.refusal.Refusal.TheVariants.{GroupBusy};
+ghost use Rattle.store_model.specs.Store.{writes_group as has_group, holds_snapshot as has_snapshot};
+ghost use Rattle.store_types.specs.declared.refusal.Refusal.TheVariants.{GroupBusy, SnapshotBusy};
 ghost use Rattle.wire_commands.specs.HasText.{FitsRefusal};
 ghost use Rattle.plain_sessions.specs.Changes.{changed_in, FitsSession};
 
@@ -107,6 +107,17 @@ impl Held {
             _ => false,
         }
     }
+
+    /// The session's writer has the snapshot as its base, or its reader has it.
+    fn has_snapshot(&self, key: &SnapshotKey) -> bool
+        ensures { result ≡ has_snapshot key.now (shown_held self.now) }
+    {
+        match self {
+            Held::Nothing => false,
+            Held::Writing(w) => w.has_base(key),
+            Held::Reading(r) => key == r.key().as_key(),
+        }
+    }
 }
 
 /// The lane whose writer has the snapshot's group.
@@ -127,5 +138,26 @@ pub fn want_free(sessions: &[Session], key: &SnapshotKey) -> Result<(), Refusal>
     match group_holder(sessions, key) {
         None => Ok(()),
         Some(lane) => Err(Refusal::GroupBusy { lane: lane as u32 }),
+    }
+}
+
+/// The least lane that holds the snapshot.
+fn snapshot_holder(sessions: &[Session], key: &SnapshotKey) -> Option<usize>
+    ensures { result ≡ position (has_snapshot key.now) sessions.now }
+{
+    sessions
+        .iter()
+        .position(|session| session.held.has_snapshot(key))
+}
+
+/// No lane holds the snapshot.
+pub fn want_unheld(sessions: &[Session], key: &SnapshotKey) -> Result<(), Refusal>
+    requires { length sessions.now ≡ 64 }
+    ensures fits { IfErr result FitsRefusal }
+    ensures test { result ≡ if_none SnapshotBusy (position (has_snapshot key.now) sessions.now) }
+{
+    match snapshot_holder(sessions, key) {
+        None => Ok(()),
+        Some(lane) => Err(Refusal::SnapshotBusy { lane: lane as u32 }),
     }
 }

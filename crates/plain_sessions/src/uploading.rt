@@ -1,8 +1,9 @@
 //! What a BLOB tests, and the file that comes of it.
 
-ghost use Rattle.std.specs.Prelude.{◌≡◌, IfErr};
+ghost use Rattle.std.specs.Prelude.{◌≡◌, IfErr, OnOk};
 ghost use Rattle.wire_commands.specs.HasText.{FitsRefusal};
 ghost use Rattle.store_model.specs.Uploads.{has_file as file_there, want_room as needs_room};
+ghost use Rattle.plain_sessions.specs.Changes.{HasRoom};
 ghost use Rattle.plain_sessions.specs.Outcomes.{Gives, IsFitRefusal};
 ghost use Rattle.plain_sessions.specs.Uploading.{upload_of};
 
@@ -23,6 +24,7 @@ impl Writer {
     /// The writer has no file of that name, and has room for one more.
     pub(crate) fn want_room(&self, name: &FileName) -> Result<(), Refusal>
         ensures fits { IfErr result FitsRefusal }
+        ensures room { OnOk result (HasRoom self.now) }
         ensures test { result ≡ needs_room name.now self.now }
     {
         if self.has_file(name) {
@@ -40,6 +42,7 @@ impl Writer {
     pub fn upload(&self, alloc: Global, name: &[u8], blob: &[u8]) -> Result<File, Stop>
         ensures fits { IsFitRefusal result }
         ensures gives { Gives (λ f. f) result (upload_of self.now name.now blob.now) }
+        ensures room { OnOk result (HasRoom self.now) }
     {
         let Ok(name) = FileName::check(alloc, name)? else {
             return Err(Stop::Refused(Refusal::BadName));

@@ -1,13 +1,12 @@
 //! The files that a writer has.
 
-ghost use Rattle.std.specs.Prelude.{◌≡◌, [], length, IsTrue, option_map, IfOk, OnOk, OnErr};
+ghost use Rattle.std.specs.Prelude.{◌≡◌, [], length, IsTrue, IfOk, OnOk, OnErr};
 ghost use Rattle.std.specs.List.{list_any};
 ghost use Rattle.std.specs.Str.{bytes_eq};
-ghost use Rattle.store_files.specs.Archive.{file_named as find_file};
 ghost use Rattle.store_model.specs.Store.{insert_file as with_file};
 ghost use Rattle.plain_sessions.specs.Uploading.{names_stand};
 
-use plain_snapshots::{File, file_named, insert_file};
+use plain_snapshots::{File, insert_file};
 use std::alloc::{AllocError, Global};
 use std::marker::Model;
 use store_types::FileName;
@@ -52,13 +51,6 @@ impl Uploads {
         ensures { result ≡ list_any (λ f. bytes_eq f.name name.now) self.now }
     {
         self.items.iter().any(|file| file.name == *name)
-    }
-
-    /// The first of this name.
-    pub fn named(&self, name: &[u8]) -> Option<&File>
-        ensures { option_map (λ f. f.now) result ≡ find_file name.now self.now }
-    {
-        file_named(name, &self.items)
     }
 
     /// All, as they stand.

@@ -1,6 +1,7 @@
 //! Writers.
 
 ghost use Rattle.std.specs.Prelude.{◌≡◌, option_map};
+ghost use Rattle.store_model.specs.Store.{is_key};
 ghost use Rattle.store_model.specs.WriterSteps.{new_writer};
 
 use crate::archives::Open;
@@ -8,8 +9,9 @@ use crate::uploads::Uploads;
 use plain_snapshots::{BlobData, PlainKey};
 use std::alloc::Global;
 use std::marker::Model;
+use store_types::SnapshotKey;
 
-/// A writer: its snapshot is not finished.
+/// A writer: its snapshot is not finished. It has at most 64 uploaded and open files together.
 #[derive(Drop)]
 pub struct Writer {
     pub(crate) key: PlainKey,
@@ -24,6 +26,7 @@ pub struct Writer {
 }
 
 impl Model for Writer {
+    ghost use Rattle.std.specs.Prelude.{◌+◌, ◌≤◌, length};
     ghost use Rattle.store_model.specs.Store as model;
 
     ghost Value = { model.Writer };
@@ -36,6 +39,8 @@ impl Model for Writer {
       begun = w.begun;
       files = w.uploads;
     } };
+
+    ghost invariant = { λ w. length w.uploads + length w.begun ≤ 64 };
 }
 
 impl Writer {
@@ -58,5 +63,14 @@ impl Writer {
         ensures { option_map (λ k. k.now) result ≡ self.now.base }
     {
         self.base.as_ref()
+    }
+    /// The snapshot is the writer's base.
+    pub(crate) fn has_base(&self, key: &SnapshotKey) -> bool
+        ensures { result ≡ is_key key.now self.now.base }
+    {
+        match &self.base {
+            None => false,
+            Some(base) => key == base.as_key(),
+        }
     }
 }

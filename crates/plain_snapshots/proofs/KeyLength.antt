@@ -1,4 +1,4 @@
--- The text of a key is short.
+-- The text of a key is short, and so is the name of a file.
 use Rattle.std.proofs.Common.{◌≡◌, ℕ, zero, suc, ◌<◌, ◌≤◌, ◌/◌, true, ◌&&◌, length, get_or, List, refl, arith, length-append}
 use Rattle.std.proofs.lemmas.Bool.{leb-true, and_parts}
 use Rattle.std.specs.Prelude.{nat_le}
@@ -6,9 +6,10 @@ use Rattle.std.specs.List.{list_all}
 use Rattle.store_types.specs.declared.names.Kind.{Kind}
 use Rattle.store_types.specs.declared.names.Kind.TheVariants.{Ct, Host, Vm}
 use Rattle.store_types.specs.declared.names.SnapshotKey.{SnapshotKey}
-use Rattle.store_types.specs.FileNames.{is_id, is_word_byte, is_id_byte}
+use Rattle.store_types.specs.FileNames.{is_id, is_word_byte, is_id_byte, is_file_name}
 use Rattle.store_types.specs.Times.{digits, time_text}
 use Rattle.store_types.specs.Names.{IsKey, kind_text, group_text, key_text}
+use Rattle.store_types.proofs.NameLemmas.{file_name_id}
 
 length-digits : (n x : ℕ) → length (digits n x) ≡ n
 unfolding digits
@@ -33,3 +34,6 @@ id_short id h =
 pub key_short : (k : SnapshotKey) → IsKey k → length (key_text k) < 256
 unfolding key_text group_text
 key_short k h = simp length-append (omega (arith, kind_short k.kind, id_short k.id h.0, length-time_text k.time))
+
+pub name_short : (name : List ℕ) → is_file_name name ≡ true → length name ≤ 64
+name_short name h = id_short name (file_name_id name h)

@@ -5,3 +5,5 @@ pub mod KeyLength
 pub mod ReadingDisk
 pub mod Headers
 pub mod Sorting
+pub mod RowTexts
+pub mod Telling

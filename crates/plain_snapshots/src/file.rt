@@ -3,11 +3,14 @@
 ghost use Rattle.std.specs.Prelude.{◌≡◌, IfOk, OnOk, OnErr, position, option_map};
 ghost use Rattle.store_types.specs.Names.{name_lt};
 ghost use Rattle.store_files.specs.Archive.{file_text, pieces_of, size_of, csum_of, file_named as find_file};
+ghost use Rattle.manifest.specs.Views.{fact_view};
 ghost use Rattle.store_model.specs.Store.{insert_file as with_file};
+ghost use Rattle.store_model.specs.Manifests.{fact_of, manifest_data as data_listed};
 ghost use Rattle.plain_snapshots.specs.Contents.{shown_content, is_archive};
 
 use crate::archive::Archive;
 use crate::blob::BlobData;
+use manifest::FileFact;
 use sha2::{Digest, Sha256};
 use std::alloc::{AllocError, Global};
 use std::marker::Model;
@@ -92,6 +95,19 @@ impl Content {
     }
 }
 
+impl File {
+    /// What a manifest lists of it.
+    pub fn fact(&self, alloc: Global) -> Result<FileFact, AllocError>
+        ensures { IfOk result (λ fact. fact_view fact ≡ fact_of self.now) }
+    {
+        Ok(FileFact {
+            name: self.name.clone()?,
+            size: self.content.size(alloc)?,
+            csum: self.content.csum(alloc)?,
+        })
+    }
+}
+
 impl Clone for Content {
     ghost is_clone = { λ content copy. copy ≡ content };
 
@@ -119,6 +135,17 @@ pub fn file_named<'a>(name: &[u8], files: &'a [File]) -> Option<&'a File>
     ensures { option_map (λ f. f.now) result ≡ find_file name.now files.now }
 {
     files.iter().find(|file| file.name.as_slice() == name)
+}
+
+/// The data of the manifest among the files.
+pub fn manifest_data(files: &[File]) -> Option<&BlobData>
+    ensures { option_map (λ bytes. bytes.now) result ≡ data_listed files.now }
+{
+    let file = file_named(b"index.json.blob", files)?;
+    match &file.content {
+        Content::Blob(contents) => Some(contents),
+        Content::Archive(_) => None,
+    }
 }
 
 /// The place of the first file with a greater name.

@@ -1,4 +1,5 @@
-//! Snapshots with all their bytes, as the definitions of the plain store have them, and the reading of a datastore's.
+//! Snapshots with all their bytes, as the definitions of the plain store have them, the reading of a datastore's, and
+//! what is told of them.
 //! It is slow, and shares no code above the file formats with the store that it is compared with.
 #![tactic(auto)]
 
@@ -7,6 +8,7 @@ mod blob;
 mod file;
 mod indexes;
 mod key;
+mod listing;
 mod loading;
 mod pieces;
 mod snapshot;
@@ -14,10 +16,10 @@ mod stored;
 
 pub use archive::{Archive, Layout};
 pub use blob::BlobData;
-pub use file::{Content, File, file_named, insert_file};
+pub use file::{Content, File, file_named, insert_file, manifest_data};
 pub use key::PlainKey;
+pub use listing::{files_reply, keys_reply, list_reply};
 pub use loading::read_snapshots;
-pub use snapshot::{Snapshot, count_in, insert_snapshot, latest_in, snapshot_named};
-
-#[cfg(test)]
-mod tests;
+pub use snapshot::{
+    Snapshot, count_in, insert_snapshot, latest_in, remove_snapshot, snapshot_named,
+};

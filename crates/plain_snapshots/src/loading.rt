@@ -1,6 +1,6 @@
 //! The snapshots of a datastore. Damaged ones are left out.
 
-ghost use Rattle.std.specs.Prelude.{◌≡◌, ◌∷◌, option_map, IfOk, IsErrOf};
+ghost use Rattle.std.specs.Prelude.{◌≡◌, ◌+◌, ◌≤◌, ◌∷◌, length, option_map, IfOk, IfSome, IsErrOf};
 ghost use Rattle.store_types.specs.FileNames.{manifest_name};
 ghost use Rattle.manifest.specs.Views.{manifest_view};
 ghost use Rattle.disk_trait.specs.Disk.{Serves};
@@ -74,7 +74,8 @@ fn files_in(
     key: &PlainKey,
     names: &[FileName],
 ) -> Result<Option<Vec<File>>, AllocError>
-    ensures { IfOk result (λ files. option_map (λ files. files.items) files ≡ files_of stored.now key.now names.now) }
+    ensures files { IfOk result (λ files. option_map (λ files. files.items) files ≡ files_of stored.now key.now names.now) }
+    ensures count { IfOk result (λ files. IfSome files (λ files. length files.items ≡ length names.now)) }
 {
     let Some((name, others)) = names.split_first() else {
         return Ok(Some(Vec::new(alloc)));
@@ -107,7 +108,8 @@ fn read_manifest(alloc: Global, bytes: &[u8]) -> Result<Option<Manifest>, AllocE
 
 /// The manifest's name, and those of the other files that it lists.
 fn names_in(alloc: Global, listed: &Manifest) -> Result<Vec<FileName>, AllocError>
-    ensures { IfOk result (λ names. names.items ≡ manifest_name ∷ names_listed (manifest_view listed.now)) }
+    ensures names { IfOk result (λ names. names.items ≡ manifest_name ∷ names_listed (manifest_view listed.now)) }
+    ensures count { IfOk result (λ names. length names.items ≤ length listed.now.files + 1) }
 {
     let mut names = Vec::new(alloc);
     names.push(FileName::manifest(alloc)?)?;

@@ -2,7 +2,7 @@
 
 ghost use Rattle.std.specs.Prelude.{◌≡◌, length, OnOk, OnErr, position, option_map};
 ghost use Rattle.store_types.specs.Names.{key_lt, group_of_key};
-ghost use Rattle.store_model.specs.Store.{snapshot_named as find_snapshot, in_group, latest_in as latest_of, insert_snapshot as with_snapshot};
+ghost use Rattle.store_model.specs.Store.{snapshot_named as find_snapshot, in_group, latest_in as latest_of, insert_snapshot as with_snapshot, without_snapshot as other_snapshots};
 
 use crate::file::File;
 use crate::key::PlainKey;
@@ -10,7 +10,7 @@ use std::alloc::AllocError;
 use std::marker::Model;
 use store_types::SnapshotKey;
 
-/// A finished snapshot. Its files stand in byte order of their names.
+/// A finished snapshot. Its files stand in byte order of their names, and there are 64 at most.
 #[derive(Drop)]
 pub struct Snapshot {
     pub key: PlainKey,
@@ -18,11 +18,14 @@ pub struct Snapshot {
 }
 
 impl Model for Snapshot {
+    ghost use Rattle.std.specs.Prelude.{◌≤◌, length};
     ghost use Rattle.store_files.specs.Archive as model;
 
     ghost Value = { model.Snapshot };
 
     ghost view = { λ x. record { key = x.key; files = x.files.items } };
+
+    ghost invariant = { λ x. length x.files.items ≤ 64 };
 }
 
 impl Snapshot {
@@ -40,7 +43,7 @@ impl Snapshot {
         self.key.as_key() == key
     }
 
-    fn is_after(&self, key: &SnapshotKey) -> bool
+    pub(crate) fn is_after(&self, key: &SnapshotKey) -> bool
         ensures { result ≡ key_lt key.now self.now.key }
     {
         key < self.key.as_key()
@@ -105,4 +108,11 @@ pub fn insert_snapshot(snapshots: &mut Vec<Snapshot>, new: Snapshot) -> Result<(
     let place = after.unwrap_or(snapshots.len());
     snapshots.insert(place, new)?;
     Ok(())
+}
+
+/// Takes the snapshot with this key out. It takes no memory.
+pub fn remove_snapshot(snapshots: &mut Vec<Snapshot>, key: &SnapshotKey)
+    ensures { snapshots.new.items ≡ other_snapshots key.now snapshots.old.items }
+{
+    snapshots.retain(|snapshot| !snapshot.has_key(key));
 }

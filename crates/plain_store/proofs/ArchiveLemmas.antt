@@ -1,11 +1,9 @@
 -- The commands on archives, by how their tests came out.
-use Rattle.std.proofs.Common.{◌≡◌, ℕ, ◌<◌, Bool, true, false, List, [], ◌∷◌, length, map, Result, Ok, Err, refl, sym, ap, subst, ◌∙◌}
-use Rattle.std.specs.Prelude.{nat_lt}
-use Rattle.std.proofs.lemmas.Bool.{ltb-true}
+use Rattle.std.proofs.Common.{◌≡◌, ℕ, List, [], ◌∷◌, length, map, Result, Ok, Err, refl, sym, ap, subst, ◌∙◌}
 use Rattle.store_types.specs.declared.append.AppendEntry.{AppendEntry}
 use Rattle.store_types.specs.declared.names.Digest32.{Digest32}
 use Rattle.store_types.specs.declared.refusal.Refusal.{Refusal}
-use Rattle.store_types.specs.declared.refusal.Refusal.TheVariants.{BadName, NoFile, TooMany}
+use Rattle.store_types.specs.declared.refusal.Refusal.TheVariants.{BadName, NoFile}
 use Rattle.store_types.specs.Chain.Refusing.{◌>>=◌, unless, or_else}
 use Rattle.store_types.specs.FileNames.{is_fixed_name, is_dynamic_name}
 use Rattle.store_files.specs.Archive.{dynamic, fixed, File, archive, content_of, csum_by, archive_text}
@@ -117,26 +115,6 @@ module _ (s : Store) (lane moment : ℕ) (name : List ℕ) where
     new_goes b h = new_tests ∙ ap (λ t. t >>= begins) h
 
 -- where an archive is begun there is room for it
-pub begun_room : (w : Writer) (name : List ℕ) (moment : ℕ) (b : Begun) → begun_of w name moment ≡ Ok b → length w.begun < 16
-begun_room w name moment b h = by_tests (unless BadName (is_dynamic_name name)) (want_room name w) (nat_lt (length w.begun) 16) refl _ h
-  where
-    by_tests : (a c : Result (Unit {0}) Refusal) (few : Bool) → nat_lt (length w.begun) 16 ≡ few → (x : Begun)
-        → (a >>= λ _. c >>= λ _. unless (TooMany 16) few >>= λ _. Ok x) ≡ Ok b → length w.begun < 16
-    by_tests (Err e) c few is x go = cc
-    by_tests (Ok t) (Err e) few is x go = cc
-    by_tests (Ok t) (Ok u) false is x go = cc
-    by_tests (Ok t) (Ok u) true is x go = ltb-true (length w.begun) 16 is
-
-pub fixed_room : (w : Writer) (name : List ℕ) (size chunk_size moment : ℕ) (b : Begun) → fixed_begun_of w name size chunk_size moment ≡ Ok b → length w.begun < 16
-fixed_room w name size chunk_size moment b h = by_tests (unless BadName (is_fixed_name name)) (want_room name w) (nat_lt (length w.begun) 16) refl (want_sizes size chunk_size) _ h
-  where
-    by_tests : (a c : Result (Unit {0}) Refusal) (few : Bool) → nat_lt (length w.begun) 16 ≡ few → (d : Result (Unit {0}) Refusal) (x : Begun)
-        → (a >>= λ _. c >>= λ _. unless (TooMany 16) few >>= λ _. d >>= λ _. Ok x) ≡ Ok b → length w.begun < 16
-    by_tests (Err e) c few is d x go = cc
-    by_tests (Ok t) (Err e) few is d x go = cc
-    by_tests (Ok t) (Ok u) false is d x go = cc
-    by_tests (Ok t) (Ok u) true is d x go = ltb-true (length w.begun) 16 is
-
 -- ---- CHUNK
 
 module _ (s : Store) (lane : ℕ) (digest : Digest32) (bytes : List ℕ) where

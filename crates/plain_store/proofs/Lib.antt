@@ -4,6 +4,8 @@ pub mod PartLemmas
 pub mod WriterLemmas
 pub mod ArchiveLemmas
 pub mod ReaderLemmas
+pub mod AdminLemmas
+pub mod JobLemmas
 pub mod Answering
 pub mod RunLemmas
 pub mod WeaveLemmas

@@ -1,38 +1,97 @@
 -- What one entry of an order does.
-use Rattle.std.proofs.Common.{◌≡◌, ◌≢◌, ℕ, ◌<◌, Bool, true, false, List, [], length, get_or, inl, inr, None, Some, refl, ◌∙◌}
-use Rattle.std.specs.Prelude.{◌==◌, if◌then◌else◌}
+use Rattle.std.proofs.Common.{◌≡◌, ◌≢◌, ℕ, ◌<◌, Bool, true, false, List, [], length, get_or, inl, inr, None, Some, unwrap_or, refl, sym, ap, subst, ◌∙◌}
+use Rattle.std.specs.Prelude.{◌==◌, Option, is_some}
 use Rattle.std.proofs.lemmas.Bool.Decides.{eqb_tells}
-use Rattle.std.proofs.lemmas.List.{get_or_default}
+use Rattle.std.proofs.lemmas.List.{get_or_default, get_or-set_same, set-get_or, set-set}
 use Rattle.store_types.specs.declared.order.Entry.{Entry}
 use Rattle.store_types.specs.declared.refusal.Refusal.{Refusal}
+use Rattle.store_types.specs.declared.refusal.Refusal.TheVariants.{NoMemory}
 use Rattle.wire_commands.specs.declared.command.Command.{Command}
 use Rattle.wire_commands.specs.declared.reply.Reply.{Reply}
+use Rattle.wire_commands.specs.declared.reply.Reply.TheVariants.{Refused}
 use Rattle.store_model.specs.declared.ending.Ending.{Ending}
 use Rattle.store_model.specs.Lanes as model
-use Rattle.store_model.specs.Lanes.{Lane, Run, new_lane, lane_at, next_of}
-use Rattle.store_model.specs.Weave.{Endings, tell, stepped, short, told_fault, fault_refusal, first_fault, is_cut_off, faulted, is_replied, end_session, ended_with, ends, entered}
-use Rattle.plain_store.specs.declared.next.Next.{Next}
-use Rattle.plain_store.specs.declared.next.Next.TheVariants.{Plain, Bye, Broken, End}
-use Rattle.plain_store.specs.Nexts.{shown_next}
+use Rattle.store_model.specs.Job.{Asking, step_of, Job, over, asking}
+use Rattle.store_model.specs.Jobs.{take}
+use Rattle.store_model.specs.JobSteps.{step_outcome}
+use Rattle.store_model.specs.Steps.{answered, step}
+use Rattle.store_model.specs.Store.{Store}
+use Rattle.store_model.specs.Lanes.{Lane, Run, new_lane, lane_at, with_lane, say, lane_next, next_of}
+use Rattle.store_model.specs.Weave.{Endings, tell, go_on, stepped, short, told_fault, fault_refusal, first_fault, is_cut_off, faulted, is_replied, end_session, ended_with, unread, ends, entered, with_store, answer, answer_job}
+use Rattle.plain_lanes.specs.declared.next.Next.{Next}
+use Rattle.plain_lanes.specs.declared.next.Next.TheVariants as nexts
+use Rattle.plain_lanes.specs.declared.next.Next.TheVariants.{Plain, Bye, Broken, End}
+use Rattle.plain_lanes.specs.Nexts.{shown_next, left_by}
+use Rattle.plain_store.specs.Runs.{run_left, Enters}
 
 -- what the code finds at a lane
 pub at_lane : (r : Run) (k : ℕ) (found : Lane) → k < length r.lanes → found ≡ get_or r.lanes k found → found ≡ lane_at r k
 at_lane r k found within is = is ∙ get_or_default r.lanes k found (new_lane []) within
 
-module _ (r : Run) (k : ℕ) where
-  pub no_step : (moment : ℕ) (n : Next) → ((c : Command) (left : _) → n ≡ Plain c left → ⊥) → stepped r k moment (shown_next n) ≡ None
-  unfolding stepped
-  no_step moment (Plain c left) other = absurd (other c left refl)
-  no_step moment Bye other = refl
-  no_step moment (Broken refusal) other = refl
-  no_step moment End other = refl
+-- ---- what stands next
 
-  pub nothing_told : (refusal : Refusal) (n : Next) → ((c : Command) (left : _) → n ≡ Plain c left → ⊥) → told_fault r k refusal (shown_next n) ≡ r
-  unfolding told_fault
-  nothing_told refusal (Plain c left) other = absurd (other c left refl)
-  nothing_told refusal Bye other = refl
-  nothing_told refusal (Broken q) other = refl
-  nothing_told refusal End other = refl
+abbrev with_job : Lane → List ℕ → Option Asking → Lane
+with_job lane left j = record lane { left = left; job = j }
+
+job_given : (n : Next) (lane : Lane) (left : List ℕ) (j : Option Asking) → with_job (left_by n lane) left j ≡ with_job lane left j
+job_given (nexts.Job a rest) lane left j = refl
+job_given (Plain c rest) lane left j = refl
+job_given Bye lane left j = refl
+job_given (Broken refusal) lane left j = refl
+job_given End lane left j = refl
+
+module _ (r : Run) (k : ℕ) where
+  as_it_was : with_lane r k (lane_at r k) ≡ r
+  as_it_was = ap (λ l. (let x : Run = record r { lanes = l } in x)) (set-get_or r.lanes k (new_lane []))
+
+  -- what is next leaves the run where no job is open
+  none_open : (n : Next) → is_some (lane_at r k).job ≡ false → run_left n r k ≡ r
+  none_open n idle = ap (with_lane r k) (by_job n (lane_at r k) idle) ∙ as_it_was
+    where
+      no_job : (lane : Lane) (o : Option Asking) → lane.job ≡ o → is_some o ≡ false → (let x : Lane = record lane { job = None } in x) ≡ lane
+      no_job lane None is h = rw (← is) refl
+      no_job lane (Some a) is h = cc
+
+      by_job : (n : Next) (lane : Lane) → is_some lane.job ≡ false → left_by n lane ≡ lane
+      by_job (nexts.Job a left) lane h = no_job lane lane.job refl h
+      by_job (Plain c left) lane h = refl
+      by_job Bye lane h = refl
+      by_job (Broken refusal) lane h = refl
+      by_job End lane h = refl
+
+  -- a lane's end, where a job is open
+  pub ends_open : (ending : Ending) → is_some (lane_at r k).job ≡ true → ends r k ending (next_of r k) ≡ unread r k ending
+  unfolding ends next_of lane_next
+  ends_open ending there = by_job (lane_at r k) (lane_at r k).job refl there
+    where
+      by_job : (lane : Lane) (o : Option Asking) → lane.job ≡ o → is_some o ≡ true → ends r k ending (lane_next lane) ≡ unread r k ending
+      by_job lane None is h = cc
+      by_job lane (Some a) is h = rw is refl
+
+  module _ (within : k < length r.lanes) where
+    -- a lane that is written again
+    written_again : (once again : Lane) → with_lane (with_lane r k once) k again ≡ with_lane r k again
+    written_again once again = ap (λ l. (let x : Run = record r { lanes = l } in x)) (set-set r.lanes k once again)
+
+    lane_written : (once : Lane) → lane_at (with_lane r k once) k ≡ once
+    lane_written once = get_or-set_same r.lanes k once (new_lane []) within
+
+    pub told_anyway : (n : Next) (left : List ℕ) (reply : Reply) → tell (run_left n r k) k left reply ≡ tell r k left reply
+    unfolding tell
+    told_anyway n left reply =
+        let own = left_by n (lane_at r k) in
+        ap (λ l. with_lane (run_left n r k) k (say reply (with_job l left None))) (lane_written own)
+        ∙ written_again own (say reply (with_job own left None))
+        ∙ ap (λ l. with_lane r k (say reply l)) (job_given n (lane_at r k) left None)
+
+    pub goes_anyway : (n : Next) (left : List ℕ) (j : Job) → go_on (run_left n r k) k left j ≡ go_on r k left j
+    unfolding go_on
+    goes_anyway n left (over report) = told_anyway n left report
+    goes_anyway n left (asking a) =
+        let own = left_by n (lane_at r k) in
+        ap (λ l. with_lane (run_left n r k) k (with_job l left (Some a))) (lane_written own)
+        ∙ written_again own (with_job own left (Some a))
+        ∙ ap (λ l. with_lane r k l) (job_given n (lane_at r k) left (Some a))
 
   pub told_at_end : (ending : Ending) (reply : Reply) → is_replied ending ≡ true → ended_with r k ending reply ≡ tell (end_session r k) k [] reply
   unfolding ended_with
@@ -41,6 +100,69 @@ module _ (r : Run) (k : ℕ) where
   pub untold_at_end : (ending : Ending) (reply : Reply) → is_replied ending ≡ false → ended_with r k ending reply ≡ end_session r k
   unfolding ended_with
   untold_at_end ending reply h = rw h refl
+
+-- ---- what is done with what stands next
+
+module _ (r : Run) (k : ℕ) (within : k < length r.lanes) (n : Next) (is : shown_next n ≡ next_of r k) where
+  -- an open job's step, as the code does it
+  pub job_stepped : (moment : ℕ) (a : Asking) (left : List ℕ) → shown_next n ≡ model.job_step a left
+      → (s : Store) (reply : Reply) (j : Job) (told after : Run)
+      → (s, reply) ≡ answered r.store (step_outcome r.store k moment (step_of a)) → j ≡ take a reply → told ≡ with_store (run_left n r k) s → after ≡ go_on told k left j
+      → stepped r k moment (next_of r k) ≡ Some after
+  unfolding stepped answer_job with_store
+  job_stepped moment a left shown s reply j told after done taken stored goes =
+      ap (stepped r k moment) (sym is ∙ shown)
+      ∙ ap (λ x. Some (answer_job r k a left x)) (sym done)
+      ∙ ap (λ (x : Run). Some x)
+      (sym (goes_anyway (with_store r s) k within n left (take a reply)) ∙ ap (go_on (run_left n (with_store r s) k) k left) (sym taken)
+      ∙ sym (goes ∙ ap (λ (x : Run). go_on x k left j) stored))
+
+  -- a command
+  pub command_stepped : (moment : ℕ) (c : Command) (left : List ℕ) → shown_next n ≡ model.plain c left
+      → (s : Store) (reply : Reply) (told after : Run)
+      → (s, reply) ≡ step r.store k moment c → told ≡ with_store (run_left n r k) s → after ≡ tell told k left reply
+      → stepped r k moment (next_of r k) ≡ Some after
+  unfolding stepped answer with_store
+  command_stepped moment c left shown s reply told after done stored tells =
+      ap (stepped r k moment) (sym is ∙ shown)
+      ∙ ap (λ x. Some (answer r k left x)) (sym done)
+      ∙ ap (λ (x : Run). Some x) (sym (told_anyway (with_store r s) k within n left reply) ∙ sym (tells ∙ ap (λ (x : Run). tell x k left reply) stored))
+
+  -- a refusal of a job's step
+  job_refused : (refusal : Refusal) (a : Asking) (left : List ℕ) (j : Job) (after : Run) → j ≡ take a (Refused refusal) → after ≡ go_on (run_left n r k) k left j
+      → go_on r k left (take a (Refused refusal)) ≡ after
+  job_refused refusal a left j after taken goes =
+      sym (goes_anyway r k within n left (take a (Refused refusal))) ∙ ap (go_on (run_left n r k) k left) (sym taken) ∙ sym goes
+
+  -- the same, by what it is refused for
+  module _ (a : Asking) (left : List ℕ) (shown : shown_next n ≡ model.job_step a left) (j : Job) (after : Run) where
+    pub short_job : j ≡ take a (Refused NoMemory) → after ≡ go_on (run_left n r k) k left j → short r k (next_of r k) ≡ Some after
+    unfolding short
+    short_job taken goes = ap (short r k) (sym is ∙ shown) ∙ ap (λ (x : Run). Some x) (job_refused NoMemory a left j after taken goes)
+
+    pub fault_of_job : (refusal : Refusal) → j ≡ take a (Refused refusal) → after ≡ go_on (run_left n r k) k left j → after ≡ told_fault r k refusal (next_of r k)
+    unfolding told_fault
+    fault_of_job refusal taken goes = sym (job_refused refusal a left j after taken goes) ∙ ap (told_fault r k refusal) (sym shown ∙ is)
+
+  -- the lane's end, where no job is open
+  module _ (ending : Ending) (idle : is_some (lane_at r k).job ≡ false) where
+    same_run : run_left n r k ≡ r
+    same_run = none_open r k n idle
+
+    as_unread : (new : Run) (fits : Bool) → ends r k ending (next_of r k) ≡ unread r k ending → Enters (run_left n r k) new fits (unread (run_left n r k) k ending)
+        → Enters r new fits (ends r k ending (next_of r k))
+    as_unread new fits e entered =
+        subst (λ (o : Option Run). Enters r new fits o) (sym e) (subst (λ (x : Run). Enters x new fits (unread x k ending)) same_run entered)
+
+    pub unread_job : (new : Run) (fits : Bool) (a : Asking) (left : List ℕ) → shown_next n ≡ model.job_step a left
+        → Enters (run_left n r k) new fits (unread (run_left n r k) k ending) → Enters r new fits (ends r k ending (next_of r k))
+    unfolding ends
+    unread_job new fits a left shown entered = as_unread new fits (ap (ends r k ending) (sym is ∙ shown)) entered
+
+    pub unread_command : (new : Run) (fits : Bool) (c : Command) (left : List ℕ) → shown_next n ≡ model.plain c left
+        → Enters (run_left n r k) new fits (unread (run_left n r k) k ending) → Enters r new fits (ends r k ending (next_of r k))
+    unfolding ends
+    unread_command new fits c left shown entered = as_unread new fits (ap (ends r k ending) (sym is ∙ shown)) entered
 
 pub differs : (a b : ℕ) → a ≢ b → (a == b) ≡ false
 differs a b ne = elim (eqb_tells a b) [ inl p ↦ absurd (ne p.1) | inr p ↦ p.0 ]
@@ -71,7 +193,16 @@ module _ (E : Endings) (r : Run) (place : ℕ) (e : Entry) (later : List Entry) 
       let no_6 = differs e.kind 6 six in
       rw (no_0, no_2, no_5, no_6) refl
 
-pub faulted_as : (r : Run) (k place : ℕ) (ending : Ending) (later : List Entry) (n : model.Next) (cut_off : Bool) (after : Run) → cut_off ≡ is_cut_off k ending later
-    → after ≡ record (if cut_off then r else told_fault r k (fault_refusal r.fault) n) { fault = first_fault place r.fault } → faulted r k place ending later n ≡ after
-unfolding faulted
-faulted_as r k place ending later n cut_off after same is = rw (is, same) refl
+-- the place of the first fault
+first_kept : (place : ℕ) (first : Option ℕ) → Some (unwrap_or first place) ≡ first_fault place first
+first_kept place None = refl
+first_kept place (Some x) = refl
+
+module _ (r : Run) (k place : ℕ) (ending : Ending) (later : List Entry) (n : model.Next) (kept : ℕ) (same : kept ≡ unwrap_or r.fault place) where
+  pub faulted_cut : is_cut_off r k ending later ≡ true → (let after : Run = record r { fault = Some kept } in after ≡ faulted r k place ending later n)
+  unfolding faulted
+  faulted_cut h = rw h (ap (λ f. (let after : Run = record r { fault = f } in after)) (ap (λ x. Some x) same ∙ first_kept place r.fault))
+
+  pub faulted_told : is_cut_off r k ending later ≡ false → (let after : Run = record (told_fault r k (fault_refusal r.fault) n) { fault = Some kept } in after ≡ faulted r k place ending later n)
+  unfolding faulted
+  faulted_told h = rw h (ap (λ f. (let after : Run = record (told_fault r k (fault_refusal r.fault) n) { fault = f } in after)) (ap (λ x. Some x) same ∙ first_kept place r.fault))

@@ -1,5 +1,5 @@
 pub mod Outcomes
 pub mod Writers
 pub mod Parts
-pub mod Nexts
+pub mod Runs
 pub mod Turns

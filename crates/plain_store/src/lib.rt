@@ -3,10 +3,9 @@
 //! with: they share the formats, names, frames and commands, and the definitions.
 #![tactic(auto)]
 
+mod admin_steps;
 mod archive_steps;
-mod lane;
 mod loading;
-mod next;
 mod parts;
 mod plain;
 mod reader_steps;
@@ -16,6 +15,3 @@ mod writer_steps;
 
 pub use plain::Plain;
 pub use weave::{Misfit, Woven};
-
-#[cfg(test)]
-mod tests;

@@ -3,17 +3,22 @@
 ghost use Rattle.std.specs.Prelude.{◌≡◌, ◌<◌, ◌≤◌, IfOk, OnOk, OnErr};
 ghost use Rattle.store_types.specs.Times.{last_moment};
 ghost use Rattle.wire_commands.specs.HasText.{ReplyHasText};
+ghost use Rattle.store_model.specs.Job.{step_of};
+ghost use Rattle.store_model.specs.JobSteps.{step_outcome};
 ghost use Rattle.store_model.specs.Store.{session as session_at, with_session, ended};
-ghost use Rattle.store_model.specs.Steps.{step as stepped};
-ghost use Rattle.store_model.specs.Steps.{outcome as outcome_of};
+ghost use Rattle.store_model.specs.Steps.{step as stepped, answered, outcome as outcome_of};
 ghost use Rattle.plain_sessions.specs.Sessions.{shown_held};
 ghost use Rattle.plain_sessions.specs.Changes.{changed_in, FitsSession};
+ghost use Rattle.plain_lanes.specs.Jobs.{FitsTaken};
+ghost use Rattle.plain_lanes.specs.Nexts.{IsStep};
 ghost use Rattle.plain_store.specs.Outcomes.{Does, IsSpelled};
 
+use plain_lanes::Asking;
 use plain_sessions::{Change, Held, Session, Stop};
 use plain_snapshots::Snapshot;
 use std::alloc::{AllocError, Global};
 use std::marker::Model;
+use store_model::Step;
 use wire_commands::{Command, Reply};
 
 /// The plain store: the finished snapshots with all their bytes, in their order, and the session of
@@ -72,11 +77,49 @@ impl Plain {
         self.set_held(lane, Held::Nothing);
     }
 
-    /// Does a lane's next command, and gives its reply. BYE ends the session.
+    /// Does a lane's next command, which is no job's and no BYE, and gives its reply.
     ///
     /// The moment is in seconds since 1970, and there are 64 lanes. A command that is refused
     /// changes nothing, and so does one that memory is wanting for.
     pub fn step(
+        &mut self,
+        alloc: Global,
+        lane: u32,
+        moment: u64,
+        command: &Command,
+    ) -> Result<Reply, AllocError>
+        requires lane { lane < 64 }
+        requires moment { moment ≤ last_moment }
+        requires command { IsStep command.now }
+        ensures step { IfOk result (λ reply. (self.new, reply) ≡ stepped self.old lane moment command.now) }
+        ensures spelled { IfOk result ReplyHasText }
+        ensures memory { OnErr result (self.new ≡ self.old) }
+    {
+        self.answer(alloc, lane, moment, command)
+    }
+
+    /// Does the step that a lane's job asks, and gives its reply.
+    #[tactic(auto, unfolding(store_model::specs::Steps::step))]
+    pub(crate) fn do_step(
+        &mut self,
+        alloc: Global,
+        lane: u32,
+        moment: u64,
+        asking: &Asking,
+    ) -> Result<Reply, AllocError>
+        requires lane { lane < 64 }
+        requires moment { moment ≤ last_moment }
+        ensures step { IfOk result (λ reply. (self.new, reply) ≡ answered self.old (step_outcome self.old lane moment (step_of asking.now))) }
+        ensures fits { IfOk result FitsTaken }
+    {
+        match asking.next(alloc) {
+            Ok(Step::Command(command)) => self.answer(alloc, lane, moment, &command),
+            Err(error) => Err(error),
+        }
+    }
+
+    /// Does a command, or the first step of a job's.
+    fn answer(
         &mut self,
         alloc: Global,
         lane: u32,
@@ -150,6 +193,13 @@ impl Plain {
                 length,
             } => self.range(alloc, lane, file.as_slice(), *offset, *length),
             Command::CloseReader => self.close_reader(lane),
+            Command::List { after } => self.list(alloc, after.as_slice()),
+            Command::Files { snapshot } => self.files(alloc, snapshot.as_slice()),
+            Command::Forget { snapshot } => self.forget(alloc, lane, snapshot.as_slice()),
+            Command::Prune { group, keep, .. } => {
+                self.prune_group(alloc, lane, group.as_slice(), keep)
+            }
+            Command::Group { group } => self.group(alloc, group.as_slice()),
             Command::Bye => {
                 self.end(lane);
                 Ok(Reply::Done)

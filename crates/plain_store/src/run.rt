@@ -1,16 +1,17 @@
 //! The plain store and the lanes, as an order goes on.
 
-ghost use Rattle.std.specs.Prelude.{◌≡◌, ◌<◌, ◌≤◌, ◌==◌, if◌then◌else◌, length, option_map, IfOk, OnOk};
+ghost use Rattle.std.specs.Prelude.{◌≡◌, ◌<◌, ◌≤◌, ◌==◌, length, option_map, is_some, IfOk, OnOk};
 ghost use Rattle.std.specs.List.{find};
 ghost use Rattle.store_types.specs.Times.{last_moment};
 ghost use Rattle.wire_commands.specs.HasText.{FitsRefusal, ReplyHasText};
-ghost use Rattle.store_model.specs.Lanes.{next_of};
-ghost use Rattle.store_model.specs.Weave.{tell as told, end_session as without_session, stepped as after_step, short as after_short, told_fault as after_fault, fault_refusal as refusal_of, first_fault, is_end as is_an_end, is_cut_off as cuts_off, is_replied as has_reply, may_leave_unread as may_stop, ended_with as after_end, unread as after_unread, ends as after_ends, entered};
-ghost use Rattle.plain_store.specs.Nexts.{shown_next, IsFitNext, Enters};
+ghost use Rattle.store_model.specs.Lanes.{lane_at, next_of};
+ghost use Rattle.store_model.specs.Weave.{tell as told, go_on as gone_on, end_session as without_session, stepped as after_step, short as after_short, told_fault as after_fault, faulted as after_faulted, fault_refusal as refusal_of, is_end as is_an_end, is_cut_off as cuts_off, is_replied as has_reply, may_leave_unread as may_stop, ended_with as after_end, unread as after_unread, ends as after_ends, entered};
+ghost use Rattle.plain_lanes.specs.Jobs.{shown_job, IsSpelledJob};
+ghost use Rattle.plain_lanes.specs.Nexts.{shown_next, IsFitNext};
+ghost use Rattle.plain_store.specs.Runs.{run_left, Enters};
 
-use crate::lane::Lane;
-use crate::next::Next;
 use crate::plain::Plain;
+use plain_lanes::{Job, Lane, Next};
 use std::alloc::{AllocError, Global};
 use std::marker::Model;
 use store_model::Ending;
@@ -67,16 +68,6 @@ fn next_entry(lane: u32, later: &[Entry]) -> Option<&Entry>
     later.iter().find(|entry| entry.lane == lane)
 }
 
-/// Want of memory ended the lane, and its end comes next.
-fn is_cut_off(lane: u32, ending: Ending, later: &[Entry]) -> bool
-    ensures { result ≡ cuts_off lane ending later.now }
-{
-    match ending {
-        Ending::NoMemory => is_end(next_entry(lane, later)),
-        _ => false,
-    }
-}
-
 fn is_replied(ending: Ending) -> bool
     ensures { result ≡ has_reply ending }
 {
@@ -93,18 +84,28 @@ fn may_leave_unread(ending: Ending) -> bool
 }
 
 impl<'a> Run<'a> {
-    /// What stands next on the lane.
-    fn next_of(&self, alloc: Global, lane: u32) -> Result<Next<'a>, AllocError>
+    /// A job is open on the lane.
+    fn has_job(&self, lane: u32) -> bool
         requires { lane < length self.now.lanes }
-        ensures next { IfOk result (λ n. shown_next n ≡ next_of self.now lane) }
-        ensures fits { IfOk result IsFitNext }
+        ensures { result ≡ is_some (lane_at self.now lane).job }
     {
-        let lane = &self.lanes[lane as usize];
-        let next = lane.next(alloc)?;
+        self.lanes[lane as usize].has_job()
+    }
+
+    /// What stands next on the lane. A job is taken out of it.
+    fn take_next(&mut self, alloc: Global, lane: u32) -> Result<Next<'a>, AllocError>
+        requires { lane < length self.old.lanes }
+        ensures next { IfOk result (λ n. shown_next n ≡ next_of self.old lane) }
+        ensures fits { IfOk result IsFitNext }
+        ensures left { IfOk result (λ n. self.new ≡ run_left n self.old lane) }
+        ensures lanes { OnOk result (length self.new.lanes ≡ length self.old.lanes) }
+    {
+        let lane = &mut self.lanes[lane as usize];
+        let next = lane.take_next(alloc)?;
         Ok(next)
     }
 
-    /// The lane's reply, with this left of its input.
+    /// The lane's reply, with this left of its input and no job open.
     fn tell(
         &mut self,
         alloc: Global,
@@ -122,6 +123,30 @@ impl<'a> Run<'a> {
         Ok(())
     }
 
+    /// The lane's job is over and reports, or goes on, with this left of the lane's input.
+    #[tactic(auto, unfolding(store_model::specs::Weave::go_on))]
+    fn go_on(
+        &mut self,
+        alloc: Global,
+        lane: u32,
+        left: &'a [u8],
+        job: Job,
+    ) -> Result<(), AllocError>
+        requires lane { lane < length self.old.lanes }
+        requires spelled { IsSpelledJob job }
+        ensures goes { OnOk result (self.new ≡ gone_on self.old lane left.now (shown_job job)) }
+        ensures lanes { OnOk result (length self.new.lanes ≡ length self.old.lanes) }
+    {
+        match job {
+            Job::Over(report) => self.tell(alloc, lane, left, &report),
+            Job::Asking(asking) => {
+                let lane = &mut self.lanes[lane as usize];
+                lane.set_job(left, asking);
+                Ok(())
+            }
+        }
+    }
+
     /// The lane's session ends.
     fn end_session(&mut self, lane: u32)
         requires { lane < 64 }
@@ -131,22 +156,22 @@ impl<'a> Run<'a> {
         self.store.end(lane);
     }
 
-    /// Kind 0: the next command. Whether there is one.
-    #[tactic(auto, unfolding(store_model::specs::Weave::stepped, store_model::specs::Weave::answer, store_model::specs::Weave::with_store))]
-    fn stepped(
-        &mut self,
-        alloc: Global,
-        lane: u32,
-        moment: u64,
-        next: Next<'a>,
-    ) -> Result<bool, AllocError>
+    /// Kind 0: the next command, or the next step of the lane's job. Whether there is one.
+    #[tactic(auto, unfolding(store_model::specs::Weave::stepped))]
+    fn stepped(&mut self, alloc: Global, lane: u32, moment: u64) -> Result<bool, AllocError>
         requires lane { lane < length self.old.lanes }
         requires lanes { length self.old.lanes ≤ 64 }
         requires moment { moment ≤ last_moment }
-        ensures enters { IfOk result (λ fits. Enters self.old self.new fits (after_step self.old lane moment (shown_next next.entry))) }
+        ensures enters { IfOk result (λ fits. Enters self.old self.new fits (after_step self.old lane moment (next_of self.old lane))) }
         ensures lanes { OnOk result (length self.new.lanes ≡ length self.old.lanes) }
     {
-        match next {
+        match self.take_next(alloc, lane)? {
+            Next::Job(asking, left) => {
+                let reply = self.store.do_step(alloc, lane, moment, &asking)?;
+                let job = asking.take(alloc, reply)?;
+                self.go_on(alloc, lane, left, job)?;
+                Ok(true)
+            }
             Next::Plain(command, left) => {
                 let reply = self.store.step(alloc, lane, moment, &command)?;
                 self.tell(alloc, lane, left, &reply)?;
@@ -158,13 +183,18 @@ impl<'a> Run<'a> {
 
     /// Kind 2: memory is wanting for what stands next. Whether something does.
     #[tactic(auto, unfolding(store_model::specs::Weave::short), using(crate::proofs::Spelled::refusal_spelled))]
-    fn short(&mut self, alloc: Global, lane: u32, next: Next<'a>) -> Result<bool, AllocError>
+    fn short(&mut self, alloc: Global, lane: u32) -> Result<bool, AllocError>
         requires { lane < length self.old.lanes }
-        ensures enters { IfOk result (λ fits. Enters self.old self.new fits (after_short self.old lane (shown_next next.entry))) }
+        ensures enters { IfOk result (λ fits. Enters self.old self.new fits (after_short self.old lane (next_of self.old lane))) }
         ensures lanes { OnOk result (length self.new.lanes ≡ length self.old.lanes) }
     {
         let reply = Reply::Refused(Refusal::NoMemory);
-        match next {
+        match self.take_next(alloc, lane)? {
+            Next::Job(asking, left) => {
+                let job = asking.take(alloc, reply)?;
+                self.go_on(alloc, lane, left, job)?;
+                Ok(true)
+            }
             Next::Plain(_, left) => {
                 self.tell(alloc, lane, left, &reply)?;
                 Ok(true)
@@ -173,31 +203,37 @@ impl<'a> Run<'a> {
                 self.tell(alloc, lane, &[], &reply)?;
                 Ok(true)
             }
-            Next::Bye => Ok(false),
-            Next::End => Ok(false),
+            Next::Bye | Next::End => Ok(false),
         }
     }
 
-    /// A fault of the disk is told of a command, and not of a lane's end.
+    /// A fault of the disk is told of a command or a step, and not of a lane's end.
     #[tactic(auto, unfolding(store_model::specs::Weave::told_fault), using(crate::proofs::Spelled::refusal_spelled))]
-    fn tell_fault(
-        &mut self,
-        alloc: Global,
-        lane: u32,
-        refusal: Refusal,
-        next: Next<'a>,
-    ) -> Result<(), AllocError>
+    fn tell_fault(&mut self, alloc: Global, lane: u32, refusal: Refusal) -> Result<(), AllocError>
         requires lane { lane < length self.old.lanes }
         requires fits { FitsRefusal refusal }
-        ensures told { OnOk result (self.new ≡ after_fault self.old lane refusal (shown_next next.entry)) }
+        ensures told { OnOk result (self.new ≡ after_fault self.old lane refusal (next_of self.old lane)) }
         ensures lanes { OnOk result (length self.new.lanes ≡ length self.old.lanes) }
     {
-        match next {
-            Next::Plain(_, left) => {
-                self.tell(alloc, lane, left, &Reply::Refused(refusal))?;
-                Ok(())
+        let reply = Reply::Refused(refusal);
+        match self.take_next(alloc, lane)? {
+            Next::Job(asking, left) => {
+                let job = asking.take(alloc, reply)?;
+                self.go_on(alloc, lane, left, job)
             }
+            Next::Plain(_, left) => self.tell(alloc, lane, left, &reply),
             _ => Ok(()),
+        }
+    }
+
+    /// Want of memory ended the lane, with no job open, and its end comes next.
+    fn is_cut_off(&self, lane: u32, ending: Ending, later: &[Entry]) -> bool
+        requires { lane < length self.now.lanes }
+        ensures { result ≡ cuts_off self.now lane ending later.now }
+    {
+        match ending {
+            Ending::NoMemory => !self.has_job(lane) && is_end(next_entry(lane, later)),
+            _ => false,
         }
     }
 
@@ -207,16 +243,16 @@ impl<'a> Run<'a> {
         alloc: Global,
         lane: u32,
         place: u64,
-        cut_off: bool,
-        next: Next<'a>,
+        ending: Ending,
+        later: &[Entry],
     ) -> Result<(), AllocError>
         requires { lane < length self.old.lanes }
-        ensures told { OnOk result (self.new ≡ record (if cut_off then self.old else after_fault self.old lane (refusal_of self.old.fault) (shown_next next.entry)) { fault = first_fault place self.old.fault }) }
+        ensures told { OnOk result (self.new ≡ after_faulted self.old lane place ending later.now (next_of self.old lane)) }
         ensures lanes { OnOk result (length self.new.lanes ≡ length self.old.lanes) }
     {
         let first = self.fault;
-        if !cut_off {
-            self.tell_fault(alloc, lane, fault_refusal(first), next)?;
+        if !self.is_cut_off(lane, ending, later) {
+            self.tell_fault(alloc, lane, fault_refusal(first))?;
         }
         self.fault = Some(first.unwrap_or(place));
         Ok(())
@@ -261,20 +297,16 @@ impl<'a> Run<'a> {
     /// Kind 6: the lane's end. Commands may be left unread where the source or the sink failed, the
     /// input was too long, or memory was wanting. Whether it fits.
     #[tactic(auto, unfolding(store_model::specs::Weave::ends), using(crate::proofs::Spelled::refusal_spelled))]
-    fn ends(
-        &mut self,
-        alloc: Global,
-        lane: u32,
-        ending: Ending,
-        next: Next<'a>,
-    ) -> Result<bool, AllocError>
+    fn ends(&mut self, alloc: Global, lane: u32, ending: Ending) -> Result<bool, AllocError>
         requires lane { lane < length self.old.lanes }
         requires lanes { length self.old.lanes ≤ 64 }
-        requires fits { IsFitNext next }
-        ensures enters { IfOk result (λ fits. Enters self.old self.new fits (after_ends self.old lane ending (shown_next next.entry))) }
+        ensures enters { IfOk result (λ fits. Enters self.old self.new fits (after_ends self.old lane ending (next_of self.old lane))) }
         ensures lanes { OnOk result (length self.new.lanes ≡ length self.old.lanes) }
     {
-        match next {
+        if self.has_job(lane) {
+            return Ok(self.end_unread(lane, ending));
+        }
+        match self.take_next(alloc, lane)? {
             Next::Bye => {
                 self.end_with(alloc, lane, ending, &Reply::Done)?;
                 Ok(true)
@@ -287,7 +319,7 @@ impl<'a> Run<'a> {
                 self.end_session(lane);
                 Ok(true)
             }
-            Next::Plain(_, _) => Ok(self.end_unread(lane, ending)),
+            Next::Job(_, _) | Next::Plain(_, _) => Ok(self.end_unread(lane, ending)),
         }
     }
 
@@ -307,25 +339,14 @@ impl<'a> Run<'a> {
         ensures lanes { OnOk result (length self.new.lanes ≡ length self.old.lanes) }
     {
         let lane = entry.lane;
-        let next = self.next_of(alloc, lane)?;
         match entry.kind {
-            0 => {
-                let fits = self.stepped(alloc, lane, entry.moment, next)?;
-                Ok(fits)
-            }
-            2 => {
-                let fits = self.short(alloc, lane, next)?;
-                Ok(fits)
-            }
+            0 => self.stepped(alloc, lane, entry.moment),
+            2 => self.short(alloc, lane),
             5 => {
-                let cut_off = is_cut_off(lane, ending, later);
-                self.faulted(alloc, lane, place, cut_off, next)?;
+                self.faulted(alloc, lane, place, ending, later)?;
                 Ok(true)
             }
-            6 => {
-                let fits = self.ends(alloc, lane, ending, next)?;
-                Ok(fits)
-            }
+            6 => self.ends(alloc, lane, ending),
             _ => Ok(false),
         }
     }

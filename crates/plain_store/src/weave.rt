@@ -8,9 +8,9 @@ ghost use Rattle.store_model.specs.Lanes.{new_run, new_lane};
 ghost use Rattle.plain_store.specs.Turns.{Turns};
 ghost use Rattle.store_model.specs.Weave.{known, weave as woven_in, woven_of, misfit as misfit_at};
 
-use crate::lane::Lane;
 use crate::plain::Plain;
 use crate::run::Run;
+use plain_lanes::Lane;
 use plain_sessions::{Held, Session};
 use plain_snapshots::Snapshot;
 use std::alloc::{AllocError, Global};

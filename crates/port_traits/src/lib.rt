@@ -18,6 +18,3 @@ pub use memory::{MemSink, MemSource};
 pub use sink::{Sink, write_all_of, write_counted};
 pub use source::{Failed, Source};
 pub use wall_clock::WallClock;
-
-#[cfg(test)]
-mod tests;

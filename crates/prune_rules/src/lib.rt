@@ -19,8 +19,6 @@ ghost use Rattle.store_types.specs.Times.{last_moment};
 mod marking;
 mod order;
 mod periods;
-#[cfg(test)]
-mod tests;
 
 use marking::{keep_others, take_periods};
 use order::number_places;

@@ -6,8 +6,6 @@ mod digests;
 mod index;
 mod ranges;
 mod reader;
-#[cfg(test)]
-mod tests;
 
 pub use ranges::Part;
 pub use reader::{Reader, open_reader};

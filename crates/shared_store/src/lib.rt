@@ -13,10 +13,12 @@ ghost use Rattle.core_state.specs.Unreadables.{TellsUnreadable};
 ghost use Rattle.core_state.specs.declared.kept.Session.TheVariants.{Idle};
 ghost use Rattle.core_writer.specs.Closed.{Lists};
 ghost use Rattle.core_writer.specs.Ended.{Removes};
-ghost use Rattle.core_uploads.specs.Others.{ActLeaves};
 ghost use Rattle.core_reader.specs.Damages.{TellsDamaged, needed};
-ghost use Rattle.shared_store.specs.Asked.{asked, is_readers};
+ghost use Rattle.core_admin.specs.Forgotten.{GoesFirmly, GoesFirst, TakesOut, forgotten_in};
+ghost use Rattle.shared_store.specs.Asked.{asked, is_admins, is_readers};
+ghost use Rattle.shared_store.specs.Left.{LeavesOthers};
 
+use core_admin::admin_act;
 use core_reader::reader_act;
 use core_state::{Act, Answer, Core, short};
 use core_writer::{end_act, writer_act};
@@ -40,6 +42,23 @@ fn is_readers(act: &Act) -> bool
             | Command::Range { .. }
             | Command::CloseReader
     )
+}
+
+/// The act is a command on the store as a whole, or the first step of a job.
+fn is_admins(act: &Act) -> bool
+    ensures { result ≡ is_admins act.now }
+{
+    match act {
+        Act::Plain(command) => matches!(
+            command,
+            Command::List { .. }
+                | Command::Files { .. }
+                | Command::Forget { .. }
+                | Command::Group { .. }
+        ),
+        Act::JobGroup(_) => true,
+        _ => false,
+    }
 }
 
 /// Does one act on a lane, and enters it in the order. It is one atomic step of the store.
@@ -66,11 +85,21 @@ pub fn apply<D: Disk, E, C: Clock>(
     ensures cause { IsCaused D.faults core.old core.new act result }
     ensures unreadable { TellsUnreadable D.honest D.content core.old.parts.disk (asked act (slice_index_or core.old.parts.sessions.items lane Idle) core.old.parts.catalogue.items) result.entry.kind result.reply }
     ensures damaged { TellsDamaged D.honest D.content core.old.parts.disk (needed act (slice_index_or core.old.parts.sessions.items lane Idle) core.old.parts.catalogue.items) result.entry.kind result.reply }
-    // a refused act leaves catalogue and sessions as before, and the disk too unless it failed
+    // a refused act leaves catalogue, sessions and locks as before, and the disk too unless it failed
     ensures unchanged { IfSome result.reply (Unchanged D.honest D.content core.old.parts core.new.parts) }
-    // under names that are no file's of the lane's writer all stays, but at that of a chunk that the act puts
-    ensures others { ActLeaves D.honest D.content core.old.parts core.new.parts lane act result.reply }
-    // a FINISH that is done lists the snapshot with the number of this act's entry, and no other act changes the catalogue
+    // under names that are no file's of the lane's writer, nor of a snapshot that the act takes out, all stays, but at that of a
+    // chunk that the act puts
+    ensures others { LeavesOthers D.honest D.content core.old.parts core.new.parts lane act result.reply }
+    // a command on the store as a whole changes just that: the files of the snapshot that a FORGET takes out are gone
+    ensures taken { is_admins act ≡ true → TakesOut D.honest D.content core.old.parts.disk core.new.parts.disk (forgotten_in act core.old.parts.catalogue.items) result.reply }
+    // in what a crash leaves of a FORGET that is done or meets a fault, all is as it was or the manifest is gone; another of these
+    // commands leaves all as it was. Once it is done, the manifest is gone for good
+    ensures crash { is_admins act ≡ true → GoesFirst D.calls D.images core.old.parts.disk core.new.parts.disk (forgotten_in act core.old.parts.catalogue.items) result.reply }
+    ensures firm { GoesFirmly D.content D.calls D.images core.old.parts.disk core.new.parts.disk (forgotten_in act core.old.parts.catalogue.items) result.reply }
+    // on any disk such a command leaves sessions and locks as before
+    ensures admin { is_admins act ≡ true → (core.new.parts.sessions.items ≡ core.old.parts.sessions.items) × (core.new.parts.locks ≡ core.old.parts.locks) }
+    // a FINISH that is done lists the snapshot with the number of this act's entry, a FORGET that is done takes it out, and no
+    // other act changes the catalogue
     ensures listed { Lists core.old core.new lane act result }
     ensures short { act ≡ Act.Short → result.entry.kind ≡ 2 }
     // the files of a writer that has ended are gone
@@ -85,12 +114,12 @@ pub fn apply<D: Disk, E, C: Clock>(
     if is_readers(&act) {
         return reader_act(core, alloc, lane, act);
     }
+    if is_admins(&act) {
+        return admin_act(core, alloc, lane, act);
+    }
     match act {
-        Act::Plain(_) | Act::Blob { .. } | Act::Chunk { .. } => writer_act(core, alloc, lane, act),
         Act::Short => short(core, alloc, lane),
         Act::End => end_act(core, lane),
+        act => writer_act(core, alloc, lane, act),
     }
 }
-
-#[cfg(test)]
-mod tests;

@@ -11,11 +11,8 @@ mod reading;
 mod scanning;
 
 pub use forgetting::{forget, remove_files};
-pub use found::Found;
-pub use path::{FilePath, path_of};
+pub use found::{Found, read_manifest};
+pub use path::{FilePath, manifest_path_of, path_of};
 pub use putting::{finish, put_file};
 pub use reading::read_part;
-pub use scanning::scan;
-
-#[cfg(test)]
-mod tests;
+pub use scanning::{LISTED_LIMIT, scan};

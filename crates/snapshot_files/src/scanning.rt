@@ -21,7 +21,7 @@ use std::alloc::{AllocError, Global};
 use store_types::{Bytes, FileName, SnapshotKey};
 
 /// The most files that a manifest lists.
-const LISTED_LIMIT: usize = 63;
+pub const LISTED_LIMIT: usize = 63;
 
 /// The snapshot whose manifest has this name.
 fn key_of_manifest(alloc: Global, path: &str) -> Result<Option<SnapshotKey>, AllocError>

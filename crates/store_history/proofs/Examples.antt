@@ -1,23 +1,25 @@
 -- Lanes that run, and histories that are legal.
-use Rattle.std.specs.Prelude.{◌≡◌, ℕ, Bool, List, [], ◌∷◌, ◌++◌, refl, Option, Some, None, true, false, ⊤}
+use Rattle.std.specs.Prelude.{◌≡◌, ℕ, Bool, List, [], ◌∷◌, ◌++◌, codes, refl, Option, Some, None, true, false, ⊤}
 use Rattle.std.specs.List.{flat_map}
 use Rattle.std.proofs.Common.{arith}
-use Rattle.store_types.specs.declared.refusal.Refusal.TheVariants.{BadFrame, DiskFault, Halted, NoMemory, WrongState}
+use Rattle.store_types.specs.declared.refusal.Refusal.TheVariants.{BadFrame, DiskFault, Halted, NoMemory, SnapshotBusy, WrongState}
 use Rattle.store_types.specs.declared.refusal.SessionState.TheVariants.{Idle}
 use Rattle.wire_frames.specs.Frames.{frame}
 use Rattle.wire_commands.specs.declared.command.Command.{Command}
-use Rattle.wire_commands.specs.declared.command.Command.TheVariants.{Finish, Bye}
+use Rattle.wire_commands.specs.declared.command.Command.TheVariants.{Finish, Forget, Prune, Bye}
 use Rattle.wire_commands.specs.declared.reply.Reply.{Reply}
-use Rattle.wire_commands.specs.declared.reply.Reply.TheVariants.{Done, Refused}
+use Rattle.wire_commands.specs.declared.reply.Reply.TheVariants.{Done, Keys, Marks, Refused}
+use Rattle.wire_commands.specs.declared.rows.PruneMark.TheVariants.{Kept, Held}
 use Rattle.wire_commands.specs.CommandText.{command_text}
 use Rattle.store_model.specs.declared.ending.Ending.TheVariants as endings
+use Rattle.store_model.specs.PruneJob.{row}
 use Rattle.store_model.proofs.OnLiterals.{store_model_on_literals}
 use Rattle.store_history.specs.declared.act.Act.{Act}
 use Rattle.store_history.specs.declared.act.Act.TheVariants as acts
 use Rattle.store_history.specs.declared.act.Event.{Event}
 use Rattle.store_history.specs.History.{Opening, act_outcome, moved, after, after_all, opened}
 use Rattle.store_history.specs.Legal.{IsLegal}
-use Rattle.store_history.specs.LaneRun.{LaneRan, text, next_at, heard_at, heard, last_words, position_after, may_want}
+use Rattle.store_history.specs.LaneRun.{LaneRan, text, next_at, goes_on, heard_at, heard, last_words, position_after, may_want, may_want_at}
 
 abbrev event : Act → ℕ → Option Reply → ℕ → Bool → Event
 event a kind r place last = record { act = a; answer = record { reply = r; entry = record { lane = 0; moment = 5; kind = kind }; place = place; last = last }; calls = 3 }
@@ -29,7 +31,7 @@ abbrev sent : List Command → List ℕ
 sent = flat_map (λ c. frame (command_text c))
 
 unfoldable on_histories : ⊤
-unfolding act_outcome moved after after_all text next_at heard_at heard last_words position_after may_want store_model_on_literals
+unfolding act_outcome moved after after_all text next_at goes_on heard_at heard last_words position_after may_want may_want_at store_model_on_literals
 on_histories = tt
 
 abbrev no_session : Reply
@@ -83,12 +85,12 @@ cut_frame = (refl, (refl, refl), (refl, ((refl, refl), λ five. cc), (refl, refl
 
 source_failed : LaneRan cut_input endings.SourceFault (one ∷ end 1 ∷ []) (no_session ∷ [])
 unfolding on_histories
-source_failed = (refl, (refl, refl), (refl, ((refl, refl), λ five. cc), (refl, refl)))
+source_failed = (refl, (refl, refl), (refl, ((refl, refl, refl), λ five. cc), (refl, refl)))
 
 -- no lane leaves a whole frame without a reply because its source failed
 no_command_left : LaneRan (1 ∷ 0 ∷ 0 ∷ 0 ∷ 99 ∷ []) endings.SourceFault (end 0 ∷ []) [] → ⊥
 unfolding on_histories
-no_command_left ran = let is : Rattle.wire_frames.specs.Frames.whole (99 ∷ []) [] ≡ Rattle.wire_frames.specs.Frames.short = ((ran.1).0).1 in cc
+no_command_left ran = let is : Rattle.wire_frames.specs.Frames.whole (99 ∷ []) [] ≡ Rattle.wire_frames.specs.Frames.short = ((ran.1).0).2 in cc
 
 -- a frame that could not be held: the 28 uses it up and ends the lane, whose end meets a fault and comes again
 not_held : LaneRan (2 ∷ 0 ∷ 0 ∷ 0 ∷ []) endings.NoMemory
@@ -111,3 +113,49 @@ sink_failed : LaneRan (sent (Finish ∷ Finish ∷ [])) endings.SinkFault
     (one ∷ event acts.End 5 (Some (Refused DiskFault)) 1 false ∷ end 2 ∷ []) (no_session ∷ Refused DiskFault ∷ [])
 unfolding on_histories
 sink_failed = (refl, (refl, refl), (refl, (tt, λ five. (refl, refl)), (refl, (tt, λ five. cc), (refl, refl))))
+
+-- ---- a job
+
+abbrev prune : Command
+prune = Prune (codes "host/a") (record { last = 1; hourly = 0; daily = 0; weekly = 0; monthly = 0; yearly = 0 }) false
+
+abbrev older : List ℕ
+older = codes "host/a/2020-01-14T00:00:00Z"
+
+abbrev newer : List ℕ
+newer = codes "host/a/2020-01-15T12:00:00Z"
+
+abbrev grouped : Event
+grouped = event (acts.JobGroup prune) 0 (Some (Keys (older ∷ newer ∷ []))) 0 false
+
+abbrev forget : ℕ → Option Reply → Event
+forget kind r = event (acts.Plain (Forget older)) kind r 1 false
+
+-- a lane holds the one that is to go
+held : LaneRan (sent (prune ∷ Bye ∷ [])) endings.Clean (grouped ∷ forget 0 (Some (Refused (SnapshotBusy 3))) ∷ end 2 ∷ [])
+    (Marks (row Kept newer ∷ row Held older ∷ []) ∷ Done ∷ [])
+unfolding on_histories
+held = (refl, (refl, refl), (refl, (refl, refl), (refl, (refl, λ five. cc), (refl, refl))))
+
+-- a fault of the disk is the job's answer
+faulted : LaneRan (sent (prune ∷ Bye ∷ [])) endings.Clean (grouped ∷ forget 5 (Some (Refused DiskFault)) ∷ end 2 ∷ []) (Refused DiskFault ∷ Done ∷ [])
+unfolding on_histories
+faulted = (refl, (refl, refl), (refl, (refl, refl), (refl, (refl, λ five. cc), (refl, refl))))
+
+-- and so is want of memory within the job, which ends the lane where its entry was the reserve's
+wanted : LaneRan (sent (prune ∷ Bye ∷ [])) endings.NoMemory (grouped ∷ event acts.Short 2 short 1 true ∷ end 2 ∷ []) (Refused NoMemory ∷ [])
+unfolding on_histories
+wanted = (refl, (refl, refl), (refl, (refl, refl), (refl, (refl, λ five. cc), (refl, refl))))
+
+-- no lane's input has ended while its job is open
+not_open : LaneRan (sent (prune ∷ [])) endings.Clean (grouped ∷ end 1 ∷ []) [] → ⊥
+unfolding on_histories
+not_open ran = ((ran.2).1).0
+
+-- a store without snapshots
+legal_job : IsLegal None (opened start) (event (acts.JobGroup prune) 0 (Some (Keys [])) 0 false ∷ end 1 ∷ [])
+unfolding on_histories
+legal_job = (
+  record { says = (refl, refl); formed = tt; inside = omega arith; place = refl; last = λ is. cc; risen = omega arith; in_time = omega arith; counted = omega arith },
+  (record { says = refl; formed = tt; inside = omega arith; place = refl; last = λ is. cc; risen = omega arith; in_time = omega arith; counted = omega arith }, tt),
+)

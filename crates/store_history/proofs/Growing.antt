@@ -1,5 +1,5 @@
 -- What a lane did stays as it is while more of its input comes, and goes on to a run of its program.
-use Rattle.std.proofs.Common.{◌≡◌, ℕ, ◌+◌, ◌-◌, ◌≤◌, Bool, true, false, ◌&&◌, ◌||◌, List, [], ◌∷◌, ◌++◌, length, take, Option, Some, None, refl, sym, ap, subst, ◌∙◌, arith, ◌==◌, nat_le}
+use Rattle.std.proofs.Common.{◌≡◌, ℕ, ◌+◌, ◌-◌, ◌≤◌, Bool, true, false, ◌&&◌, ◌||◌, List, [], ◌∷◌, ◌++◌, length, take, Option, Some, None, is_some, refl, sym, ap, subst, ◌∙◌, arith, if◌then◌else◌, ◌==◌, nat_le}
 use Rattle.std.specs.Int.{w32, from_le_bytes}
 use Rattle.std.proofs.lemmas.List.{take-append-le, length-append}
 use Rattle.std.proofs.lemmas.Bool.Decides.{nat_tests}
@@ -11,12 +11,13 @@ use Rattle.wire_commands.specs.declared.reply.Reply.{Reply}
 use Rattle.wire_commands.specs.CommandText.{command_of}
 use Rattle.wire_commands.specs.Inputs.{InputFront, nothing, next, over_limit, no_command, front, cut_front, body_front}
 use Rattle.store_model.specs.declared.ending.Ending.{Ending}
-use Rattle.store_model.specs.Lanes.{Next, plain, bye, broken, end, lane_next, front_next, command_next}
+use Rattle.store_model.specs.Job.{Asking, Job, over, asking}
+use Rattle.store_model.specs.Jobs.{take as job_take}
+use Rattle.store_model.specs.Lanes.{Next, job_step, plain, bye, broken, end, lane_next, front_next, command_next}
 use Rattle.store_history.specs.declared.act.Answer.{Answer}
 use Rattle.store_history.specs.declared.act.Event.{Event}
 use Rattle.store_history.specs.Acts.{Class, stepping, wanting, ending, class_of}
-use Rattle.store_history.specs.History.{kind, reply}
-use Rattle.store_history.specs.LaneRun.{Position, next_at, heard_at, heard, heard_as, position_after, Asks, may_want, Does, Runs}
+use Rattle.store_history.specs.LaneRun.{Position, next_at, heard_at, heard, heard_as, goes_on, used_up, position_after, Asks, may_want, may_want_at, Does, Runs}
 use Rattle.store_history.specs.SoFar.{goes_further, Follows, Leads, grown}
 
 -- ---- a command stays at the front
@@ -38,6 +39,7 @@ front_more (b ∷ bytes) more c rest h = by_cut (cut (b ∷ bytes)) refl h
 -- ---- what is next stays next
 
 pub next_grown : List ℕ → Next → Next
+next_grown more (job_step j left) = job_step j (left ++ more)
 next_grown more (plain c left) = plain c (left ++ more)
 next_grown more n = n
 
@@ -58,14 +60,27 @@ front_stays more bytes m n h = by_front (front bytes) refl h
     by_front no_command is h = cc
 
 pub next_stays : (more : List ℕ) (p : Position) → goes_further (next_at p) ≡ true → next_at (grown more p) ≡ next_grown more (next_at p)
-unfolding next_at lane_next
-next_stays more p h = front_stays more p.left (p.size + length more - length (p.left ++ more)) (p.size - length p.left) h
+unfolding next_at lane_next next_grown
+next_stays more p h = by_job p.job h
+  where
+    by_job : (o : Option Asking) → goes_further (elim o [ None ↦ front_next (p.size - length p.left) (front p.left) | Some j ↦ job_step j p.left ]) ≡ true
+        → elim o [ None ↦ front_next (p.size + length more - length (p.left ++ more)) (front (p.left ++ more)) | Some j ↦ job_step j (p.left ++ more) ]
+        ≡ next_grown more (elim o [ None ↦ front_next (p.size - length p.left) (front p.left) | Some j ↦ job_step j p.left ])
+    by_job None h = front_stays more p.left (p.size + length more - length (p.left ++ more)) (p.size - length p.left) h
+    by_job (Some j) h = refl
 
 -- ---- and so does what is heard
+
+job_grown : (more : List ℕ) (p : Position) (left : List ℕ) (j : Job) → goes_on (grown more p) (left ++ more) j ≡ grown more (goes_on p left j)
+unfolding goes_on
+job_grown more p left (over report) = refl
+job_grown more p left (asking j) = refl
 
 heard_at_grown : (more : List ℕ) (p : Position) (n : ℕ) (r : Option Reply) (x : Next) → goes_further x ≡ true
     → heard_at (grown more p) n r (next_grown more x) ≡ grown more (heard_at p n r x)
 unfolding heard_at next_grown
+heard_at_grown more p n (Some r) (job_step j left) h = job_grown more p left (job_take j r)
+heard_at_grown more p n None (job_step j left) h = refl
 heard_at_grown more p n (Some r) (plain c left) h = refl
 heard_at_grown more p n None (plain c left) h = refl
 heard_at_grown more p n r bye h = cc
@@ -81,12 +96,14 @@ heard_stays more p a h =
 
 asks_grown : (more : List ℕ) (x : Next) (v : Event) → Asks x v.act → Asks (next_grown more x) v.act
 unfolding next_grown
+asks_grown more (job_step j left) v h = h
 asks_grown more (plain c left) v h = h
 asks_grown more bye v h = h
 asks_grown more (broken refusal) v h = h
 asks_grown more end v h = h
 
 pub asks_further : (x : Next) (v : Event) → Asks x v.act → goes_further x ≡ true
+asks_further (job_step j left) v h = refl
 asks_further (plain c left) v h = refl
 asks_further bye v h = absurd h
 asks_further (broken refusal) v h = absurd h
@@ -94,6 +111,7 @@ asks_further end v h = absurd h
 
 further_grown : (more : List ℕ) (x : Next) → goes_further (next_grown more x) ≡ goes_further x
 unfolding next_grown
+further_grown more (job_step j left) = refl
 further_grown more (plain c left) = refl
 further_grown more bye = refl
 further_grown more (broken refusal) = refl
@@ -117,11 +135,19 @@ want_grown more left h = by_test (nat_le 4 (length left)) refl h
         ap (λ t. t && nat_le 2 (from_le_bytes w32 (take 4 (left ++ more)))) longer
         ∙ ap (λ xs. nat_le 2 (from_le_bytes w32 xs)) (take-append-le 4 left more le) ∙ h
 
+want_at_grown : (more : List ℕ) (p : Position) → may_want_at p ≡ true → may_want_at (grown more p) ≡ true
+unfolding may_want_at
+want_at_grown more p h = by_job p.job h
+  where
+    by_job : (o : Option Asking) → (is_some o || may_want p.left) ≡ true → (is_some o || may_want (p.left ++ more)) ≡ true
+    by_job None h = want_grown more p.left h
+    by_job (Some j) h = refl
+
 follows_grown : (c : Class) (more : List ℕ) (p : Position) (v : Event) → Follows c p v → Follows c (grown more p) v
 follows_grown stepping more p v h =
     (h.0, subst (λ x. Asks x v.act) (sym (next_stays more p (asks_further (next_at p) v h.1))) (asks_grown more (next_at p) v h.1))
 follows_grown wanting more p v h =
-    (h.0, want_grown more p.left h.1, ap goes_further (next_stays more p h.2) ∙ further_grown more (next_at p) ∙ h.2)
+    (h.0, want_at_grown more p h.1, ap goes_further (next_stays more p h.2) ∙ further_grown more (next_at p) ∙ h.2)
 follows_grown ending more p v h = h
 
 -- what was done so far, where more of the input was taken
@@ -140,22 +166,37 @@ leads_more (u ∷ vs) p q v h f = (h.0, leads_more vs (heard p u.answer) q v h.1
 
 -- ---- and leads to a run
 
-heard_at_over : (p : Position) (n : ℕ) (r : Option Reply) (x : Next) → goes_further x ≡ true → (heard_at p n r x).is_over ≡ p.is_over
-unfolding heard_at
-heard_at_over p n (Some r) (plain c left) h = refl
-heard_at_over p n None (plain c left) h = refl
-heard_at_over p n r bye h = cc
-heard_at_over p n r (broken refusal) h = cc
-heard_at_over p n r end h = cc
+goes_on_over : (p : Position) (left : List ℕ) (j : Job) → (goes_on p left j).is_over ≡ p.is_over
+unfolding goes_on
+goes_on_over p left (over report) = refl
+goes_on_over p left (asking j) = refl
 
-heard_over : (c : Class) (p : Position) (v : Event) → Follows c p v → (heard p v.answer).is_over ≡ p.is_over
+-- no answer but that of an end makes it over
+pub heard_at_over : (p : Position) (n : ℕ) (r : Option Reply) (x : Next) → (heard_at p n r x).is_over ≡ p.is_over
+unfolding heard_at
+heard_at_over p n (Some r) (job_step j left) = goes_on_over p left (job_take j r)
+heard_at_over p n (Some r) (plain c left) = refl
+heard_at_over p n (Some r) (broken refusal) = by_kind (n == 2)
+  where
+    by_kind : (b : Bool) → (if b then used_up p r else p).is_over ≡ p.is_over
+    by_kind true = refl
+    by_kind false = refl
+heard_at_over p n (Some r) bye = refl
+heard_at_over p n (Some r) end = refl
+heard_at_over p n None (job_step j left) = refl
+heard_at_over p n None (plain c left) = refl
+heard_at_over p n None (broken refusal) = refl
+heard_at_over p n None bye = refl
+heard_at_over p n None end = refl
+
+pub heard_over : (p : Position) (a : Answer) → (heard p a).is_over ≡ p.is_over
 unfolding heard
-heard_over c p v h = heard_at_over p (kind v) (reply v) (next_at p) (is_further c p v h)
+heard_over p a = heard_at_over p (a.entry).kind a.reply (next_at p)
 
 -- where events of the lane led, it is not over
 pub leads_over : (vs : List Event) (p q : Position) → Leads p vs q → q.is_over ≡ p.is_over
 leads_over [] p q h = ap (λ x. x.is_over) (sym h)
-leads_over (v ∷ vs) p q h = leads_over vs (heard p v.answer) q h.1 ∙ heard_over (class_of v.act) p v h.0
+leads_over (v ∷ vs) p q h = leads_over vs (heard p v.answer) q h.1 ∙ heard_over p v.answer
 
 follows_does : (c : Class) (e : Ending) (p : Position) (v : Event) (vs : List Event) → Follows c p v → Does c e p v vs
 follows_does stepping e p v vs h = h
@@ -174,5 +215,5 @@ leads_runs e (v ∷ vs) us p q told off h runs = (
   off,
   follows_does (class_of v.act) e p v (vs ++ us) h.0,
   subst (λ x. Runs e x (vs ++ us) told) (sym (follows_heard (class_of v.act) e p v h.0))
-      (leads_runs e vs us (heard p v.answer) q told (heard_over (class_of v.act) p v h.0 ∙ off) h.1 runs),
+      (leads_runs e vs us (heard p v.answer) q told (heard_over p v.answer ∙ off) h.1 runs),
 )

@@ -8,6 +8,7 @@ pub mod Picking
 pub mod Growing
 pub mod Longer
 pub mod Ending
+pub mod Jobs
 pub mod Prefixes
 pub mod Alone
 pub mod Lasting

@@ -1,5 +1,5 @@
 -- The lanes of a run, where each is at a position.
-use Rattle.std.proofs.Common.{◌≡◌, ℕ, List, [], ◌∷◌, ◌++◌, map, Option, sym, ap, ◌∙◌, append-nil, slice_index_or, slice_set}
+use Rattle.std.proofs.Common.{◌≡◌, ℕ, List, [], ◌∷◌, ◌++◌, map, Option, Some, sym, ap, ◌∙◌, append-nil, slice_index_or, slice_set}
 use Rattle.std.proofs.lemmas.List.{map-set}
 use Rattle.std.proofs.Math.Seq.{map-set_same}
 use Rattle.std.proofs.Math.ListN.{get_or-map}
@@ -9,9 +9,10 @@ use Rattle.wire_frames.specs.Frames.{frame}
 use Rattle.wire_commands.specs.declared.reply.Reply.{Reply}
 use Rattle.wire_commands.specs.ReplyText.{reply_text}
 use Rattle.store_model.specs.Lanes.{Run, lane_at, with_lane, next_of, lane_next}
-use Rattle.store_model.specs.Weave.{tell}
+use Rattle.store_model.specs.Job.{Job, over, asking}
+use Rattle.store_model.specs.Weave.{tell, go_on}
 use Rattle.store_history.specs.History.{World}
-use Rattle.store_history.specs.LaneRun.{text, Position, begin, lane_of, next_at, tells}
+use Rattle.store_history.specs.LaneRun.{text, Position, begin, lane_of, next_at, tells, goes_on}
 
 abbrev pub run_of : Option (List Snapshot) → World → List Position → Run
 run_of R w ps = record { store = w.store; remote = R; lanes = map lane_of ps; fault = w.fault }
@@ -46,6 +47,12 @@ pub tell_is : (R : Option (List Snapshot)) (w : World) (ps : List Position) (k :
 unfolding tell
 tell_is R w ps k left r =
     rw (lane_is R w ps k, ← text_more (at ps k).told r) (put_is R w ps k (tells (at ps k) left r))
+
+pub go_is : (R : Option (List Snapshot)) (w : World) (ps : List Position) (k : ℕ) (left : List ℕ) (j : Job)
+    → go_on (run_of R w ps) k left j ≡ run_of R w (slice_set ps k (goes_on (at ps k) left j))
+unfolding go_on goes_on
+go_is R w ps k left (over report) = tell_is R w ps k left report
+go_is R w ps k left (asking j) = rw (lane_is R w ps k) (put_is R w ps k (record (at ps k) { left = left; job = Some j }))
 
 pub next_is : (R : Option (List Snapshot)) (w : World) (ps : List Position) (k : ℕ) → next_of (run_of R w ps) k ≡ next_at (at ps k)
 unfolding next_of next_at

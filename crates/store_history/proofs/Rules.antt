@@ -1,5 +1,5 @@
 -- The order of a history keeps the rules of order files.
-use Rattle.std.proofs.Common.{◌≡◌, ◌≢◌, ℕ, zero, suc, ◌+◌, ◌<◌, ◌≤◌, Bool, true, false, not, ◌&&◌, List, [], ◌∷◌, map, length, cond, Option, Some, None, refl, sym, ap, subst, ◌∙◌, arith, if◌then◌else◌, ◌==◌, nat_lt, nat_le, slice_index_or}
+use Rattle.std.proofs.Common.{◌≡◌, ◌≢◌, ℕ, zero, suc, ◌+◌, ◌<◌, ◌≤◌, Bool, true, false, not, ◌&&◌, List, [], ◌∷◌, map, length, cond, Option, refl, sym, ap, subst, ◌∙◌, arith, ◌==◌, nat_lt, nat_le, slice_index_or}
 use Rattle.std.specs.List.{list_all, range_with_len}
 use Rattle.std.proofs.lemmas.Bool.{lt-ltb, le-leb, eq-eqb, eqb-true}
 use Rattle.store_types.specs.Times.{last_moment}
@@ -7,15 +7,15 @@ use Rattle.store_files.specs.Archive.{Snapshot}
 use Rattle.store_files.specs.Order.{moments_rise, of_lane, ends_once, fits_entry, keeps_rules}
 use Rattle.wire_commands.specs.declared.reply.Reply.{Reply}
 use Rattle.store_model.specs.declared.ending.Ending.{Ending}
-use Rattle.store_model.specs.Lanes.{Next, plain, bye, broken, end}
 use Rattle.store_history.specs.declared.act.Act.{Act}
 use Rattle.store_history.specs.declared.act.Event.{Event}
 use Rattle.store_history.specs.Acts.{Class, stepping, wanting, ending, class_of}
 use Rattle.store_history.specs.History.{Opening, World, opened, kind_of, entry, lane, moment, kind, reply, entries, own, after}
 use Rattle.store_history.specs.Legal.{Right, IsLegal}
-use Rattle.store_history.specs.LaneRun.{Position, LaneRan, begin, next_at, used_up, last_words, heard_at, heard, heard_as, end_heard, position_after, Does, EndFollows, Runs}
+use Rattle.store_history.specs.LaneRun.{Position, LaneRan, begin, next_at, last_words, heard, heard_as, end_heard, position_after, Does, EndFollows, Runs}
 use Rattle.store_history.specs.Woven.{AreLanes, ending_at, IsServed, FitsRules}
 use Rattle.store_history.proofs.Events.{IsEnding, right_end, right_none}
+use Rattle.store_history.proofs.Growing.{heard_over}
 
 clash : true ≡ false → ⊥
 clash h = cc
@@ -108,25 +108,9 @@ kinds_are R w k (v ∷ vs) legal = by_test (lane v == k) (kinds_are R (after R w
     by_test true ih = (kind_is R w (lane v) (moment v) (kind v) v.act (reply v) (class_of v.act) (legal.0).says, ih)
     by_test false ih = ih
 
-heard_over : (p : Position) (n : ℕ) (r : Option Reply) (x : Next) → (heard_at p n r x).is_over ≡ p.is_over
-unfolding heard_at
-heard_over p n (Some r) (plain c left) = refl
-heard_over p n (Some r) (broken refusal) = by_kind (n == 2)
-  where
-    by_kind : (b : Bool) → (if b then used_up p r else p).is_over ≡ p.is_over
-    by_kind true = refl
-    by_kind false = refl
-heard_over p n (Some r) bye = refl
-heard_over p n (Some r) end = refl
-heard_over p n None (plain c left) = refl
-heard_over p n None (broken refusal) = refl
-heard_over p n None bye = refl
-heard_over p n None end = refl
-
 -- an event that is no end does not end the lane
 pub goes_on : (p : Position) (v : Event) → p.is_over ≡ false → (heard p v.answer).is_over ≡ false
-unfolding heard
-goes_on p v off = heard_over p (kind v) (reply v) (next_at p) ∙ off
+goes_on p v off = heard_over p v.answer ∙ off
 
 once : (c : Class) (e : Ending) (p : Position) (v : Event) (vs : List Event) (told : List Reply) → Does c e p v vs → KindIs c (kind v) → p.is_over ≡ false
     → Runs e (heard_as c e p v.answer) vs told → (Runs e (heard p v.answer) vs told → (heard p v.answer).is_over ≡ false → ends_once (map entry vs) ≡ true)

@@ -1,5 +1,5 @@
 -- Where memory may be wanting, a command or something else is next, but neither BYE nor the end of the input.
-use Rattle.std.proofs.Common.{◌≡◌, ℕ, ◌-◌, ◌≤◌, Bool, true, false, ◌&&◌, List, [], ◌∷◌, length, take, drop, Option, Some, None, refl, sym, subst, arith, if◌then◌else◌, ◌==◌, nat_lt, nat_le}
+use Rattle.std.proofs.Common.{◌≡◌, ℕ, ◌-◌, ◌≤◌, Bool, true, false, ◌&&◌, List, [], ◌∷◌, length, take, drop, Option, Some, None, ◌||◌, is_some, refl, sym, ap, subst, arith, if◌then◌else◌, ◌==◌, nat_lt, nat_le}
 use Rattle.std.specs.Int.{Width, w32, w64, from_le_bytes}
 use Rattle.std.proofs.lemmas.Bool.{ltb-false, eqb-true}
 use Rattle.std.proofs.lemmas.Bool.Decides.{nat_tests}
@@ -8,12 +8,13 @@ use Rattle.store_types.specs.Chain.Reading.{◌>>=◌, only_if}
 use Rattle.wire_frames.specs.Frames.{short, too_long, whole, cut, cut_body, body_limit}
 use Rattle.wire_commands.specs.declared.command.Command.{Command}
 use Rattle.wire_commands.specs.declared.command.Command.TheVariants as commands
-use Rattle.wire_commands.specs.Fields.{text_at, number_at, byte_at, digest_at, rows_at}
+use Rattle.wire_commands.specs.Fields.{text_at, number_at, byte_at, digest_at, rows_at, flag_at}
 use Rattle.wire_commands.specs.Fields as fields
-use Rattle.wire_commands.specs.CommandText.{nothing_more, one_text, text_and_offset, new_fixed, chunk, entry_at, append, close_index, blob, get_chunk, range, fields_of, command_of}
+use Rattle.wire_commands.specs.CommandText.{nothing_more, one_text, text_and_offset, new_fixed, chunk, entry_at, append, close_index, blob, get_chunk, range, keep_at, prune, fields_of, command_of}
 use Rattle.wire_commands.specs.Inputs.{front, cut_front, body_front}
-use Rattle.store_model.specs.Lanes.{Next, bye, end, front_next, command_next, lane_next}
-use Rattle.store_history.specs.LaneRun.{Position, next_at, may_want}
+use Rattle.store_model.specs.Job.{Asking}
+use Rattle.store_model.specs.Lanes.{Next, job_step, bye, end, front_next, command_next, lane_next}
+use Rattle.store_history.specs.LaneRun.{Position, next_at, may_want, may_want_at}
 
 -- ---- a body of at least two bytes is no BYE
 
@@ -42,6 +43,11 @@ unfolding IsNotBye
 numbers_not_bye make w bytes made =
     bound (text_at bytes) _ (λ t. bound (number_at w64 t.1) _ (λ m. bound (fields.whole (number_at w m.1)) _ (λ n. made t.0 m.0 n)))
 
+prune_not_bye : (bytes : List ℕ) → IsNotBye (prune bytes)
+unfolding IsNotBye prune
+prune_not_bye bytes =
+    bound (text_at bytes) _ (λ g. bound (keep_at g.1) _ (λ k. bound (fields.whole (flag_at k.1)) _ (λ d. tt)))
+
 offset_not_bye : (make : List ℕ → ℕ → Command) (bytes : List ℕ) → ((t : List ℕ) (n : ℕ) → IsNotBye (Some (make t n))) → IsNotBye (text_and_offset make bytes)
 unfolding IsNotBye text_and_offset
 offset_not_bye make bytes made = bound (text_at bytes) _ (λ t. bound (fields.whole (number_at w64 t.1)) _ (λ n. made t.0 n))
@@ -66,7 +72,12 @@ fields_not_bye code bytes more =
     (either (code == 22) (get_chunk bytes) _ (bound (fields.whole (digest_at bytes)) (λ d. Some (commands.GetChunk d)) (λ d. tt))
     (either (code == 23) (range bytes) _ (numbers_not_bye commands.Range w32 bytes (λ t m n. tt))
     (either (code == 24) (nothing_more commands.CloseReader bytes) _ (either (length bytes == 0) (Some commands.CloseReader) None tt tt)
-    (either (code == 63) (nothing_more commands.Bye bytes) None (last (length bytes == 0) refl) tt)))))))))))))))
+    (either (code == 30) (one_text commands.List bytes) _ (bound (fields.whole (text_at bytes)) (λ t. Some (commands.List t)) (λ t. tt))
+    (either (code == 31) (one_text commands.Files bytes) _ (bound (fields.whole (text_at bytes)) (λ t. Some (commands.Files t)) (λ t. tt))
+    (either (code == 32) (one_text commands.Forget bytes) _ (bound (fields.whole (text_at bytes)) (λ t. Some (commands.Forget t)) (λ t. tt))
+    (either (code == 33) (prune bytes) _ (prune_not_bye bytes)
+    (either (code == 40) (one_text commands.Group bytes) _ (bound (fields.whole (text_at bytes)) (λ t. Some (commands.Group t)) (λ t. tt))
+    (either (code == 63) (nothing_more commands.Bye bytes) None (last (length bytes == 0) refl) tt))))))))))))))))))))
   where
     last : (b : Bool) → (length bytes == 0) ≡ b → IsNotBye (if b then Some commands.Bye else None)
     last true is = let none : length bytes ≡ 0 = eqb-true (length bytes) 0 is in absurd (omega arith)
@@ -122,6 +133,25 @@ front_goes m (b ∷ bytes) h =
     subst (λ t. Goes (front_next m (cut_front (if t then short else cut_body (from_le_bytes w32 (take 4 (b ∷ bytes))) (drop 4 (b ∷ bytes)))))) (sym held)
     (behind_goes m (from_le_bytes w32 (take 4 (b ∷ bytes))) (drop 4 (b ∷ bytes)) two)
 
-pub want_goes : (p : Position) → may_want p.left ≡ true → Goes (next_at p)
-unfolding next_at lane_next
-want_goes p h = front_goes (p.size - length p.left) p.left h
+pub want_goes : (p : Position) → may_want_at p ≡ true → Goes (next_at p)
+unfolding next_at lane_next may_want_at
+want_goes p h = by_job p.job h
+  where
+    by_job : (o : Option Asking) → (is_some o || may_want p.left) ≡ true
+        → Goes (elim o [ None ↦ front_next (p.size - length p.left) (front p.left) | Some j ↦ job_step j p.left ])
+    by_job None h = front_goes (p.size - length p.left) p.left h
+    by_job (Some j) h = tt
+
+-- where it may be wanting for a frame
+pub wants_frame : (p : Position) → may_want p.left ≡ true → may_want_at p ≡ true
+unfolding may_want_at
+wants_frame p h = by_job p.job
+  where
+    by_job : (o : Option Asking) → (is_some o || may_want p.left) ≡ true
+    by_job None = h
+    by_job (Some j) = refl
+
+-- and where a job is open
+pub wants_open : (p : Position) (j : Asking) → p.job ≡ Some j → may_want_at p ≡ true
+unfolding may_want_at
+wants_open p j is = ap (λ o. is_some o || may_want p.left) is

@@ -1,5 +1,5 @@
 -- A legal history whose lanes run their programs is what `weave` gives.
-use Rattle.std.proofs.Common.{◌≡◌, ◌≢◌, ℕ, suc, ◌+◌, ◌<◌, Bool, true, false, List, [], ◌∷◌, map, length, cond, Option, Some, None, Ok, Err, Result, refl, sym, ap, subst, ◌∙◌, arith, ◌==◌, slice_index_or, slice_set}
+use Rattle.std.proofs.Common.{◌≡◌, ◌≢◌, ℕ, suc, ◌+◌, ◌<◌, Bool, true, false, List, [], ◌∷◌, map, length, cond, Option, Some, None, Ok, Err, Result, refl, sym, ap, subst, ◌∙◌, arith, ◌==◌, ◌&&◌, is_none, slice_index_or, slice_set}
 use Rattle.std.specs.List.{find}
 use Rattle.std.proofs.lemmas.Bool.{eq-eqb, eqb-true}
 use Rattle.std.proofs.Math.ListN.{get_or-map}
@@ -17,7 +17,7 @@ use Rattle.store_history.specs.History.{Opening, World, opened, kind_of, entry, 
 use Rattle.store_history.specs.Legal.{Right, IsRight, IsLegal}
 use Rattle.store_history.specs.LaneRun.{text, Position, begin, lane_of, heard, heard_as, position_after, Does, EndFollows, Runs}
 use Rattle.store_history.specs.Woven.{AreLanes, ending_at, IsServed, IsWoven}
-use Rattle.store_history.proofs.Placed.{run_of, at}
+use Rattle.store_history.proofs.Placed.{run_of, at, lane_is}
 use Rattle.store_history.proofs.Events.{IsEnding, ending_is, right_end, cuts, turned}
 
 clash : true ≡ false → ⊥
@@ -85,11 +85,26 @@ not_short : (p : Position) (v : Event) → kind v ≡ 5 → (heard p v.answer).i
 unfolding heard
 not_short p v is = ap (λ n. n == 2) is
 
-cut_is : (k : ℕ) (c : Class) (e : Ending) (p : Position) (v : Event) (vs : List Event) (told : List Reply) → Does c e p v (own k vs) → kind v ≡ 5
-    → Runs e (heard_as c e p v.answer) (own k vs) told → EndsRight (own k vs) → is_cut_off k e (entries vs) ≡ cuts c e
-cut_is k ending endings.NoMemory p v vs told does is runs right = ap is_end (find_own k vs) ∙ end_follows (own k vs) (does.1 is)
-cut_is k c endings.NoMemory p v vs told does is runs right = ap is_end (find_own k vs) ∙ told_first (heard p v.answer) (own k vs) told (not_short p v is) runs right
-cut_is k c e p v vs told does is runs right = refl
+and_held : (b x : Bool) → x ≡ true → (b && x) ≡ b
+and_held true x h = h
+and_held false x h = refl
+
+and_off : (b x : Bool) → x ≡ false → (b && x) ≡ false
+and_off true x h = h
+and_off false x h = refl
+
+-- which end a fault leaves untold, by the lane as `weave` has it
+cut_at : (R : Option (List Snapshot)) (w : World) (ps : List Position) (k : ℕ) (later : List Entry)
+    → is_cut_off (run_of R w ps) k endings.NoMemory later ≡ (is_none (at ps k).job && is_end (find (λ e. e.lane == k) later))
+cut_at R w ps k later = ap (λ l. is_none l.job && is_end (find (λ e. e.lane == k) later)) (lane_is R w ps k)
+
+cut_is : (R : Option (List Snapshot)) (w : World) (ps : List Position) (k : ℕ) (c : Class) (e : Ending) (v : Event) (vs : List Event) (told : List Reply) → Does c e (at ps k) v (own k vs) → kind v ≡ 5
+    → Runs e (heard_as c e (at ps k) v.answer) (own k vs) told → EndsRight (own k vs) → is_cut_off (run_of R w ps) k e (entries vs) ≡ cuts c e (at ps k)
+cut_is R w ps k ending endings.NoMemory v vs told does is runs right =
+    cut_at R w ps k (entries vs) ∙ and_held (is_none (at ps k).job) _ (ap is_end (find_own k vs) ∙ end_follows (own k vs) (does.1 is))
+cut_is R w ps k c endings.NoMemory v vs told does is runs right =
+    cut_at R w ps k (entries vs) ∙ and_off (is_none (at ps k).job) _ (ap is_end (find_own k vs) ∙ told_first (heard (at ps k) v.answer) (own k vs) told (not_short (at ps k) v is) runs right)
+cut_is R w ps k c e v vs told does is runs right = refl
 
 -- ---- the induction
 
@@ -139,7 +154,7 @@ module _ (R : Option (List Snapshot)) (es : List Ending) (told : ℕ → List Re
   unfolding after position_after
   entered_is w ps v vs right does rest ends =
       turned R w ps (lane v) (moment v) es (entries vs) v (own (lane v) vs) refl refl does
-      (λ is. cut_is (lane v) (class_of v.act) (ending_at es (lane v)) (at ps (lane v)) v vs (told (lane v)) does is rest ends)
+      (λ is. cut_is R w ps (lane v) (class_of v.act) (ending_at es (lane v)) v vs (told (lane v)) does is rest ends)
       right.says
 
   weaves : (h : List Event) (w : World) (ps : List Position) → IsLegal R w h → AreLanes (length ps) h → AllRun es ps h told → Weaves R es w ps h told

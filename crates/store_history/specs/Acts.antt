@@ -7,17 +7,25 @@ use Rattle.blob_codec.specs.Blob.{data_of}
 use Rattle.store_model.specs.ArchiveSteps.{check_chunk}
 use Rattle.wire_commands.specs.declared.command.Command.{Command}
 use Rattle.wire_commands.specs.declared.command.Command.TheVariants as commands
+use Rattle.store_model.specs.declared.step.Step.{Step}
+use Rattle.store_model.specs.declared.step.Step.TheVariants as steps
 use Rattle.store_history.specs.declared.act.Act.{Act}
 use Rattle.store_history.specs.declared.act.Act.TheVariants as acts
 
 -- ---- well-formed acts
 
--- a command that is an act of its own: no upload, and no BYE, which belongs to the lane's end
+-- a command that is an act of its own: no upload, no job's, and no BYE, which belongs to the lane's end
 abbrev pub IsPlain : Command → Type 0
 IsPlain (commands.Chunk digest blob) = ⊥
 IsPlain (commands.Blob file blob) = ⊥
+IsPlain (commands.Prune group keep dry) = ⊥
 IsPlain commands.Bye = ⊥
 IsPlain c = Unit {0}
+
+-- a job's command whose first step gives a group
+abbrev pub IsPrune : Command → Type 0
+IsPrune (commands.Prune group keep dry) = Unit {0}
+IsPrune c = ⊥
 
 -- what the check of an upload gives: its bytes, where they are a blob, or what is wrong with them
 abbrev pub IsChecked : Result (List ℕ) Refusal → Type 0
@@ -36,6 +44,7 @@ IsCheckedChunk digest (Err refusal) = ⊥
 
 abbrev pub IsWellFormed : Act → Type 0
 IsWellFormed (acts.Plain c) = IsPlain c
+IsWellFormed (acts.JobGroup c) = IsPrune c
 IsWellFormed (acts.Blob name checked) = IsChecked checked
 IsWellFormed (acts.Chunk digest checked) = IsCheckedChunk digest checked
 IsWellFormed acts.Short = Unit {0}
@@ -53,12 +62,17 @@ checked_by bytes (Err refusal) = Err refusal
 abbrev pub act_of_command : Command → Act
 act_of_command (commands.Chunk digest blob) = acts.Chunk digest (checked_by blob (check_chunk digest blob))
 act_of_command (commands.Blob file blob) = acts.Blob file (check_blob blob)
+act_of_command (commands.Prune group keep dry) = acts.JobGroup (commands.Prune group keep dry)
 act_of_command c = acts.Plain c
+
+-- and a step of a job
+abbrev pub act_of_step : Step → Act
+act_of_step (steps.Command c) = act_of_command c
 
 -- ---- what an act is
 
 pub data Class : Type 0 where
-  -- a command
+  -- a command, or a step of a job
   stepping : Class
   -- want of memory
   wanting : Class

@@ -46,7 +46,7 @@ own k h = filter (is_of k) h
 -- ---- the kinds of entries
 
 pub data EntryKind : Type 0 where
-  -- the next command
+  -- the next command, or the next step of the lane's job
   step_kind : EntryKind
   -- want of memory
   short_kind : EntryKind
@@ -92,6 +92,7 @@ data_in (Err refusal) = Err refusal
 -- what an act of the lane at the moment does, where neither disk nor memory fails
 unfoldable pub act_outcome : Option (List Snapshot) → World → ℕ → ℕ → Act → Outcome
 act_outcome remote w k m (acts.Plain c) = outcome w.store k m c
+act_outcome remote w k m (acts.JobGroup c) = outcome w.store k m c
 act_outcome remote w k m (acts.Blob name checked) = checked_blob w.store k name (data_in checked)
 act_outcome remote w k m (acts.Chunk digest checked) = checked_chunk w.store k (data_in checked)
 act_outcome remote w k m acts.Short = Err NoMemory

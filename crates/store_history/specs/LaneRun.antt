@@ -1,5 +1,5 @@
 -- The program of a lane: its acts, one after another, and what it tells its sink.
-use Rattle.std.specs.Prelude.{ℕ, ◌≡◌, ◌-◌, Bool, true, false, ◌&&◌, ◌||◌, List, [], ◌∷◌, ◌++◌, length, take, nat_le, ◌==◌, if◌then◌else◌, Option, Some}
+use Rattle.std.specs.Prelude.{ℕ, ◌≡◌, ◌-◌, Bool, true, false, ◌&&◌, ◌||◌, List, [], ◌∷◌, ◌++◌, length, take, nat_le, ◌==◌, if◌then◌else◌, Option, Some, None, is_none, is_some}
 use Rattle.std.specs.Int.{w32, from_le_bytes}
 use Rattle.std.specs.List.{flat_map}
 use Rattle.wire_frames.specs.Frames.{frame, short, cut}
@@ -8,12 +8,14 @@ use Rattle.wire_commands.specs.declared.reply.Reply.TheVariants.{Done, Refused}
 use Rattle.wire_commands.specs.ReplyText.{reply_text}
 use Rattle.store_model.specs.declared.ending.Ending.{Ending}
 use Rattle.store_model.specs.declared.ending.Ending.TheVariants as endings
-use Rattle.store_model.specs.Lanes.{Lane, Next, plain, bye, broken, end, lane_next}
+use Rattle.store_model.specs.Job.{Asking, step_of, Job, over, asking}
+use Rattle.store_model.specs.Jobs.{take as job_take}
+use Rattle.store_model.specs.Lanes.{Lane, Next, job_step, plain, bye, broken, end, lane_next}
 use Rattle.store_model.specs.Weave.{is_replied}
 use Rattle.store_history.specs.declared.act.Act.{Act}
 use Rattle.store_history.specs.declared.act.Answer.{Answer}
 use Rattle.store_history.specs.declared.act.Event.{Event}
-use Rattle.store_history.specs.Acts.{Class, stepping, wanting, ending, class_of, act_of_command}
+use Rattle.store_history.specs.Acts.{Class, stepping, wanting, ending, class_of, act_of_command, act_of_step}
 use Rattle.store_history.specs.History.{kind}
 
 -- the bytes that the sink is given
@@ -22,36 +24,44 @@ text told = flat_map (λ r. frame (reply_text r)) told
 
 -- ---- where a lane is
 
--- The input's size and what is left of it; whether want of memory was the last answer; whether it ended the lane, so
+-- The input's size and what is left of it; the job that is open; whether want of memory was the last answer; whether it ended the lane, so
 -- that only the lane's end may come; what was told; whether the lane is over.
 pub record Position : Type 0 where
   pub size : ℕ
   pub left : List ℕ
+  pub job : Option Asking
   pub is_short : Bool
   pub is_spent : Bool
   pub told : List Reply
   pub is_over : Bool
 
 abbrev pub begin : List ℕ → Position
-begin input = record { size = length input; left = input; is_short = false; is_spent = false; told = []; is_over = false }
+begin input = record { size = length input; left = input; job = None; is_short = false; is_spent = false; told = []; is_over = false }
 
 -- the lane as `weave` has it
 abbrev pub lane_of : Position → Lane
-lane_of p = record { size = p.size; left = p.left; told = text p.told }
+lane_of p = record { size = p.size; left = p.left; job = p.job; told = text p.told }
 
 unfoldable pub next_at : Position → Next
 next_at p = lane_next (lane_of p)
 
 -- ---- after an answer
 
+-- a reply, with this left of the input and no job open
 abbrev pub tells : Position → List ℕ → Reply → Position
-tells p left r = record p { left = left; told = p.told ++ r ∷ [] }
+tells p left r = record p { left = left; job = None; told = p.told ++ r ∷ [] }
+
+-- the job is over and reports, or goes on
+unfoldable pub goes_on : Position → List ℕ → Job → Position
+goes_on p left (over report) = tells p left report
+goes_on p left (asking j) = record p { left = left; job = Some j }
 
 -- what is no command is used up, with the rest of the input
 abbrev pub used_up : Position → Reply → Position
 used_up p r = record (tells p [] r) { is_spent = true }
 
 unfoldable pub heard_at : Position → ℕ → Option Reply → Next → Position
+heard_at p kind (Some r) (job_step j left) = goes_on p left (job_take j r)
 heard_at p kind (Some r) (plain c left) = tells p left r
 heard_at p kind (Some r) (broken refusal) = if kind == 2 then used_up p r else p
 heard_at p kind _ _ = p
@@ -68,9 +78,9 @@ last_words e p bye = if is_replied e then tells p [] Done else p
 last_words e p (broken refusal) = if is_replied e then tells p [] (Refused refusal) else p
 last_words e p _ = p
 
--- An end that met a fault is not told, but that where the sink failed it counts as the next command's.
+-- An end that met a fault is not told, but that where the sink failed, or a job is open, it counts as what is next.
 abbrev pub end_faulted : Ending → Position → Option Reply → Position
-end_faulted endings.NoMemory p r = p
+end_faulted endings.NoMemory p r = if is_none p.job then p else heard_at p 5 r (next_at p)
 end_faulted _ p r = heard_at p 5 r (next_at p)
 
 abbrev pub end_heard : Ending → Position → ℕ → Option Reply → Position
@@ -88,6 +98,7 @@ position_after e p v = heard_as (class_of v.act) e p v.answer
 
 -- the act for what is next
 abbrev pub Asks : Next → Act → Type 0
+Asks (job_step j left) a = a ≡ act_of_step (step_of j)
 Asks (plain c left) a = a ≡ act_of_command c
 Asks _ a = ⊥
 
@@ -96,14 +107,18 @@ Asks _ a = ⊥
 unfoldable pub may_want : List ℕ → Bool
 may_want left = nat_le 4 (length left) && nat_le 2 (from_le_bytes w32 (take 4 left))
 
+-- While a job is open memory may be wanting at any time.
+unfoldable pub may_want_at : Position → Bool
+may_want_at p = is_some p.job || may_want p.left
+
 -- How a lane may end where this is next. Want of memory ended it where that was the last answer. Where the source
--- failed or gave too much, only a part of a frame is left without an answer.
+-- failed or gave too much, no job is open, and only a part of a frame is left without an answer.
 abbrev pub EndsSo : Ending → Position → Next → Type 0
 EndsSo endings.Clean p bye = p.is_spent ≡ false
 EndsSo endings.Clean p end = p.is_spent ≡ false
 EndsSo (endings.Broken place) p (broken refusal) = (p.is_spent ≡ false) × (place ≡ p.size - length p.left)
-EndsSo endings.SourceFault p n = (p.is_spent ≡ false) × (cut p.left ≡ short)
-EndsSo endings.SourceTooLong p n = (p.is_spent ≡ false) × (cut p.left ≡ short)
+EndsSo endings.SourceFault p n = (p.is_spent ≡ false) × (p.job ≡ None) × (cut p.left ≡ short)
+EndsSo endings.SourceTooLong p n = (p.is_spent ≡ false) × (p.job ≡ None) × (cut p.left ≡ short)
 EndsSo endings.SinkFault p n = Unit {0}
 EndsSo endings.NoMemory p n = p.is_short ≡ true
 EndsSo _ p n = ⊥
@@ -116,7 +131,7 @@ EndFollows _ = ⊥
 -- The program makes this act here, before these events of its own. An end that met a fault comes again.
 abbrev pub Does : Class → Ending → Position → Event → List Event → Type 0
 Does stepping e p v vs = (p.is_spent ≡ false) × Asks (next_at p) v.act
-Does wanting e p v vs = (p.is_spent ≡ false) × (may_want p.left ≡ true)
+Does wanting e p v vs = (p.is_spent ≡ false) × (may_want_at p ≡ true)
 Does ending e p v vs = EndsSo e p (next_at p) × (kind v ≡ 5 → EndFollows vs)
 
 -- The lane's own events from this position on are a run of its program, and this is what it told in the end.

@@ -6,8 +6,10 @@ use wire_commands::{Command, Reply};
 /// One act of a lane.
 #[derive(Debug, Drop)]
 pub enum Act {
-    /// A command that is no upload and no BYE.
+    /// A command that is no upload, no job's and no BYE.
     Plain(Command),
+    /// The first step of a PRUNE, which carries the job's command.
+    JobGroup(Command),
     /// An upload of a blob: its bytes, whose check found data in them, or the refusal of that check.
     Blob {
         name: Bytes,

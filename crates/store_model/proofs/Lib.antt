@@ -3,12 +3,14 @@ mod ExampleBytes
 mod SessionExamples
 mod ArchiveExamples
 mod LaneExamples
+mod AdminExamples
 mod LoadExamples
 pub mod Paths
 pub mod Insertions
 pub mod FileInsertions
 pub mod StandsLemmas
 pub mod GroupTimes
+pub mod JobAnswers
 pub mod PiecesNamed
 pub mod ListingLemmas
 pub mod ManifestNames

@@ -1,5 +1,5 @@
 -- What stands next on a lane.
-use Rattle.std.specs.Prelude.{ℕ, ◌-◌, List, [], ◌++◌, map, length, Option, None, slice_index_or, slice_set}
+use Rattle.std.specs.Prelude.{ℕ, ◌-◌, List, [], ◌++◌, map, length, Option, Some, None, slice_index_or, slice_set}
 use Rattle.store_types.specs.declared.refusal.Refusal.{Refusal}
 use Rattle.store_types.specs.declared.refusal.Refusal.TheVariants.{BadFrame, TooLong}
 use Rattle.store_files.specs.Archive.{Snapshot}
@@ -10,11 +10,14 @@ use Rattle.wire_commands.specs.declared.reply.Reply.{Reply}
 use Rattle.wire_commands.specs.Inputs.{InputFront, nothing, next, over_limit, no_command, front}
 use Rattle.wire_commands.specs.ReplyText.{reply_text}
 use Rattle.store_model.specs.Store.{Store, store_of}
+use Rattle.store_model.specs.Job.{Asking}
+use Rattle.store_model.specs.Jobs.{job_of}
 
--- an input's size, what is left of it, and the replies so far
+-- an input's size, what is left of it, the job that is open, and the replies so far
 pub record Lane : Type 0 where
   pub size : ℕ
   pub left : List ℕ
+  pub job : Option Asking
   pub told : List ℕ
 
 -- the store, the remote's snapshots where there is one, the lanes, and the place of the first fault
@@ -25,7 +28,7 @@ pub record Run : Type 0 where
   pub fault : Option ℕ
 
 abbrev pub new_lane : List ℕ → Lane
-new_lane input = record { size = length input; left = input; told = [] }
+new_lane input = record { size = length input; left = input; job = None; told = [] }
 
 abbrev pub new_run : List Snapshot → Option (List Snapshot) → List (List ℕ) → Run
 new_run snapshots remote inputs =
@@ -44,7 +47,9 @@ say reply lane = record lane { told = lane.told ++ frame (reply_text reply) }
 -- ---- what is next
 
 pub data Next : Type 0 where
-  -- a command, and what is left behind it
+  -- the step that an open job asks, and what is left behind its command
+  job_step : Asking → List ℕ → Next
+  -- a command that is no job's, and what is left behind it
   plain : Command → List ℕ → Next
   -- the end: BYE, something that isn't a command, with its refusal, or nothing
   bye : Next
@@ -53,7 +58,7 @@ pub data Next : Type 0 where
 
 unfoldable pub command_next : Command → List ℕ → Next
 command_next Bye left = bye
-command_next c left = plain c left
+command_next c left = elim (job_of c) [ None ↦ plain c left | Some j ↦ job_step j left ]
 
 -- what stands at this offset of the input
 unfoldable pub front_next : ℕ → InputFront → Next
@@ -62,8 +67,9 @@ front_next offset (next c left) = command_next c left
 front_next offset (over_limit n) = broken (TooLong n)
 front_next offset no_command = broken (BadFrame offset)
 
+-- an open job goes on before the input does
 unfoldable pub lane_next : Lane → Next
-lane_next lane = front_next (lane.size - length lane.left) (front lane.left)
+lane_next lane = elim lane.job [ None ↦ front_next (lane.size - length lane.left) (front lane.left) | Some j ↦ job_step j lane.left ]
 
 unfoldable pub next_of : Run → ℕ → Next
 next_of r k = lane_next (lane_at r k)

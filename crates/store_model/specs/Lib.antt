@@ -5,7 +5,13 @@ pub mod Archives
 pub mod WriterSteps
 pub mod WriterCalls
 pub mod ReaderSteps
+pub mod AdminSteps
 pub mod Steps
+pub mod Job
+pub mod PruneJob
+pub mod Jobs
+pub mod JobSteps
+pub mod JobReplies
 pub mod Lanes
 pub mod Weave
 pub mod Stands

@@ -1,13 +1,14 @@
 -- What a command does to the plain store, and what is replied.
 use Rattle.std.specs.Prelude.{ℕ, Ok, Err}
 use Rattle.wire_commands.specs.declared.command.Command.{Command}
-use Rattle.wire_commands.specs.declared.command.Command.TheVariants.{OpenWriter, Previous, NewFixed, NewDynamic, Chunk, Append, CloseIndex, Blob, Finish, Abort, OpenReader, Download, GetChunk, Range, CloseReader, Bye}
+use Rattle.wire_commands.specs.declared.command.Command.TheVariants.{OpenWriter, Previous, NewFixed, NewDynamic, Chunk, Append, CloseIndex, Blob, Finish, Abort, OpenReader, Download, GetChunk, Range, CloseReader, List as ListAll, Files, Forget, Prune, Group, Bye}
 use Rattle.wire_commands.specs.declared.reply.Reply.{Reply}
 use Rattle.wire_commands.specs.declared.reply.Reply.TheVariants.{Done, Refused}
 use Rattle.store_model.specs.Store.{Store, Outcome, ended}
 use Rattle.store_model.specs.WriterSteps.{open_writer, previous, put_blob, finish, abort}
 use Rattle.store_model.specs.ArchiveSteps.{new_fixed, new_dynamic, put_chunk, append, close_index}
 use Rattle.store_model.specs.ReaderSteps.{open_reader, download, get_chunk, range, close_reader}
+use Rattle.store_model.specs.AdminSteps.{list, files, forget, group, prune_group}
 
 unfoldable pub outcome : Store → ℕ → ℕ → Command → Outcome
 outcome s lane moment (OpenWriter snapshot) = open_writer s lane moment snapshot
@@ -25,6 +26,12 @@ outcome s lane moment (Download file offset) = download s lane file offset
 outcome s lane moment (GetChunk digest) = get_chunk s lane digest
 outcome s lane moment (Range file offset length) = range s lane file offset length
 outcome s lane moment CloseReader = close_reader s lane
+outcome s lane moment (ListAll after) = list s after
+outcome s lane moment (Files snapshot) = files s snapshot
+outcome s lane moment (Forget snapshot) = forget s lane snapshot
+-- a job's first step
+outcome s lane moment (Prune group keep dry) = prune_group s lane group keep
+outcome s lane moment (Group name) = group s name
 outcome s lane moment Bye = Ok (ended s lane, Done)
 
 -- a refused step changes nothing

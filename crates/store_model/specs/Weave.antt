@@ -1,5 +1,5 @@
 -- The plain store and the replies, where lanes take turns in a given order.
-use Rattle.std.specs.Prelude.{IsTrue, IsOk, ℕ, ◌+◌, Bool, true, false, List, [], ◌∷◌, map, length, ◌==◌, if◌then◌else◌, Option, Some, None, Result, Ok, Err, slice_index_or}
+use Rattle.std.specs.Prelude.{IsTrue, IsOk, ℕ, ◌+◌, Bool, true, false, ◌&&◌, List, [], ◌∷◌, map, length, ◌==◌, if◌then◌else◌, Option, Some, None, is_none, Result, Ok, Err, slice_index_or}
 use Rattle.std.specs.List.{find}
 use Rattle.store_types.specs.declared.order.Entry.{Entry}
 use Rattle.store_types.specs.declared.refusal.Refusal.{Refusal}
@@ -12,8 +12,11 @@ use Rattle.wire_commands.specs.declared.reply.Reply.TheVariants.{Done, Refused}
 use Rattle.store_model.specs.declared.ending.Ending.{Ending}
 use Rattle.store_model.specs.declared.ending.Ending.TheVariants as endings
 use Rattle.store_model.specs.Store.{Store, ended}
-use Rattle.store_model.specs.Steps.{step}
-use Rattle.store_model.specs.Lanes.{Run, Next, plain, bye, broken, end, new_run, lane_at, with_lane, say, next_of}
+use Rattle.store_model.specs.Steps.{answered, step}
+use Rattle.store_model.specs.Job.{Asking, step_of, Job, over, asking}
+use Rattle.store_model.specs.Jobs.{take}
+use Rattle.store_model.specs.JobSteps.{step_outcome}
+use Rattle.store_model.specs.Lanes.{Run, Next, job_step, plain, bye, broken, end, new_run, lane_at, with_lane, say, next_of}
 
 -- ---- what an entry may do
 
@@ -21,33 +24,44 @@ use Rattle.store_model.specs.Lanes.{Run, Next, plain, bye, broken, end, new_run,
 unfoldable pub with_store : Run → Store → Run
 with_store r s = record r { store = s }
 
--- a lane's reply, with this left of its input
+-- a lane's reply, with this left of its input and no job open
 unfoldable pub tell : Run → ℕ → List ℕ → Reply → Run
-tell r k left reply = with_lane r k (say reply (record (lane_at r k) { left = left }))
+tell r k left reply = with_lane r k (say reply (record (lane_at r k) { left = left; job = None }))
+
+-- a lane's job is over and reports, or goes on
+unfoldable pub go_on : Run → ℕ → List ℕ → Job → Run
+go_on r k left (over report) = tell r k left report
+go_on r k left (asking j) = with_lane r k (record (lane_at r k) { left = left; job = Some j })
+
+unfoldable pub answer_job : Run → ℕ → Asking → List ℕ → Store × Reply → Run
+answer_job r k j left after = go_on (with_store r after.0) k left (take j after.1)
 
 unfoldable pub answer : Run → ℕ → List ℕ → Store × Reply → Run
 answer r k left after = tell (with_store r after.0) k left after.1
 
 -- ---- the kinds
 
--- 0: the next command
+-- 0: the next command, or the next step of the lane's job
 unfoldable pub stepped : Run → ℕ → ℕ → Next → Option Run
+stepped r k moment (job_step j left) = Some (answer_job r k j left (answered r.store (step_outcome r.store k moment (step_of j))))
 stepped r k moment (plain c left) = Some (answer r k left (step r.store k moment c))
 stepped r k moment _ = None
 
 -- 2: want of memory. What isn't a command is used up, with the rest of the input.
 unfoldable pub short : Run → ℕ → Next → Option Run
+short r k (job_step j left) = Some (go_on r k left (take j (Refused NoMemory)))
 short r k (plain c left) = Some (tell r k left (Refused NoMemory))
 short r k (broken refusal) = Some (tell r k [] (Refused NoMemory))
 short r k bye = None
 short r k end = None
 
--- 5: a fault of the disk, and all that come after it; it is told of a command, and not of a lane's end
+-- 5: a fault of the disk, and all that come after it; it is told of a command or a step, and not of a lane's end
 abbrev pub fault_refusal : Option ℕ → Refusal
 fault_refusal None = DiskFault
 fault_refusal (Some first) = Halted first
 
 unfoldable pub told_fault : Run → ℕ → Refusal → Next → Run
+told_fault r k refusal (job_step j left) = go_on r k left (take j (Refused refusal))
 told_fault r k refusal (plain c left) = tell r k left (Refused refusal)
 told_fault r k refusal _ = r
 
@@ -59,14 +73,14 @@ abbrev pub is_end : Option Entry → Bool
 is_end None = false
 is_end (Some e) = e.kind == 6
 
--- want of memory ended the lane, and its end comes next
-abbrev pub is_cut_off : ℕ → Ending → List Entry → Bool
-is_cut_off k endings.NoMemory later = is_end (find (λ e. e.lane == k) later)
-is_cut_off k _ later = false
+-- want of memory ended the lane, with no job open, and its end comes next
+abbrev pub is_cut_off : Run → ℕ → Ending → List Entry → Bool
+is_cut_off r k endings.NoMemory later = is_none (lane_at r k).job && is_end (find (λ e. e.lane == k) later)
+is_cut_off r k _ later = false
 
 unfoldable pub faulted : Run → ℕ → ℕ → Ending → List Entry → Next → Run
 faulted r k place ending later n =
-    let after = if is_cut_off k ending later then r else told_fault r k (fault_refusal r.fault) n in
+    let after = if is_cut_off r k ending later then r else told_fault r k (fault_refusal r.fault) n in
     record after { fault = first_fault place r.fault }
 
 -- 6: the lane's end. Commands may be left unread where the source or the sink failed, the input was too long, or memory was wanting.
@@ -94,6 +108,7 @@ unfoldable pub ends : Run → ℕ → Ending → Next → Option Run
 ends r k ending bye = Some (ended_with r k ending Done)
 ends r k ending (broken refusal) = Some (ended_with r k ending (Refused refusal))
 ends r k ending end = Some (end_session r k)
+ends r k ending (job_step j left) = unread r k ending
 ends r k ending (plain c left) = unread r k ending
 
 -- ---- an order

@@ -2,5 +2,7 @@
 #![tactic(auto)]
 
 mod ending;
+mod step;
 
 pub use ending::Ending;
+pub use step::Step;

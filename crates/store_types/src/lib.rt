@@ -8,8 +8,6 @@ mod names;
 mod order;
 mod refusal;
 mod rows;
-#[cfg(test)]
-mod tests;
 mod times;
 
 pub use append::AppendEntry;

@@ -3,8 +3,6 @@
 
 mod index;
 mod parts;
-#[cfg(test)]
-mod tests;
 
 pub use index::{IndexPart, lengths_of, read_index};
 pub use parts::read_part;

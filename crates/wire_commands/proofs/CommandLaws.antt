@@ -5,17 +5,19 @@ use Rattle.std.proofs.lemmas.Bool.{leb-true, le-leb}
 use Rattle.store_types.specs.Chain.Reading.{◌>>=◌, only_if}
 use Rattle.wire_frames.specs.Frames.{body_limit, AreBytes}
 use Rattle.wire_commands.specs.declared.command.Command.{Command}
-use Rattle.wire_commands.specs.declared.command.Command.TheVariants.{OpenWriter, Previous, NewFixed, NewDynamic, Chunk, Append, CloseIndex, Blob, Finish, Abort, OpenReader, Download, GetChunk, Range, CloseReader, Bye}
+use Rattle.wire_commands.specs.declared.command.Command.TheVariants.{OpenWriter, Previous, NewFixed, NewDynamic, Chunk, Append, CloseIndex, Blob, Finish, Abort, OpenReader, Download, GetChunk, Range, CloseReader, List as ListAll, Files, Forget, Prune, Group, Bye}
 use Rattle.std.specs.Int.{w32, w64}
 use Rattle.store_types.specs.declared.names.Digest32.{Digest32}
-use Rattle.wire_commands.specs.Fields.{Read, u32, u64, text, byte_at, number_at, digest_at, text_at, whole}
-use Rattle.wire_commands.specs.CommandText.{command_text, nothing_more, one_text, text_and_offset, new_fixed, chunk, append, close_index, blob, get_chunk, range, fields_of, command_of}
-use Rattle.wire_commands.specs.HasText.{HasText, FitsCommand, CommandsAreReadAgain, CommandsHaveOneText}
+use Rattle.store_types.specs.declared.names.Keep.{Keep}
+use Rattle.wire_commands.specs.Fields.{Read, u32, u64, text, flag, byte_at, number_at, digest_at, text_at, flag_at, whole}
+use Rattle.wire_commands.specs.CommandText.{command_text, nothing_more, one_text, text_and_offset, new_fixed, chunk, append, close_index, blob, get_chunk, range, keep_text, keep_at, prune, fields_of, command_of}
+use Rattle.wire_commands.specs.HasText.{HasText, IsText, FitsKeep, FitsCommand, CommandsAreReadAgain, CommandsHaveOneText}
 use Rattle.wire_commands.proofs.FieldLaws.{IsField, both, both_field, byte_field, u32_field, u64_field, digest_field, text_field}
 use Rattle.wire_commands.proofs.RefusalFields.{either_at, only_if_some}
 use Rattle.wire_commands.proofs.BodyLaws.{Spells, none_spells, nothing_spells, one_spells, one_again, two_first, two_spells, two_again, rest_spells, rest_again}
 use Rattle.wire_commands.proofs.RowLaws.{rows_field}
 use Rattle.wire_commands.proofs.EntryLaws.{entry_field}
+use Rattle.wire_commands.proofs.ListFields.{flag_field, keep_field}
 
 -- ---- the four fields of a CLOSE_INDEX, as one of the first three and one
 
@@ -95,6 +97,34 @@ range_again file offset len fits =
     range_is (text file ++ u64 offset ++ u32 len)
     ∙ two_again text_and_number_field u32_field make_range (file, offset) len (fits.0, fits.1) fits.2
 
+-- ---- the fields of a PRUNE, as one of the first two and one
+
+abbrev text_and_keep : List ℕ → Read (List ℕ × Keep)
+text_and_keep = both text_at keep_at
+
+text_and_keep_field : IsField text_and_keep (λ p. text p.0 ++ keep_text p.1) (λ p. IsText p.0 × FitsKeep p.1)
+text_and_keep_field = both_field text_field keep_field
+
+abbrev make_prune : List ℕ × Keep → Bool → Command
+make_prune p dry = Prune p.0 p.1 dry
+
+prune_is : (bytes : List ℕ) → prune bytes ≡ (text_and_keep bytes >>= (λ p. whole (flag_at p.1) >>= (λ dry. Some (make_prune p.0 dry))))
+unfolding prune
+prune_is bytes =
+    two_first text_at keep_at (λ group keep rest. whole (flag_at rest) >>= (λ dry. Some (Prune group keep dry))) bytes
+
+prune_spells : (bytes : List ℕ) → AreBytes bytes → Spells command_text FitsCommand bytes 33 (prune bytes)
+unfolding command_text
+prune_spells bytes fits =
+    subst (Spells command_text FitsCommand bytes 33) (sym (prune_is bytes))
+    (two_spells command_text FitsCommand text_and_keep_field flag_field make_prune bytes 33 fits (λ p. refl) (λ p h. h.0))
+
+prune_again : (group : List ℕ) (keep : Keep) (dry : Bool) → FitsCommand (Prune group keep dry)
+    → prune (text group ++ keep_text keep ++ flag dry) ≡ Some (Prune group keep dry)
+prune_again group keep dry fits =
+    prune_is (text group ++ keep_text keep ++ flag dry)
+    ∙ two_again text_and_keep_field flag_field make_prune (group, keep) dry fits tt
+
 -- ---- all commands
 
 fields_spell : (n : ℕ) (bytes : List ℕ) → AreBytes bytes → Spells command_text FitsCommand bytes n (fields_of n bytes)
@@ -116,8 +146,13 @@ fields_spell n bytes fits =
     (either_at P n 22 (get_chunk bytes) _ (one_spells command_text FitsCommand digest_field GetChunk bytes 22 fits (λ d. refl) (λ d h. h))
     (either_at P n 23 (range bytes) _ (range_spells bytes fits)
     (either_at P n 24 (nothing_more CloseReader bytes) _ (nothing_spells command_text FitsCommand bytes 24 CloseReader tt refl)
+    (either_at P n 30 (one_text ListAll bytes) _ (one_spells command_text FitsCommand text_field ListAll bytes 30 fits (λ t. refl) (λ t h. h))
+    (either_at P n 31 (one_text Files bytes) _ (one_spells command_text FitsCommand text_field Files bytes 31 fits (λ t. refl) (λ t h. h))
+    (either_at P n 32 (one_text Forget bytes) _ (one_spells command_text FitsCommand text_field Forget bytes 32 fits (λ t. refl) (λ t h. h))
+    (either_at P n 33 (prune bytes) _ (prune_spells bytes fits)
+    (either_at P n 40 (one_text Group bytes) _ (one_spells command_text FitsCommand text_field Group bytes 40 fits (λ t. refl) (λ t h. h))
     (either_at P n 63 (nothing_more Bye bytes) None (nothing_spells command_text FitsCommand bytes 63 Bye tt refl)
-    (none_spells command_text FitsCommand bytes n))))))))))))))))
+    (none_spells command_text FitsCommand bytes n)))))))))))))))))))))
 
 -- the command of a body of any length
 abbrev command_in : List ℕ → Option Command
@@ -144,6 +179,11 @@ fields_again (Download file offset) fits = two_again text_field u64_field Downlo
 fields_again (GetChunk digest) fits = one_again digest_field GetChunk digest fits
 fields_again (Range file offset len) fits = range_again file offset len fits
 fields_again CloseReader fits = refl
+fields_again (ListAll after) fits = one_again text_field ListAll after fits
+fields_again (Files snapshot) fits = one_again text_field Files snapshot fits
+fields_again (Forget snapshot) fits = one_again text_field Forget snapshot fits
+fields_again (Prune group keep dry) fits = prune_again group keep dry fits
+fields_again (Group group) fits = one_again text_field Group group fits
 fields_again Bye fits = refl
 
 pub commands_again : CommandsAreReadAgain

@@ -359,6 +359,10 @@ refused_anywhere : reply_of 99 (hex (codes "04")) ≡ Some (Refused BadName)
 unfolding wire_commands_on_literals
 refused_anywhere = refl
 
+damaged_with_files : reply_of 30 (hex (codes "00 0100 0161 01 05")) ≡ None
+unfolding wire_commands_on_literals
+damaged_with_files = refl
+
 -- ---- refusals, spelled and read
 
 -- The refusal has this text, which is read as it under any code.

@@ -3,6 +3,8 @@ pub mod RowLaws
 pub mod RefusalFields
 pub mod BodyLaws
 pub mod EntryLaws
+pub mod ListFields
+pub mod ManyLaws
 pub mod RefusalLaws
 pub mod CommandLaws
 pub mod ReplyLaws

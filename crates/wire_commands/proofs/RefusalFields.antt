@@ -27,10 +27,10 @@ pub either_at : {A : Type 0} (P : ℕ → A → Type 0) (n k : ℕ) (x y : A) �
 either_at P n k x y here elsewhere =
     elim (eqb_tells n k) [ inl (same, is) ↦ rw (same, is) here | inr (apart, other) ↦ rw apart elsewhere ]
 
-none_takes : {A : Type 0} (spelled : A → List ℕ) (Fits : A → Type 0) (bytes : List ℕ) → Takes spelled Fits bytes None
+pub none_takes : {A : Type 0} (spelled : A → List ℕ) (Fits : A → Type 0) (bytes : List ℕ) → Takes spelled Fits bytes None
 none_takes spelled Fits bytes x rest e = absurd cc
 
-value_takes : {A : Type 0} (spelled : A → List ℕ) (Fits : A → Type 0) (x : A) (rest : List ℕ) → AreBytes rest → Fits x → Takes spelled Fits (spelled x ++ rest) (Some (x, rest))
+pub value_takes : {A : Type 0} (spelled : A → List ℕ) (Fits : A → Type 0) (x : A) (rest : List ℕ) → AreBytes rest → Fits x → Takes spelled Fits (spelled x ++ rest) (Some (x, rest))
 value_takes spelled Fits x rest bytes fits y s e = taken_is spelled Fits (spelled x ++ rest) x y rest s e (refl, bytes, fits)
 
 pub made_some : {A B : Type 0} (make : A → B) (r : Read A) (y : B) (s : List ℕ) → made make r ≡ found y s → (x : A × List ℕ) × (r ≡ Some x) × (found (make x.0) x.1 ≡ found y s)

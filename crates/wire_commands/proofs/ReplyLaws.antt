@@ -1,21 +1,23 @@
 -- A reply that is read is spelled so, and one that is spelled is read again.
-use Rattle.std.proofs.Common.{◌≡◌, ℕ, zero, suc, ◌≤◌, Bool, List, [], ◌∷◌, length, leb, Option, Some, None, IsTrue, IfSome, Result, Ok, Err, IfOk, refl, sym, ap, subst, ◌∙◌}
-use Rattle.std.proofs.lemmas.Bool.{leb-true, le-leb, false≢true}
+use Rattle.std.proofs.Common.{◌≡◌, ℕ, zero, suc, ◌≤◌, Bool, List, [], ◌∷◌, length, leb, Option, Some, None, IfSome, Result, Ok, Err, IfOk, refl, sym, ap, subst, ◌∙◌}
+use Rattle.std.proofs.lemmas.Bool.{leb-true, le-leb}
 use Rattle.store_types.specs.declared.refusal.Refusal.{Refusal}
 use Rattle.store_types.specs.declared.refusal.Refusal.TheVariants as refusals
 use Rattle.store_types.specs.Chain.Reading.{◌>>=◌, only_if}
 use Rattle.wire_frames.specs.Frames.{body_limit, AreBytes}
 use Rattle.wire_commands.specs.declared.reply.Reply.{Reply}
-use Rattle.wire_commands.specs.declared.reply.Reply.TheVariants.{Done, Base, Part, Data, Number, Refused}
-use Rattle.wire_commands.specs.Fields.{text, byte_at, text_at, whole}
+use Rattle.wire_commands.specs.declared.reply.Reply.TheVariants.{Done, Base, Part, Data, Number, Listing, Files, Keys, Marks, Refused}
+use Rattle.wire_commands.specs.Fields.{text, rows, few_rows, byte_at, text_at, rows_at, few_rows_at, whole}
 use Rattle.wire_commands.specs.RefusalText.{refusal_text}
 use Rattle.wire_commands.specs.RefusalReading.{refusal_from}
-use Rattle.wire_commands.specs.ReplyText.{Form, empty, base, part, rest, number, reply_form, may_have_form, reply_text}
-use Rattle.wire_commands.specs.ReplyReading.{made, part_in, fields_in, accepted, reply_from, reply_of}
+use Rattle.wire_commands.specs.ReplyText.{Form, empty, base, part, rest, number, listing, files, keys, marks, reply_form, HasForm, list_row_text, file_row_text, prune_row_text, reply_text}
+use Rattle.wire_commands.specs.ReplyReading.{list_row_at, file_row_at, prune_row_at, made, part_in, fields_in, accepted, reply_from, reply_of}
 use Rattle.wire_commands.specs.HasText.{FitsRefusal, FitsReply, ReplyHasText, RepliesAreReadAgain, RepliesHaveOneText}
 use Rattle.wire_commands.proofs.FieldLaws.{byte_field, u64_field, text_field}
 use Rattle.wire_commands.proofs.RefusalFields.{only_if_some}
 use Rattle.wire_commands.proofs.BodyLaws.{Spells, value_spells, none_spells, nothing_spells, one_spells, one_again, rest_spells, rest_again}
+use Rattle.wire_commands.proofs.RowLaws.{rows_field, few_rows_field}
+use Rattle.wire_commands.proofs.ListFields.{list_row_field, file_row_field, prune_row_field}
 use Rattle.wire_commands.proofs.RefusalLaws.{refusal_in, refusal_spells, refusal_again}
 
 made_is : {A : Type 0} (make : A → Reply) (o : Option A) → made make o ≡ (o >>= (λ x. Some (make x)))
@@ -30,7 +32,7 @@ reply_in form body = byte_at body >>= (λ first. reply_from form first.0 first.1
 -- ---- what is read
 
 abbrev IsReply : Option Form → Reply → Type 0
-IsReply form r = FitsReply r × IsTrue (may_have_form form r)
+IsReply form r = FitsReply r × HasForm form r
 
 accepted_spells : (form : Option Form) (bytes : List ℕ) → AreBytes bytes → Spells reply_text (IsReply form) bytes 0 (accepted form bytes)
 unfolding fields_in part_in reply_text
@@ -44,13 +46,25 @@ accepted_spells (Some rest) bytes fits = value_spells reply_text (IsReply (Some 
 accepted_spells (Some number) bytes fits =
     subst (Spells reply_text (IsReply (Some number)) bytes 0) (sym (made_is Number (whole (byte_at bytes))))
     (one_spells reply_text (IsReply (Some number)) byte_field Number bytes 0 fits (λ n. refl) (λ n h. (h, refl)))
+accepted_spells (Some listing) bytes fits =
+    subst (Spells reply_text (IsReply (Some listing)) bytes 0) (sym (made_is Listing (whole (rows_at list_row_at bytes))))
+    (one_spells reply_text (IsReply (Some listing)) (rows_field list_row_field) Listing bytes 0 fits (λ xs. refl) (λ xs h. (h, refl)))
+accepted_spells (Some files) bytes fits =
+    subst (Spells reply_text (IsReply (Some files)) bytes 0) (sym (made_is Files (whole (few_rows_at file_row_at bytes))))
+    (one_spells reply_text (IsReply (Some files)) (few_rows_field file_row_field) Files bytes 0 fits (λ xs. refl) (λ xs h. (h, refl)))
+accepted_spells (Some keys) bytes fits =
+    subst (Spells reply_text (IsReply (Some keys)) bytes 0) (sym (made_is Keys (whole (rows_at text_at bytes))))
+    (one_spells reply_text (IsReply (Some keys)) (rows_field text_field) Keys bytes 0 fits (λ xs. refl) (λ xs h. (h, refl)))
+accepted_spells (Some marks) bytes fits =
+    subst (Spells reply_text (IsReply (Some marks)) bytes 0) (sym (made_is Marks (whole (rows_at prune_row_at bytes))))
+    (one_spells reply_text (IsReply (Some marks)) (rows_field prune_row_field) Marks bytes 0 fits (λ xs. refl) (λ xs h. (h, refl)))
 
 refused_spells : (form : Option Form) (n : ℕ) (bytes : List ℕ) (o : Option Refusal) → Spells refusal_text FitsRefusal bytes n o → Spells reply_text (IsReply form) bytes n (made Refused o)
 unfolding made reply_text
 refused_spells form n bytes None spells = none_spells reply_text (IsReply form) bytes n
 refused_spells form n bytes (Some r) spells =
     let is = spells r refl in
-    value_spells reply_text (IsReply form) bytes n (Refused r) (is.0, refl) is.1
+    value_spells reply_text (IsReply form) bytes n (Refused r) (is.0, tt) is.1
 
 reply_spells : (form : Option Form) (n : ℕ) (bytes : List ℕ) → AreBytes bytes → Spells reply_text (IsReply form) bytes n (reply_from form n bytes)
 unfolding reply_from
@@ -108,39 +122,28 @@ numbered form refusals.NoMemory = refl
 numbered form refusals.NoRemote = refl
 numbered form refusals.RemoteFault = refl
 
-reply_again : (form : Option Form) (r : Reply) → FitsReply r → IsTrue (may_have_form form r) → reply_in form (reply_text r) ≡ Some r
+-- in the form that it has
+form_again : {form : Option Form} (own : Option Form) (r : Reply) → form ≡ own → reply_in own (reply_text r) ≡ Some r → reply_in form (reply_text r) ≡ Some r
+form_again own r is e = subst (λ (f : Option Form). reply_in f (reply_text r) ≡ Some r) (sym is) e
+
+reply_again : (form : Option Form) (r : Reply) → FitsReply r → HasForm form r → reply_in form (reply_text r) ≡ Some r
 unfolding reply_text reply_from fields_in part_in made
 reply_again form (Refused r) fits has = numbered form r ∙ ap (made Refused) (refusal_again r fits)
-reply_again (Some empty) Done fits has = refl
-reply_again (Some base) (Base snapshot) fits has = made_is Base (whole (text_at (text snapshot))) ∙ one_again text_field Base snapshot fits
-reply_again (Some part) (Part total bytes) fits has = rest_again u64_field Part total bytes fits
-reply_again (Some rest) (Data bytes) fits has = refl
-reply_again (Some number) (Number n) fits has = made_is Number (whole (byte_at (n ∷ []))) ∙ one_again byte_field Number n fits
-reply_again None Done fits has = absurd (false≢true has)
-reply_again None (Base snapshot) fits has = absurd (false≢true has)
-reply_again None (Part total bytes) fits has = absurd (false≢true has)
-reply_again None (Data bytes) fits has = absurd (false≢true has)
-reply_again None (Number n) fits has = absurd (false≢true has)
-reply_again (Some base) Done fits has = absurd (false≢true has)
-reply_again (Some part) Done fits has = absurd (false≢true has)
-reply_again (Some rest) Done fits has = absurd (false≢true has)
-reply_again (Some number) Done fits has = absurd (false≢true has)
-reply_again (Some empty) (Base snapshot) fits has = absurd (false≢true has)
-reply_again (Some part) (Base snapshot) fits has = absurd (false≢true has)
-reply_again (Some rest) (Base snapshot) fits has = absurd (false≢true has)
-reply_again (Some number) (Base snapshot) fits has = absurd (false≢true has)
-reply_again (Some empty) (Part total bytes) fits has = absurd (false≢true has)
-reply_again (Some base) (Part total bytes) fits has = absurd (false≢true has)
-reply_again (Some rest) (Part total bytes) fits has = absurd (false≢true has)
-reply_again (Some number) (Part total bytes) fits has = absurd (false≢true has)
-reply_again (Some empty) (Data bytes) fits has = absurd (false≢true has)
-reply_again (Some base) (Data bytes) fits has = absurd (false≢true has)
-reply_again (Some part) (Data bytes) fits has = absurd (false≢true has)
-reply_again (Some number) (Data bytes) fits has = absurd (false≢true has)
-reply_again (Some empty) (Number n) fits has = absurd (false≢true has)
-reply_again (Some base) (Number n) fits has = absurd (false≢true has)
-reply_again (Some part) (Number n) fits has = absurd (false≢true has)
-reply_again (Some rest) (Number n) fits has = absurd (false≢true has)
+reply_again form Done fits has = form_again (Some empty) Done has refl
+reply_again form (Base snapshot) fits has =
+    form_again (Some base) (Base snapshot) has (made_is Base (whole (text_at (text snapshot))) ∙ one_again text_field Base snapshot fits)
+reply_again form (Part total bytes) fits has = form_again (Some part) (Part total bytes) has (rest_again u64_field Part total bytes fits)
+reply_again form (Data bytes) fits has = form_again (Some rest) (Data bytes) has refl
+reply_again form (Number n) fits has =
+    form_again (Some number) (Number n) has (made_is Number (whole (byte_at (n ∷ []))) ∙ one_again byte_field Number n fits)
+reply_again form (Listing xs) fits has =
+    form_again (Some listing) (Listing xs) has (made_is Listing (whole (rows_at list_row_at (rows list_row_text xs))) ∙ one_again (rows_field list_row_field) Listing xs fits)
+reply_again form (Files xs) fits has =
+    form_again (Some files) (Files xs) has (made_is Files (whole (few_rows_at file_row_at (few_rows file_row_text xs))) ∙ one_again (few_rows_field file_row_field) Files xs fits)
+reply_again form (Keys xs) fits has =
+    form_again (Some keys) (Keys xs) has (made_is Keys (whole (rows_at text_at (rows text xs))) ∙ one_again (rows_field text_field) Keys xs fits)
+reply_again form (Marks xs) fits has =
+    form_again (Some marks) (Marks xs) has (made_is Marks (whole (rows_at prune_row_at (rows prune_row_text xs))) ∙ one_again (rows_field prune_row_field) Marks xs fits)
 
 pub replies_again : RepliesAreReadAgain
 replies_again code r h has = within_limit code (reply_text r) h.1 ∙ reply_again (reply_form code) r h.0 has

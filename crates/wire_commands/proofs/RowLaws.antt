@@ -1,12 +1,11 @@
 -- Values one after another, and behind their count.
 use Rattle.std.proofs.Common.{◌≡◌, ℕ, zero, suc, ◌^◌, ◌<◌, List, [], ◌∷◌, ◌++◌, length, All, Some, refl, sym, ap, subst, ◌∙◌, append_assoc}
-use Rattle.std.specs.Int.{w16, to_le_bytes}
 use Rattle.std.specs.List.{flat_map}
 use Rattle.std.proofs.lemmas.List.Elements.{All-nil, All-cons, All-head, All-tail}
 use Rattle.store_types.specs.Chain.Reading.{◌>>=◌}
 use Rattle.wire_frames.specs.Frames.{AreBytes}
-use Rattle.wire_commands.specs.Fields.{Read, rows, number_at, many_at, rows_at}
-use Rattle.wire_commands.proofs.FieldLaws.{found, found_is, bind_some, IsField, u16_field}
+use Rattle.wire_commands.specs.Fields.{Read, rows, few_rows, many_at, rows_at, few_rows_at}
+use Rattle.wire_commands.proofs.FieldLaws.{found, found_is, bind_some, IsField, byte_field, u16_field}
 
 -- What was read as so many values is spelled so.
 abbrev ManyTaken : {A : Type 0} → (A → List ℕ) → (A → Type 0) → ℕ → List ℕ → List A → List ℕ → Type 0
@@ -49,26 +48,36 @@ many_again {A} {read} {part} {Fits} field (x ∷ xs) rest fits =
 
 -- ---- behind their count
 
-pub rows_field : {A : Type 0} {read : List ℕ → Read A} {part : A → List ℕ} {PartFits : A → Type 0} → IsField read part PartFits
-    → IsField (rows_at read) (rows part) (λ xs. (length xs < 2 ^ 16) × All PartFits xs)
-rows_field {A} {read} {part} {PartFits} field = record { takes = taken; again = there }
+pub counted_field : {A : Type 0} {count_at : List ℕ → Read ℕ} {counted : ℕ → List ℕ} {limit : ℕ} {read : List ℕ → Read A} {part : A → List ℕ} {PartFits : A → Type 0}
+    → IsField count_at counted (λ n. n < limit) → IsField read part PartFits
+    → IsField (λ bytes. count_at bytes >>= (λ c. many_at read c.0 c.1)) (λ xs. counted (length xs) ++ flat_map part xs) (λ xs. (length xs < limit) × All PartFits xs)
+counted_field {A} {count_at} {counted} {limit} {read} {part} {PartFits} count_field field = record { takes = taken; again = there }
   where
     Fits : List A → Type 0
-    Fits xs = (length xs < 2 ^ 16) × All PartFits xs
+    Fits xs = (length xs < limit) × All PartFits xs
 
-    taken : (bytes : List ℕ) → AreBytes bytes → (xs : List A) (rest : List ℕ) → rows_at read bytes ≡ Some (xs, rest) → (bytes ≡ rows part xs ++ rest) × AreBytes rest × Fits xs
+    taken : (bytes : List ℕ) → AreBytes bytes → (xs : List A) (rest : List ℕ) → (count_at bytes >>= (λ c. many_at read c.0 c.1)) ≡ Some (xs, rest)
+        → (bytes ≡ (counted (length xs) ++ flat_map part xs) ++ rest) × AreBytes rest × Fits xs
     taken bytes bytes_fit xs rest e =
-        let count = bind_some (number_at w16 bytes) (λ c. many_at read c.0 c.1) (xs, rest) e in
+        let count = bind_some (count_at bytes) (λ c. many_at read c.0 c.1) (xs, rest) e in
         let n = count.0.0 in
-        let here = u16_field.takes bytes bytes_fit n count.0.1 count.1 in
+        let here = count_field.takes bytes bytes_fit n count.0.1 count.1 in
         let many = many_takes field n count.0.1 here.1 xs rest count.2 in
-        let counted : to_le_bytes w16 n ≡ to_le_bytes w16 (length xs) = ap (to_le_bytes w16) (sym many.2) in
-        let whole : bytes ≡ rows part xs ++ rest =
-        here.0 ∙ ap (λ (t : List ℕ). to_le_bytes w16 n ++ t) many.0
-        ∙ ap (λ (t : List ℕ). t ++ flat_map part xs ++ rest) counted ∙ sym (append_assoc (to_le_bytes w16 (length xs)) (flat_map part xs) rest) in
+        let same : counted n ≡ counted (length xs) = ap counted (sym many.2) in
+        let whole : bytes ≡ (counted (length xs) ++ flat_map part xs) ++ rest =
+        here.0 ∙ ap (λ (t : List ℕ). counted n ++ t) many.0
+        ∙ ap (λ (t : List ℕ). t ++ (flat_map part xs ++ rest)) same ∙ sym (append_assoc (counted (length xs)) (flat_map part xs) rest) in
         (whole, many.1, (rw many.2 here.2, many.3))
 
-    there : (xs : List A) (rest : List ℕ) → Fits xs → rows_at read (rows part xs ++ rest) ≡ Some (xs, rest)
+    there : (xs : List A) (rest : List ℕ) → Fits xs → (count_at ((counted (length xs) ++ flat_map part xs) ++ rest) >>= (λ c. many_at read c.0 c.1)) ≡ Some (xs, rest)
     there xs rest fits =
-        rw (append_assoc (to_le_bytes w16 (length xs)) (flat_map part xs) rest, u16_field.again (length xs) (flat_map part xs ++ rest) fits.0)
+        rw (append_assoc (counted (length xs)) (flat_map part xs) rest, count_field.again (length xs) (flat_map part xs ++ rest) fits.0)
         (many_again field xs rest fits.1)
+
+pub rows_field : {A : Type 0} {read : List ℕ → Read A} {part : A → List ℕ} {PartFits : A → Type 0} → IsField read part PartFits
+    → IsField (rows_at read) (rows part) (λ xs. (length xs < 2 ^ 16) × All PartFits xs)
+rows_field field = counted_field u16_field field
+
+pub few_rows_field : {A : Type 0} {read : List ℕ → Read A} {part : A → List ℕ} {PartFits : A → Type 0} → IsField read part PartFits
+    → IsField (few_rows_at read) (few_rows part) (λ xs. (length xs < 256) × All PartFits xs)
+few_rows_field field = counted_field byte_field field

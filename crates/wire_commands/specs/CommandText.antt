@@ -1,15 +1,20 @@
 -- The one spelling of each command, and the command that a body spells.
 use Rattle.std.specs.Prelude.{ℕ, List, [], ◌∷◌, ◌++◌, length, ◌==◌, nat_le, if◌then◌else◌, Option, Some, None}
-use Rattle.std.specs.Int.{w32, w64}
+use Rattle.std.specs.Int.{w16, w32, w64}
 use Rattle.store_types.specs.declared.append.AppendEntry.{AppendEntry}
+use Rattle.store_types.specs.declared.names.Keep.{Keep}
 use Rattle.store_types.specs.Chain.Reading.{◌>>=◌, only_if}
 use Rattle.wire_frames.specs.Frames.{body_limit}
 use Rattle.wire_commands.specs.declared.command.Command.{Command}
-use Rattle.wire_commands.specs.declared.command.Command.TheVariants.{OpenWriter, Previous, NewFixed, NewDynamic, Chunk, Append, CloseIndex, Blob, Finish, Abort, OpenReader, Download, GetChunk, Range, CloseReader, Bye}
-use Rattle.wire_commands.specs.Fields.{Read, u32, u64, text, rows, whole, byte_at, number_at, digest_at, text_at, rows_at}
+use Rattle.wire_commands.specs.declared.command.Command.TheVariants.{OpenWriter, Previous, NewFixed, NewDynamic, Chunk, Append, CloseIndex, Blob, Finish, Abort, OpenReader, Download, GetChunk, Range, CloseReader, List as ListAll, Files, Forget, Prune, Group, Bye}
+use Rattle.wire_commands.specs.Fields.{Read, u16, u32, u64, text, flag, rows, whole, byte_at, number_at, digest_at, text_at, flag_at, rows_at}
 
 abbrev pub entry_text : AppendEntry → List ℕ
 entry_text e = e.digest.0 ++ u64 e.offset
+
+-- the counts in the order of their periods
+abbrev pub keep_text : Keep → List ℕ
+keep_text k = u16 k.last ++ u16 k.hourly ++ u16 k.daily ++ u16 k.weekly ++ u16 k.monthly ++ u16 k.yearly
 
 unfoldable pub command_text : Command → List ℕ
 command_text (OpenWriter snapshot) = 10 ∷ text snapshot
@@ -27,6 +32,11 @@ command_text (Download file offset) = 21 ∷ text file ++ u64 offset
 command_text (GetChunk digest) = 22 ∷ digest.0
 command_text (Range file offset len) = 23 ∷ text file ++ u64 offset ++ u32 len
 command_text CloseReader = 24 ∷ []
+command_text (ListAll after) = 30 ∷ text after
+command_text (Files snapshot) = 31 ∷ text snapshot
+command_text (Forget snapshot) = 32 ∷ text snapshot
+command_text (Prune group keep dry) = 33 ∷ text group ++ keep_text keep ++ flag dry
+command_text (Group group) = 40 ∷ text group
 command_text Bye = 63 ∷ []
 
 -- the entries that stand between the head of a text and its rest
@@ -102,6 +112,23 @@ range bytes = do
   len ← whole (number_at w32 offset.1)
   Some (Range file.0 offset.0 len)
 
+abbrev pub keep_at : List ℕ → Read Keep
+keep_at bytes = do
+  last ← number_at w16 bytes
+  hourly ← number_at w16 last.1
+  daily ← number_at w16 hourly.1
+  weekly ← number_at w16 daily.1
+  monthly ← number_at w16 weekly.1
+  yearly ← number_at w16 monthly.1
+  Some (record { last = last.0; hourly = hourly.0; daily = daily.0; weekly = weekly.0; monthly = monthly.0; yearly = yearly.0 }, yearly.1)
+
+unfoldable pub prune : Reader
+prune bytes = do
+  group ← text_at bytes
+  keep ← keep_at group.1
+  dry ← whole (flag_at keep.1)
+  Some (Prune group.0 keep.0 dry)
+
 -- what the fields of a code make
 unfoldable pub fields_of : ℕ → Reader
 fields_of code bytes =
@@ -120,6 +147,11 @@ fields_of code bytes =
     if code == 22 then get_chunk bytes else
     if code == 23 then range bytes else
     if code == 24 then nothing_more CloseReader bytes else
+    if code == 30 then one_text ListAll bytes else
+    if code == 31 then one_text Files bytes else
+    if code == 32 then one_text Forget bytes else
+    if code == 33 then prune bytes else
+    if code == 40 then one_text Group bytes else
     if code == 63 then nothing_more Bye bytes else
     None
 

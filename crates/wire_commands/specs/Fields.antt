@@ -1,5 +1,5 @@
 -- The fields of a body: how each is spelled, and how it is read from the front.
-use Rattle.std.specs.Prelude.{ℕ, zero, suc, List, [], ◌∷◌, ◌++◌, length, take, drop, ◌==◌, nat_lt, if◌then◌else◌, Option, Some, None}
+use Rattle.std.specs.Prelude.{ℕ, zero, suc, Bool, true, false, List, [], ◌∷◌, ◌++◌, length, take, drop, ◌==◌, nat_lt, if◌then◌else◌, Option, Some, None}
 use Rattle.std.specs.Int.{Width, w16, w32, w64, byte_len, to_le_bytes, from_le_bytes}
 use Rattle.std.specs.List.{flat_map}
 use Rattle.store_types.specs.declared.names.Digest32.{Digest32}
@@ -18,9 +18,17 @@ u64 n = to_le_bytes w64 n
 abbrev pub text : List ℕ → List ℕ
 text t = length t ∷ t
 
+abbrev pub flag : Bool → List ℕ
+flag false = 0 ∷ []
+flag true = 1 ∷ []
+
 -- values behind their count in two bytes
 abbrev pub rows : {A : Type 0} → (A → List ℕ) → List A → List ℕ
 rows spelled xs = u16 (length xs) ++ flat_map spelled xs
+
+-- values behind their count in one byte
+abbrev pub few_rows : {A : Type 0} → (A → List ℕ) → List A → List ℕ
+few_rows spelled xs = length xs ∷ flat_map spelled xs
 
 -- ---- reading: a value, and the bytes after it
 
@@ -54,6 +62,18 @@ text_at bytes = do
   n ← byte_at bytes
   bytes_at n.0 n.1
 
+abbrev pub flag_from : ℕ → Option Bool
+flag_from n =
+    if n == 0 then Some false else
+    if n == 1 then Some true else
+    None
+
+abbrev pub flag_at : List ℕ → Read Bool
+flag_at bytes = do
+  n ← byte_at bytes
+  set ← flag_from n.0
+  Some (set, n.1)
+
 -- n values one after another
 unfoldable pub many_at : {A : Type 0} → (List ℕ → Read A) → ℕ → List ℕ → Read (List A)
 many_at read zero bytes = Some ([], bytes)
@@ -65,4 +85,9 @@ many_at read (suc n) bytes = do
 abbrev pub rows_at : {A : Type 0} → (List ℕ → Read A) → List ℕ → Read (List A)
 rows_at read bytes = do
   count ← number_at w16 bytes
+  many_at read count.0 count.1
+
+abbrev pub few_rows_at : {A : Type 0} → (List ℕ → Read A) → List ℕ → Read (List A)
+few_rows_at read bytes = do
+  count ← byte_at bytes
   many_at read count.0 count.1

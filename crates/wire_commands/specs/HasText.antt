@@ -1,7 +1,8 @@
 -- What has a spelling: texts of at most 255 bytes, digests of 32, and numbers and counts within their fields.
-use Rattle.std.specs.Prelude.{◌≡◌, ℕ, ◌<◌, ◌≤◌, ◌^◌, ◌↔◌, List, [], length, ⊤, Some, IsTrue, All}
+use Rattle.std.specs.Prelude.{◌≡◌, true, ℕ, ◌<◌, ◌≤◌, ◌^◌, ◌↔◌, List, [], length, ⊤, Some, All}
 use Rattle.store_types.specs.declared.append.AppendEntry.{AppendEntry}
 use Rattle.store_types.specs.declared.names.Digest32.{Digest32}
+use Rattle.store_types.specs.declared.names.Keep.{Keep}
 use Rattle.store_types.specs.declared.refusal.BadBlob.{BadBlob as BlobCause}
 use Rattle.store_types.specs.declared.refusal.BadBlob.TheVariants as blobs
 use Rattle.store_types.specs.declared.refusal.CloseFault.{CloseFault}
@@ -12,11 +13,14 @@ use Rattle.store_types.specs.declared.refusal.Refusal.{Refusal}
 use Rattle.store_types.specs.declared.refusal.Refusal.TheVariants.{BadFrame, TooLong, GroupBusy, SnapshotBusy, NotNewer, BadBlob, WrongDigest, WrongSize, UnknownChunk, BadOffset, BadClose, OpenIndexes, BadManifest, ManifestMismatch, TooMany, BadRange, Damaged, Unreadable, CollectorBusy, Halted}
 use Rattle.wire_frames.specs.Frames.{body_limit, AreBytes}
 use Rattle.wire_commands.specs.declared.command.Command.{Command}
-use Rattle.wire_commands.specs.declared.command.Command.TheVariants.{OpenWriter, Previous, NewFixed, NewDynamic, Chunk, Append, CloseIndex, Blob, OpenReader, Download, GetChunk, Range}
+use Rattle.wire_commands.specs.declared.command.Command.TheVariants.{OpenWriter, Previous, NewFixed, NewDynamic, Chunk, Append, CloseIndex, Blob, OpenReader, Download, GetChunk, Range, List as ListAll, Files as FilesOf, Forget, Prune, Group}
+use Rattle.wire_commands.specs.declared.rows.ListRow.{ListRow}
+use Rattle.wire_commands.specs.declared.rows.FileRow.{FileRow}
+use Rattle.wire_commands.specs.declared.rows.PruneRow.{PruneRow}
 use Rattle.wire_commands.specs.declared.reply.Reply.{Reply}
-use Rattle.wire_commands.specs.declared.reply.Reply.TheVariants.{Base, Part, Number, Refused}
+use Rattle.wire_commands.specs.declared.reply.Reply.TheVariants.{Base, Part, Number, Listing, Files, Keys, Marks, Refused}
 use Rattle.wire_commands.specs.CommandText.{command_text, command_of}
-use Rattle.wire_commands.specs.ReplyText.{reply_text, answers_code}
+use Rattle.wire_commands.specs.ReplyText.{files_fit, reply_text, AnswersCode}
 use Rattle.wire_commands.specs.ReplyReading.{reply_of}
 
 abbrev pub IsText : List ℕ → Type 0
@@ -27,6 +31,9 @@ IsDigest d = length d.0 ≡ 32
 
 abbrev pub FitsEntry : AppendEntry → Type 0
 FitsEntry e = IsDigest e.digest × (e.offset < 2 ^ 64)
+
+abbrev pub FitsKeep : Keep → Type 0
+FitsKeep k = (k.last < 2 ^ 16) × (k.hourly < 2 ^ 16) × (k.daily < 2 ^ 16) × (k.weekly < 2 ^ 16) × (k.monthly < 2 ^ 16) × (k.yearly < 2 ^ 16)
 
 abbrev pub FitsCommand : Command → Type 0
 FitsCommand (OpenWriter snapshot) = IsText snapshot
@@ -41,6 +48,11 @@ FitsCommand (OpenReader snapshot) = IsText snapshot
 FitsCommand (Download file offset) = IsText file × (offset < 2 ^ 64)
 FitsCommand (GetChunk digest) = IsDigest digest
 FitsCommand (Range file offset len) = IsText file × (offset < 2 ^ 64) × (len < 2 ^ 32)
+FitsCommand (ListAll after) = IsText after
+FitsCommand (FilesOf snapshot) = IsText snapshot
+FitsCommand (Forget snapshot) = IsText snapshot
+FitsCommand (Prune group keep dry) = IsText group × FitsKeep keep
+FitsCommand (Group group) = IsText group
 FitsCommand _ = ⊤
 
 -- the command has a spelling
@@ -90,10 +102,23 @@ FitsRefusal (CollectorBusy lane) = lane < 2 ^ 32
 FitsRefusal (Halted place) = place < 2 ^ 64
 FitsRefusal _ = ⊤
 
+abbrev pub FitsListRow : ListRow → Type 0
+FitsListRow r = IsText r.snapshot × (r.files < 256) × (files_fit r.damaged r.files ≡ true)
+
+abbrev pub FitsFileRow : FileRow → Type 0
+FitsFileRow r = IsText r.file × (r.size < 2 ^ 64) × IsDigest r.csum
+
+abbrev pub FitsPruneRow : PruneRow → Type 0
+FitsPruneRow r = IsText r.snapshot
+
 abbrev pub FitsReply : Reply → Type 0
 FitsReply (Base snapshot) = IsText snapshot
 FitsReply (Part total bytes) = total < 2 ^ 64
 FitsReply (Number n) = n < 256
+FitsReply (Listing rows) = (length rows < 2 ^ 16) × All FitsListRow rows
+FitsReply (Files rows) = (length rows < 256) × All FitsFileRow rows
+FitsReply (Keys snapshots) = (length snapshots < 2 ^ 16) × All IsText snapshots
+FitsReply (Marks rows) = (length rows < 2 ^ 16) × All FitsPruneRow rows
 FitsReply (Refused refusal) = FitsRefusal refusal
 FitsReply _ = ⊤
 
@@ -110,8 +135,8 @@ abbrev pub CommandsHaveOneText : Type 0
 CommandsHaveOneText = (body : List ℕ) (c : Command) → AreBytes body → command_of body ≡ Some c → HasText c × (body ≡ command_text c)
 
 abbrev pub RepliesAreReadAgain : Type 0
-RepliesAreReadAgain = (code : ℕ) (r : Reply) → ReplyHasText r → IsTrue (answers_code code r) → reply_of code (reply_text r) ≡ Some r
+RepliesAreReadAgain = (code : ℕ) (r : Reply) → ReplyHasText r → AnswersCode code r → reply_of code (reply_text r) ≡ Some r
 
 abbrev pub RepliesHaveOneText : Type 0
 RepliesHaveOneText = (code : ℕ) (body : List ℕ) (r : Reply) → AreBytes body → reply_of code body ≡ Some r →
-    ReplyHasText r × IsTrue (answers_code code r) × (body ≡ reply_text r)
+    ReplyHasText r × AnswersCode code r × (body ≡ reply_text r)

@@ -1,13 +1,53 @@
 -- The reply that a body spells, by the form of the command's replies.
 use Rattle.std.specs.Prelude.{ℕ, zero, suc, List, length, ◌==◌, nat_le, if◌then◌else◌, Option, Some, None}
 use Rattle.std.specs.Int.{w64}
+use Rattle.wire_commands.specs.declared.rows.ListRow.{ListRow}
+use Rattle.wire_commands.specs.declared.rows.FileRow.{FileRow}
+use Rattle.wire_commands.specs.declared.rows.PruneMark.{PruneMark}
+use Rattle.wire_commands.specs.declared.rows.PruneMark.TheVariants.{Removed, Kept, Held, Gone}
+use Rattle.wire_commands.specs.declared.rows.PruneRow.{PruneRow}
 use Rattle.store_types.specs.Chain.Reading.{◌>>=◌, only_if}
 use Rattle.wire_frames.specs.Frames.{body_limit}
 use Rattle.wire_commands.specs.declared.reply.Reply.{Reply}
-use Rattle.wire_commands.specs.declared.reply.Reply.TheVariants.{Done, Base, Part, Data, Number, Refused}
-use Rattle.wire_commands.specs.Fields.{whole, byte_at, number_at, text_at}
-use Rattle.wire_commands.specs.ReplyText.{Form, empty, base, part, rest, number, reply_form}
+use Rattle.wire_commands.specs.declared.reply.Reply.TheVariants.{Done, Base, Part, Data, Number, Listing, Files, Keys, Marks, Refused}
+use Rattle.wire_commands.specs.Fields.{Read, whole, byte_at, number_at, digest_at, text_at, flag_at, rows_at, few_rows_at}
+use Rattle.wire_commands.specs.ReplyText.{Form, empty, base, part, rest, number, listing, files, keys, marks, files_fit, reply_form}
 use Rattle.wire_commands.specs.RefusalReading.{refusal_from}
+
+abbrev pub list_row_at : List ℕ → Read ListRow
+list_row_at bytes = do
+  snapshot ← text_at bytes
+  damaged ← flag_at snapshot.1
+  count ← byte_at damaged.1
+  _ ← only_if (files_fit damaged.0 count.0)
+  Some (record { snapshot = snapshot.0; damaged = damaged.0; files = count.0 }, count.1)
+
+abbrev pub file_row_at : List ℕ → Read FileRow
+file_row_at bytes = do
+  file ← text_at bytes
+  size ← number_at w64 file.1
+  csum ← digest_at size.1
+  Some (record { file = file.0; size = size.0; csum = csum.0 }, csum.1)
+
+abbrev pub mark_from : ℕ → Option PruneMark
+mark_from n =
+    if n == 0 then Some Removed else
+    if n == 1 then Some Kept else
+    if n == 2 then Some Held else
+    if n == 3 then Some Gone else
+    None
+
+abbrev pub mark_at : List ℕ → Read PruneMark
+mark_at bytes = do
+  n ← byte_at bytes
+  mark ← mark_from n.0
+  Some (mark, n.1)
+
+abbrev pub prune_row_at : List ℕ → Read PruneRow
+prune_row_at bytes = do
+  snapshot ← text_at bytes
+  mark ← mark_at snapshot.1
+  Some (record { snapshot = snapshot.0; mark = mark.0 }, mark.1)
 
 unfoldable pub part_in : List ℕ → Option Reply
 part_in bytes = do
@@ -25,6 +65,10 @@ fields_in base bytes = made Base (whole (text_at bytes))
 fields_in part bytes = part_in bytes
 fields_in rest bytes = Some (Data bytes)
 fields_in number bytes = made Number (whole (byte_at bytes))
+fields_in listing bytes = made Listing (whole (rows_at list_row_at bytes))
+fields_in files bytes = made Files (whole (few_rows_at file_row_at bytes))
+fields_in keys bytes = made Keys (whole (rows_at text_at bytes))
+fields_in marks bytes = made Marks (whole (rows_at prune_row_at bytes))
 
 abbrev pub accepted : Option Form → List ℕ → Option Reply
 accepted None bytes = None

@@ -4,13 +4,16 @@ ghost use Rattle.std.specs.Prelude.{◌≡◌, ◌≤◌, ◌++◌, length, IsSo
 ghost use Rattle.std.specs.Result.{result_ok};
 ghost use Rattle.wire_commands.specs.HasText.{HasText, FitsCommand};
 ghost use Rattle.std.specs.List.{flat_map};
-ghost use Rattle.wire_commands.specs.CommandText.{entry_text, entries_of, command_text, command_of, fields_of, nothing_more, one_text, text_and_offset, new_fixed, chunk, append, close_index, blob, get_chunk, range};
+ghost use Rattle.std.specs.Option.{option_map};
+ghost use Rattle.wire_commands.specs.CommandText.{entry_text, entries_of, command_text, command_of, fields_of, nothing_more, one_text, text_and_offset, new_fixed, chunk, append, close_index, blob, get_chunk, range, prune, keep_at, keep_text};
 
 use crate::entries::{ENTRY_SIZE, entries_in, push_entries};
-use crate::fields::{byte_at, copied, digest_at, only_text, text_at, u32_at, u64_at, whole};
+use crate::fields::{
+    byte_at, copied, digest_at, flag_at, only_text, text_at, u16_at, u32_at, u64_at, whole,
+};
 use crate::head::{Head, Spelling};
 use std::alloc::{AllocError, Global};
-use store_types::{AppendEntry, Bytes, Digest32, Rows};
+use store_types::{AppendEntry, Bytes, Digest32, Keep, Rows};
 use thiserror::Error;
 use wire_frames::BODY_LIMIT;
 
@@ -86,6 +89,28 @@ pub enum Command {
     },
     /// 24: the reader ends.
     CloseReader,
+    /// 30: the snapshots after one, or from the first on where the text is empty.
+    List {
+        after: Bytes,
+    },
+    /// 31: the files of the snapshot, with their sizes and checksums.
+    Files {
+        snapshot: Bytes,
+    },
+    /// 32: the snapshot is removed.
+    Forget {
+        snapshot: Bytes,
+    },
+    /// 33: a job that removes the group's snapshots that no option keeps, or in a dry run only tells them.
+    Prune {
+        group: Bytes,
+        keep: Keep,
+        dry: bool,
+    },
+    /// 40: the group's snapshots, the oldest first.
+    Group {
+        group: Bytes,
+    },
     /// 63: the lane's end.
     Bye,
 }
@@ -188,6 +213,13 @@ impl Command {
                 Spelling::of(head.u32(*length))
             }
             Command::CloseReader => Spelling::of(Head::new(24)),
+            Command::List { after } => Spelling::of(Head::new(30).text(after)),
+            Command::Files { snapshot } => Spelling::of(Head::new(31).text(snapshot)),
+            Command::Forget { snapshot } => Spelling::of(Head::new(32).text(snapshot)),
+            Command::Prune { group, keep, dry } => {
+                Spelling::of(with_keep(Head::new(33).text(group), keep).flag(*dry))
+            }
+            Command::Group { group } => Spelling::of(Head::new(40).text(group)),
             Command::Bye => Spelling::of(Head::new(63)),
         }
     }
@@ -229,6 +261,11 @@ fn with_code(alloc: Global, code: u8, fields: &[u8]) -> Result<Option<Command>, 
         22 => Ok(get_chunk(fields)),
         23 => range(alloc, fields),
         24 => Ok(nothing_more(Command::CloseReader, fields)),
+        30 => list(alloc, fields),
+        31 => files(alloc, fields),
+        32 => forget(alloc, fields),
+        33 => prune(alloc, fields),
+        40 => group(alloc, fields),
         63 => Ok(nothing_more(Command::Bye, fields)),
         _ => Ok(None),
     }
@@ -405,4 +442,87 @@ fn range(alloc: Global, fields: &[u8]) -> Result<Option<Command>, AllocError>
         offset,
         length,
     }))
+}
+
+#[tactic(auto, unfolding(crate::specs::CommandText::one_text))]
+fn list(alloc: Global, fields: &[u8]) -> Result<Option<Command>, AllocError>
+    ensures command { IfOk result (λ c. c ≡ one_text Command.List fields.now) }
+    ensures memory { OnErr result ((1 ≤ length fields.now) × IsSome (one_text Command.List fields.now)) }
+{
+    let after = only_text(alloc, fields)?;
+    Ok(after.map(|after| Command::List { after }))
+}
+
+#[tactic(auto, unfolding(crate::specs::CommandText::one_text))]
+fn files(alloc: Global, fields: &[u8]) -> Result<Option<Command>, AllocError>
+    ensures command { IfOk result (λ c. c ≡ one_text Command.Files fields.now) }
+    ensures memory { OnErr result ((1 ≤ length fields.now) × IsSome (one_text Command.Files fields.now)) }
+{
+    let snapshot = only_text(alloc, fields)?;
+    Ok(snapshot.map(|snapshot| Command::Files { snapshot }))
+}
+
+#[tactic(auto, unfolding(crate::specs::CommandText::one_text))]
+fn forget(alloc: Global, fields: &[u8]) -> Result<Option<Command>, AllocError>
+    ensures command { IfOk result (λ c. c ≡ one_text Command.Forget fields.now) }
+    ensures memory { OnErr result ((1 ≤ length fields.now) × IsSome (one_text Command.Forget fields.now)) }
+{
+    let snapshot = only_text(alloc, fields)?;
+    Ok(snapshot.map(|snapshot| Command::Forget { snapshot }))
+}
+
+#[tactic(auto, unfolding(crate::specs::CommandText::one_text))]
+fn group(alloc: Global, fields: &[u8]) -> Result<Option<Command>, AllocError>
+    ensures command { IfOk result (λ c. c ≡ one_text Command.Group fields.now) }
+    ensures memory { OnErr result ((1 ≤ length fields.now) × IsSome (one_text Command.Group fields.now)) }
+{
+    let group = only_text(alloc, fields)?;
+    Ok(group.map(|group| Command::Group { group }))
+}
+
+#[tactic(auto, unfolding(crate::specs::CommandText::prune))]
+fn prune(alloc: Global, fields: &[u8]) -> Result<Option<Command>, AllocError>
+    ensures command { IfOk result (λ c. c ≡ prune fields.now) }
+    ensures memory { OnErr result ((1 ≤ length fields.now) × IsSome (prune fields.now)) }
+{
+    let Some((group, rest)) = text_at(fields) else {
+        return Ok(None);
+    };
+    let Some((keep, rest)) = keep_at(rest) else {
+        return Ok(None);
+    };
+    let Some(dry) = whole(flag_at(rest)) else {
+        return Ok(None);
+    };
+    let group = copied(alloc, group)?;
+    Ok(Some(Command::Prune { group, keep, dry }))
+}
+
+/// The six counts of a prune.
+fn keep_at(bytes: &[u8]) -> Option<(Keep, &[u8])>
+    ensures { option_map (λ x. (x.0, x.1.now)) result ≡ keep_at bytes.now }
+{
+    let (last, rest) = u16_at(bytes)?;
+    let (hourly, rest) = u16_at(rest)?;
+    let (daily, rest) = u16_at(rest)?;
+    let (weekly, rest) = u16_at(rest)?;
+    let (monthly, rest) = u16_at(rest)?;
+    let (yearly, rest) = u16_at(rest)?;
+    let keep = Keep {
+        last,
+        hourly,
+        daily,
+        weekly,
+        monthly,
+        yearly,
+    };
+    Some((keep, rest))
+}
+
+fn with_keep(head: Head, keep: &Keep) -> Head
+    requires { length head ≤ 257 }
+    ensures { result ≡ head ++ keep_text keep.now }
+{
+    let head = head.u16(keep.last).u16(keep.hourly).u16(keep.daily);
+    head.u16(keep.weekly).u16(keep.monthly).u16(keep.yearly)
 }

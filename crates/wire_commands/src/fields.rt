@@ -45,6 +45,18 @@ pub fn digest_at(bytes: &[u8]) -> Option<(Digest32, &[u8])>
     Some((Digest32(*digest), rest))
 }
 
+/// A byte that is 0 or 1.
+pub fn flag_at(bytes: &[u8]) -> Option<(bool, &[u8])>
+    ensures { option_map (λ x. (x.0, x.1.now)) result ≡ spec.flag_at bytes.now }
+{
+    let (number, rest) = byte_at(bytes)?;
+    match number {
+        0 => Some((false, rest)),
+        1 => Some((true, rest)),
+        _ => None,
+    }
+}
+
 /// A text of at most 255 bytes behind its length.
 pub fn text_at(bytes: &[u8]) -> Option<(&[u8], &[u8])>
     ensures { option_map (λ x. (x.0.now, x.1.now)) result ≡ spec.text_at bytes.now }

@@ -7,8 +7,8 @@ use arrayvec::ArrayVec;
 use std::marker::Model;
 use store_types::Bytes;
 
-/// The longest head in bytes: a code, a text behind its length, and 16 bytes of numbers.
-const HEAD_LIMIT: usize = 273;
+/// The longest head in bytes: that of a file in a reply to FILES, with a text behind its length and 40 bytes more.
+const HEAD_LIMIT: usize = 296;
 
 /// The fields of small size. They lie in the value itself.
 #[derive(Drop)]
@@ -36,6 +36,15 @@ impl Head {
         Head { bytes }
     }
 
+    /// A text behind its length, and no code before it.
+    pub fn of_text(text: &Bytes) -> Head
+        requires { length text.now < 256 }
+        ensures { result ≡ spec.text text.now }
+    {
+        let text = text.as_slice();
+        Head::new(text.len() as u8).bytes(text)
+    }
+
     pub fn bytes(self, bytes: &[u8]) -> Head
         requires { length self + length bytes.now ≤ HEAD_LIMIT }
         ensures { result ≡ self ++ bytes.now }
@@ -50,6 +59,13 @@ impl Head {
         ensures { result ≡ self ++ byte ∷ [] }
     {
         self.bytes(&[byte])
+    }
+
+    pub fn flag(self, set: bool) -> Head
+        requires { length self < HEAD_LIMIT }
+        ensures { result ≡ self ++ spec.flag set }
+    {
+        self.byte(if set { 1 } else { 0 })
     }
 
     pub fn u16(self, number: u16) -> Head

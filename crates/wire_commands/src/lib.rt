@@ -3,7 +3,7 @@
 //! The body of a command is its code in one byte and its fields, and nothing else. The body of a
 //! reply is 0 and its fields, or the number of a refusal and the refusal's fields. A field is a
 //! number, unsigned and little-endian, a digest of 32 bytes, a text behind its length in one byte,
-//! entries behind their count in two bytes, or, as the last, all the bytes that are left.
+//! a flag of 0 or 1, values behind their count in one byte or two, or, as the last, all the bytes that are left.
 #![tactic(auto)]
 
 mod command;
@@ -11,11 +11,11 @@ mod entries;
 mod fields;
 mod head;
 pub mod laws;
+mod many;
 mod refusal;
 mod reply;
+mod rows;
 
 pub use command::{BadFrame, Command};
 pub use reply::Reply;
-
-#[cfg(test)]
-mod tests;
+pub use rows::{FileRow, ListRow, PruneMark, PruneRow};

@@ -4,16 +4,20 @@ ghost use Rattle.std.specs.Prelude.{◌≡◌, ◌≤◌, ◌++◌, length, is_o
 ghost use Rattle.port_traits.specs.Bytes.{Writes, WritesCounted};
 ghost use Rattle.port_traits.specs.Faults.{HasCause};
 ghost use Rattle.wire_frames.specs.Frames.{frame};
+ghost use Rattle.std.specs.List.{flat_map};
+ghost use Rattle.wire_commands.specs.Fields as spec;
 ghost use Rattle.wire_commands.specs.HasText.{FitsReply, ReplyHasText};
-ghost use Rattle.wire_commands.specs.ReplyText.{reply_text, reply_form};
+ghost use Rattle.wire_commands.specs.ReplyText.{reply_text, behind_head, reply_form};
 ghost use Rattle.wire_commands.specs.ReplyReading.{part_in, accepted, reply_from, reply_of};
 
-use crate::fields::{byte_at, copied, only_text, u64_at, whole};
-use crate::head::{Head, Spelling};
+use crate::fields::{byte_at, copied, only_text, u16_at, u64_at, whole};
+use crate::head::Head;
+use crate::many::{Row, put_rows, values_in};
 use crate::refusal;
+use crate::rows::{FileRow, ListRow, PruneRow};
 use port_traits::{Failed, Sink};
 use std::alloc::{AllocError, Global};
-use store_types::{Bytes, Refusal};
+use store_types::{Bytes, Refusal, Rows};
 use wire_frames::{BODY_LIMIT, put_frame_counted};
 
 /// A reply. Commands whose replies have one form share a variant.
@@ -29,6 +33,14 @@ pub enum Reply {
     Data(Bytes),
     /// The number of a new index, 0 to 15.
     Number(u8),
+    /// Snapshots.
+    Listing(Rows<ListRow>),
+    /// The files of a snapshot, in byte order of their names.
+    Files(Rows<FileRow>),
+    /// The texts of snapshots.
+    Keys(Rows<Bytes>),
+    /// The snapshots of a group, the newest first.
+    Marks(Rows<PruneRow>),
     /// The command was refused.
     Refused(Refusal),
 }
@@ -54,33 +66,41 @@ impl Reply {
     }
 
     /// Writes as `put` does, and adds how many bytes were written to a count, also where it fails.
+    #[tactic(auto, unfolding(crate::specs::ReplyText::reply_text))]
     pub fn put_counted<K: Sink>(&self, sink: &mut K, given: &mut u64) -> Result<(), Failed>
         requires { ReplyHasText self.now }
         ensures bytes { WritesCounted (K.taken sink.old) (K.taken sink.new) given.old given.new (frame (reply_text self.now)) (is_ok result) }
         ensures cause { HasCause (K.faults sink.old) (K.faults sink.new) result }
     {
-        let Spelling { head, rest } = self.spelling();
-        put_frame_counted(sink, head.as_slice(), rest, given)
+        let head = self.head();
+        match self {
+            Reply::Listing(rows) => put_rows(sink, &head, rows.as_slice(), given),
+            Reply::Files(rows) => put_rows(sink, &head, rows.as_slice(), given),
+            Reply::Keys(snapshots) => put_rows(sink, &head, snapshots.as_slice(), given),
+            Reply::Marks(rows) => put_rows(sink, &head, rows.as_slice(), given),
+            Reply::Part { bytes, .. } | Reply::Data(bytes) => {
+                put_frame_counted(sink, head.as_slice(), bytes.as_slice(), given)
+            }
+            _ => put_frame_counted(sink, head.as_slice(), &[], given),
+        }
     }
 
+    /// All before rows, or before a field that takes the rest.
     #[tactic(auto, unfolding(crate::specs::ReplyText::reply_text))]
-    fn spelling(&self) -> Spelling<'_>
+    fn head(&self) -> Head
         requires { FitsReply self.now }
-        ensures { result.head ++ result.rest.now ≡ reply_text self.now }
+        ensures { result ++ behind_head self.now ≡ reply_text self.now }
     {
         match self {
-            Reply::Done => Spelling::of(Head::new(0)),
-            Reply::Base { snapshot } => Spelling::of(Head::new(0).text(snapshot)),
-            Reply::Part { total, bytes } => Spelling {
-                head: Head::new(0).u64(*total),
-                rest: bytes.as_slice(),
-            },
-            Reply::Data(bytes) => Spelling {
-                head: Head::new(0),
-                rest: bytes.as_slice(),
-            },
-            Reply::Number(number) => Spelling::of(Head::new(0).byte(*number)),
-            Reply::Refused(refusal) => Spelling::of(refusal::head(refusal)),
+            Reply::Done | Reply::Data(_) => Head::new(0),
+            Reply::Base { snapshot } => Head::new(0).text(snapshot),
+            Reply::Part { total, .. } => Head::new(0).u64(*total),
+            Reply::Number(number) => Head::new(0).byte(*number),
+            Reply::Listing(rows) => Head::new(0).u16(rows.as_slice().len() as u16),
+            Reply::Files(rows) => Head::new(0).byte(rows.as_slice().len() as u8),
+            Reply::Keys(snapshots) => Head::new(0).u16(snapshots.as_slice().len() as u16),
+            Reply::Marks(rows) => Head::new(0).u16(rows.as_slice().len() as u16),
+            Reply::Refused(refusal) => refusal::head(refusal),
         }
     }
 }
@@ -129,7 +149,11 @@ fn accepted(alloc: Global, code: u8, fields: &[u8]) -> Result<Option<Reply>, All
         12 | 13 => Ok(whole(byte_at(fields)).map(Reply::Number)),
         11 | 21 => part(alloc, fields),
         22 | 23 => Ok(Some(Reply::Data(bytes_in(alloc, fields)?))),
-        14 | 15 | 16 | 17 | 18 | 19 | 20 | 24 | 63 if fields.is_empty() => Ok(Some(Reply::Done)),
+        30 => Ok(rows_in(alloc, fields)?.map(Reply::Listing)),
+        31 => Ok(few_rows_in(alloc, fields)?.map(Reply::Files)),
+        33 => Ok(rows_in(alloc, fields)?.map(Reply::Marks)),
+        40 => Ok(rows_in(alloc, fields)?.map(Reply::Keys)),
+        14..=20 | 24 | 32 | 63 if fields.is_empty() => Ok(Some(Reply::Done)),
         _ => Ok(None),
     }
 }
@@ -155,4 +179,26 @@ fn bytes_in(alloc: Global, bytes: &[u8]) -> Result<Bytes, AllocError>
         return Ok(Bytes::new(alloc));
     }
     copied(alloc, bytes)
+}
+
+/// Values that are all that follows their count of two bytes.
+fn rows_in<R: Row>(alloc: Global, fields: &[u8]) -> Result<Option<Rows<R>>, AllocError>
+    ensures rows { IfOk result (λ rows. rows ≡ spec.whole (spec.rows_at R.read fields.now)) }
+    ensures memory { OnErr result ((1 ≤ length fields.now) × IsSome (spec.whole (spec.rows_at R.read fields.now))) }
+{
+    let Some((count, rest)) = u16_at(fields) else {
+        return Ok(None);
+    };
+    values_in(alloc, count as usize, rest)
+}
+
+/// Values that are all that follows their count of one byte.
+fn few_rows_in<R: Row>(alloc: Global, fields: &[u8]) -> Result<Option<Rows<R>>, AllocError>
+    ensures rows { IfOk result (λ rows. rows ≡ spec.whole (spec.few_rows_at R.read fields.now)) }
+    ensures memory { OnErr result ((1 ≤ length fields.now) × IsSome (spec.whole (spec.few_rows_at R.read fields.now))) }
+{
+    let Some((count, rest)) = byte_at(fields) else {
+        return Ok(None);
+    };
+    values_in(alloc, count as usize, rest)
 }

@@ -24,6 +24,3 @@ pub fn frame_laws()
     ensures next { (t : Tail) → frames_of t ≡ frames_from t (cut t.bytes) frames_of }
     ensures pieces { (t : Tail) (pieces : List (List ℕ)) → frames_by_pieces t pieces ≡ frames_of (fed t (concat pieces)) }
 {}
-
-#[cfg(test)]
-mod tests;

@@ -1,5 +1,5 @@
 use Rattle.std.specs.Prelude.{slice_index_or}
-use Rattle.std.proofs.Common.{◌≡◌, ◌∙◌, ap, sym, subst, rules}
+use Rattle.std.proofs.Common.{◌≡◌, ◌∙◌, ap, sym, subst}
 use Rattle.store_history.specs.Acts.{stepping, wanting, ending, class_of}
 use Rattle.core_state.proofs.Answered.{short_stands}
 use Rattle.core_state.specs.Begins.{short}
@@ -16,8 +16,9 @@ use Rattle.core_uploads.proofs.OtherNames.{acts_stay, acts_unmoved}
 use Rattle.core_writer.proofs.ListedLemmas.{refused_lists}
 use Rattle.core_writer.specs.Closed.{Lists}
 use Rattle.core_writer.specs.Ended.{HasEnded}
-use Rattle.shared_store.proofs.Asking.{are_readers, are_writers, readers_step, writers_ask, readers_ask, writers_need, readers_end, readers_list, short_closes, end_closes}
+use Rattle.shared_store.proofs.Asking.{are_readers, are_writers, readers_step, writers_ask, readers_ask, writers_need, readers_end, readers_list, short_closes, end_closes, are_admins, admins_step, admins_ask, admins_need, admins_end, admins_close, readers_not_admins, is_step}
 use Rattle.shared_store.proofs.Damages.{tells_whole, end_tells_whole}
+use Rattle.shared_store.proofs.Leaving.{act_leaves, read_leaves, taken_leaves, no_admins, none_firmly}
 use Rattle.shared_store.specs.Asked.{asked}
 use Rattle.core_reader.specs.Damages.{needed}
 use Rattle.core_state.proofs.Unreadables.{tells_no_file}
@@ -52,9 +53,9 @@ returns-then-is_readers-clause-cause g c =
     let step = readers_step c.args.act (are_readers c.args.act (sym c.is_readers.ensures ∙ c.if-is_readers.true)) in
     no_end_caused g.D.Disk.faults _ _ c.args.act _ (λ e. steps (sym step ∙ e)) c.reader_act.ensures.cause
 
-pub returns-in-Plain-clause-cause : goal.returns-in-Plain-clause-cause
-returns-in-Plain-clause-cause g c =
-    let step : class_of c.args.act ≡ stepping = search rules in
+pub returns-in_default-clause-cause : goal.returns-in_default-clause-cause
+returns-in_default-clause-cause g c =
+    let step : class_of c.args.act ≡ stepping = is_step c.args.act c.in_default.not-Short c.in_default.not-End in
     no_end_caused g.D.Disk.faults _ _ c.args.act _ (λ e. steps (sym step ∙ e)) c.writer_act.ensures.cause
 
 pub returns-in-Short-clause-unreadable : goal.returns-in-Short-clause-unreadable
@@ -71,17 +72,17 @@ returns-then-is_readers-clause-unreadable g c = let d = g.D.Disk in
     subst (λ a. TellsUnreadable d.honest d.content old.disk a (c.reader_act.result.entry).kind c.reader_act.result.reply)
     (sym (readers_ask c.args.act (slice_index_or old.sessions.items c.args.lane Idle) old.catalogue.items reads)) c.reader_act.ensures.unreadable
 
-pub returns-in-Plain-clause-unreadable : goal.returns-in-Plain-clause-unreadable
-returns-in-Plain-clause-unreadable g c = let d = g.D.Disk in
+pub returns-in_default-clause-unreadable : goal.returns-in_default-clause-unreadable
+returns-in_default-clause-unreadable g c = let d = g.D.Disk in
     let old = (c.args.core.now).parts in
-    let writes = are_writers c.args.act c.requires.formed (search rules) (sym c.is_readers.ensures ∙ c.if-is_readers.false) in
+    let writes = are_writers c.args.act c.requires.formed (is_step c.args.act c.in_default.not-Short c.in_default.not-End) (sym c.is_readers.ensures ∙ c.if-is_readers.false) (sym c.is_admins.ensures ∙ c.if-is_admins.false) in
     subst (λ a. TellsUnreadable d.honest d.content old.disk a (c.writer_act.result.entry).kind c.writer_act.result.reply)
     (sym (writers_ask c.args.act (slice_index_or old.sessions.items c.args.lane Idle) old.catalogue.items writes)) c.writer_act.ensures.unreadable
 
-pub returns-in-Plain-clause-damaged : goal.returns-in-Plain-clause-damaged
-returns-in-Plain-clause-damaged g c = let d = g.D.Disk in
+pub returns-in_default-clause-damaged : goal.returns-in_default-clause-damaged
+returns-in_default-clause-damaged g c = let d = g.D.Disk in
     let old = (c.args.core.now).parts in
-    let writes = are_writers c.args.act c.requires.formed (search rules) (sym c.is_readers.ensures ∙ c.if-is_readers.false) in
+    let writes = are_writers c.args.act c.requires.formed (is_step c.args.act c.in_default.not-Short c.in_default.not-End) (sym c.is_readers.ensures ∙ c.if-is_readers.false) (sym c.is_admins.ensures ∙ c.if-is_admins.false) in
     let none = writers_need c.args.act (slice_index_or old.sessions.items c.args.lane Idle) old.catalogue.items writes in
     tells_whole d.honest d.content d.faults _ _ old.disk _ c.args.act _ c.writer_act.ensures.cause none.0 none.1
 
@@ -103,11 +104,13 @@ returns-in-Short-clause-unchanged g c = let d = g.D.Disk in short_unchanged d.ho
 
 pub returns-in-Short-clause-others : goal.returns-in-Short-clause-others
 returns-in-Short-clause-others g c = let d = g.D.Disk in
-    acts_unmoved d.honest d.content _ _ c.args.lane c.args.act _ (refused_parts d.calls g.C.Clock.readings _ _ c.args.lane _ (short c.short.ensures))
+    act_leaves d.honest d.content (c.args.core.now).parts (c.short.new.core).parts c.args.lane c.args.act _
+    (acts_unmoved d.honest d.content (c.args.core.now).parts (c.short.new.core).parts c.args.lane c.args.act _ (refused_parts d.calls g.C.Clock.readings _ _ c.args.lane _ (short c.short.ensures)))
 
 pub returns-in-End-clause-others : goal.returns-in-End-clause-others
 returns-in-End-clause-others g c = let d = g.D.Disk in
-    acts_stay d.honest d.content (c.args.core.now).parts (c.end_act.new.core).parts c.args.lane c.args.act _ c.end_act.ensures.others
+    act_leaves d.honest d.content (c.args.core.now).parts (c.end_act.new.core).parts c.args.lane c.args.act _
+    (acts_stay d.honest d.content (c.args.core.now).parts (c.end_act.new.core).parts c.args.lane c.args.act _ c.end_act.ensures.others)
 
 pub returns-then-is_readers-clause-listed : goal.returns-then-is_readers-clause-listed
 returns-then-is_readers-clause-listed g c =
@@ -148,9 +151,9 @@ returns-then-is_readers-clause-records g c = let d = g.D.Disk in
     λ h. records_more d.calls d.faults g.C.Clock.readings _ _ c.args.lane c.args.act _ h c.reader_act.ensures.answers c.reader_act.ensures.timely
     (step_kind d.faults _ _ c.args.act _ step c.reader_act.ensures.cause) (tells_reply d.faults _ _ c.args.act _ c.reader_act.ensures.cause c.reader_act.ensures.answers.text)
 
-pub returns-in-Plain-clause-records : goal.returns-in-Plain-clause-records
-returns-in-Plain-clause-records g c = let d = g.D.Disk in
-    let step : class_of c.args.act ≡ stepping = search rules in
+pub returns-in_default-clause-records : goal.returns-in_default-clause-records
+returns-in_default-clause-records g c = let d = g.D.Disk in
+    let step : class_of c.args.act ≡ stepping = is_step c.args.act c.in_default.not-Short c.in_default.not-End in
     λ h. records_more d.calls d.faults g.C.Clock.readings _ _ c.args.lane c.args.act _ h c.writer_act.ensures.answers c.writer_act.ensures.timely
     (step_kind d.faults _ _ c.args.act _ step c.writer_act.ensures.cause) (tells_reply d.faults _ _ c.args.act _ c.writer_act.ensures.cause c.writer_act.ensures.answers.text)
 
@@ -174,4 +177,116 @@ pub returns-then-is_readers-clause-removed : goal.returns-then-is_readers-clause
 returns-then-is_readers-clause-removed g c = λ ended. absurd (readers_end c.args.act c.reader_act.result (are_readers c.args.act (sym c.is_readers.ensures ∙ c.if-is_readers.true)) ended)
 
 pub writer_act-requires-clause-kind : goal.writer_act-requires-clause-kind
-writer_act-requires-clause-kind g c = are_writers c.args.act c.requires.formed (search rules) (sym c.is_readers.ensures ∙ c.if-is_readers.false)
+writer_act-requires-clause-kind g c = are_writers c.args.act c.requires.formed (is_step c.args.act c.in_default.not-Short c.in_default.not-End) (sym c.is_readers.ensures ∙ c.if-is_readers.false) (sym c.is_admins.ensures ∙ c.if-is_admins.false)
+
+-- ---- names that are not the act's own
+
+pub returns-then-is_readers-clause-others : goal.returns-then-is_readers-clause-others
+returns-then-is_readers-clause-others g c = let d = g.D.Disk in
+    read_leaves d.honest d.content (c.args.core.now).parts (c.reader_act.new.core).parts c.args.lane c.args.act _ c.reader_act.ensures.content
+
+pub returns-then-is_admins-clause-others : goal.returns-then-is_admins-clause-others
+returns-then-is_admins-clause-others g c = let d = g.D.Disk in
+    taken_leaves d.honest d.content (c.args.core.now).parts (c.admin_act.new.core).parts c.args.lane c.args.act _ c.admin_act.ensures.taken
+
+pub returns-in_default-clause-others : goal.returns-in_default-clause-others
+returns-in_default-clause-others g c = let d = g.D.Disk in
+    act_leaves d.honest d.content (c.args.core.now).parts (c.writer_act.new.core).parts c.args.lane c.args.act _ c.writer_act.ensures.others
+
+-- ---- what only acts on the store as a whole do
+
+pub returns-then-is_readers-clause-taken : goal.returns-then-is_readers-clause-taken
+returns-then-is_readers-clause-taken g c = no_admins c.args.act (readers_not_admins c.args.act (sym c.is_readers.ensures ∙ c.if-is_readers.true))
+
+pub returns-then-is_admins-clause-taken : goal.returns-then-is_admins-clause-taken
+returns-then-is_admins-clause-taken g c = λ _. c.admin_act.ensures.taken
+
+pub returns-in-Short-clause-taken : goal.returns-in-Short-clause-taken
+returns-in-Short-clause-taken g c = no_admins c.args.act (sym c.is_admins.ensures ∙ c.if-is_admins.false)
+
+pub returns-in-End-clause-taken : goal.returns-in-End-clause-taken
+returns-in-End-clause-taken g c = no_admins c.args.act (sym c.is_admins.ensures ∙ c.if-is_admins.false)
+
+pub returns-in_default-clause-taken : goal.returns-in_default-clause-taken
+returns-in_default-clause-taken g c = no_admins c.args.act (sym c.is_admins.ensures ∙ c.if-is_admins.false)
+
+pub returns-then-is_readers-clause-crash : goal.returns-then-is_readers-clause-crash
+returns-then-is_readers-clause-crash g c = no_admins c.args.act (readers_not_admins c.args.act (sym c.is_readers.ensures ∙ c.if-is_readers.true))
+
+pub returns-then-is_admins-clause-crash : goal.returns-then-is_admins-clause-crash
+returns-then-is_admins-clause-crash g c = λ _. c.admin_act.ensures.crash
+
+pub returns-in-Short-clause-crash : goal.returns-in-Short-clause-crash
+returns-in-Short-clause-crash g c = no_admins c.args.act (sym c.is_admins.ensures ∙ c.if-is_admins.false)
+
+pub returns-in-End-clause-crash : goal.returns-in-End-clause-crash
+returns-in-End-clause-crash g c = no_admins c.args.act (sym c.is_admins.ensures ∙ c.if-is_admins.false)
+
+pub returns-in_default-clause-crash : goal.returns-in_default-clause-crash
+returns-in_default-clause-crash g c = no_admins c.args.act (sym c.is_admins.ensures ∙ c.if-is_admins.false)
+
+pub returns-then-is_readers-clause-admin : goal.returns-then-is_readers-clause-admin
+returns-then-is_readers-clause-admin g c = no_admins c.args.act (readers_not_admins c.args.act (sym c.is_readers.ensures ∙ c.if-is_readers.true))
+
+pub returns-then-is_admins-clause-admin : goal.returns-then-is_admins-clause-admin
+returns-then-is_admins-clause-admin g c = λ _. (c.admin_act.ensures.sessions, c.admin_act.ensures.locks)
+
+pub returns-in-Short-clause-admin : goal.returns-in-Short-clause-admin
+returns-in-Short-clause-admin g c = no_admins c.args.act (sym c.is_admins.ensures ∙ c.if-is_admins.false)
+
+pub returns-in-End-clause-admin : goal.returns-in-End-clause-admin
+returns-in-End-clause-admin g c = no_admins c.args.act (sym c.is_admins.ensures ∙ c.if-is_admins.false)
+
+pub returns-in_default-clause-admin : goal.returns-in_default-clause-admin
+returns-in_default-clause-admin g c = no_admins c.args.act (sym c.is_admins.ensures ∙ c.if-is_admins.false)
+
+pub returns-then-is_readers-clause-firm : goal.returns-then-is_readers-clause-firm
+returns-then-is_readers-clause-firm g c = let d = g.D.Disk in
+    none_firmly d.content d.calls d.images _ _ c.args.act _ _ (readers_not_admins c.args.act (sym c.is_readers.ensures ∙ c.if-is_readers.true))
+
+pub returns-in-Short-clause-firm : goal.returns-in-Short-clause-firm
+returns-in-Short-clause-firm g c = let d = g.D.Disk in none_firmly d.content d.calls d.images _ _ c.args.act _ _ (sym c.is_admins.ensures ∙ c.if-is_admins.false)
+
+pub returns-in-End-clause-firm : goal.returns-in-End-clause-firm
+returns-in-End-clause-firm g c = let d = g.D.Disk in none_firmly d.content d.calls d.images _ _ c.args.act _ _ (sym c.is_admins.ensures ∙ c.if-is_admins.false)
+
+pub returns-in_default-clause-firm : goal.returns-in_default-clause-firm
+returns-in_default-clause-firm g c = let d = g.D.Disk in none_firmly d.content d.calls d.images _ _ c.args.act _ _ (sym c.is_admins.ensures ∙ c.if-is_admins.false)
+
+-- ---- acts on the store as a whole
+
+pub admin_act-requires-clause-kind : goal.admin_act-requires-clause-kind
+admin_act-requires-clause-kind g c = are_admins c.args.act c.requires.formed (sym c.is_admins.ensures ∙ c.if-is_admins.true)
+
+pub returns-then-is_admins-clause-cause : goal.returns-then-is_admins-clause-cause
+returns-then-is_admins-clause-cause g c =
+    let step = admins_step c.args.act (are_admins c.args.act c.requires.formed (sym c.is_admins.ensures ∙ c.if-is_admins.true)) in
+    no_end_caused g.D.Disk.faults _ _ c.args.act _ (λ e. steps (sym step ∙ e)) c.admin_act.ensures.cause
+
+pub returns-then-is_admins-clause-unreadable : goal.returns-then-is_admins-clause-unreadable
+returns-then-is_admins-clause-unreadable g c = let d = g.D.Disk in
+    let old = (c.args.core.now).parts in
+    let is = are_admins c.args.act c.requires.formed (sym c.is_admins.ensures ∙ c.if-is_admins.true) in
+    subst (λ a. TellsUnreadable d.honest d.content old.disk a (c.admin_act.result.entry).kind c.admin_act.result.reply)
+    (sym (admins_ask c.args.act (slice_index_or old.sessions.items c.args.lane Idle) old.catalogue.items is)) c.admin_act.ensures.unreadable
+
+pub returns-then-is_admins-clause-damaged : goal.returns-then-is_admins-clause-damaged
+returns-then-is_admins-clause-damaged g c = let d = g.D.Disk in
+    let old = (c.args.core.now).parts in
+    let is = are_admins c.args.act c.requires.formed (sym c.is_admins.ensures ∙ c.if-is_admins.true) in
+    let none = admins_need c.args.act (slice_index_or old.sessions.items c.args.lane Idle) old.catalogue.items is in
+    tells_whole d.honest d.content d.faults _ _ old.disk _ c.args.act _ c.admin_act.ensures.cause none.0 none.1
+
+pub returns-then-is_admins-clause-removed : goal.returns-then-is_admins-clause-removed
+returns-then-is_admins-clause-removed g c = λ ended.
+    absurd (admins_end c.args.act c.admin_act.result (are_admins c.args.act c.requires.formed (sym c.is_admins.ensures ∙ c.if-is_admins.true)) ended)
+
+pub returns-then-is_admins-clause-memory : goal.returns-then-is_admins-clause-memory
+returns-then-is_admins-clause-memory g c = λ closing.
+    absurd (admins_close _ c.args.act _ (are_admins c.args.act c.requires.formed (sym c.is_admins.ensures ∙ c.if-is_admins.true)) closing)
+
+pub returns-then-is_admins-clause-records : goal.returns-then-is_admins-clause-records
+returns-then-is_admins-clause-records g c = let d = g.D.Disk in
+    let step = admins_step c.args.act (are_admins c.args.act c.requires.formed (sym c.is_admins.ensures ∙ c.if-is_admins.true)) in
+    λ h. records_more d.calls d.faults g.C.Clock.readings _ _ c.args.lane c.args.act _ h c.admin_act.ensures.answers c.admin_act.ensures.timely
+    (step_kind d.faults _ _ c.args.act _ step c.admin_act.ensures.cause) (tells_reply d.faults _ _ c.args.act _ c.admin_act.ensures.cause c.admin_act.ensures.answers.text)

@@ -19,14 +19,14 @@ returns-in_default-clause-act g c = let d = g.D.Disk in λ m s h.
     let old = c.args.parts.now in
     let one = at_lane old.sessions.items s c.args.lane c.index.result.now (h.shows).sessions ((h.shows).sound).lanes c.requires c.index.ensures in
     let two = at_lane old.sessions.items s c.args.lane c.index-in_default.result.now (h.shows).sessions ((h.shows).sound).lanes c.requires c.index-in_default.ensures in
-    does_refused d.honest d.content old _ s _ _ refl refl refl
+    does_refused d.honest d.content old _ s _ _ refl refl refl refl
     (get_busy s c.args.lane m c.args.digest.now c.index-in_default.result.now two (λ r e. c.in_default.not-Reader r (one ∙ sym two ∙ e)) ∙ ap (λ x. Err (WrongState x)) (sym c.state.ensures)) h
 
 pub returns-in_default-clause-text : goal.returns-in_default-clause-text
 returns-in_default-clause-text g c = wrong_state_has_text c.state.result
 
 pub returns-in_default-clause-unchanged : goal.returns-in_default-clause-unchanged
-returns-in_default-clause-unchanged g c = let d = g.D.Disk in leaves_same d.honest d.content c.args.parts.now _ _ refl (record { catalogue = refl; sessions = refl })
+returns-in_default-clause-unchanged g c = let d = g.D.Disk in leaves_same d.honest d.content c.args.parts.now _ _ refl (record { catalogue = refl; sessions = refl; locks = refl })
 
 pub returns-in_default-clause-damaged : goal.returns-in_default-clause-damaged
 returns-in_default-clause-damaged g c = let d = g.D.Disk in
@@ -42,13 +42,13 @@ returns-then-not-allowed-clause-act g c = let d = g.D.Disk in λ m s h.
     let r = reader_found s c.args.lane c.index.result.now c.in-Reader.reader one c.in-Reader.is in
     let no : c.allowed.result ≡ false = search rules in
     let none = no_some (piece_with c.args.digest.now (noted_pieces (reader_files s r.0) r.0)) (sym (c.allowed.ensures.plain (reader_files s r.0) r.0 (sym r.2)) ∙ no) in
-    does_refused d.honest d.content old _ s _ NotAllowed refl refl refl (get_none s c.args.lane m c.args.digest.now r.0 r.1 none) h
+    does_refused d.honest d.content old _ s _ NotAllowed refl refl refl refl (get_none s c.args.lane m c.args.digest.now r.0 r.1 none) h
 
 pub returns-then-not-allowed-clause-text : goal.returns-then-not-allowed-clause-text
 returns-then-not-allowed-clause-text g c = not_allowed_has_text
 
 pub returns-then-not-allowed-clause-unchanged : goal.returns-then-not-allowed-clause-unchanged
-returns-then-not-allowed-clause-unchanged g c = let d = g.D.Disk in leaves_same d.honest d.content c.args.parts.now _ NotAllowed refl (record { catalogue = refl; sessions = refl })
+returns-then-not-allowed-clause-unchanged g c = let d = g.D.Disk in leaves_same d.honest d.content c.args.parts.now _ NotAllowed refl (record { catalogue = refl; sessions = refl; locks = refl })
 
 pub returns-in-Ok-clause-act : goal.returns-in-Ok-clause-act
 returns-in-Ok-clause-act g c = let d = g.D.Disk in λ m s h.
@@ -61,7 +61,7 @@ returns-in-Ok-clause-act g c = let d = g.D.Disk in λ m s h.
     let same = subst (λ told. MatchResult told (λ chunk. chunk ≡ p.0) (λ _. ⊥)) c.in-Ok.is (c.in_ok-chunk.ensures.held h.honest p.0 held.0 held.1) in
     does_ok d.honest d.content _ s s _ _
     (get_piece s c.args.lane m c.args.digest.now r.0 p.0 r.1 p.1 ∙ ap (λ q. Ok (s, Data (Rattle.blob_codec.specs.Blob.blob q))) (sym same) ∙ ap (λ b. Ok (s, Data b)) (sym (c.from_vec.ensures ∙ c.into_blob.ensures)))
-    (holds_same d.honest d.content old _ s c.read_chunk.ensures.serves.kept c.read_chunk.ensures.same refl refl h)
+    (holds_same d.honest d.content old _ s c.read_chunk.ensures.serves.kept c.read_chunk.ensures.same refl refl refl h)
 
 pub returns-in-Ok-clause-text : goal.returns-in-Ok-clause-text
 returns-in-Ok-clause-text g c =

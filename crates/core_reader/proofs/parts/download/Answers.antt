@@ -34,7 +34,7 @@ returns-in_default-clause-act g c = let d = g.D.Disk in λ m s h.
     let old = c.args.parts.now in
     let one = at_lane old.sessions.items s c.args.lane c.index.result.now (h.shows).sessions ((h.shows).sound).lanes c.requires c.index.ensures in
     let two = at_lane old.sessions.items s c.args.lane c.index-in_default.result.now (h.shows).sessions ((h.shows).sound).lanes c.requires c.index-in_default.ensures in
-    does_refused d.honest d.content old _ s _ _ refl refl refl
+    does_refused d.honest d.content old _ s _ _ refl refl refl refl
     (down_busy s c.args.lane m c.args.file.now c.args.offset c.index-in_default.result.now two (λ r e. c.in_default.not-Reader r (one ∙ sym two ∙ e)) ∙ ap (λ x. Err (WrongState x)) (sym c.state.ensures)) h
 
 pub returns-in_default-2-clause-act : goal.returns-in_default-2-clause-act
@@ -43,7 +43,7 @@ returns-in_default-2-clause-act g c = let d = g.D.Disk in λ m s h.
     let one = at_lane old.sessions.items s c.args.lane c.index.result.now (h.shows).sessions ((h.shows).sound).lanes c.requires c.index.ensures in
     let r = reader_found s c.args.lane c.index.result.now c.in-Reader.reader one c.in-Reader.is in
     let bad : is_file_name c.args.file.now ≡ false = search rules in
-    does_refused d.honest d.content old _ s _ BadName refl refl refl (down_bad s c.args.lane m c.args.file.now c.args.offset r.0 r.1 bad) h
+    does_refused d.honest d.content old _ s _ BadName refl refl refl refl (down_bad s c.args.lane m c.args.file.now c.args.offset r.0 r.1 bad) h
 
 pub returns-in_default-path_in_snapshot-clause-act : goal.returns-in_default-path_in_snapshot-clause-act
 returns-in_default-path_in_snapshot-clause-act g c = let d = g.D.Disk in λ m s h.
@@ -52,7 +52,7 @@ returns-in_default-path_in_snapshot-clause-act g c = let d = g.D.Disk in λ m s 
     let r = reader_found s c.args.lane c.index.result.now c.in-Reader.reader one c.in-Reader.is in
     let good : is_file_name c.args.file.now ≡ true = search rules in
     let missing : path_in c.in-Reader.reader.key c.args.file.now old.catalogue.items ≡ None = search rules in
-    does_refused d.honest d.content old _ s _ NoFile refl refl refl
+    does_refused d.honest d.content old _ s _ NoFile refl refl refl refl
     (down_missing s c.args.lane m c.args.file.now c.args.offset r.0 r.1 good
     (not_there c.args.file.now old.catalogue.items s.snapshots (r.0).key (h.shows).catalogue (ap (λ x. path_in x.key c.args.file.now old.catalogue.items) r.2 ∙ missing))) h
 
@@ -70,7 +70,7 @@ returns-in_default-whole_index-clause-act g c = let d = g.D.Disk in λ m s h.
     let whole : whole_for c.in-Reader.reader c.args.file.now ≡ None = ap (whole_for c.in-Reader.reader) (sym named) ∙ sym c.whole_index.ensures ∙ none in
     does_read d.honest d.content old _ s c.args.lane m c.args.file.now c.in-Some.path.now c.args.offset r.0 r.1 good h found c.in_ok-part.part c.reply_of.result c.reply_of.ensures (ap (λ x. whole_for x c.args.file.now) r.2 ∙ whole)
     (λ t at. c.in_ok-part.ensures.part t h.honest (ap (get (d.content old.disk)) path ∙ at))
-    c.read_part.ensures.serves.kept c.read_part.ensures.same refl refl
+    c.read_part.ensures.serves.kept c.read_part.ensures.same refl refl refl
 
 pub returns-in-Err-clause-act : goal.returns-in-Err-clause-act
 returns-in-Err-clause-act g c = let d = g.D.Disk in λ m s h.
@@ -86,7 +86,7 @@ returns-in-Err-clause-act g c = let d = g.D.Disk in λ m s h.
     let tells = subst (TellsIndex (index_at (d.content old.disk) c.as_str-2.result.now c.in-Some-whole_index.is_fixed c.args.offset)) c.in-Err.is (c.in_ok-index.ensures.exact h.honest) in
     does_refused_index d.honest d.content old _ s c.args.lane m c.args.file.now c.in-Some.path.now c.args.offset r.0 r.1 good h found c.in-Err.refusal c.in-Some-whole_index.is_fixed (ap (λ x. whole_for x c.args.file.now) r.2 ∙ whole)
     (ap (λ q. index_at (d.content old.disk) q c.in-Some-whole_index.is_fixed c.args.offset) (sym path) ∙ tells)
-    c.read_index.ensures.serves.kept c.read_index.ensures.same refl refl
+    c.read_index.ensures.serves.kept c.read_index.ensures.same refl refl refl
 
 pub returns-clause-act : goal.returns-clause-act
 returns-clause-act g c = let d = g.D.Disk in λ m s h.
@@ -107,7 +107,7 @@ returns-clause-act g c = let d = g.D.Disk in λ m s h.
     (ap (λ q. index_at (d.content old.disk) q c.in-Some-whole_index.is_fixed c.args.offset) (sym path) ∙ tells)
     (λ a. subst (λ n. content_at (files_named (r.0).key s.snapshots) n ≡ Some (archive a) → ends_of index.entries.items ≡ ends_from 0 a.pieces → c.note.new.session ≡ shown_session s.snapshots (reader (note n (archive a) r.0))) named
     (λ at ends. c.in_ok-note.ensures.plain s.snapshots r.0 a (two ∙ ap (shown_session s.snapshots) r.1) at (ap ends_of c.deref-2.ensures.value ∙ ends)))
-    c.read_index.ensures.serves.kept c.read_index.ensures.same refl refl
+    c.read_index.ensures.serves.kept c.read_index.ensures.same refl refl refl
 
 -- ---- texts
 
@@ -126,22 +126,22 @@ returns-in_default-whole_index-clause-text g c = told_has_text c.in_ok-part.part
 -- ---- what is refused changes nothing
 
 pub returns-in_default-clause-unchanged : goal.returns-in_default-clause-unchanged
-returns-in_default-clause-unchanged g c = let d = g.D.Disk in leaves_same d.honest d.content c.args.parts.now _ _ refl (record { catalogue = refl; sessions = refl })
+returns-in_default-clause-unchanged g c = let d = g.D.Disk in leaves_same d.honest d.content c.args.parts.now _ _ refl (record { catalogue = refl; sessions = refl; locks = refl })
 
 pub returns-in_default-2-clause-unchanged : goal.returns-in_default-2-clause-unchanged
-returns-in_default-2-clause-unchanged g c = let d = g.D.Disk in leaves_same d.honest d.content c.args.parts.now _ BadName refl (record { catalogue = refl; sessions = refl })
+returns-in_default-2-clause-unchanged g c = let d = g.D.Disk in leaves_same d.honest d.content c.args.parts.now _ BadName refl (record { catalogue = refl; sessions = refl; locks = refl })
 
 pub returns-in_default-path_in_snapshot-clause-unchanged : goal.returns-in_default-path_in_snapshot-clause-unchanged
-returns-in_default-path_in_snapshot-clause-unchanged g c = let d = g.D.Disk in leaves_same d.honest d.content c.args.parts.now _ NoFile refl (record { catalogue = refl; sessions = refl })
+returns-in_default-path_in_snapshot-clause-unchanged g c = let d = g.D.Disk in leaves_same d.honest d.content c.args.parts.now _ NoFile refl (record { catalogue = refl; sessions = refl; locks = refl })
 
 pub returns-in_default-whole_index-clause-unchanged : goal.returns-in_default-whole_index-clause-unchanged
 returns-in_default-whole_index-clause-unchanged g c = let d = g.D.Disk in
-    told_unchanged d.honest d.content c.args.parts.now _ c.as_str.result.now c.in_ok-part.part c.reply_of.result c.reply_of.ensures c.in_ok-part.ensures.kind c.read_part.ensures.same (record { catalogue = refl; sessions = refl })
+    told_unchanged d.honest d.content c.args.parts.now _ c.as_str.result.now c.in_ok-part.part c.reply_of.result c.reply_of.ensures c.in_ok-part.ensures.kind c.read_part.ensures.same (record { catalogue = refl; sessions = refl; locks = refl })
 
 pub returns-in-Err-clause-unchanged : goal.returns-in-Err-clause-unchanged
 returns-in-Err-clause-unchanged g c = let d = g.D.Disk in
     leaves_read d.honest d.content c.args.parts.now _ c.in-Err.refusal
-    (refusal_called c.as_str-2.result.now c.in-Err.refusal (subst (λ t. IsPartOf c.as_str-2.result.now (part_told t)) c.in-Err.is c.in_ok-index.ensures.kind)) c.read_index.ensures.same (record { catalogue = refl; sessions = refl })
+    (refusal_called c.as_str-2.result.now c.in-Err.refusal (subst (λ t. IsPartOf c.as_str-2.result.now (part_told t)) c.in-Err.is c.in_ok-index.ensures.kind)) c.read_index.ensures.same (record { catalogue = refl; sessions = refl; locks = refl })
 
 pub returns-clause-unchanged : goal.returns-clause-unchanged
 returns-clause-unchanged g c = let d = g.D.Disk in

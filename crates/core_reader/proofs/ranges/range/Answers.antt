@@ -33,7 +33,7 @@ returns-in_default-clause-act g c = let d = g.D.Disk in λ m s h.
     let old = c.args.parts.now in
     let one = at_lane old.sessions.items s c.args.lane c.index.result.now (h.shows).sessions ((h.shows).sound).lanes c.requires c.index.ensures in
     let two = at_lane old.sessions.items s c.args.lane c.index-in_default.result.now (h.shows).sessions ((h.shows).sound).lanes c.requires c.index-in_default.ensures in
-    does_refused d.honest d.content old _ s _ _ refl refl refl
+    does_refused d.honest d.content old _ s _ _ refl refl refl refl
     (range_busy s c.args.lane m c.args.file.now c.args.offset c.args.length c.index-in_default.result.now two (λ r e. c.in_default.not-Reader r (one ∙ sym two ∙ e)) ∙ ap (λ x. Err (WrongState x)) (sym c.state.ensures)) h
 
 pub returns-in_default-2-clause-act : goal.returns-in_default-2-clause-act
@@ -42,7 +42,7 @@ returns-in_default-2-clause-act g c = let d = g.D.Disk in λ m s h.
     let one = at_lane old.sessions.items s c.args.lane c.index.result.now (h.shows).sessions ((h.shows).sound).lanes c.requires c.index.ensures in
     let r = reader_found s c.args.lane c.index.result.now c.in-Reader.reader one c.in-Reader.is in
     let bad : is_index_name c.args.file.now ≡ false = search rules in
-    does_refused d.honest d.content old _ s _ BadName refl refl refl (range_bad s c.args.lane m c.args.file.now c.args.offset c.args.length r.0 r.1 bad) h
+    does_refused d.honest d.content old _ s _ BadName refl refl refl refl (range_bad s c.args.lane m c.args.file.now c.args.offset c.args.length r.0 r.1 bad) h
 
 pub returns-then-not-has_file-clause-act : goal.returns-then-not-has_file-clause-act
 returns-then-not-has_file-clause-act g c = let d = g.D.Disk in λ m s h.
@@ -56,7 +56,7 @@ returns-then-not-has_file-clause-act g c = let d = g.D.Disk in λ m s h.
     ∙ ap (λ n. is_some (path_in c.in-Reader.reader.key n old.catalogue.items)) named in
     let no : c.has_file.result ≡ false = search rules in
     let missing = no_some (path_in c.in-Reader.reader.key c.args.file.now old.catalogue.items) (sym has ∙ no) in
-    does_refused d.honest d.content old _ s _ NoFile refl refl refl
+    does_refused d.honest d.content old _ s _ NoFile refl refl refl refl
     (range_missing s c.args.lane m c.args.file.now c.args.offset c.args.length r.0 r.1 good
     (not_there c.args.file.now old.catalogue.items s.snapshots (r.0).key (h.shows).catalogue (ap (λ x. path_in x.key c.args.file.now old.catalogue.items) r.2 ∙ missing))) h
 
@@ -80,7 +80,7 @@ returns-in-Err-clause-act g c = let d = g.D.Disk in λ m s h.
     let path = some_is _ some in
     let there = is_there c.args.file.now old.catalogue.items s.snapshots (r.0).key path.0 (h.shows).catalogue (ap (λ x. path_in x.key c.args.file.now old.catalogue.items) r.2 ∙ path.1) in
     let told = subst (TellsPlainly (λ parts. parts.items) (pieces_at (reader_files s r.0) c.in-Some.name) (range_of (reader_files s r.0) r.0 c.in-Some.name c.args.offset c.args.length)) c.in-Err.is (c.in_ok-plan.ensures.plain (reader_files s r.0) r.0 (sym r.2)) in
-    does_refused_as d.honest d.content old _ s _ c.in-Err.refusal _ c.refused_plan.ensures.value refl refl refl
+    does_refused_as d.honest d.content old _ s _ c.in-Err.refusal _ c.refused_plan.ensures.value refl refl refl refl
     (range_told s c.args.lane m c.args.file.now c.args.offset c.args.length r.0 there.file (Err c.in-Err.refusal) r.1 good (there_named s.snapshots (r.0).key c.args.file.now path.0 there)
     (ap (λ n. range_of (reader_files s r.0) r.0 n c.args.offset c.args.length) (sym named) ∙ told)) h
 
@@ -109,7 +109,7 @@ returns-in-Ok-2-clause-act g c = let d = g.D.Disk in λ m s h.
     (range_told s c.args.lane m c.args.file.now c.args.offset c.args.length r.0 there.file (Ok told.bytes) r.1 good (there_named s.snapshots (r.0).key c.args.file.now path.0 there)
     (ap (λ n. range_of (reader_files s r.0) r.0 n c.args.offset c.args.length) (sym named) ∙ told.stepped)
     ∙ ap (λ b. Ok (s, Data b)) (sym (c.from_vec.ensures ∙ same ∙ ap (λ p. joined p (drop reads.first pieces)) plan ∙ reads.same)))
-    (holds_same d.honest d.content old _ s c.read_parts.ensures.serves.kept c.read_parts.ensures.same refl refl h)
+    (holds_same d.honest d.content old _ s c.read_parts.ensures.serves.kept c.read_parts.ensures.same refl refl refl h)
 
 pub returns-clause-act : goal.returns-clause-act
 returns-clause-act g c = let d = g.D.Disk in λ m s h.
@@ -150,22 +150,22 @@ returns-in-Ok-2-clause-text g c =
 -- ---- what is refused changes nothing
 
 pub returns-in_default-clause-unchanged : goal.returns-in_default-clause-unchanged
-returns-in_default-clause-unchanged g c = let d = g.D.Disk in leaves_same d.honest d.content c.args.parts.now _ _ refl (record { catalogue = refl; sessions = refl })
+returns-in_default-clause-unchanged g c = let d = g.D.Disk in leaves_same d.honest d.content c.args.parts.now _ _ refl (record { catalogue = refl; sessions = refl; locks = refl })
 
 pub returns-in_default-2-clause-unchanged : goal.returns-in_default-2-clause-unchanged
-returns-in_default-2-clause-unchanged g c = let d = g.D.Disk in leaves_same d.honest d.content c.args.parts.now _ BadName refl (record { catalogue = refl; sessions = refl })
+returns-in_default-2-clause-unchanged g c = let d = g.D.Disk in leaves_same d.honest d.content c.args.parts.now _ BadName refl (record { catalogue = refl; sessions = refl; locks = refl })
 
 pub returns-then-not-has_file-clause-unchanged : goal.returns-then-not-has_file-clause-unchanged
-returns-then-not-has_file-clause-unchanged g c = let d = g.D.Disk in leaves_same d.honest d.content c.args.parts.now _ NoFile refl (record { catalogue = refl; sessions = refl })
+returns-then-not-has_file-clause-unchanged g c = let d = g.D.Disk in leaves_same d.honest d.content c.args.parts.now _ NoFile refl (record { catalogue = refl; sessions = refl; locks = refl })
 
 pub returns-in-Err-clause-unchanged : goal.returns-in-Err-clause-unchanged
 returns-in-Err-clause-unchanged g c = let d = g.D.Disk in
-    unchanged_as d.honest d.content c.args.parts.now _ c.in-Err.refusal _ c.refused_plan.ensures.value (leaves_same d.honest d.content c.args.parts.now _ c.in-Err.refusal refl (record { catalogue = refl; sessions = refl }))
+    unchanged_as d.honest d.content c.args.parts.now _ c.in-Err.refusal _ c.refused_plan.ensures.value (leaves_same d.honest d.content c.args.parts.now _ c.in-Err.refusal refl (record { catalogue = refl; sessions = refl; locks = refl }))
 
 pub returns-clause-unchanged : goal.returns-clause-unchanged
 returns-clause-unchanged g c = let d = g.D.Disk in
     let damage = subst (λ t. IfErr t (IsDamageAmong (digests_of c.deref-2.result.now))) c.in-Err-2.is c.in_ok-bytes.ensures.named in
-    leaves_read d.honest d.content c.args.parts.now _ c.in-Err-2.refusal (damage_called damage.0 c.in-Err-2.refusal damage.2) c.read_parts.ensures.same (record { catalogue = refl; sessions = refl })
+    leaves_read d.honest d.content c.args.parts.now _ c.in-Err-2.refusal (damage_called damage.0 c.in-Err-2.refusal damage.2) c.read_parts.ensures.same (record { catalogue = refl; sessions = refl; locks = refl })
 
 -- ---- what may be answered
 

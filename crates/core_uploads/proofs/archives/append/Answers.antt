@@ -13,4 +13,4 @@ returns-clause-act g c = let d = g.D.Disk in λ moment s h.
     let old = c.args.parts.now in
     let here = at_lane old.sessions.items s c.args.lane c.index_mut-session.result.now (h.shows).sessions ((h.shows).sound).lanes c.requires c.index_mut-session.ensures.value in
     does_append d.honest d.content old _ s c.args.lane moment c.args.number c.args.entries.now c.index_mut-session.result.now c.append_to.new.session c.in_ok-append_to.field-0
-    c.requires c.index_mut-session.ensures.value here refl refl refl c.in_ok-append_to.ensures.refused c.in_ok-append_to.ensures.plain h
+    c.requires c.index_mut-session.ensures.value here refl refl refl refl c.in_ok-append_to.ensures.refused c.in_ok-append_to.ensures.plain h

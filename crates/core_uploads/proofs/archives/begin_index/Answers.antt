@@ -1,6 +1,6 @@
 use Rattle.std.proofs.Common.{◌≡◌, ◌∙◌, inl, inr, false, ap, refl, sym, subst, arith, rules, Err}
 use Rattle.store_types.specs.FileNames.{is_file_name}
-use Rattle.store_types.specs.declared.refusal.Refusal.TheVariants.{WrongState, BadName}
+use Rattle.store_types.specs.declared.refusal.Refusal.TheVariants.{BadName}
 use Rattle.wire_commands.specs.declared.reply.Reply.TheVariants.{Refused}
 use Rattle.backup_session.specs.Answers.{TellsPlainly}
 use Rattle.backup_session.specs.Session.{settled}

@@ -37,14 +37,14 @@ returns-in_default-clause-answers g c = ap refuses_closing c.wrong_state.ensures
 pub returns-in_default-clause-unchanged : goal.returns-in_default-clause-unchanged
 returns-in_default-clause-unchanged g c = let d = g.D.Disk in
     let same = found_stays c.args.parts.now.sessions.items c.args.lane c.index_mut-session.result.now c.index_mut-session.ensures.value in
-    leaves_same d.honest d.content c.args.parts.now _ c.wrong_state.result refl (record { catalogue = refl; sessions = same })
+    leaves_same d.honest d.content c.args.parts.now _ c.wrong_state.result refl (record { catalogue = refl; sessions = same; locks = refl })
 
 pub returns-in_default-clause-act : goal.returns-in_default-clause-act
 returns-in_default-clause-act g c = let d = g.D.Disk in λ moment s h.
     let old = c.args.parts.now in
     let same = found_stays old.sessions.items c.args.lane c.index_mut-session.result.now c.index_mut-session.ensures.value in
     let here = at_lane old.sessions.items s c.args.lane c.index_mut-session.result.now (h.shows).sessions ((h.shows).sound).lanes c.requires c.index_mut-session.ensures.value in
-    does_refused d.honest d.content old _ s _ c.wrong_state.result refl refl same
+    does_refused d.honest d.content old _ s _ c.wrong_state.result refl refl same refl
     (not_writing s c.args.lane moment c.args.number c.args.count c.args.size c.args.csum.now c.index_mut-session.result.now here c.in_default.not-Writer ∙ ap (λ r. Err r) (sym c.wrong_state.ensures.value)) h
 
 -- ---- no index of the number is open
@@ -60,7 +60,7 @@ returns-in_default-index_name-clause-act g c = let d = g.D.Disk in λ moment s h
     let here = at_lane old.sessions.items s c.args.lane c.index_mut-session.result.now (h.shows).sessions ((h.shows).sound).lanes c.requires c.index_mut-session.ensures.value in
     let f = writer_found s c.args.lane c.index_mut-session.result.now w here c.in-Writer.is in
     let none : option_map (λ b. b.name) (rows.begun_at c.args.number (w.session).writer) ≡ None = search rules in
-    does_refused d.honest d.content old _ s _ NoFile refl refl same (none_at s c.args.lane moment c.args.number c.args.count c.args.size c.args.csum.now f.0 w f.1 f.2 none) h
+    does_refused d.honest d.content old _ s _ NoFile refl refl same refl (none_at s c.args.lane moment c.args.number c.args.count c.args.size c.args.csum.now f.0 w f.1 f.2 none) h
 
 -- ---- memory is wanting
 
@@ -70,7 +70,7 @@ returns-in_err-file-clause-act g c = let d = g.D.Disk in λ moment s h.
     let w = c.in-Writer.w in
     let same = restored old.sessions.items c.args.lane c.index_mut-session.result.now w w.session w.files c.index_mut-session.ensures.value c.in-Writer.is refl refl in
     let is : c.from_residual.result ≡ Err NoMemory = search rules in
-    does_not d.honest d.content old _ s (outcome s c.args.lane moment (CloseIndex c.args.number c.args.count c.args.size c.args.csum.now)) NoMemory c.from_residual.result is ((λ x. x), (λ x. x)) (λ _ _. refl) refl same h
+    does_not d.honest d.content old _ s (outcome s c.args.lane moment (CloseIndex c.args.number c.args.count c.args.size c.args.csum.now)) NoMemory c.from_residual.result is ((λ x. x), (λ x. x)) (λ _ _. refl) refl same refl h
 
 pub close_index-requires : goal.close_index-requires
 close_index-requires g c =
@@ -91,7 +91,7 @@ returns-in_err-text-clause-unchanged g c = let d = g.D.Disk in
     let w = c.in-Writer.w in
     let same = restored old.sessions.items c.args.lane c.index_mut-session.result.now w c.close_index.new.self w.files c.index_mut-session.ensures.value c.in-Writer.is c.in_err-text.ensures.does refl in
     let is : c.from_residual-in_err-text.result ≡ Err NoMemory = search rules in
-    stopped d.honest d.content old _ _ NoMemory is (record { catalogue = refl; sessions = same }) (λ _ _. refl)
+    stopped d.honest d.content old _ _ NoMemory is (record { catalogue = refl; sessions = same; locks = refl }) (λ _ _. refl)
 
 pub returns-in_err-text-clause-act : goal.returns-in_err-text-clause-act
 returns-in_err-text-clause-act g c = let d = g.D.Disk in λ moment s h.
@@ -99,7 +99,7 @@ returns-in_err-text-clause-act g c = let d = g.D.Disk in λ moment s h.
     let w = c.in-Writer.w in
     let same = restored old.sessions.items c.args.lane c.index_mut-session.result.now w c.close_index.new.self w.files c.index_mut-session.ensures.value c.in-Writer.is c.in_err-text.ensures.does refl in
     let is : c.from_residual-in_err-text.result ≡ Err NoMemory = search rules in
-    does_not d.honest d.content old _ s (outcome s c.args.lane moment (CloseIndex c.args.number c.args.count c.args.size c.args.csum.now)) NoMemory c.from_residual-in_err-text.result is ((λ x. x), (λ x. x)) (λ _ _. refl) refl same h
+    does_not d.honest d.content old _ s (outcome s c.args.lane moment (CloseIndex c.args.number c.args.count c.args.size c.args.csum.now)) NoMemory c.from_residual-in_err-text.result is ((λ x. x), (λ x. x)) (λ _ _. refl) refl same refl h
 
 -- ---- what was given is wrong
 
@@ -129,7 +129,7 @@ returns-in-Err-clause-unchanged g c = let d = g.D.Disk in
     let w = c.in-Writer.w in
     let told = told_refusal (λ text. text.items) (held (w.session).writer) c.close_index.new.self w.session (rows.close_index (w.session).writer c.args.number c.args.count c.args.size c.args.csum.now) c.in_ok-text.field-0 c.in-Err.refusal c.in-Err.is c.in_ok-text.ensures.does in
     let same = restored old.sessions.items c.args.lane c.index_mut-session.result.now w c.close_index.new.self w.files c.index_mut-session.ensures.value c.in-Writer.is told.1 refl in
-    subst (Unchanged d.honest d.content old _) (sym c.refused_closing.ensures.value) (leaves_same d.honest d.content old _ c.in-Err.refusal refl (record { catalogue = refl; sessions = same }))
+    subst (Unchanged d.honest d.content old _) (sym c.refused_closing.ensures.value) (leaves_same d.honest d.content old _ c.in-Err.refusal refl (record { catalogue = refl; sessions = same; locks = refl }))
 
 pub returns-in-Err-clause-act : goal.returns-in-Err-clause-act
 returns-in-Err-clause-act g c = let d = g.D.Disk in λ moment s h.
@@ -141,7 +141,7 @@ returns-in-Err-clause-act g c = let d = g.D.Disk in λ moment s h.
     let f = writer_found s c.args.lane c.index_mut-session.result.now w here c.in-Writer.is in
     let step = refused_plainly (λ text. text.items) (held (w.session).writer) c.close_index.new.self (calls.close_index f.0 c.args.number c.args.count c.args.size c.args.csum.now) c.in_ok-text.field-0 c.in-Err.refusal c.in-Err.is
     (c.in_ok-text.ensures.plain f.0 (shows_found s c.args.lane f.0 w (h.shows).sound f.1 f.2)) in
-    let does = does_refused d.honest d.content old _ s _ c.in-Err.refusal refl refl same (refused s c.args.lane moment c.args.number c.args.count c.args.size c.args.csum.now f.0 c.in-Err.refusal f.1 step) h in
+    let does = does_refused d.honest d.content old _ s _ c.in-Err.refusal refl refl same refl (refused s c.args.lane moment c.args.number c.args.count c.args.size c.args.csum.now f.0 c.in-Err.refusal f.1 step) h in
     (c.refused_closing.ensures.value ∙ does.0, does.1)
 
 -- ---- the file
@@ -171,7 +171,7 @@ returns-in_err-keep_file-clause-unchanged g c = let d = g.D.Disk in
     let back = given_up w.session c.close_index.new.self c.keep_file.new.session settled (ap (λ x. x.writer) leaves.left) c.in_err-keep_file.ensures.back in
     let same = restored old.sessions.items c.args.lane c.index_mut-session.result.now w c.keep_file.new.session c.keep_file.new.files c.index_mut-session.ensures.value c.in-Writer.is back c.in_err-keep_file.ensures.err in
     let is : c.from_residual-in_err-keep_file.result ≡ Err c.in_err-keep_file.field-0.0 = search rules in
-    stopped d.honest d.content old _ _ c.in_err-keep_file.field-0.0 is (record { catalogue = refl; sessions = same }) (λ e. c.in_err-keep_file.ensures.unchanged (ap (λ x. Err x) e))
+    stopped d.honest d.content old _ _ c.in_err-keep_file.field-0.0 is (record { catalogue = refl; sessions = same; locks = refl }) (λ e. c.in_err-keep_file.ensures.unchanged (ap (λ x. Err x) e))
 
 pub returns-in_err-keep_file-clause-act : goal.returns-in_err-keep_file-clause-act
 returns-in_err-keep_file-clause-act g c = let d = g.D.Disk in λ moment s h.
@@ -184,7 +184,7 @@ returns-in_err-keep_file-clause-act g c = let d = g.D.Disk in λ moment s h.
     let same = restored old.sessions.items c.args.lane c.index_mut-session.result.now w c.keep_file.new.session c.keep_file.new.files c.index_mut-session.ensures.value c.in-Writer.is back c.in_err-keep_file.ensures.err in
     let is : c.from_residual-in_err-keep_file.result ≡ Err c.in_err-keep_file.field-0.0 = search rules in
     does_not d.honest d.content old _ s (outcome s c.args.lane moment (CloseIndex c.args.number c.args.count c.args.size c.args.csum.now)) c.in_err-keep_file.field-0.0 c.from_residual-in_err-keep_file.result is
-    c.keep_file.ensures.serves.kept (λ e. c.in_err-keep_file.ensures.unchanged (ap (λ x. Err x) e)) refl same h
+    c.keep_file.ensures.serves.kept (λ e. c.in_err-keep_file.ensures.unchanged (ap (λ x. Err x) e)) refl same refl h
 
 pub returns-clause-text : goal.returns-clause-text
 returns-clause-text g c = done_has_text
@@ -210,4 +210,4 @@ returns-clause-act g c = let d = g.D.Disk in λ moment s h.
     (c.in_ok-text.ensures.plain f.0 (shows_found s c.args.lane f.0 w (h.shows).sound f.1 f.2)) in
     does_close d.honest d.content old _ s c.args.lane moment c.args.number c.args.count c.args.size c.args.csum.now f.0 w c.in_ok-file.file c.key.result.now c.in-Some.name.now c.close_index.new.self c.keep_file.new.session c.keep_file.new.files c.in-Ok.text.items c.requires
     f.1 f.2 named leaves c.key.ensures.key c.in_ok-file.ensures.name c.in_ok-file.ensures.path c.in_ok-keep_file.ensures.kept c.in_ok-keep_file.ensures.ok
-    c.keep_file.ensures.serves.kept (λ honest. c.in_ok-keep_file.ensures.put honest ∙ ap (λ t. with_put c.in_ok-file.file t (d.content old.disk)) text) refl refl h
+    c.keep_file.ensures.serves.kept (λ honest. c.in_ok-keep_file.ensures.put honest ∙ ap (λ t. with_put c.in_ok-file.file t (d.content old.disk)) text) refl refl refl h

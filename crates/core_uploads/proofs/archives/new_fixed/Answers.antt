@@ -12,5 +12,5 @@ invariant_of-parts-clause-named g c =
 
 pub returns-clause-act : goal.returns-clause-act
 returns-clause-act g c = let d = g.D.Disk in λ s h.
-    does_step d.honest d.content c.args.parts.now _ c.args.lane c.index_mut-session.result.now c.begin_index.new.session c.index_mut-session.ensures.value refl refl refl
+    does_step d.honest d.content c.args.parts.now _ c.args.lane c.index_mut-session.result.now c.begin_index.new.session c.index_mut-session.ensures.value refl refl refl refl
     s (λ t lane. outcome t lane c.args.moment (NewFixed c.args.name.now c.args.size c.args.chunk_size)) c.in_ok-begin_index.field-0 c.requires.lane c.in_ok-begin_index.ensures.steps h

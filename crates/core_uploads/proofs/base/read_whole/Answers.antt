@@ -1,4 +1,4 @@
-use Rattle.std.proofs.Common.{◌≡◌, IsTrue, sym, subst, rules}
+use Rattle.std.proofs.Common.{IsTrue, sym, subst, rules}
 use Rattle.store_files.specs.DynamicIndex.{steps_fit}
 use Rattle.restore_reader.specs.Session.{FitsIndex, ends_of}
 use Rattle.stored_files.proofs.Archives.{lengths_fit}

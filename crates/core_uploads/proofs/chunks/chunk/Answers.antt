@@ -16,7 +16,7 @@ pub returns-in_default-clause-act : goal.returns-in_default-clause-act
 returns-in_default-clause-act g c = let d = g.D.Disk in λ may s h.
     let old = c.args.parts.now in
     let here = at_lane old.sessions.items s c.args.lane c.index-session.result.now (h.shows).sessions ((h.shows).sound).lanes c.requires.lane c.index-session.ensures in
-    does_refused d.honest d.content old _ s _ c.wrong_state.result refl refl refl
+    does_refused d.honest d.content old _ s _ c.wrong_state.result refl refl refl refl
     (not_writing s c.args.lane (data_in c.args.checked) c.index-session.result.now here c.in_default.not-Writer ∙ ap (λ r. Err r) (sym c.wrong_state.ensures.value)) h
 
 pub returns-in-Err-clause-act : goal.returns-in-Err-clause-act
@@ -24,7 +24,7 @@ returns-in-Err-clause-act g c = let d = g.D.Disk in λ may s h.
     let old = c.args.parts.now in
     let here = at_lane old.sessions.items s c.args.lane c.index-session.result.now (h.shows).sessions ((h.shows).sound).lanes c.requires.lane c.index-session.ensures in
     let f = writer_found s c.args.lane c.index-session.result.now c.in-Writer.w here c.in-Writer.is in
-    let does = does_refused d.honest d.content old _ s _ c.in-Err.refusal refl refl refl
+    let does = does_refused d.honest d.content old _ s _ c.in-Err.refusal refl refl refl refl
     (unchecked s c.args.lane (data_in c.args.checked) f.0 c.in-Err.refusal f.1 (ap data_in c.in-Err.is)) h in
     (c.refused.ensures.value ∙ does.0, does.1)
 
@@ -37,7 +37,7 @@ returns-then-knows-clause-act g c = let d = g.D.Disk in λ may s h.
     let here = at_lane old.sessions.items s c.args.lane c.index-session.result.now (h.shows).sessions ((h.shows).sound).lanes c.requires.lane c.index-session.ensures in
     let f = writer_found s c.args.lane c.index-session.result.now c.in-Writer.w here c.in-Writer.is in
     does_known d.honest d.content old _ s c.args.lane f.0 c.in-Writer.w c.index-session.result.now c.args.digest.now c.args.checked c.in-Ok.bytes c.knows.result
-    c.requires.lane f.1 f.2 c.index-session.ensures c.in-Writer.is c.in-Ok.is c.requires.checked c.knows.ensures.value c.if-knows.true may refl refl refl h
+    c.requires.lane f.1 f.2 c.index-session.ensures c.in-Writer.is c.in-Ok.is c.requires.checked c.knows.ensures.value c.if-knows.true may refl refl refl refl h
 
 pub take_chunk-requires-clause-checked : goal.take_chunk-requires-clause-checked
 take_chunk-requires-clause-checked g c =
@@ -72,4 +72,4 @@ returns-clause-act g c = let d = g.D.Disk in λ may s h.
     let again = found_again old.sessions.items c.args.lane c.index-session.result.now c.index_mut.result.now within c.index-session.ensures c.index_mut.ensures.value in
     does_taken d.honest d.content old _ s c.args.lane f.0 c.in-Writer.w c.index_mut.result.now c.take_chunk.new.session c.args.digest.now c.args.checked c.as_slice.result.now
     c.requires.lane f.1 f.2 (again ∙ c.in-Writer.is) c.in_ok-take_chunk.ensures.ok c.take_chunk.ensures.bytes (c.in-Ok.is ∙ ap (λ b. Ok b) (sym c.as_slice.ensures)) c.requires.checked
-    c.take_chunk.ensures.serves.kept c.in_ok-take_chunk.ensures.put refl refl may h
+    c.take_chunk.ensures.serves.kept c.in_ok-take_chunk.ensures.put refl refl refl may h

@@ -41,14 +41,14 @@ returns-in_default-clause-answers g c = ap refuses_blob c.wrong_state.ensures.va
 pub returns-in_default-clause-unchanged : goal.returns-in_default-clause-unchanged
 returns-in_default-clause-unchanged g c = let d = g.D.Disk in
     let same = found_stays c.args.parts.now.sessions.items c.args.lane c.index_mut-session.result.now c.index_mut-session.ensures.value in
-    leaves_same d.honest d.content c.args.parts.now _ c.wrong_state.result refl (record { catalogue = refl; sessions = same })
+    leaves_same d.honest d.content c.args.parts.now _ c.wrong_state.result refl (record { catalogue = refl; sessions = same; locks = refl })
 
 pub returns-in_default-clause-act : goal.returns-in_default-clause-act
 returns-in_default-clause-act g c = let d = g.D.Disk in λ s h.
     let old = c.args.parts.now in
     let same = found_stays old.sessions.items c.args.lane c.index_mut-session.result.now c.index_mut-session.ensures.value in
     let here = at_lane old.sessions.items s c.args.lane c.index_mut-session.result.now (h.shows).sessions ((h.shows).sound).lanes c.requires.lane c.index_mut-session.ensures.value in
-    does_refused d.honest d.content old _ s _ c.wrong_state.result refl refl same
+    does_refused d.honest d.content old _ s _ c.wrong_state.result refl refl same refl
     (not_writing s c.args.lane c.args.name.now (data_in c.args.checked) c.index_mut-session.result.now here c.in_default.not-Writer ∙ ap (λ r. Err r) (sym c.wrong_state.ensures.value)) h
 
 -- ---- the name is no file's
@@ -64,7 +64,7 @@ returns-in_default-2-clause-act g c = let d = g.D.Disk in λ s h.
     let here = at_lane old.sessions.items s c.args.lane c.index_mut-session.result.now (h.shows).sessions ((h.shows).sound).lanes c.requires.lane c.index_mut-session.ensures.value in
     let f = writer_found s c.args.lane c.index_mut-session.result.now w here c.in-Writer.is in
     let bad : is_file_name c.args.name.now ≡ false = search rules in
-    does_refused d.honest d.content old _ s _ BadName refl refl same (bad_name s c.args.lane c.args.name.now (data_in c.args.checked) f.0 f.1 bad) h
+    does_refused d.honest d.content old _ s _ BadName refl refl same refl (bad_name s c.args.lane c.args.name.now (data_in c.args.checked) f.0 f.1 bad) h
 
 -- ---- the name is not taken
 
@@ -95,7 +95,7 @@ pub returns-in-Err-clause-unchanged : goal.returns-in-Err-clause-unchanged
 returns-in-Err-clause-unchanged g c = let d = g.D.Disk in
     let w = c.in-Writer.w in
     let same = restored c.args.parts.now.sessions.items c.args.lane c.index_mut-session.result.now w w.session w.files c.index_mut-session.ensures.value c.in-Writer.is refl refl in
-    leaves_same d.honest d.content c.args.parts.now _ c.in-Err.refusal refl (record { catalogue = refl; sessions = same })
+    leaves_same d.honest d.content c.args.parts.now _ c.in-Err.refusal refl (record { catalogue = refl; sessions = same; locks = refl })
 
 pub returns-in-Err-clause-act : goal.returns-in-Err-clause-act
 returns-in-Err-clause-act g c = let d = g.D.Disk in λ s h.
@@ -106,7 +106,7 @@ returns-in-Err-clause-act g c = let d = g.D.Disk in λ s h.
     let f = writer_found s c.args.lane c.index_mut-session.result.now w here c.in-Writer.is in
     let name : c.in-Ok.name ≡ c.args.name.now = search rules in
     let told = c.want_blob.ensures.plain f.0 (shows_found s c.args.lane f.0 w (h.shows).sound f.1 f.2) in
-    does_refused d.honest d.content old _ s _ c.in-Err.refusal refl refl same
+    does_refused d.honest d.content old _ s _ c.in-Err.refusal refl refl same refl
     (refused s c.args.lane c.args.name.now (data_in c.args.checked) f.0 c.in-Err.refusal f.1 (ap (λ n. takes_blob n f.0) (sym name) ∙ sym told ∙ c.in-Err.is)) h
 
 -- ---- the upload is no blob
@@ -122,7 +122,7 @@ pub returns-in-Err-checked-clause-unchanged : goal.returns-in-Err-checked-clause
 returns-in-Err-checked-clause-unchanged g c = let d = g.D.Disk in
     let w = c.in-Writer.w in
     let same = restored c.args.parts.now.sessions.items c.args.lane c.index_mut-session.result.now w w.session w.files c.index_mut-session.ensures.value c.in-Writer.is refl refl in
-    subst (Unchanged d.honest d.content c.args.parts.now _) (sym c.refused.ensures.value) (leaves_same d.honest d.content c.args.parts.now _ c.in-Err-checked.refusal refl (record { catalogue = refl; sessions = same }))
+    subst (Unchanged d.honest d.content c.args.parts.now _) (sym c.refused.ensures.value) (leaves_same d.honest d.content c.args.parts.now _ c.in-Err-checked.refusal refl (record { catalogue = refl; sessions = same; locks = refl }))
 
 pub returns-in-Err-checked-clause-act : goal.returns-in-Err-checked-clause-act
 returns-in-Err-checked-clause-act g c = let d = g.D.Disk in λ s h.
@@ -133,7 +133,7 @@ returns-in-Err-checked-clause-act g c = let d = g.D.Disk in λ s h.
     let f = writer_found s c.args.lane c.index_mut-session.result.now w here c.in-Writer.is in
     let name : c.in-Ok.name ≡ c.args.name.now = search rules in
     let told = c.want_blob.ensures.plain f.0 (shows_found s c.args.lane f.0 w (h.shows).sound f.1 f.2) in
-    let does = does_refused d.honest d.content old _ s _ c.in-Err-checked.refusal refl refl same
+    let does = does_refused d.honest d.content old _ s _ c.in-Err-checked.refusal refl refl same refl
     (unchecked s c.args.lane c.args.name.now (data_in c.args.checked) f.0 c.in-Err-checked.refusal f.1 (ap (λ n. takes_blob n f.0) (sym name) ∙ sym told ∙ c.in_default-want_blob.is) (ap data_in c.in-Err-checked.is)) h in
     (c.refused.ensures.value ∙ does.0, does.1)
 
@@ -151,14 +151,14 @@ returns-in_err-file-clause-unchanged g c = let d = g.D.Disk in
     let w = c.in-Writer.w in
     let same = restored c.args.parts.now.sessions.items c.args.lane c.index_mut-session.result.now w w.session w.files c.index_mut-session.ensures.value c.in-Writer.is refl refl in
     let is : c.from_residual-in_err-file.result ≡ Err NoMemory = search rules in
-    stopped d.honest d.content c.args.parts.now _ _ NoMemory is (record { catalogue = refl; sessions = same }) (λ _ _. refl)
+    stopped d.honest d.content c.args.parts.now _ _ NoMemory is (record { catalogue = refl; sessions = same; locks = refl }) (λ _ _. refl)
 
 pub returns-in_err-file-clause-act : goal.returns-in_err-file-clause-act
 returns-in_err-file-clause-act g c = let d = g.D.Disk in λ s h.
     let w = c.in-Writer.w in
     let same = restored c.args.parts.now.sessions.items c.args.lane c.index_mut-session.result.now w w.session w.files c.index_mut-session.ensures.value c.in-Writer.is refl refl in
     let is : c.from_residual-in_err-file.result ≡ Err NoMemory = search rules in
-    does_not d.honest d.content c.args.parts.now _ s (checked_blob s c.args.lane c.args.name.now (data_in c.args.checked)) NoMemory c.from_residual-in_err-file.result is ((λ x. x), (λ x. x)) (λ _ _. refl) refl same h
+    does_not d.honest d.content c.args.parts.now _ s (checked_blob s c.args.lane c.args.name.now (data_in c.args.checked)) NoMemory c.from_residual-in_err-file.result is ((λ x. x), (λ x. x)) (λ _ _. refl) refl same refl h
 
 pub blob-requires-clause-blob : goal.blob-requires-clause-blob
 blob-requires-clause-blob g c =
@@ -182,14 +182,14 @@ returns-in_err-refusal-clause-unchanged g c = let d = g.D.Disk in
     let w = c.in-Writer.w in
     let same = restored c.args.parts.now.sessions.items c.args.lane c.index_mut-session.result.now w c.blob.new.self w.files c.index_mut-session.ensures.value c.in-Writer.is c.in_err-refusal.ensures.does refl in
     let is : c.from_residual-in_err-refusal.result ≡ Err NoMemory = search rules in
-    stopped d.honest d.content c.args.parts.now _ _ NoMemory is (record { catalogue = refl; sessions = same }) (λ _ _. refl)
+    stopped d.honest d.content c.args.parts.now _ _ NoMemory is (record { catalogue = refl; sessions = same; locks = refl }) (λ _ _. refl)
 
 pub returns-in_err-refusal-clause-act : goal.returns-in_err-refusal-clause-act
 returns-in_err-refusal-clause-act g c = let d = g.D.Disk in λ s h.
     let w = c.in-Writer.w in
     let same = restored c.args.parts.now.sessions.items c.args.lane c.index_mut-session.result.now w c.blob.new.self w.files c.index_mut-session.ensures.value c.in-Writer.is c.in_err-refusal.ensures.does refl in
     let is : c.from_residual-in_err-refusal.result ≡ Err NoMemory = search rules in
-    does_not d.honest d.content c.args.parts.now _ s (checked_blob s c.args.lane c.args.name.now (data_in c.args.checked)) NoMemory c.from_residual-in_err-refusal.result is ((λ x. x), (λ x. x)) (λ _ _. refl) refl same h
+    does_not d.honest d.content c.args.parts.now _ s (checked_blob s c.args.lane c.args.name.now (data_in c.args.checked)) NoMemory c.from_residual-in_err-refusal.result is ((λ x. x), (λ x. x)) (λ _ _. refl) refl same refl h
 
 -- ---- the session does not refuse what it was asked before
 
@@ -234,7 +234,7 @@ returns-in_err-keep_file-clause-unchanged g c = let d = g.D.Disk in
     let back = given_up w.session c.blob.new.self c.keep_file.new.session settled (ap (λ x. x.writer) leaves.left) c.in_err-keep_file.ensures.back in
     let same = restored old.sessions.items c.args.lane c.index_mut-session.result.now w c.keep_file.new.session c.keep_file.new.files c.index_mut-session.ensures.value c.in-Writer.is back c.in_err-keep_file.ensures.err in
     let is : c.from_residual-in_err-keep_file.result ≡ Err c.in_err-keep_file.field-0.0 = search rules in
-    stopped d.honest d.content old _ _ c.in_err-keep_file.field-0.0 is (record { catalogue = refl; sessions = same }) (λ e. c.in_err-keep_file.ensures.unchanged (ap (λ x. Err x) e))
+    stopped d.honest d.content old _ _ c.in_err-keep_file.field-0.0 is (record { catalogue = refl; sessions = same; locks = refl }) (λ e. c.in_err-keep_file.ensures.unchanged (ap (λ x. Err x) e))
 
 pub returns-in_err-keep_file-clause-act : goal.returns-in_err-keep_file-clause-act
 returns-in_err-keep_file-clause-act g c = let d = g.D.Disk in λ s h.
@@ -247,7 +247,7 @@ returns-in_err-keep_file-clause-act g c = let d = g.D.Disk in λ s h.
     let same = restored old.sessions.items c.args.lane c.index_mut-session.result.now w c.keep_file.new.session c.keep_file.new.files c.index_mut-session.ensures.value c.in-Writer.is back c.in_err-keep_file.ensures.err in
     let is : c.from_residual-in_err-keep_file.result ≡ Err c.in_err-keep_file.field-0.0 = search rules in
     does_not d.honest d.content old _ s (checked_blob s c.args.lane c.args.name.now (data_in c.args.checked)) c.in_err-keep_file.field-0.0 c.from_residual-in_err-keep_file.result is
-    c.keep_file.ensures.serves.kept (λ e. c.in_err-keep_file.ensures.unchanged (ap (λ x. Err x) e)) refl same h
+    c.keep_file.ensures.serves.kept (λ e. c.in_err-keep_file.ensures.unchanged (ap (λ x. Err x) e)) refl same refl h
 
 pub returns-clause-text : goal.returns-clause-text
 returns-clause-text g c = done_has_text
@@ -273,4 +273,4 @@ returns-clause-act g c = let d = g.D.Disk in λ s h.
     f.1 f.2 name c.requires.checked (c.in-Ok-checked.is ∙ ap (λ t. Ok t) (sym c.bytes_of-bytes.ensures.value)) c.bytes_of-bytes.ensures.bytes (sym told ∙ c.in_default-want_blob.is)
     (λ p is x shows. told_plainly (λ u. u) (held (w.session).writer) c.blob.new.self (calls.put_data x c.in-Ok.name p) c.in_ok-refusal.field-0 c.in_default-3.field-0 c.in_default-3.is (c.in_ok-refusal.ensures.plain p is x shows))
     c.key.ensures.key c.in_ok-file.ensures.name c.in_ok-file.ensures.path c.in_ok-keep_file.ensures.kept c.in_ok-keep_file.ensures.ok
-    c.keep_file.ensures.serves.kept c.in_ok-keep_file.ensures.put refl refl h
+    c.keep_file.ensures.serves.kept c.in_ok-keep_file.ensures.put refl refl refl h

@@ -30,10 +30,10 @@ returns-then-is_some-clause-history g c = let d = g.D.Disk in λ h s.
     let b = c.begin_end-moment.ensures.begun c.args.lane in
     let fault = some_is _ (sym c.is_some.ensures ∙ c.if-is_some.true) in
     end_halted_stands d.honest d.content d.calls g.C.Clock.readings _ c.begin_end-moment.new.core _ _ h c.args.lane c.begin_end-moment.result fault.0 _ s c.requires.lane
-    (record { begun = b; journal = refl; clock = refl; fault = refl; later = let e = ap d.calls c.forget_session.ensures.disk in omega (arith, e) })
+    (record { begun = b; journal = refl; clock = refl; fault = refl; later = let e = ap d.calls c.end_session.ensures.disk in omega (arith, e) })
     (sym b.fault ∙ fault.1)
-    (subst d.honest (sym (c.forget_session.ensures.disk ∙ ap (λ p. p.disk) b.parts)) s.honest)
-    (c.forget_session.ensures.shows (world h).store (subst (λ p. Shows p (world h).store) (sym b.parts) s.shows))
+    (subst d.honest (sym (c.end_session.ensures.disk ∙ ap (λ p. p.disk) b.parts)) s.honest)
+    (c.end_session.ensures.shows (world h).store (subst (λ p. Shows p (world h).store) (sym b.parts) s.shows))
     c.enter.ensures
 
 pub returns-in-Ok-clause-history : goal.returns-in-Ok-clause-history
@@ -61,7 +61,7 @@ pub returns-then-is_some-clause-answers : goal.returns-then-is_some-clause-answe
 returns-then-is_some-clause-answers g c = let d = g.D.Disk in
     let b = c.begin_end-moment.ensures.begun c.args.lane in
     ended_answered d.honest d.calls d.faults g.C.Clock.readings ⊥ _ c.begin_end-moment.new.core _ _ c.args.lane c.begin_end-moment.result _ b refl refl
-    (untouched d.honest d.faults _ _ c.forget_session.ensures.disk) c.enter.ensures
+    (untouched d.honest d.faults _ _ c.end_session.ensures.disk) c.enter.ensures
 
 pub returns-then-is_some-clause-told : goal.returns-then-is_some-clause-told
 returns-then-is_some-clause-told g c = ended_told g.D.Disk.calls _ _ c.args.lane c.begin_end-moment.result _ c.enter.ensures
@@ -88,7 +88,7 @@ returns-in-Err-clause-told g c = end_failed_told g.D.Disk.calls c.begin_end-mome
 pub returns-then-is_some-clause-halted : goal.returns-then-is_some-clause-halted
 returns-then-is_some-clause-halted g c =
     let b = c.begin_end-moment.ensures.begun c.args.lane in
-    where_some _ _ (ap (λ p. p.disk) c.enter.ensures.parts ∙ c.forget_session.ensures.disk ∙ ap (λ p. p.disk) b.parts)
+    where_some _ _ (ap (λ p. p.disk) c.enter.ensures.parts ∙ c.end_session.ensures.disk ∙ ap (λ p. p.disk) b.parts)
 
 pub returns-in-Ok-clause-halted : goal.returns-in-Ok-clause-halted
 returns-in-Ok-clause-halted g c =
@@ -131,8 +131,8 @@ returns-in-Err-clause-unchanged g c = let d = g.D.Disk in
 pub returns-then-is_some-clause-others : goal.returns-then-is_some-clause-others
 returns-then-is_some-clause-others g c = let d = g.D.Disk in
     let b = c.begin_end-moment.ensures.begun c.args.lane in
-    others_between d.honest d.content c.args.core.now.parts c.begin_end-moment.new.core.parts c.forget_session.new.parts c.enter.new.core.parts c.args.lane None _ b.parts c.enter.ensures.parts c.enter.ensures.reply_is
-    (others_same d.honest d.content c.begin_end-moment.new.core.parts c.forget_session.new.parts c.args.lane None (λ _. ap d.content c.forget_session.ensures.disk))
+    others_between d.honest d.content c.args.core.now.parts c.begin_end-moment.new.core.parts c.end_session.new.parts c.enter.new.core.parts c.args.lane None _ b.parts c.enter.ensures.parts c.enter.ensures.reply_is
+    (others_same d.honest d.content c.begin_end-moment.new.core.parts c.end_session.new.parts c.args.lane None (λ _. ap d.content c.end_session.ensures.disk))
 
 pub returns-in-Ok-clause-others : goal.returns-in-Ok-clause-others
 returns-in-Ok-clause-others g c = let d = g.D.Disk in

@@ -17,7 +17,7 @@ pub returns-in_default-clause-answers : goal.returns-in_default-clause-answers
 returns-in_default-clause-answers g c = ap refuses_close c.wrong_state.ensures.value
 
 pub returns-in_default-clause-unchanged : goal.returns-in_default-clause-unchanged
-returns-in_default-clause-unchanged g c = let d = g.D.Disk in leaves_same d.honest d.content c.args.parts.now _ c.wrong_state.result refl (record { catalogue = refl; sessions = refl })
+returns-in_default-clause-unchanged g c = let d = g.D.Disk in leaves_same d.honest d.content c.args.parts.now _ c.wrong_state.result refl (record { catalogue = refl; sessions = refl; locks = refl })
 
 pub returns-in_default-clause-others : goal.returns-in_default-clause-others
 returns-in_default-clause-others g c = let d = g.D.Disk in others_unmoved d.honest d.content c.args.parts.now _ c.args.lane _ refl
@@ -36,7 +36,7 @@ pub returns-in_default-clause-act : goal.returns-in_default-clause-act
 returns-in_default-clause-act g c = let d = g.D.Disk in λ moment s h.
     let old = c.args.parts.now in
     let here = at_lane old.sessions.items s c.args.lane c.index-session.result.now (h.shows).sessions ((h.shows).sound).lanes c.requires c.index-session.ensures in
-    does_refused d.honest d.content old _ s _ c.wrong_state.result refl refl refl
+    does_refused d.honest d.content old _ s _ c.wrong_state.result refl refl refl refl
     (not_writing s c.args.lane moment c.index-session.result.now here c.in_default.not-Writer ∙ ap (λ r. Err r) (sym c.wrong_state.ensures.value)) h
 
 pub returns-clause-text : goal.returns-clause-text

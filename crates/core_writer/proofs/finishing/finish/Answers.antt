@@ -23,7 +23,7 @@ pub returns-in_default-clause-act : goal.returns-in_default-clause-act
 returns-in_default-clause-act g c = let d = g.D.Disk in λ moment s h.
     let old = c.args.parts.now in
     let here = at_lane old.sessions.items s c.args.lane c.index-session.result.now (h.shows).sessions ((h.shows).sound).lanes c.requires c.index-session.ensures in
-    does_refused d.honest d.content old _ s _ c.wrong_state.result refl refl refl
+    does_refused d.honest d.content old _ s _ c.wrong_state.result refl refl refl refl
     (not_writing s c.args.lane moment c.index-session.result.now here c.in_default.not-Writer ∙ ap (λ r. Err r) (sym c.wrong_state.ensures.value)) h
 
 pub returns-in_default-manifest_of-clause-act : goal.returns-in_default-manifest_of-clause-act
@@ -60,7 +60,7 @@ returns-clause-act g c = let d = g.D.Disk in λ moment s h.
     (here2 ∙ sym here ∙ c.in-Writer.is ∙ ap (λ x. Writer x) (sym f.2)) (ap kept_manifest f.2 ∙ manifest)
     c.put_manifest.ensures.serves.kept c.in_ok-put_manifest.ensures.put
     (c.close.ensures.catalogue ∙ ap (closed c.args.number c.index_mut.result.now) c.reserve.ensures.items)
-    (ap (set old.sessions.items c.args.lane) c.close.ensures.session) h
+    (ap (set old.sessions.items c.args.lane) c.close.ensures.session) c.release.ensures h
 
 pub returns-in_default-clause-text : goal.returns-in_default-clause-text
 returns-in_default-clause-text g c = c.wrong_state.ensures.text
@@ -75,10 +75,10 @@ pub returns-in_default-clause-answers : goal.returns-in_default-clause-answers
 returns-in_default-clause-answers g c = ap refuses_finish c.wrong_state.ensures.value
 
 pub returns-in_default-clause-unchanged : goal.returns-in_default-clause-unchanged
-returns-in_default-clause-unchanged g c = let d = g.D.Disk in leaves_same d.honest d.content c.args.parts.now _ c.wrong_state.result refl (record { catalogue = refl; sessions = refl })
+returns-in_default-clause-unchanged g c = let d = g.D.Disk in leaves_same d.honest d.content c.args.parts.now _ c.wrong_state.result refl (record { catalogue = refl; sessions = refl; locks = refl })
 
 pub returns-in_default-manifest_of-clause-unchanged : goal.returns-in_default-manifest_of-clause-unchanged
-returns-in_default-manifest_of-clause-unchanged g c = let d = g.D.Disk in leaves_same d.honest d.content c.args.parts.now _ NoFile refl (record { catalogue = refl; sessions = refl })
+returns-in_default-manifest_of-clause-unchanged g c = let d = g.D.Disk in leaves_same d.honest d.content c.args.parts.now _ NoFile refl (record { catalogue = refl; sessions = refl; locks = refl })
 
 pub returns-clause-others : goal.returns-clause-others
 returns-clause-others g c = let d = g.D.Disk in λ ok h q before after.
@@ -112,5 +112,5 @@ returns-in-Err-clause-act g c = let d = g.D.Disk in λ moment s h.
     let here = at_lane old.sessions.items s c.args.lane c.index-session.result.now (h.shows).sessions ((h.shows).sound).lanes c.requires c.index-session.ensures in
     let f = writer_found s c.args.lane c.index-session.result.now c.in-Writer.w here c.in-Writer.is in
     let told = c.in_ok-refusal.ensures.plain f.0 (shows_found s c.in-Writer.w f.0 f.2 (((h.shows).sound).writers c.args.lane f.0 f.1)) in
-    let does = does_refused d.honest d.content old _ s _ c.in-Err.refusal refl refl refl (refused s c.args.lane moment f.0 c.in-Err.refusal f.1 (told_err _ c.in_ok-refusal.field-0 manifest_view c.in-Err.refusal told c.in-Err.is)) h in
+    let does = does_refused d.honest d.content old _ s _ c.in-Err.refusal refl refl refl refl (refused s c.args.lane moment f.0 c.in-Err.refusal f.1 (told_err _ c.in_ok-refusal.field-0 manifest_view c.in-Err.refusal told c.in-Err.is)) h in
     (c.refused_finish.ensures.value ∙ does.0, does.1)

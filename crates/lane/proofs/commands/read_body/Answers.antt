@@ -1,5 +1,7 @@
-use Rattle.std.proofs.Common.{◌<◌, ◌^◌, sym, ap, subst, ◌∙◌, arith}
+use Rattle.std.proofs.Common.{◌≡◌, ◌<◌, ◌^◌, IfOk, sym, ap, subst, ◌∙◌, arith}
 use Rattle.std.specs.Result.{result_ok}
+use Rattle.wire_commands.specs.CommandText.{command_text}
+use Rattle.wire_commands.specs.HasText.{HasText}
 use Rattle.store_model.specs.Lanes.{broken}
 use Rattle.store_types.specs.declared.refusal.Refusal.TheVariants.{BadFrame}
 use Rattle.lane.specs.Fronts.{IsAhead, IsLastAhead}
@@ -18,4 +20,5 @@ returns-in-Ok-Err c = λ t rest at is.
 pub returns-in-Ok-Ok : goal.returns-in-Ok-Ok
 returns-in-Ok-Ok c = λ t rest at is.
     let some = sym (c.in-Ok-Ok.ensures.command) ∙ ap result_ok c.in-Ok-Ok.field-0-is in
-    subst (λ a. IsAhead t a) (sym c.apart.ensures) (command_ahead t c.args.body.now rest c.in-Ok-Ok.command is some)
+    let spelled = subst (λ read. IfOk read (λ d. HasText d × (c.args.body.now ≡ command_text d))) c.in-Ok-Ok.field-0-is c.in-Ok-Ok.ensures.spelled in
+    subst (λ a. IsAhead t a) (sym c.apart.ensures) (command_ahead t c.args.body.now rest c.in-Ok-Ok.command is some spelled.1)

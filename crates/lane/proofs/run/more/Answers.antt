@@ -25,7 +25,7 @@ returns-in-TooLong-clause-goes g c = λ first began start s. as_last _ start _ _
 
 pub returns-in-NoMemory-clause-goes : goal.returns-in-NoMemory-clause-goes
 returns-in-NoMemory-clause-goes g c = λ first began start s. as_last _ start _ _ _ _ _ c.untold-in-NoMemory.result _ _ c.untold-in-NoMemory.ensures
-    (short_piece _ _ start _ _ _ _ _ c.args.progress.now.input c.take.new.self _ _ _ (λ h x. (x.records).kept) s (c.short-ending.ensures.answers first began) c.requires.part c.in-NoMemory.ensures.takes)
+    (short_piece _ _ start _ _ _ _ _ c.args.progress.now.input c.take.new.self _ _ _ s (c.short-ending.ensures.answers first began) c.requires.part c.in-NoMemory.ensures.takes)
 
 pub returns-in-NoMemory-clause-causes : goal.returns-in-NoMemory-clause-causes
 returns-in-NoMemory-clause-causes g c =

@@ -20,7 +20,7 @@ returns-in-Broken-clause-goes g c = λ first began start s. as_last _ start _ _ 
 
 pub returns-in-NoMemory-clause-goes : goal.returns-in-NoMemory-clause-goes
 returns-in-NoMemory-clause-goes g c = λ first began start s. as_last _ start _ _ _ _ _ c.untold.result _ _ c.untold.ensures
-    (short_here _ _ start _ _ _ _ c.args.progress.now.input.cutter _ _ _ _ (λ h x. (x.records).kept) s (c.short-ending.ensures.answers first began) c.in-NoMemory.ensures)
+    (short_here _ _ start _ _ _ _ c.args.progress.now.input.cutter _ _ _ _ s (c.short-ending.ensures.answers first began) c.in-NoMemory.ensures)
 
 pub returns-in-NoMemory-clause-causes : goal.returns-in-NoMemory-clause-causes
 returns-in-NoMemory-clause-causes g c =

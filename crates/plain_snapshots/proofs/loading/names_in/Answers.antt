@@ -13,9 +13,9 @@ names_viewed : (facts : List FileFact) → map (λ f. f.name) (map fact_view fac
 names_viewed [] = refl
 names_viewed (f ∷ fs) = ap (λ l. f.name ∷ l) (names_viewed fs)
 
-pub returns : goal.returns
-returns c =
+pub returns-clause-names : goal.returns-clause-names
+returns-clause-names c =
     let facts = c.as_slice-fact-items.result.now in
-    c.loop-fact.invariant
+    c.loop-fact.invariant.0
     ∙ ap (λ (l : List FileFact). manifest_name ∷ without_manifest (map (λ f. f.name) l)) (take_all c.loop-fact.fact-index facts (omega arith) ∙ c.as_slice-fact-items.ensures)
     ∙ ap (λ l. manifest_name ∷ without_manifest l) (sym (names_viewed c.args.listed.now.files))

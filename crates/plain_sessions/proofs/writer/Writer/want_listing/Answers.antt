@@ -31,7 +31,7 @@ returns-in_err-want_listed-clause-gives c =
     let there : manifest_data w.files ≡ Some bytes = search rules in
     let files = ap (λ (x : Writer). x.files) c.self.view_is in
     let own = c.as_key.ensures ∙ ap (λ (x : Writer). x.key) c.self.view_is in
-    let listed = listed_is m key c.in_ok-facts.facts.items c.self.inside.uploads (c.in_ok-facts.ensures ∙ ap (map fact_of) c.as_slice.ensures.value) c.as_slice.ensures.order
+    let listed = listed_is m key c.in_ok-facts.facts.items c.self.inside.uploads (c.in_ok-facts.ensures ∙ ap (map fact_of) c.as_slice-2.ensures.value) c.as_slice-2.ensures.order
     ∙ ap (λ fs. want_listed (manifest_view m) key fs) files ∙ ap (λ k. want_listed (manifest_view m) k w.files) own in
     let is : c.from_residual-in_err-want_listed.result ≡ Err c.in_err-want_listed.field-0.0 = search rules in
     gives_stop manifest_view (λ u. u) _ c.in_err-want_listed.field-0.0 (listing_of w.key w.files) (if_none mismatch_refusal (first_mismatch m key c.deref.result.now)) is c.in_err-want_listed.ensures.gives
@@ -46,7 +46,7 @@ returns-clause-gives c =
     let there : manifest_data w.files ≡ Some bytes = search rules in
     let files = ap (λ (x : Writer). x.files) c.self.view_is in
     let own = c.as_key.ensures ∙ ap (λ (x : Writer). x.key) c.self.view_is in
-    let listed = listed_is m key c.in_ok-facts.facts.items c.self.inside.uploads (c.in_ok-facts.ensures ∙ ap (map fact_of) c.as_slice.ensures.value) c.as_slice.ensures.order
+    let listed = listed_is m key c.in_ok-facts.facts.items c.self.inside.uploads (c.in_ok-facts.ensures ∙ ap (map fact_of) c.as_slice-2.ensures.value) c.as_slice-2.ensures.order
     ∙ ap (λ fs. want_listed (manifest_view m) key fs) files ∙ ap (λ k. want_listed (manifest_view m) k w.files) own in
     let passes : if_none mismatch_refusal (first_mismatch m key c.in_ok-facts.facts.items) ≡ Ok tt = search rules in
     listing_goes w.key w.files bytes there (manifest_view m) c.in_ok-manifest.ensures.gives (sym listed ∙ passes)

@@ -1,12 +1,12 @@
 use Rattle.std.proofs.Common.{◌≡◌, ◌∙◌, ap, sym, Ok, Err, rules}
-use Rattle.store_model.specs.Store.{session, want_writer}
+use Rattle.store_model.specs.Store.{want_writer}
 use Rattle.wire_commands.specs.declared.reply.Reply.TheVariants.{Done}
 use Rattle.plain_sessions.specs.declared.stop.Stop.TheVariants.{Refused}
 use Rattle.plain_sessions.specs.declared.changes.Change.TheVariants.{Close}
 use Rattle.plain_sessions.specs.Archiving.{closed_of}
 use Rattle.plain_store.proofs.Spelled.{done_spelled}
 use Rattle.plain_store.proofs.Stopping.{does_refuse, refusal_fits, does_stop, stop_fits}
-use Rattle.plain_store.proofs.ArchiveLemmas.{fits_anyway, writer_changed, close_not_writer, close_refused, close_goes}
+use Rattle.plain_store.proofs.ArchiveLemmas.{writer_fits, writer_changed, close_not_writer, close_refused, close_goes}
 use Rattle.plain_store.proofs.plain.Plain.close_index.Goals as goal
 
 pub returns-in_err-w-clause-does : goal.returns-in_err-w-clause-does
@@ -35,7 +35,9 @@ returns-in_err-file-clause-spelled c =
 
 pub change-requires-clause-fits : goal.change-requires-clause-fits
 change-requires-clause-fits c =
-    fits_anyway (Close c.args.number c.in_ok-file.file) (session c.args.self.now c.args.lane) (λ w. tt)
+    let w = c.in_ok-w.w.now in
+    let writes = ap want_writer (sym c.held.ensures) ∙ c.in_ok-w.ensures.test in
+    writer_fits c.args.self.now c.args.lane w writes (Close c.args.number c.in_ok-file.file) c.in_ok-file.ensures.stands
 
 pub returns-clause-does : goal.returns-clause-does
 returns-clause-does c =

@@ -6,7 +6,7 @@ use Rattle.plain_sessions.specs.declared.changes.Change.TheVariants.{Begin}
 use Rattle.plain_sessions.specs.Archiving.{fixed_begun_of}
 use Rattle.plain_store.proofs.Spelled.{number_spelled}
 use Rattle.plain_store.proofs.Stopping.{does_refuse, refusal_fits, does_stop, stop_fits}
-use Rattle.plain_store.proofs.ArchiveLemmas.{writer_changed, writer_fits, fixed_not_writer, fixed_refused, fixed_goes, fixed_room}
+use Rattle.plain_store.proofs.ArchiveLemmas.{writer_changed, writer_fits, fixed_not_writer, fixed_refused, fixed_goes}
 use Rattle.plain_store.proofs.plain.Plain.new_fixed.Goals as goal
 
 pub returns-in_err-w-clause-does : goal.returns-in_err-w-clause-does
@@ -37,7 +37,7 @@ pub change-requires-clause-fits : goal.change-requires-clause-fits
 change-requires-clause-fits c =
     let w = c.in_ok-w.w.now in
     let writes = ap want_writer (sym c.held.ensures) ∙ c.in_ok-w.ensures.test in
-    writer_fits c.args.self.now c.args.lane w writes (Begin c.in_ok-begun.begun) (fixed_room w c.args.name.now c.args.size c.args.chunk_size c.args.moment c.in_ok-begun.begun c.in_ok-begun.ensures.gives)
+    writer_fits c.args.self.now c.args.lane w writes (Begin c.in_ok-begun.begun) c.in_ok-begun.ensures.room
 
 pub returns-clause-does : goal.returns-clause-does
 returns-clause-does c =

@@ -8,7 +8,7 @@ use Rattle.plain_sessions.specs.Uploading.{upload_of}
 use Rattle.plain_store.proofs.Spelled.{done_spelled}
 use Rattle.plain_store.proofs.Stopping.{does_refuse, refusal_fits, does_stop, stop_fits}
 use Rattle.plain_store.proofs.WriterLemmas.{is_writer, put_not_writer, put_refused, put_goes}
-use Rattle.plain_store.proofs.ArchiveLemmas.{fits_anyway}
+use Rattle.plain_store.proofs.ArchiveLemmas.{writer_fits}
 use Rattle.plain_store.proofs.plain.Plain.put_blob.Goals as goal
 
 pub returns-in_err-w-clause-does : goal.returns-in_err-w-clause-does
@@ -48,4 +48,7 @@ pub returns-clause-spelled : goal.returns-clause-spelled
 returns-clause-spelled c = done_spelled
 
 pub change-requires-clause-fits : goal.change-requires-clause-fits
-change-requires-clause-fits c = fits_anyway (Upload c.in_ok-file.file) (session c.args.self.now c.args.lane) (λ w. tt)
+change-requires-clause-fits c =
+    let w = c.in_ok-w.w.now in
+    let writes = ap want_writer (sym c.held.ensures) ∙ c.in_ok-w.ensures.test in
+    writer_fits c.args.self.now c.args.lane w writes (Upload c.in_ok-file.file) c.in_ok-file.ensures.room

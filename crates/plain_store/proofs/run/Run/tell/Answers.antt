@@ -1,4 +1,4 @@
-use Rattle.std.proofs.Common.{◌<◌, ◌∙◌, ap, set, length, arith}
+use Rattle.std.proofs.Common.{◌<◌, ◌∙◌, ap, set, length, None, arith}
 use Rattle.std.specs.Prelude.{option_map}
 use Rattle.store_model.specs.Lanes.{Lane, Run, say}
 use Rattle.store_model.specs.Weave.{tell}
@@ -15,5 +15,5 @@ returns-clause-told c =
     let r : Run = record { store = inside.store; remote = option_map (λ p. p.now.snapshots) inside.remote; lanes = inside.lanes.items; fault = inside.fault } in
     let within : k < length inside.lanes.items = omega (arith, ap (λ (x : Run). length x.lanes) c.self.view_is, c.requires.lane) in
     let here = at_lane r k c.index_mut-lane.result.now within c.index_mut-lane.ensures.value in
-    ap (λ (x : Lane). (let y : Run = record r { lanes = set inside.lanes.items k x } in y)) (c.in_ok-tell.ensures ∙ ap (λ (x : Lane). say reply (record x { left = left })) here)
+    ap (λ (x : Lane). (let y : Run = record r { lanes = set inside.lanes.items k x } in y)) (c.in_ok-tell.ensures ∙ ap (λ (x : Lane). say reply (record x { left = left; job = None })) here)
     ∙ ap (λ (x : Run). tell x k left reply) c.self.view_is

@@ -1,0 +1,19 @@
+//! The tests of names, ports, disks, what a writer may name, locks, prunes and files that are installed.
+#![tactic(auto)]
+
+#[cfg(test)]
+mod crc;
+#[cfg(test)]
+mod disk;
+#[cfg(test)]
+mod install;
+#[cfg(test)]
+mod known;
+#[cfg(test)]
+mod locks;
+#[cfg(test)]
+mod names;
+#[cfg(test)]
+mod ports;
+#[cfg(test)]
+mod prune;

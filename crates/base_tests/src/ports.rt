@@ -1,0 +1,84 @@
+use port_traits::{
+    Clock, Failed, FileSink, FileSource, FreeGate, Gate, MemSink, MemSource, SetClock, Sink,
+    Source, WallClock, write_all_of, write_counted,
+};
+use std::test::Fail;
+use std::{fs, io};
+
+fn read<S: Source + Send>(source: &mut S, into: &mut [u8]) -> Result<usize, Failed> {
+    source.read(into)
+}
+
+fn put<K: Sink + Send>(sink: &mut K, bytes: &[u8]) -> (Result<(), Failed>, u64) {
+    let mut given = 0;
+    let result = write_counted(sink, bytes, &mut given);
+    (result, given)
+}
+
+fn tell<C: Clock + Send>(clock: &mut C) -> u64 {
+    clock.now()
+}
+
+fn pass<G: Gate + Sync>(gate: &G) {
+    gate.before(0, 0);
+    gate.after(0, 0);
+}
+
+#[test]
+fn memory_fails_at_the_listed_calls(rt: HostRuntime) -> Result<(), Fail> {
+    let bytes = b"abcde".to_vec(rt.alloc())?;
+    let mut source = MemSource::new(bytes, [1].to_vec(rt.alloc())?).at_most(2);
+    let mut into = [0u8; 4];
+    let expected = [Ok(2), Err(Failed), Ok(2), Ok(1), Ok(0)];
+    for want in expected {
+        assert_eq!(rt; read(&mut source, &mut into), want);
+    }
+    assert_eq!(rt; into, *b"ed\0\0");
+    assert_eq!(rt; source.faults(), 1);
+
+    let mut sink = MemSink::new(rt.alloc(), [3].to_vec(rt.alloc())?).at_most(2);
+    assert_eq!(rt; write_all_of(&mut sink, b"abc"), Ok(()));
+    assert_eq!(rt; put(&mut sink, b"defg"), (Err(Failed), 2));
+    assert_eq!(rt; put(&mut sink, b"fg"), (Ok(()), 2));
+    assert_eq!(rt; sink.faults(), 1);
+    assert_eq!(rt; sink.as_bytes(), b"abcdefg".as_slice());
+    assert_eq!(rt; sink.into_bytes().as_slice(), b"abcdefg".as_slice());
+    Ok(())
+}
+
+#[test]
+fn clocks_and_gates(rt: HostRuntime) -> Result<(), Fail> {
+    let mut clock = SetClock::new([5, 3].to_vec(rt.alloc())?, 9);
+    for want in [5, 3, 9, 9] {
+        assert_eq!(rt; tell(&mut clock), want);
+    }
+    let now = tell(&mut WallClock::new(rt));
+    assert!(rt; now > 1_600_000_000, "the system's clock tells {now}");
+    pass(&FreeGate);
+    Ok(())
+}
+
+#[test]
+fn files_hold_what_was_written(rt: HostRuntime) -> Result<(), Fail> {
+    let path = "port_traits_test.bin";
+    fs::write(&rt, path, "old text that is longer")?;
+    let mut sink = FileSink::create(&rt, path);
+    assert_eq!(rt; put(&mut sink, b"hello"), (Ok(()), 5));
+    let mut source = FileSource::new(rt, String::from_str(rt.alloc(), path)?);
+    let mut into = [0u8; 8];
+    assert_eq!(rt; read(&mut source, &mut into), Ok(5));
+    assert_eq!(rt; into, *b"hello\0\0\0");
+    assert_eq!(rt; read(&mut source, &mut into), Ok(0));
+    fs::remove_file(&rt, path)?;
+
+    let mut missing = FileSource::new(rt, String::from_str(rt.alloc(), path)?);
+    assert_eq!(rt; read(&mut missing, &mut into), Err(Failed));
+    assert_eq!(rt; missing.faults(), 1);
+    let mut nowhere = FileSink::create(&rt, "no_such_folder/file");
+    assert_eq!(rt; nowhere.faults(), 0);
+    assert_eq!(rt; put(&mut nowhere, b"x"), (Err(Failed), 0));
+    assert_eq!(rt; nowhere.faults(), 1);
+    let mut out = FileSink::over(io::writer(&rt));
+    assert_eq!(rt; put(&mut out, b"x\n"), (Ok(()), 2));
+    Ok(())
+}

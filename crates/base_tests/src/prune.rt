@@ -1,0 +1,220 @@
+//! Dates with their weeks by ISO 8601, and prunes that were done by hand.
+
+ghost use Rattle.std.specs.Prelude.{◌≤◌, All, IfOk};
+ghost use Rattle.store_types.specs.Times.{last_moment};
+
+use prune_rules::{Item, Keep, Mark, marks, marks_into};
+use std::alloc::{AllocError, Global};
+use std::test::Fail;
+
+const DATES: [(&str, u32, u16, u8); 26] = [
+    ("2020-02-28", 1582848000, 2020, 9),
+    ("2020-02-29", 1582934400, 2020, 9),
+    ("2020-03-01", 1583020800, 2020, 9),
+    ("2020-12-27", 1609027200, 2020, 52),
+    ("2020-12-28", 1609113600, 2020, 53),
+    ("2020-12-31", 1609372800, 2020, 53),
+    ("2021-01-01", 1609459200, 2020, 53),
+    ("2021-01-03", 1609632000, 2020, 53),
+    ("2021-01-04", 1609718400, 2021, 1),
+    ("2024-02-29", 1709164800, 2024, 9),
+    ("2024-12-29", 1735430400, 2024, 52),
+    ("2024-12-30", 1735516800, 2025, 1),
+    ("2025-12-28", 1766880000, 2025, 52),
+    ("2025-12-29", 1766966400, 2026, 1),
+    ("2026-01-04", 1767484800, 2026, 1),
+    ("2026-01-05", 1767571200, 2026, 2),
+    ("2026-12-31", 1798675200, 2026, 53),
+    ("2027-01-03", 1798934400, 2026, 53),
+    ("2031-12-28", 1956182400, 2031, 52),
+    ("2031-12-29", 1956268800, 2032, 1),
+    ("2032-01-04", 1956787200, 2032, 1),
+    ("2032-02-29", 1961625600, 2032, 9),
+    ("2032-12-26", 1987632000, 2032, 52),
+    ("2032-12-31", 1988064000, 2032, 53),
+    ("2033-01-02", 1988236800, 2032, 53),
+    ("2033-01-03", 1988323200, 2033, 1),
+];
+
+const NONE: Keep = Keep {
+    last: 0,
+    hourly: 0,
+    daily: 0,
+    weekly: 0,
+    monthly: 0,
+    yearly: 0,
+};
+
+fn text_of(alloc: Global, marks: &[Mark]) -> Result<String, Fail> {
+    let mut text = String::new(alloc);
+    for mark in marks {
+        text.push_str(if *mark == Mark::Kept { "k" } else { "-" })?;
+    }
+    Ok(text)
+}
+
+/// The same marks, from slices that held others.
+fn marked_in_place(alloc: Global, items: &[Item], keep: &Keep) -> Result<Vec<Mark>, AllocError>
+    requires { All (λ item. item.time ≤ last_moment) items.now }
+{
+    let mut covered = vec![in alloc; true; items.len()]?;
+    let mut into = vec![in alloc; Mark::Kept; items.len()]?;
+    marks_into(items, keep, &mut covered, &mut into);
+    Ok(into)
+}
+
+/// Which of the times are kept, as `k` and `-`; nothing where the two calls differ.
+fn kept(alloc: Global, times: &[(u32, bool)], keep: Keep) -> Result<String, Fail> {
+    let mut items = Vec::new(alloc);
+    for (time, finished) in times {
+        items.push(Item {
+            time: u64::from(*time),
+            finished: *finished,
+        })?;
+    }
+    let marks = marks(alloc, &items, &keep)?;
+    if marked_in_place(alloc, &items, &keep)? != marks {
+        return Ok(String::new(alloc));
+    }
+    text_of(alloc, &marks)
+}
+
+/// Whether two moments are in one period, by an option that keeps two of these.
+fn share_period(alloc: Global, first: u32, second: u32, keep: Keep) -> Result<bool, Fail> {
+    let kept = kept(alloc, &[(first, true), (second, true)], keep)?;
+    Ok(kept.as_str() != "kk")
+}
+
+#[test]
+fn weeks_are_those_of_the_standard(rt: HostRuntime) -> Result<(), Fail> {
+    let weekly = Keep { weekly: 2, ..NONE };
+    for (date, time, year, week) in DATES {
+        let end = time.saturating_add(86_399);
+        for (other, later, other_year, other_week) in DATES {
+            let same = year == other_year && week == other_week;
+            let found = share_period(rt.alloc(), end, later, weekly)?;
+            assert_eq!(rt; found, same, "{date} and {other}");
+        }
+    }
+    Ok(())
+}
+
+// The ends of months and of a year, each with its year and month.
+const ENDS: [(u32, u16, u8); 5] = [
+    (1_582_934_400, 2020, 2), // 2020-02-29
+    (1_583_020_799, 2020, 2), // its last second
+    (1_583_020_800, 2020, 3), // 2020-03-01
+    (1_609_372_800, 2020, 12), // 2020-12-31
+    (1_609_459_200, 2021, 1), // 2021-01-01
+];
+
+#[test]
+fn months_and_years(rt: HostRuntime) -> Result<(), Fail> {
+    let monthly = Keep { monthly: 2, ..NONE };
+    let yearly = Keep { yearly: 2, ..NONE };
+    for (time, year, month) in ENDS {
+        for (later, other_year, other_month) in ENDS {
+            let same = year == other_year && month == other_month;
+            let found = share_period(rt.alloc(), time, later, monthly)?;
+            assert_eq!(rt; found, same, "months of {time} and {later}");
+            let found = share_period(rt.alloc(), time, later, yearly)?;
+            assert_eq!(rt; found, year == other_year, "years of {time} and {later}");
+        }
+    }
+    Ok(())
+}
+
+#[test]
+fn prunes_by_hand(rt: HostRuntime) -> Result<(), Fail> {
+    // noon of 2020-12-31 (a Thursday), 2021-01-03 (a Sunday) and 2021-01-04
+    let turn = [
+        (1_609_416_000, true),
+        (1_609_675_200, true),
+        (1_609_761_600, true),
+    ];
+    let weekly = Keep { weekly: 2, ..NONE };
+    assert_eq!(rt; kept(rt.alloc(), &turn, weekly)?.as_str(), "-kk");
+
+    // the end of 2020-01-14, and two of the 15th: the day of the last is served already
+    let days = [
+        (1_579_046_399, true),
+        (1_579_046_400, true),
+        (1_579_069_803, true),
+    ];
+    let daily = Keep {
+        last: 1,
+        daily: 1,
+        ..NONE
+    };
+    assert_eq!(rt; kept(rt.alloc(), &days, daily)?.as_str(), "k-k");
+    let only_daily = Keep { daily: 1, ..NONE };
+    assert_eq!(rt; kept(rt.alloc(), &days, only_daily)?.as_str(), "--k");
+    let hourly = Keep { hourly: 2, ..NONE };
+    assert_eq!(rt; kept(rt.alloc(), &days, hourly)?.as_str(), "-kk");
+
+    // in any order, and with two of one time, of which the earlier in the list is kept
+    let mixed = [
+        (1_579_069_803, true),
+        (1_579_046_399, true),
+        (1_579_069_803, true),
+        (1_579_046_400, true),
+    ];
+    assert_eq!(rt; kept(rt.alloc(), &mixed, daily)?.as_str(), "kk--");
+
+    // with no option all is kept, and so is one that still runs
+    assert_eq!(rt; kept(rt.alloc(), &days, NONE)?.as_str(), "kkk");
+    let running = [
+        (1_579_046_399, false),
+        (1_579_046_400, true),
+        (1_579_069_803, false),
+    ];
+    assert_eq!(rt; kept(rt.alloc(), &running, only_daily)?.as_str(), "-kk");
+    assert_eq!(rt; kept(rt.alloc(), &[], only_daily)?.as_str(), "");
+    Ok(())
+}
+
+/// So many of the first 8,192 minutes of 1970, in no order.
+fn minutes(alloc: Global, count: u16) -> Result<Vec<Item>, AllocError>
+    ensures { IfOk result (λ items. All (λ item. item.time ≤ last_moment) items.items) }
+{
+    let mut items = Vec::new(alloc);
+    for i in 0..count {
+        items.push(Item {
+            time: u64::from(i) * 7919 % 8192 * 60,
+            finished: true,
+        })?;
+    }
+    Ok(items)
+}
+
+/// The kept minutes, from the first.
+fn kept_minutes(alloc: Global, items: &[Item], marks: &[Mark]) -> Result<Vec<u64>, AllocError> {
+    let mut kept = Vec::new(alloc);
+    for (item, mark) in items.iter().zip(marks) {
+        if *mark == Mark::Kept {
+            kept.push(item.time / 60)?;
+        }
+    }
+    kept.sort_unstable();
+    Ok(kept)
+}
+
+#[test]
+fn as_many_items_as_the_table_holds_and_more(rt: HostRuntime) -> Result<(), Fail> {
+    let keep = Keep {
+        last: 1,
+        daily: 2,
+        ..NONE
+    };
+    for count in [4096, 4097] {
+        let items = minutes(rt.alloc(), count)?;
+        let marks = marked_in_place(rt.alloc(), &items, &keep)?;
+        let kept = kept_minutes(rt.alloc(), &items, &marks)?;
+        assert_eq!(rt;
+            kept.as_slice(),
+            [5759, 7198, 8191].as_slice(),
+            "{count} items"
+        );
+    }
+    Ok(())
+}

@@ -1,0 +1,102 @@
+-- FILES is the store's.
+use Rattle.std.proofs.Common.{◌≡◌, ◌≤◌, ℕ, length, map, take, List, Option, Some, None, Result, Ok, Err, refl, sym, ap, ◌∙◌}
+use Rattle.std.proofs.lemmas.List.{take-map, take_all}
+use Rattle.std.specs.FinMap.{get}
+use Rattle.std.specs.List.{All}
+use Rattle.std.specs.Option.{option_map}
+use Rattle.disk_trait.specs.Files.{Files as Content}
+use Rattle.store_types.specs.declared.names.SnapshotKey.{SnapshotKey}
+use Rattle.store_types.specs.declared.refusal.Refusal.{Refusal}
+use Rattle.store_types.specs.declared.refusal.Refusal.TheVariants.{BadName, NoSnapshot, Unreadable}
+use Rattle.store_types.specs.Chain.Refusing.{◌>>=◌, or_else}
+use Rattle.store_types.specs.Names.{key_of, same_key}
+use Rattle.blob_codec.specs.Blob.{blob}
+use Rattle.store_files.specs.Archive.{File, Snapshot}
+use Rattle.wire_commands.specs.declared.rows.FileRow.{FileRow}
+use Rattle.wire_commands.specs.declared.command.Command.TheVariants.{Files as FilesOf}
+use Rattle.wire_commands.specs.declared.reply.Reply.TheVariants.{Files}
+use Rattle.store_model.specs.AdminSteps.{file_rows, files}
+use Rattle.store_model.specs.Stands.{IsSnapshot, HoldsFiles, manifest_path, file_limit}
+use Rattle.store_model.specs.Store.{Store, Outcome, snapshot_named}
+use Rattle.store_model.specs.Steps.{outcome}
+use Rattle.core_state.specs.declared.kept.Kept.{Kept}
+use Rattle.core_state.specs.declared.kept.Listed.{Listed}
+use Rattle.core_state.specs.declared.kept.StoredFile.{StoredFile}
+use Rattle.core_state.specs.Found.{kept_named}
+use Rattle.core_state.specs.Shown.{shown_file, shown_files, shown_snapshot}
+use Rattle.core_state.proofs.Finding.{found_in}
+use Rattle.core_state.proofs.Found.{kept_is}
+use Rattle.core_admin.specs.FileRows.{rows_by}
+use Rattle.core_admin.specs.FilesTold.{named_kept, rows_in, rows_read}
+use Rattle.core_admin.proofs.FactLemmas.{has_manifest, rows_are}
+use Rattle.core_admin.proofs.Filtering.{map_twice}
+use Rattle.core_admin.proofs.ListingRead.{BytesAt, listing_is}
+use Rattle.core_admin.proofs.Told.{tells}
+
+-- ---- what is read of a finished snapshot
+
+names_are : (x : Snapshot) → length x.files ≤ 64 → map (λ (f : StoredFile). f.name) (take file_limit (shown_files x.key x.files)) ≡ map (λ (f : File). f.name) x.files
+names_are x few =
+    ap (map (λ (f : StoredFile). f.name)) (take-map (shown_file x.key) file_limit x.files)
+    ∙ map_twice (shown_file x.key) (λ (f : StoredFile). f.name) (take file_limit x.files)
+    ∙ ap (map (λ (f : File). f.name)) (take_all file_limit x.files few)
+
+abbrev given : List FileRow → Result (List FileRow) Refusal
+given rows = Ok rows
+
+-- its rows are the plain store's
+read_is : (m : Content) (x : Snapshot) → IsSnapshot x → HoldsFiles m x → BytesAt m (manifest_path x.key) → rows_read m (shown_snapshot x) ≡ Ok (file_rows x.files)
+read_is m x is held are =
+    let h = has_manifest m x is held in
+    ap (λ o. or_else (Unreadable (manifest_path x.key)) o >>= λ read. given (rows_in read (shown_snapshot x))) (listing_is m x h are)
+    ∙ ap (λ names. given (rows_by (blob h.bytes) (h.listed).files names)) (names_are x is.count)
+    ∙ ap given (rows_are m x h)
+
+-- ---- the step
+
+abbrev files_of : Store → Option Snapshot → Outcome
+files_of s o = or_else NoSnapshot o >>= λ x. tells s (Files (file_rows x.files))
+
+abbrev named_files : Store → Option SnapshotKey → Outcome
+named_files s o = or_else BadName o >>= λ key. files_of s (snapshot_named key s.snapshots)
+
+step_is : (s : Store) (lane moment : ℕ) (text : List ℕ) → outcome s lane moment (FilesOf text) ≡ named_files s (key_of text)
+unfolding outcome files
+step_is s lane moment text = refl
+
+abbrev pub kept_by : List Listed → Option SnapshotKey → Result Kept Refusal
+kept_by catalogue o = or_else BadName o >>= λ key. or_else NoSnapshot (kept_named key catalogue)
+
+pub named_by : (text : List ℕ) (catalogue : List Listed) → named_kept text catalogue ≡ kept_by catalogue (key_of text)
+unfolding named_kept
+named_by text catalogue = refl
+
+module _ (s : Store) (lane moment : ℕ) (text : List ℕ) (catalogue : List Listed) (shown : map (λ x. x.kept) catalogue ≡ map shown_snapshot s.snapshots) where
+  pub files_refused : (r : Refusal) → named_kept text catalogue ≡ Err r → outcome s lane moment (FilesOf text) ≡ Err r
+  files_refused r is = step_is s lane moment text ∙ by_name (key_of text) (sym (named_by text catalogue) ∙ is)
+    where
+      by_kept : (o : Option Snapshot) → or_else NoSnapshot (option_map shown_snapshot o) ≡ Err r → files_of s o ≡ Err r
+      by_kept None e = let same : NoSnapshot ≡ r = cc in ap (λ x. Err x) same
+      by_kept (Some x) e = cc
+
+      by_name : (o : Option SnapshotKey) → kept_by catalogue o ≡ Err r → named_files s o ≡ Err r
+      by_name None e = let same : BadName ≡ r = cc in ap (λ x. Err x) same
+      by_name (Some key) e = by_kept (snapshot_named key s.snapshots) (sym (ap (or_else NoSnapshot) (kept_is catalogue s.snapshots key shown)) ∙ e)
+
+  pub files_read : (m : Content) (k : Kept) → All IsSnapshot s.snapshots → All (HoldsFiles m) s.snapshots → named_kept text catalogue ≡ Ok k → BytesAt m (manifest_path k.key)
+      → outcome s lane moment (FilesOf text) ≡ (rows_read m k >>= λ rows. tells s (Files rows))
+  files_read m k each held is are = step_is s lane moment text ∙ by_name (key_of text) (sym (named_by text catalogue) ∙ is)
+    where
+      by_kept : (key : SnapshotKey) (o : Option Snapshot) → snapshot_named key s.snapshots ≡ o → or_else NoSnapshot (option_map shown_snapshot o) ≡ Ok k → files_of s o ≡ (rows_read m k >>= λ rows. tells s (Files rows))
+      by_kept key None at e = cc
+      by_kept key (Some x) at e =
+          let same : shown_snapshot x ≡ k = cc in
+          let path : x.key ≡ k.key = ap (λ (k : Kept). k.key) same in
+          ap (λ r. r >>= λ rows. tells s (Files rows))
+          (sym (read_is m x (found_in IsSnapshot (λ (y : Snapshot). same_key y.key key) s.snapshots x each at) (found_in (HoldsFiles m) (λ (y : Snapshot). same_key y.key key) s.snapshots x held at)
+          (λ text there. are text (ap (λ q. get m (manifest_path q)) (sym path) ∙ there))))
+          ∙ ap (λ k. rows_read m k >>= λ rows. tells s (Files rows)) same
+
+      by_name : (o : Option SnapshotKey) → kept_by catalogue o ≡ Ok k → named_files s o ≡ (rows_read m k >>= λ rows. tells s (Files rows))
+      by_name None e = cc
+      by_name (Some key) e = by_kept key (snapshot_named key s.snapshots) refl (sym (ap (or_else NoSnapshot) (kept_is catalogue s.snapshots key shown)) ∙ e)

@@ -1,0 +1,16 @@
+pub mod Filtering
+pub mod Removals
+pub mod Leaving
+pub mod RowTexts
+pub mod FactLemmas
+pub mod FactRows
+pub mod Told
+pub mod Freeing
+pub mod Remaining
+pub mod TakenOut
+pub mod ForgetLemmas
+pub mod ListingRead
+pub mod FilesRead
+pub mod FilesTelling
+pub mod ActLemmas
+pub mod ActEffects

@@ -1,0 +1,57 @@
+-- FILES, by what the core keeps and what the disk holds.
+use Rattle.std.specs.Prelude.{◌≡◌, ◌<◌, ◌≤◌, ◌^◌, ℕ, List, map, length, take, Option, Some, None, Result, Ok, Err}
+use Rattle.disk_trait.specs.Files.{Files as Content}
+use Rattle.store_types.specs.declared.refusal.Refusal.{Refusal}
+use Rattle.store_types.specs.declared.refusal.Refusal.TheVariants.{BadName, NoSnapshot, Unreadable}
+use Rattle.store_types.specs.Chain.Refusing.{◌>>=◌, or_else}
+use Rattle.store_types.specs.Names.{key_of}
+use Rattle.store_files.specs.Manifest.{Manifest}
+use Rattle.wire_commands.specs.declared.rows.FileRow.{FileRow}
+use Rattle.wire_commands.specs.declared.reply.Reply.{Reply}
+use Rattle.wire_commands.specs.declared.reply.Reply.TheVariants.{Files, Refused}
+use Rattle.store_model.specs.Stands.{manifest_path, file_limit}
+use Rattle.core_state.specs.declared.kept.Kept.{Kept}
+use Rattle.core_state.specs.declared.kept.Listed.{Listed}
+use Rattle.core_state.specs.Found.{kept_named}
+use Rattle.core_state.specs.Listing.{listing_at}
+use Rattle.core_state.specs.Unreadables.{Asked, as_listing}
+use Rattle.core_admin.specs.FileRows.{rows_by}
+
+-- the finished snapshot that the text names
+unfoldable pub named_kept : List ℕ → List Listed → Result Kept Refusal
+named_kept text catalogue = do
+  key ← or_else BadName (key_of text)
+  or_else NoSnapshot (kept_named key catalogue)
+
+abbrev pub asked_at : Result Kept Refusal → Option Asked
+asked_at (Ok k) = Some (record { path = manifest_path k.key; way = as_listing })
+asked_at (Err refusal) = None
+
+-- its manifest is asked for
+abbrev pub asked_files : List ℕ → List Listed → Option Asked
+asked_files text catalogue = asked_at (named_kept text catalogue)
+
+-- the rows of its files, of which there are 64 at most
+abbrev pub rows_in : List ℕ × Manifest → Kept → List FileRow
+rows_in read k = rows_by read.0 (read.1).files (map (λ f. f.name) (take file_limit k.files))
+
+-- as its manifest lists them, or that it is unreadable
+abbrev pub rows_read : Content → Kept → Result (List FileRow) Refusal
+rows_read m k = or_else (Unreadable (manifest_path k.key)) (listing_at m (manifest_path k.key)) >>= λ read. Ok (rows_in read k)
+
+unfoldable pub files_told : Content → List ℕ → List Listed → Result Reply Refusal
+files_told m text catalogue = do
+  kept ← named_kept text catalogue
+  rows ← rows_read m kept
+  Ok (Files rows)
+
+-- On any disk: rows, or that the manifest is unreadable, where there is such a snapshot; else the refusal.
+abbrev pub AnswersFiles : Result Kept Refusal → Reply → Type 0
+AnswersFiles (Ok k) (Files rows) = Unit {0}
+AnswersFiles (Ok k) (Refused (Unreadable name)) = name ≡ manifest_path k.key
+AnswersFiles (Ok k) _ = ⊥
+AnswersFiles (Err refusal) reply = reply ≡ Refused refusal
+
+-- the row of a file's name, of a number of 64 bits and of a SHA-256
+abbrev pub IsFileRow : FileRow → Type 0
+IsFileRow r = (length r.file ≤ 64) × (r.size < 2 ^ 64) × (length r.csum.0 ≡ 32)

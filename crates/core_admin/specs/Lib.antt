@@ -1,0 +1,5 @@
+pub mod AdminActs
+pub mod Listings
+pub mod FileRows
+pub mod FilesTold
+pub mod Forgotten

@@ -1,0 +1,68 @@
+-- LIST, GROUP and the first step of a PRUNE, by what the core keeps.
+use Rattle.std.specs.Prelude.{◌≡◌, ◌<◌, ◌≤◌, ℕ, Bool, true, false, List, map, filter, length, take, min, Option, Some, None, Result, Ok}
+use Rattle.store_types.specs.declared.names.Keep.{Keep}
+use Rattle.store_types.specs.declared.names.SnapshotKey.{SnapshotKey}
+use Rattle.store_types.specs.declared.names.GroupKey.{GroupKey}
+use Rattle.store_types.specs.declared.refusal.Refusal.{Refusal}
+use Rattle.store_types.specs.declared.refusal.Refusal.TheVariants.{BadName, TooMany}
+use Rattle.store_types.specs.Chain.Refusing.{◌>>=◌, unless, or_else}
+use Rattle.store_types.specs.Names.{key_text, key_lt, group_of, group_of_key, same_group}
+use Rattle.wire_commands.specs.declared.rows.ListRow.{ListRow}
+use Rattle.wire_commands.specs.declared.reply.Reply.{Reply}
+use Rattle.wire_commands.specs.declared.reply.Reply.TheVariants.{Listing, Keys}
+use Rattle.store_model.specs.AdminSteps.{list_limit, want_after, counts_fit}
+use Rattle.store_model.specs.Stands.{group_limit}
+use Rattle.core_state.specs.declared.kept.Kept.{Kept}
+use Rattle.core_state.specs.declared.kept.Listed.{Listed}
+use Rattle.core_state.specs.declared.kept.Session.{Session}
+use Rattle.core_writer.specs.Opened.{want_idle}
+
+-- ---- LIST
+
+-- what is kept is whole; a snapshot has 64 files at most, so their number fits its field
+abbrev pub row_of : Kept → ListRow
+row_of k = record { snapshot = key_text k.key; damaged = false; files = min (length k.files) 255 }
+
+abbrev pub is_behind : Option SnapshotKey → Kept → Bool
+is_behind None k = true
+is_behind (Some key) k = key_lt key k.key
+
+-- of the first snapshots behind a key
+abbrev pub rows_behind : Option SnapshotKey → List Listed → List ListRow
+rows_behind after catalogue = map (λ x. row_of x.kept) (take list_limit (filter (λ x. is_behind after x.kept) catalogue))
+
+-- a snapshot's text
+abbrev pub IsShort : List ℕ → Type 0
+IsShort snapshot = length snapshot ≤ 90
+
+-- a row of one that is whole
+abbrev pub IsListable : ListRow → Type 0
+IsListable r = IsShort r.snapshot × (r.damaged ≡ false) × (r.files < 256)
+
+unfoldable pub list_told : List ℕ → List Listed → Result Reply Refusal
+list_told text catalogue = do
+  after ← want_after text
+  Ok (Listing (rows_behind after catalogue))
+
+-- ---- GROUP
+
+abbrev pub is_in : GroupKey → Kept → Bool
+is_in group k = same_group (group_of_key k.key) group
+
+-- of the group's oldest snapshots, the oldest first
+abbrev pub texts_in : GroupKey → List Listed → List (List ℕ)
+texts_in group catalogue = map (λ x. key_text (x.kept).key) (take group_limit (filter (λ x. is_in group x.kept) catalogue))
+
+unfoldable pub group_told : List ℕ → List Listed → Result Reply Refusal
+group_told text catalogue = do
+  group ← or_else BadName (group_of text)
+  Ok (Keys (texts_in group catalogue))
+
+-- ---- the first step of a PRUNE
+
+unfoldable pub prune_told : List ℕ → Keep → Session → List Listed → Result Reply Refusal
+prune_told text keep session catalogue = do
+  _ ← want_idle session
+  group ← or_else BadName (group_of text)
+  _ ← unless (TooMany 1000) (counts_fit keep)
+  Ok (Keys (texts_in group catalogue))

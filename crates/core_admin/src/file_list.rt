@@ -1,0 +1,212 @@
+//! FILES.
+
+ghost use Rattle.std.specs.Prelude.{◌≡◌, ◌<◌, ◌≤◌, ℕ, List, map, option_map, length, take, Some, IfOk, IfErr, IfSome, IsErrOf, IsTrue, MatchResult};
+ghost use Rattle.std.specs.FinMap.{get};
+ghost use Rattle.std.specs.List.{All, find};
+ghost use Rattle.std.specs.Str.{bytes_eq};
+ghost use Rattle.disk_trait.specs.Disk.{Serves, Steps, Same};
+ghost use Rattle.blob_codec.specs.Laws.{AreBytes};
+ghost use Rattle.store_types.specs.Names.{IsKey};
+ghost use Rattle.manifest.specs.Views.{fact_view, manifest_view};
+ghost use Rattle.wire_commands.specs.HasText.{ReplyHasText};
+ghost use Rattle.wire_commands.specs.declared.command.Command.TheVariants as commands;
+ghost use Rattle.wire_commands.specs.declared.reply.Reply.TheVariants.{Refused};
+ghost use Rattle.store_types.specs.declared.refusal.Refusal.TheVariants.{Unreadable};
+ghost use Rattle.store_model.specs.AdminSteps.{file_row};
+ghost use Rattle.store_model.specs.Stands.{manifest_path};
+ghost use Rattle.store_model.specs.Steps.{outcome};
+ghost use Rattle.core_state.specs.Holds.{Acts};
+ghost use Rattle.core_state.specs.Listing.{listing_at, listing_in};
+ghost use Rattle.core_state.specs.Replies.{answers_files, reply_told};
+ghost use Rattle.core_state.specs.Settles.{kind_by, reply_by};
+ghost use Rattle.core_state.specs.Unchanged.{SameContent, SameKept, Unchanged};
+ghost use Rattle.core_state.specs.Unreadables.{TellsUnreadable};
+ghost use Rattle.core_admin.specs.FileRows.{fact_by, rows_by};
+ghost use Rattle.core_admin.specs.FilesTold.{AnswersFiles, IsFileRow, asked_files, files_told, named_kept, rows_read as rows_of_kept};
+
+use core_state::{Kept, Parts, StoredFile, snapshot_named};
+use disk_trait::{Disk, DiskError};
+use manifest::{FileFact, Manifest};
+use sha2::{Digest, Sha256};
+use snapshot_files::{LISTED_LIMIT, manifest_path_of, read_manifest};
+use std::alloc::{AllocError, Global};
+use store_types::{Bytes, Digest32, FileName, Refusal, Rows, SnapshotKey};
+use wire_commands::{FileRow, Reply};
+
+/// The most files that a snapshot has.
+const FILE_LIMIT: usize = 64;
+
+/// A manifest's file, and what it lists.
+#[derive(Drop)]
+struct ManifestFile {
+    bytes: Vec<u8>,
+    listed: Manifest,
+}
+
+/// The manifest whose blob these bytes are, where it lists 63 files at most.
+fn listing_of(alloc: Global, bytes: &[u8]) -> Result<Option<Manifest>, AllocError>
+    ensures value { IfOk result (λ listed. option_map manifest_view listed ≡ listing_in bytes.now) }
+    ensures bytes { AreBytes bytes.now }
+{
+    let Some(listed) = read_manifest(alloc, bytes)? else {
+        return Ok(None);
+    };
+    if listed.files.as_slice().len() > LISTED_LIMIT {
+        return Ok(None);
+    }
+    Ok(Some(listed))
+}
+
+/// The manifest that stands at the path, where it reads and lists 63 files at most.
+fn read_listing<D: Disk>(
+    disk: &mut D,
+    alloc: Global,
+    path: &str,
+) -> Result<Option<ManifestFile>, DiskError>
+    ensures serves { Serves D.honest D.faults disk.old disk.new (IsErrOf result DiskError.Failed) }
+    ensures calls { D.calls disk.old ≤ D.calls disk.new }
+    ensures same { SameContent D.honest D.content disk.old disk.new }
+    ensures crash { Steps D.calls D.images disk.old disk.new Same }
+    ensures value { D.honest disk.old → IfOk result (λ read. option_map (λ r. (r.bytes.items, manifest_view r.listed)) read ≡ listing_at (D.content disk.old) path.now) }
+    // what stands there is bytes
+    ensures bytes { D.honest disk.old → IfOk result (λ _. (text : List ℕ) → get (D.content disk.old) path.now ≡ Some text → AreBytes text) }
+{
+    let Some(bytes) = disk.read(alloc, path)? else {
+        return Ok(None);
+    };
+    match listing_of(alloc, &bytes)? {
+        Some(listed) => Ok(Some(ManifestFile { bytes, listed })),
+        None => Ok(None),
+    }
+}
+
+/// What is listed of the file of this name.
+fn fact_named<'a>(listed: &'a [FileFact], name: &FileName) -> Option<&'a FileFact>
+    ensures { option_map (λ fact. fact.now) result ≡ find (λ fact. bytes_eq fact.name name.now) listed.now }
+{
+    listed.iter().find(|fact| fact.name == *name)
+}
+
+/// The row of a file of this name, size in bytes and checksum.
+fn row_with(
+    alloc: Global,
+    name: &FileName,
+    size: u64,
+    csum: Digest32,
+) -> Result<FileRow, AllocError>
+    ensures value { IfOk result (λ row. row ≡ file_row (record { name = name.now; size = size; csum = csum })) }
+    ensures fits { IfOk result IsFileRow }
+{
+    let file = Bytes::from_slice(alloc, name.as_slice())?;
+    Ok(FileRow { file, size, csum })
+}
+
+/// What is told of a file: of the manifest its own size and checksum, of another file what is listed.
+fn row_of(
+    alloc: Global,
+    name: &FileName,
+    bytes: &[u8],
+    listed: &[FileFact],
+) -> Result<Option<FileRow>, AllocError>
+    ensures value { IfOk result (λ row. row ≡ option_map file_row (fact_by bytes.now (map fact_view listed.now) name.now)) }
+    ensures fits { IfOk result (λ row. IfSome row IsFileRow) }
+{
+    if name.is_manifest() {
+        let csum = Digest32(Sha256::digest(bytes));
+        return Ok(Some(row_with(alloc, name, bytes.len() as u64, csum)?));
+    }
+    match fact_named(listed, name) {
+        Some(fact) => Ok(Some(row_with(alloc, &fact.name, fact.size, fact.csum)?)),
+        None => Ok(None),
+    }
+}
+
+/// What is told of each of the files of which something is known.
+fn rows_of(
+    alloc: Global,
+    files: &[StoredFile],
+    bytes: &[u8],
+    listed: &[FileFact],
+) -> Result<Rows<FileRow>, AllocError>
+    requires { length files.now ≤ 64 }
+    ensures value { IfOk result (λ rows. rows ≡ rows_by bytes.now (map fact_view listed.now) (map (λ f. f.name) files.now)) }
+    ensures few { IfOk result (λ rows. length rows ≤ 64) }
+    ensures fit { IfOk result (λ rows. All IsFileRow rows) }
+{
+    let mut rows = Vec::new(alloc);
+    for file in files {
+        if let Some(row) = row_of(alloc, &file.name, bytes, listed)? {
+            rows.push(row)?;
+        }
+    }
+    Ok(Rows::from_vec(rows))
+}
+
+/// What is told of the snapshot's files, as its manifest lists them, or that the manifest is unreadable.
+fn rows_read<D: Disk>(
+    disk: &mut D,
+    alloc: Global,
+    kept: &Kept,
+) -> Result<Result<Rows<FileRow>, Refusal>, DiskError>
+    requires { IsKey kept.now.key }
+    ensures serves { Serves D.honest D.faults disk.old disk.new (IsErrOf result DiskError.Failed) }
+    ensures calls { D.calls disk.old ≤ D.calls disk.new }
+    ensures same { SameContent D.honest D.content disk.old disk.new }
+    ensures crash { Steps D.calls D.images disk.old disk.new Same }
+    ensures value { D.honest disk.old → IfOk result (λ told. told ≡ rows_of_kept (D.content disk.old) kept.now) }
+    ensures bytes { D.honest disk.old → IfOk result (λ _. (text : List ℕ) → get (D.content disk.old) (manifest_path kept.now.key) ≡ Some text → AreBytes text) }
+    // on any disk
+    ensures named { IfOk result (λ told. IfErr told (λ refusal. refusal ≡ Unreadable (manifest_path kept.now.key))) }
+    ensures refused { IfOk result (λ told. IfErr told (λ refusal. ReplyHasText (Refused refusal))) }
+    ensures few { IfOk result (λ told. IfOk told (λ rows. length rows ≤ 64)) }
+    ensures fit { IfOk result (λ told. IfOk told (λ rows. All IsFileRow rows)) }
+{
+    let path = manifest_path_of(alloc, &kept.key)?;
+    let Some(read) = read_listing(disk, alloc, path.as_str())? else {
+        return Ok(Err(Refusal::Unreadable {
+            name: path.into_bytes(),
+        }));
+    };
+    let files = kept.files.as_slice();
+    let files = &files[..files.len().min(FILE_LIMIT)];
+    let rows = rows_of(alloc, files, &read.bytes, read.listed.files.as_slice())?;
+    Ok(Ok(rows))
+}
+
+/// The files of a snapshot, in byte order, as its manifest lists them; of the manifest itself its own size and checksum. It
+/// reads the manifest's file, and changes nothing.
+///
+/// The refusals, in the order in which they are tested: the text names no snapshot; there is no such snapshot; nothing
+/// stands where its manifest was put, or no manifest, or one that lists more than 63 files.
+pub fn files<D: Disk>(
+    parts: &mut Parts<D>,
+    alloc: Global,
+    snapshot: &[u8],
+) -> Result<Reply, DiskError>
+    ensures serves { Serves D.honest D.faults parts.old.disk parts.new.disk (IsErrOf result DiskError.Failed) }
+    ensures calls { D.calls parts.old.disk ≤ D.calls parts.new.disk }
+    ensures text { IfOk result ReplyHasText }
+    ensures answers { IfOk result (λ reply. IsTrue (answers_files reply)) }
+    ensures unchanged { Unchanged D.honest D.content parts.old parts.new (reply_by result) }
+    ensures kept { SameKept parts.old parts.new }
+    ensures content { SameContent D.honest D.content parts.old.disk parts.new.disk }
+    ensures crash { Steps D.calls D.images parts.old.disk parts.new.disk Same }
+    // on any disk: rows, or that the manifest is unreadable, exactly where there is such a snapshot
+    ensures named { IfOk result (AnswersFiles (named_kept snapshot.now parts.old.catalogue.items)) }
+    // on any honest disk: by what its manifest lists
+    ensures told { D.honest parts.old.disk → IfOk result (λ reply. reply ≡ reply_told (files_told (D.content parts.old.disk) snapshot.now parts.old.catalogue.items)) }
+    // it is unreadable exactly where it is, as far as the disk tells
+    ensures unreadable { TellsUnreadable D.honest D.content parts.old.disk (asked_files snapshot.now parts.old.catalogue.items) (kind_by result) (Some (reply_by result)) }
+    ensures act { (lane moment : ℕ) → Acts D.honest D.content parts.old parts.new (λ s. outcome s lane moment (commands.Files snapshot.now)) result }
+{
+    let Ok(key) = SnapshotKey::parse(alloc, snapshot)? else {
+        return Ok(Reply::Refused(Refusal::BadName));
+    };
+    let Some(kept) = snapshot_named(&parts.catalogue, &key) else {
+        return Ok(Reply::Refused(Refusal::NoSnapshot));
+    };
+    match rows_read(&mut parts.disk, alloc, kept)? {
+        Ok(rows) => Ok(Reply::Files(rows)),
+        Err(refusal) => Ok(Reply::Refused(refusal)),
+    }
+}

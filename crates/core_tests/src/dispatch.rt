@@ -1,0 +1,291 @@
+ghost use Rattle.std.specs.Prelude.{◌<◌, IfOk};
+ghost use Rattle.store_history.specs.Acts.{IsWellFormed};
+
+use crate::fixtures::{FIRST, MANIFEST, MemoryCore, SECOND, checked, opened};
+use core_state::{Act, enter};
+use port_traits::MemSink;
+use shared_store::apply;
+use std::alloc::{AllocError, Global};
+use std::process::Abort;
+use std::test::Fail;
+use store_types::{Bytes, Keep, SnapshotKey};
+use wire_commands::Command;
+
+/// An act of a lane, as a table has it.
+#[derive(Clone, Copy)]
+enum Step {
+    OpenWriter(&'static [u8]),
+    Manifest,
+    Finish,
+    Abort,
+    OpenReader(&'static [u8]),
+    CloseReader,
+    List,
+    Forget(&'static [u8]),
+    /// The first step of a PRUNE of the group, with no option.
+    Prune,
+    Short,
+    End,
+}
+
+/// The first snapshot alone, as LIST tells it, and as GROUP does.
+const ONE_LISTED: &[u8] = b"\x21\0\0\0\0\x01\0\x1bhost/a/2020-01-15T06:30:03Z\0\x01";
+
+const ONE_KEY: &[u8] = b"\x1f\0\0\0\0\x01\0\x1bhost/a/2020-01-15T06:30:03Z";
+
+/// Two lanes want writers of one group, and a third wants to forget what is a base: each act with the frame of its reply, and
+/// the kind of its entry.
+const STEPS: [(u32, Step, &[u8], u8); 17] = [
+    (3, Step::OpenWriter(FIRST), b"\x02\0\0\0\0\0", 0),
+    (1, Step::OpenWriter(SECOND), b"\x05\0\0\0\x05\x03\0\0\0", 0),
+    (3, Step::Manifest, b"\x01\0\0\0\0", 0),
+    (3, Step::Finish, b"\x01\0\0\0\0", 0),
+    (
+        1,
+        Step::OpenWriter(FIRST),
+        b"\x09\0\0\0\x07\x6b\xb1\x1e\x5e\0\0\0\0",
+        0,
+    ),
+    (
+        1,
+        Step::OpenWriter(SECOND),
+        b"\x1d\0\0\0\0\x1bhost/a/2020-01-15T06:30:03Z",
+        0,
+    ),
+    (1, Step::End, b"", 6),
+    (5, Step::List, ONE_LISTED, 0),
+    (
+        2,
+        Step::OpenWriter(SECOND),
+        b"\x1d\0\0\0\0\x1bhost/a/2020-01-15T06:30:03Z",
+        0,
+    ),
+    (5, Step::Forget(FIRST), b"\x05\0\0\0\x06\x02\0\0\0", 0),
+    (5, Step::List, ONE_LISTED, 0),
+    (2, Step::Abort, b"\x01\0\0\0\0", 0),
+    (5, Step::List, ONE_LISTED, 0),
+    (5, Step::Forget(FIRST), b"\x01\0\0\0\0", 0),
+    (5, Step::Forget(FIRST), b"\x01\0\0\0\x08", 0),
+    (2, Step::List, b"\x03\0\0\0\0\0\0", 0),
+    (5, Step::Short, b"\x01\0\0\0\x1c", 2),
+];
+
+/// Lanes whose sessions are closed, or are not theirs to close: each act with the frame of its reply, and how many entries
+/// the lane then has in reserve. What ends a session fills up nothing, and takes an entry of the reserve where no spare one is.
+const CLOSINGS: [(u32, Step, &[u8], u8); 12] = [
+    (3, Step::Abort, b"\x02\0\0\0\x03\0", 3),
+    (3, Step::OpenWriter(FIRST), b"\x02\0\0\0\0\0", 3),
+    (3, Step::CloseReader, b"\x02\0\0\0\x03\x01", 3),
+    (3, Step::Abort, b"\x01\0\0\0\0", 2),
+    (1, Step::OpenWriter(FIRST), b"\x02\0\0\0\0\0", 3),
+    (1, Step::Manifest, b"\x01\0\0\0\0", 3),
+    (1, Step::Finish, b"\x01\0\0\0\0", 3),
+    (2, Step::OpenReader(FIRST), b"\x01\0\0\0\0", 3),
+    (2, Step::Abort, b"\x02\0\0\0\x03\x02", 3),
+    (2, Step::CloseReader, b"\x01\0\0\0\0", 2),
+    (2, Step::CloseReader, b"\x02\0\0\0\x03\0", 3),
+    (3, Step::End, b"", 1),
+];
+
+/// Lanes that hold the first snapshot, as base or with a reader, while another prunes its group: each act with the frame of
+/// its reply, and the least lane that then holds it.
+const HOLDERS: [(u32, Step, &[u8], Option<u32>); 18] = [
+    (3, Step::OpenWriter(FIRST), b"\x02\0\0\0\0\0", None),
+    (3, Step::Manifest, b"\x01\0\0\0\0", None),
+    (3, Step::Finish, b"\x01\0\0\0\0", None),
+    (
+        4,
+        Step::OpenWriter(SECOND),
+        b"\x1d\0\0\0\0\x1bhost/a/2020-01-15T06:30:03Z",
+        Some(4),
+    ),
+    (5, Step::OpenReader(FIRST), b"\x01\0\0\0\0", Some(4)),
+    (2, Step::OpenReader(FIRST), b"\x01\0\0\0\0", Some(2)),
+    (6, Step::Forget(FIRST), b"\x05\0\0\0\x06\x02\0\0\0", Some(2)),
+    (2, Step::Forget(FIRST), b"\x02\0\0\0\x03\x02", Some(2)),
+    (4, Step::Prune, b"\x02\0\0\0\x03\x01", Some(2)),
+    (2, Step::CloseReader, b"\x01\0\0\0\0", Some(4)),
+    (
+        1,
+        Step::OpenWriter(SECOND),
+        b"\x05\0\0\0\x05\x04\0\0\0",
+        Some(4),
+    ),
+    (4, Step::Abort, b"\x01\0\0\0\0", Some(5)),
+    (6, Step::Prune, ONE_KEY, Some(5)),
+    (6, Step::Forget(FIRST), b"\x05\0\0\0\x06\x05\0\0\0", Some(5)),
+    (
+        1,
+        Step::OpenWriter(FIRST),
+        b"\x09\0\0\0\x07\x6b\xb1\x1e\x5e\0\0\0\0",
+        Some(5),
+    ),
+    (5, Step::End, b"", None),
+    (6, Step::Forget(FIRST), b"\x01\0\0\0\0", None),
+    (6, Step::Prune, b"\x03\0\0\0\0\0\0", None),
+];
+
+const KEEP_ALL: Keep = Keep {
+    last: 0,
+    hourly: 0,
+    daily: 0,
+    weekly: 0,
+    monthly: 0,
+    yearly: 0,
+};
+
+/// The upload of the manifest, checked outside the act.
+fn manifest(alloc: Global) -> Result<Act, AllocError>
+    ensures { IfOk result IsWellFormed }
+{
+    let name = Bytes::from_slice(alloc, b"index.json.blob")?;
+    let checked = checked(Bytes::from_slice(alloc, MANIFEST)?);
+    Ok(Act::Blob { name, checked })
+}
+
+fn act_of(alloc: Global, step: Step) -> Result<Act, AllocError>
+    ensures { IfOk result IsWellFormed }
+{
+    match step {
+        Step::OpenWriter(key) => {
+            let snapshot = Bytes::from_slice(alloc, key)?;
+            Ok(Act::Plain(Command::OpenWriter { snapshot }))
+        }
+        Step::Manifest => manifest(alloc),
+        Step::Finish => Ok(Act::Plain(Command::Finish)),
+        Step::Abort => Ok(Act::Plain(Command::Abort)),
+        Step::OpenReader(key) => {
+            let snapshot = Bytes::from_slice(alloc, key)?;
+            Ok(Act::Plain(Command::OpenReader { snapshot }))
+        }
+        Step::CloseReader => Ok(Act::Plain(Command::CloseReader)),
+        Step::List => {
+            let after = Bytes::from_slice(alloc, b"")?;
+            Ok(Act::Plain(Command::List { after }))
+        }
+        Step::Forget(key) => {
+            let snapshot = Bytes::from_slice(alloc, key)?;
+            Ok(Act::Plain(Command::Forget { snapshot }))
+        }
+        Step::Prune => {
+            let group = Bytes::from_slice(alloc, b"host/a")?;
+            Ok(Act::JobGroup(Command::Prune {
+                group,
+                keep: KEEP_ALL,
+                dry: false,
+            }))
+        }
+        Step::Short => Ok(Act::Short),
+        Step::End => Ok(Act::End),
+    }
+}
+
+/// Does a step, and compares its reply.
+fn try_step(
+    rt: &impl Abort,
+    core: &mut MemoryCore,
+    alloc: Global,
+    lane: u32,
+    step: Step,
+    expected: &[u8],
+) -> Result<(), Fail>
+    requires { lane < 64 }
+{
+    let act = act_of(alloc, step)?;
+    if !core.room(lane, &act) {
+        return Err("no room".into());
+    }
+    let mut sink = MemSink::new(alloc, Vec::new(alloc));
+    if let Some(reply) = apply(core, alloc, lane, act).reply {
+        assert!(rt; reply.put(&mut sink).is_ok());
+    }
+    assert_eq!(rt; sink.as_bytes(), expected);
+    Ok(())
+}
+
+#[test]
+fn groups_have_one_writer(rt: HostRuntime) -> Result<(), Fail> {
+    let alloc = rt.alloc();
+    let mut core = opened(alloc, &[], 1000)?;
+    for (lane, step, expected, _) in &STEPS {
+        if *lane < 64 {
+            try_step(&rt, &mut core, alloc, *lane, *step, expected)?;
+        }
+    }
+    let order = core.parts().order;
+    assert_eq!(rt; order.len(), STEPS.len());
+    for (entry, (lane, _, _, kind)) in order.iter().zip(&STEPS) {
+        assert_eq!(rt;
+            (entry.lane, entry.moment, entry.kind),
+            (*lane, 1000, *kind)
+        );
+    }
+    Ok(())
+}
+
+#[test]
+fn snapshots_are_held(rt: HostRuntime) -> Result<(), Fail> {
+    let alloc = rt.alloc();
+    let mut core = opened(alloc, &[], 1000)?;
+    let key = SnapshotKey::parse(alloc, FIRST)??;
+    for (lane, step, expected, holder) in &HOLDERS {
+        if *lane < 64 {
+            try_step(&rt, &mut core, alloc, *lane, *step, expected)?;
+            let free = core.parts.locks.free_for_removal(&key);
+            assert_eq!(rt; free.err().map(|held| held.lane), *holder);
+        }
+    }
+    Ok(())
+}
+
+/// How many entries the lane has in reserve.
+fn held(core: &MemoryCore, lane: u32) -> u8 {
+    core.journal.held.get(lane as usize).map_or(0, |held| *held)
+}
+
+#[test]
+fn sessions_are_closed_by_the_reserve(rt: HostRuntime) -> Result<(), Fail> {
+    let alloc = rt.alloc();
+    let mut core = opened(alloc, &[], 1000)?;
+    for (lane, step, expected, left) in &CLOSINGS {
+        if *lane < 64 {
+            try_step(&rt, &mut core, alloc, *lane, *step, expected)?;
+            assert_eq!(rt; core.journal.spare, 0);
+            assert_eq!(rt; held(&core, *lane), *left);
+            assert!(rt; core.room(*lane, &Act::Short));
+        }
+    }
+    core.reserve(2)?;
+    assert_eq!(rt; core.journal.spare, 2);
+    Ok(())
+}
+
+/// A want of memory on lane 3 that takes an entry of the lane's reserve, since none is spare.
+fn use_reserve(rt: &impl Abort, core: &mut MemoryCore) {
+    assert!(rt; core.journal.room(3));
+    assert!(rt; enter(core, 3, 1000, 2, None).last);
+}
+
+/// How many entries and counts of calls the order has memory for.
+fn capacities(core: &MemoryCore) -> (usize, usize) {
+    (
+        core.journal.entries.capacity(),
+        core.journal.calls.capacity(),
+    )
+}
+
+/// The end of a writer's lane by the last entry of its reserve. It takes no memory, and frees the group.
+#[test]
+fn lanes_end_without_memory(rt: HostRuntime) -> Result<(), Fail> {
+    let alloc = rt.alloc();
+    let mut core = opened(alloc, &[], 1000)?;
+    let no_base = b"\x02\0\0\0\0\0";
+    try_step(&rt, &mut core, alloc, 3, Step::OpenWriter(FIRST), no_base)?;
+    use_reserve(&rt, &mut core);
+    use_reserve(&rt, &mut core);
+    let before = capacities(&core);
+    try_step(&rt, &mut core, alloc, 3, Step::End, b"")?;
+    assert_eq!(rt; capacities(&core), before);
+    assert!(rt; !core.journal.room(3));
+    try_step(&rt, &mut core, alloc, 4, Step::OpenWriter(FIRST), no_base)
+}

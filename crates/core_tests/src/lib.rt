@@ -1,0 +1,17 @@
+//! The tests of the core: its state, the commands over its parts, and the dispatch of acts.
+#![tactic(auto)]
+
+#[cfg(test)]
+mod admin;
+#[cfg(test)]
+mod damage;
+#[cfg(test)]
+mod dispatch;
+#[cfg(test)]
+mod fixtures;
+#[cfg(test)]
+mod reader;
+#[cfg(test)]
+mod state;
+#[cfg(test)]
+mod writer;

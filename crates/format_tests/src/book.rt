@@ -1,0 +1,153 @@
+//! Books whose bytes and checksums were made elsewhere.
+
+use atime_book::{Book, cutoff};
+use std::alloc::Global;
+use std::test::Fail;
+use store_types::Digest32;
+
+/// A book's file: the magic, the last moment, the count, chunks whose digests have one byte 32 times, and a checksum.
+fn file(
+    alloc: Global,
+    magic: &[u8],
+    numbers: (u64, u64),
+    touches: &[(u8, u64)],
+    csum: &str,
+) -> Result<Vec<u8>, Fail> {
+    let mut text = Vec::from_slice(alloc, magic)?;
+    text.extend_from_slice(&numbers.0.to_le_bytes())?;
+    text.extend_from_slice(&numbers.1.to_le_bytes())?;
+    for (byte, touched) in touches {
+        text.extend_from_slice(&[*byte; 32])?;
+        text.extend_from_slice(&touched.to_le_bytes())?;
+    }
+    let mut sum = [0; 32];
+    hex::decode_to_slice(csum, &mut sum)?;
+    text.extend_from_slice(&sum)?;
+    Ok(text)
+}
+
+#[test]
+fn cutoffs(rt: HostRuntime) {
+    for (start, oldest, expected) in [
+        (1_000_000, None, 913_300),
+        (1_000_000, Some(900_000), 899_700),
+        (1_000_000, Some(950_000), 913_300),
+        (100, None, 0),
+        (1_000_000, Some(100), 0),
+    ] {
+        assert_eq!(rt; cutoff(start, oldest), expected, "from {start}");
+    }
+}
+
+#[test]
+fn touched_and_swept(rt: HostRuntime) -> Result<(), Fail> {
+    let (a, b) = (Digest32([1; 32]), Digest32([2; 32]));
+    let mut book = Book::new(rt.alloc());
+    assert_eq!(rt; book.moment(), 0);
+    assert_eq!(rt; book.last(&a), None);
+    assert!(rt; !book.sweep_one(&a, 10));
+    book.touch(&b, 7)?;
+    book.touch(&a, 5)?;
+    book.touch(&a, 9)?;
+    assert_eq!(rt; book.last(&a), Some(9));
+    assert!(rt; !book.sweep_one(&a, 9));
+    assert_eq!(rt; book.last(&a), Some(9));
+    assert!(rt; book.sweep_one(&a, 10));
+    assert_eq!(rt; book.last(&a), None);
+    assert_eq!(rt; book.last(&b), Some(7));
+    Ok(())
+}
+
+#[test]
+fn written_and_read(rt: HostRuntime) -> Result<(), Fail> {
+    let csum = "69341ebf56d98403b7610d7aea05ae6bb5d9d12a4e348d5a91590af28717e01c";
+    let touches = [(1, 5), (2, 1_000_000)];
+    let text = file(rt.alloc(), b"PBSBOOK1", (1_000_000, 2), &touches, csum)?;
+    let mut book = Book::new(rt.alloc());
+    book.touch(&Digest32([2; 32]), 1_000_000)?;
+    book.touch(&Digest32([1; 32]), 5)?;
+    assert_eq!(rt;
+        book.text(rt.alloc(), 1_000_000)?.as_slice(),
+        text.as_slice()
+    );
+    let read = Book::read(rt.alloc(), &text)?.ok_or("a book")?;
+    assert_eq!(rt; read.moment(), 1_000_000);
+    assert_eq!(rt; read.last(&Digest32([1; 32])), Some(5));
+    assert_eq!(rt; read.last(&Digest32([2; 32])), Some(1_000_000));
+    assert_eq!(rt; read.last(&Digest32([3; 32])), None);
+    Ok(())
+}
+
+const LATE: u64 = 253_402_300_800;
+
+/// The checksum of a book of one chunk.
+const GOOD: &str = "c78a25d6788eec345ece50f44255e751b91ac1fefc1f7839a9637a6e1130ef4f";
+
+/// What a file is made of, as `file` takes it, and whether it is a book.
+type Made = (
+    &'static [u8; 8],
+    (u64, u64),
+    &'static [(u8, u64)],
+    &'static str,
+    bool,
+);
+
+static FILES: [Made; 8] = [
+    (b"PBSBOOK1", (10, 1), &[(1, 5)], GOOD, true),
+    (b"PBSBOOK1", (10, 1), &[(1, 6)], GOOD, false),
+    (
+        b"PBSBOOK2",
+        (10, 1),
+        &[(1, 5)],
+        "af5ea89ab63c3bbd9866937807295ae563bd0038933a33f0d1d32f61815b2969",
+        false,
+    ),
+    (
+        b"PBSBOOK1",
+        (LATE, 1),
+        &[(1, 5)],
+        "9614bc00b336f95da240603e62e4d9e1c2662042b578c792da0fec7c23fc8391",
+        false,
+    ),
+    (
+        b"PBSBOOK1",
+        (10, 2),
+        &[(1, 5)],
+        "ca4af624721ea46db2214380441df6b1fb76d09fd9a9dea538a8c390389ab998",
+        false,
+    ),
+    (
+        b"PBSBOOK1",
+        (10, 2),
+        &[(1, 5), (1, 5)],
+        "db89e6f5d100a905dfb5d3a67e225d29232b8734aa8c692ddb6169afb1dfc9a0",
+        false,
+    ),
+    (
+        b"PBSBOOK1",
+        (10, 2),
+        &[(2, 5), (1, 5)],
+        "b07c684e82bdb66e6c24cc67181e2a8cae89ccab8f413bc1994be16a4241d85f",
+        false,
+    ),
+    (
+        b"PBSBOOK1",
+        (10, 1),
+        &[(1, 11)],
+        "acf63a9db4d0121768121c4bd952fce2835f27df1a4774eac8b7e63b4876a44b",
+        false,
+    ),
+];
+
+#[test]
+fn no_books(rt: HostRuntime) -> Result<(), Fail> {
+    for (magic, numbers, touches, csum, is_book) in FILES {
+        let text = file(rt.alloc(), magic.as_slice(), numbers, touches, csum)?;
+        let read = Book::read(rt.alloc(), &text)?;
+        assert_eq!(rt; read.is_some(), is_book, "with {csum}");
+    }
+    let text = file(rt.alloc(), b"PBSBOOK1", (10, 1), &[(1, 5)], GOOD)?;
+    assert!(rt; Book::read(rt.alloc(), text.get(..95).unwrap_or(&text))?.is_none());
+    assert!(rt; Book::read(rt.alloc(), b"")?.is_none());
+    Ok(())
+}

@@ -1,0 +1,19 @@
+//! Digests, and bytes that several tests change.
+
+use std::alloc::{AllocError, Global};
+use store_types::Digest32;
+
+/// SHA-256 of `abc`.
+pub(crate) const ABC: Digest32 = Digest32([
+    0xba, 0x78, 0x16, 0xbf, 0x8f, 0x01, 0xcf, 0xea, 0x41, 0x41, 0x40, 0xde, 0x5d, 0xae, 0x22, 0x23,
+    0xb0, 0x03, 0x61, 0xa3, 0x96, 0x17, 0x7a, 0x9c, 0xb4, 0x10, 0xff, 0x61, 0xf2, 0x00, 0x15, 0xad,
+]);
+
+pub(crate) fn zeros(alloc: Global, count: usize) -> Result<Vec<u8>, AllocError> {
+    vec![in alloc; 0; count]
+}
+
+/// The first bytes, where there are so many.
+pub(crate) fn front(bytes: &[u8], count: usize) -> &[u8] {
+    bytes.get(..count).unwrap_or(bytes)
+}

@@ -1,0 +1,392 @@
+use crate::fixtures::ABC;
+use manifest::{BadManifest, FileFact, Manifest, check, read};
+use std::alloc::{AllocError, Global};
+use std::test::Fail;
+use store_types::{Bytes, Digest32, FileName, Kind, Rows, SnapshotKey};
+
+const ZEROS: Digest32 = Digest32([0; 32]);
+
+/// The text in front of the list of files, and the one behind.
+const FRONT: &str =
+    "{\"backup-id\":\"a\",\"backup-time\":1579069803,\"backup-type\":\"host\",\"files\":[";
+
+const BACK: &str = "]}";
+
+/// Texts without entries, and the cause; 0 where there is none.
+static WHOLE: [(&str, u8); 28] = [
+    (
+        "{\"backup-id\":\"a\",\"backup-time\":1579069803,\"backup-type\":\"host\",\"files\":[]}",
+        0,
+    ),
+    ("", 1),
+    ("[]x", 1),
+    (
+        "{\"backup-id\":\"a\",\"backup-time\":01,\"backup-type\":\"host\",\"files\":[]}",
+        1,
+    ),
+    (
+        "{\"backup-id\":\"a\",\"backup-time\":1e400,\"backup-type\":\"host\",\"files\":[]}",
+        1,
+    ),
+    (
+        "{\"backup-id\":\"a\",\"backup-time\":1,\"backup-type\":\"host\",\"files\":[],\"x\":\"\\ud800\"}",
+        1,
+    ),
+    ("[]", 2),
+    ("null", 2),
+    ("{}", 2),
+    (
+        "{\"backup-time\":1,\"backup-type\":\"host\",\"files\":[]}",
+        2,
+    ),
+    (
+        "{\"backup-id\":\"a\",\"backup-type\":\"host\",\"files\":[]}",
+        2,
+    ),
+    ("{\"backup-id\":\"a\",\"backup-time\":1,\"files\":[]}", 2),
+    (
+        "{\"backup-id\":\"a\",\"backup-time\":1,\"backup-type\":\"host\"}",
+        2,
+    ),
+    (
+        "{\"backup-id\":1,\"backup-time\":1,\"backup-type\":\"host\",\"files\":[]}",
+        2,
+    ),
+    (
+        "{\"backup-id\":\"\",\"backup-time\":1,\"backup-type\":\"host\",\"files\":[]}",
+        2,
+    ),
+    (
+        "{\"backup-id\":\"a/b\",\"backup-time\":1,\"backup-type\":\"host\",\"files\":[]}",
+        2,
+    ),
+    (
+        "{\"backup-id\":\"b\",\"backup-time\":1,\"backup-type\":\"host/a\",\"files\":[]}",
+        2,
+    ),
+    (
+        "{\"backup-id\":\"a\",\"backup-time\":1,\"backup-type\":\"HOST\",\"files\":[]}",
+        2,
+    ),
+    (
+        "{\"backup-id\":\"a\",\"backup-time\":1,\"backup-type\":\"host\",\"files\":{}}",
+        2,
+    ),
+    (
+        "{\"backup-id\":\"a\",\"backup-time\":5.0,\"backup-type\":\"host\",\"files\":[]}",
+        2,
+    ),
+    (
+        "{\"backup-id\":\"a\",\"backup-time\":5e0,\"backup-type\":\"host\",\"files\":[]}",
+        2,
+    ),
+    (
+        "{\"backup-id\":\"a\",\"backup-time\":-0,\"backup-type\":\"host\",\"files\":[]}",
+        2,
+    ),
+    (
+        "{\"backup-id\":\"a\",\"backup-time\":18446744073709551616,\"backup-type\":\"host\",\"files\":[]}",
+        2,
+    ),
+    (
+        "{\"backup-id\":\"a\",\"backup-time\":253402300800,\"backup-type\":\"host\",\"files\":[]}",
+        2,
+    ),
+    (
+        "{\"backup-id\":\"a\",\"backup-time\":253402300799,\"backup-type\":\"host\",\"files\":[]}",
+        0,
+    ),
+    (
+        "{\"backup-id\":\"a\",\"backup-time\":0,\"backup-type\":\"vm\",\"files\":[],\"signature\":null,\"unprotected\":{}}",
+        0,
+    ),
+    (
+        "{\"backup-id\":\"a\",\"backup-time\":1,\"backup-type\":\"ct\",\"files\":[],\"files\":1}",
+        2,
+    ),
+    (
+        "{\"backup-id\":\"a\",\"backup-time\":1,\"backup-type\":\"ct\",\"files\":1,\"files\":[3]}",
+        3,
+    ),
+];
+
+/// Entries, and the cause.
+static ENTRIES: [(&str, u8); 18] = [
+    ("", 0),
+    (
+        "{\"filename\":\"a.blob\",\"size\":18446744073709551615,\"csum\":\"ba7816bf8f01cfea414140de5dae2223b00361a396177a9cb410ff61f20015ad\",\"crypt-mode\":\"none\"}",
+        0,
+    ),
+    ("1", 3),
+    (
+        "{\"size\":1,\"csum\":\"ba7816bf8f01cfea414140de5dae2223b00361a396177a9cb410ff61f20015ad\"}",
+        3,
+    ),
+    (
+        "{\"filename\":\"a.blob\",\"csum\":\"ba7816bf8f01cfea414140de5dae2223b00361a396177a9cb410ff61f20015ad\"}",
+        3,
+    ),
+    ("{\"filename\":\"a.blob\",\"size\":1}", 3),
+    (
+        "{\"filename\":\"a.txt\",\"size\":1,\"csum\":\"ba7816bf8f01cfea414140de5dae2223b00361a396177a9cb410ff61f20015ad\"}",
+        3,
+    ),
+    (
+        "{\"filename\":\"a.blob\",\"size\":1.0,\"csum\":\"ba7816bf8f01cfea414140de5dae2223b00361a396177a9cb410ff61f20015ad\"}",
+        3,
+    ),
+    (
+        "{\"filename\":\"a.blob\",\"size\":18446744073709551616,\"csum\":\"ba7816bf8f01cfea414140de5dae2223b00361a396177a9cb410ff61f20015ad\"}",
+        3,
+    ),
+    (
+        "{\"filename\":\"a.blob\",\"size\":1,\"csum\":\"ba7816bf8f01cfea414140de5dae2223b00361a396177a9cb410ff61f20015\"}",
+        3,
+    ),
+    (
+        "{\"filename\":\"a.blob\",\"size\":1,\"csum\":\"ga7816bf8f01cfea414140de5dae2223b00361a396177a9cb410ff61f20015ad\"}",
+        3,
+    ),
+    (
+        "{\"filename\":\"a.blob\",\"size\":1,\"csum\":\"ba7816bf8f01cfea414140de5dae2223b00361a396177a9cb410ff61f20015ad\",\"crypt-mode\":\"encrypt\"}",
+        5,
+    ),
+    (
+        "{\"filename\":\"a.blob\",\"size\":1,\"csum\":\"ba7816bf8f01cfea414140de5dae2223b00361a396177a9cb410ff61f20015ad\",\"crypt-mode\":null}",
+        5,
+    ),
+    (
+        "{\"filename\":\"a.blob\",\"size\":1,\"crypt-mode\":null}",
+        3,
+    ),
+    (
+        "{\"filename\":\"a.blob\",\"size\":1,\"csum\":\"ba7816bf8f01cfea414140de5dae2223b00361a396177a9cb410ff61f20015ad\"},{\"filename\":\"a.blob\",\"size\":2,\"csum\":\"ba7816bf8f01cfea414140de5dae2223b00361a396177a9cb410ff61f20015ad\"}",
+        4,
+    ),
+    (
+        "{\"filename\":\"a.blob\",\"size\":1,\"csum\":\"ba7816bf8f01cfea414140de5dae2223b00361a396177a9cb410ff61f20015ad\"},{\"filename\":\"a.blob\",\"size\":2,\"csum\":\"ba7816bf8f01cfea414140de5dae2223b00361a396177a9cb410ff61f20015ad\",\"crypt-mode\":\"sign-only\"}",
+        5,
+    ),
+    (
+        "{\"filename\":\"a.blob\",\"size\":1,\"csum\":\"ba7816bf8f01cfea414140de5dae2223b00361a396177a9cb410ff61f20015ad\"},{\"filename\":\"a.blob\",\"size\":2,\"csum\":\"\"},1",
+        3,
+    ),
+    (
+        "{\"filename\":\"a.blob\",\"size\":1,\"csum\":\"ba7816bf8f01cfea414140de5dae2223b00361a396177a9cb410ff61f20015ad\"},{\"filename\":\"a.blob\",\"size\":2,\"csum\":\"ba7816bf8f01cfea414140de5dae2223b00361a396177a9cb410ff61f20015ad\"},1",
+        4,
+    ),
+];
+
+fn cause_of(alloc: Global, text: &[u8]) -> Result<u8, AllocError> {
+    match read(alloc, text)? {
+        Ok(_) => Ok(0),
+        Err(BadManifest { cause }) => Ok(cause),
+    }
+}
+
+fn with_entries(alloc: Global, entries: &str) -> Result<String, AllocError> {
+    let mut text = String::from_str(alloc, FRONT)?;
+    text.push_str(entries)?;
+    text.push_str(BACK)?;
+    Ok(text)
+}
+
+/// A manifest's text with so many arrays, one in another, under a key that is not read.
+fn nested(alloc: Global, depth: usize) -> Result<String, AllocError> {
+    let mut text = String::from_str(
+        alloc,
+        "{\"backup-id\":\"a\",\"backup-time\":1,\"backup-type\":\"host\",\"files\":[],\"x\":",
+    )?;
+    for _ in 0..depth {
+        text.push('[')?;
+    }
+    for _ in 0..depth {
+        text.push(']')?;
+    }
+    text.push('}')?;
+    Ok(text)
+}
+
+#[test]
+fn first_cause(rt: HostRuntime) -> Result<(), Fail> {
+    let alloc = rt.alloc();
+    for (text, cause) in &WHOLE {
+        assert_eq!(rt; cause_of(alloc, text.as_bytes())?, *cause, "{text}");
+    }
+    for (entries, cause) in &ENTRIES {
+        let text = with_entries(alloc, entries)?;
+        assert_eq!(rt; cause_of(alloc, text.as_bytes())?, *cause, "{entries}");
+    }
+    assert_eq!(rt; cause_of(alloc, b"\"\xff\"")?, 1);
+    assert_eq!(rt; cause_of(alloc, nested(alloc, 126)?.as_bytes())?, 0);
+    assert_eq!(rt; cause_of(alloc, nested(alloc, 127)?.as_bytes())?, 1);
+    Ok(())
+}
+
+#[test]
+fn what_is_read(rt: HostRuntime) -> Result<(), Fail> {
+    let alloc = rt.alloc();
+    let text = with_entries(
+        alloc,
+        "{\"filename\":\"root.didx\",\"size\":5,\"csum\":\"BA7816BF8F01CFEA414140DE5DAE2223B00361A396177A9CB410FF61F20015AD\",\"extra\":[]},{\"crypt-mode\":\"none\",\"csum\":\"0000000000000000000000000000000000000000000000000000000000000000\",\"filename\":\"a.conf.blob\",\"size\":0}",
+    )?;
+    let manifest = read(alloc, text.as_bytes())??;
+    assert_eq!(rt;
+        manifest.key,
+        SnapshotKey::parse(alloc, b"host/a/2020-01-15T06:30:03Z")??
+    );
+    let [root, conf] = manifest.files.as_slice() else {
+        return Err(Fail::from("not two files"));
+    };
+    assert_eq!(rt; root.name.as_str(), "root.didx");
+    assert_eq!(rt; root.size, 5);
+    assert_eq!(rt; root.csum, ABC);
+    assert_eq!(rt; conf.name.as_str(), "a.conf.blob");
+    assert_eq!(rt; conf.size, 0);
+    assert_eq!(rt; conf.csum, ZEROS);
+    Ok(())
+}
+
+/// A file's name, size and checksum.
+type Listed = (&'static str, u64, Digest32);
+
+/// Uploads beside a manifest that lists `root.didx` with size 5 and then `a.blob` with size 6, both with `ABC`: the file
+/// and the field that are told; 0 for none.
+static UPLOADS: [(&[Listed], &str, u8); 13] = [
+    (&[("a.blob", 6, ABC), ("root.didx", 5, ABC)], "", 0),
+    (
+        &[
+            ("a.blob", 6, ABC),
+            ("index.json.blob", 1, ZEROS),
+            ("root.didx", 5, ABC),
+        ],
+        "",
+        0,
+    ),
+    (&[], "root.didx", 4),
+    (&[("a.blob", 7, ABC)], "root.didx", 4),
+    (&[("root.didx", 5, ABC)], "a.blob", 4),
+    (&[("a.blob", 6, ABC), ("root.didx", 6, ABC)], "root.didx", 6),
+    (
+        &[("a.blob", 6, ABC), ("root.didx", 5, ZEROS)],
+        "root.didx",
+        7,
+    ),
+    (
+        &[("a.blob", 7, ABC), ("root.didx", 6, ZEROS)],
+        "root.didx",
+        6,
+    ),
+    (
+        &[
+            ("a.blob", 7, ZEROS),
+            ("b.blob", 1, ABC),
+            ("root.didx", 5, ABC),
+        ],
+        "a.blob",
+        6,
+    ),
+    (&[("b.blob", 6, ABC), ("root.didx", 5, ABC)], "a.blob", 4),
+    (
+        &[
+            ("a.blob", 6, ABC),
+            ("b.blob", 1, ABC),
+            ("root.didx", 5, ABC),
+        ],
+        "b.blob",
+        5,
+    ),
+    (
+        &[
+            ("a.blob", 6, ABC),
+            ("b.blob", 1, ABC),
+            ("c.blob", 1, ABC),
+            ("root.didx", 5, ABC),
+        ],
+        "b.blob",
+        5,
+    ),
+    (
+        &[
+            ("c.blob", 1, ABC),
+            ("root.didx", 5, ABC),
+            ("b.blob", 1, ABC),
+            ("a.blob", 6, ABC),
+        ],
+        "b.blob",
+        5,
+    ),
+];
+
+/// Snapshots, and which of type, id and time is told to differ from `host/a` at 7.
+static KEYS: [(Kind, &[u8], u64, u8); 6] = [
+    (Kind::Host, b"a", 7, 0),
+    (Kind::Vm, b"a", 7, 1),
+    (Kind::Host, b"b", 7, 2),
+    (Kind::Host, b"a", 8, 3),
+    (Kind::Ct, b"b", 8, 1),
+    (Kind::Host, b"b", 8, 2),
+];
+
+fn facts(alloc: Global, files: &[Listed]) -> Result<Vec<FileFact>, Fail> {
+    let mut facts = Vec::new(alloc);
+    for (name, size, csum) in files {
+        let name = FileName::check(alloc, name.as_bytes())??;
+        facts.push(FileFact {
+            name,
+            size: *size,
+            csum: *csum,
+        })?;
+    }
+    Ok(facts)
+}
+
+fn key(alloc: Global, kind: Kind, id: &[u8], time: u64) -> Result<SnapshotKey, AllocError> {
+    let id = Bytes::from_slice(alloc, id)?;
+    Ok(SnapshotKey { kind, id, time })
+}
+
+/// The file that is told, empty for none, and the field, 0 for none.
+fn told(
+    manifest: &Manifest,
+    key: &SnapshotKey,
+    uploads: &[FileFact],
+) -> Result<(Option<FileName>, u8), AllocError> {
+    match check(manifest, key, uploads)? {
+        Ok(()) => Ok((None, 0)),
+        Err(mismatch) => Ok((mismatch.file, mismatch.field)),
+    }
+}
+
+#[test]
+fn first_mismatch(rt: HostRuntime) -> Result<(), Fail> {
+    let alloc = rt.alloc();
+    let mut manifest = Manifest {
+        key: key(alloc, Kind::Host, b"a", 7)?,
+        files: Rows::from_vec(facts(alloc, &[("root.didx", 5, ABC), ("a.blob", 6, ABC)])?),
+    };
+    let session = key(alloc, Kind::Host, b"a", 7)?;
+    for (uploads, name, field) in &UPLOADS {
+        let uploads = facts(alloc, uploads)?;
+        let (file, found) = told(&manifest, &session, &uploads)?;
+        let file = match &file {
+            Some(file) => file.as_str(),
+            None => "",
+        };
+        assert_eq!(rt; (file, found), (*name, *field));
+    }
+    let uploads = facts(alloc, &[("a.blob", 6, ABC), ("root.didx", 5, ABC)])?;
+    for (kind, id, time, field) in &KEYS {
+        let session = key(alloc, *kind, id, *time)?;
+        let (file, found) = told(&manifest, &session, &uploads)?;
+        assert!(rt; file.is_none());
+        assert_eq!(rt; found, *field);
+    }
+    // a manifest that lists itself
+    manifest.files = Rows::from_vec(facts(alloc, &[("index.json.blob", 1, ABC)])?);
+    let uploads = facts(alloc, &[("index.json.blob", 1, ABC)])?;
+    let (file, field) = told(&manifest, &session, &uploads)?;
+    assert_eq!(rt; file, Some(FileName::manifest(alloc)?));
+    assert_eq!(rt; field, 4);
+    Ok(())
+}

@@ -1,0 +1,4 @@
+pub mod RowLemmas
+pub mod ItemLemmas
+pub mod ReplyLemmas
+pub mod Texts

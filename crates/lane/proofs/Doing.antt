@@ -1,0 +1,89 @@
+-- What a command does, or a job: its acts, and where they lead.
+use Rattle.std.proofs.Common.{◌≡◌, ◌≢◌, inr, ℕ, Bool, true, false, ◌||◌, ◌==◌, List, [], ◌∷◌, ◌++◌, Option, Some, None, IsSome, is_some, refl, sym, ap, subst, ◌∙◌}
+use Rattle.std.proofs.lemmas.Bool.{eq-eqb}
+use Rattle.wire_commands.specs.declared.command.Command.{Command}
+use Rattle.wire_commands.specs.declared.command.Command.TheVariants as commands
+use Rattle.store_model.specs.Job.{Asking}
+use Rattle.store_model.specs.Jobs.{job_of}
+use Rattle.store_model.specs.Lanes.{job_step, plain, command_next}
+use Rattle.store_history.specs.declared.act.Act.{Act}
+use Rattle.store_history.specs.declared.act.Event.{Event}
+use Rattle.store_history.specs.Acts.{act_of_command}
+use Rattle.store_history.specs.History.{kind}
+use Rattle.store_history.specs.LaneRun.{Position, heard}
+use Rattle.store_history.specs.Seats.{AreOf}
+use Rattle.store_history.specs.SoFar.{Leads}
+use Rattle.store_history.proofs.Ending.{leads_command}
+use Rattle.core_state.specs.History.{History}
+use Rattle.lane.specs.declared.acts.Told.{Told}
+use Rattle.lane.specs.Acting.{Did}
+use Rattle.lane.specs.Doing.{IsStep, IsNext, answered, Does}
+
+-- ---- events behind others
+
+pub of_both : (k : ℕ) (es vs : List Event) → AreOf k es → AreOf k vs → AreOf k (es ++ vs)
+of_both k [] vs are more = more
+of_both k (e ∷ es) vs are more = (are.0, of_both k es vs are.1 more)
+
+pub leads_then : (us vs : List Event) (p q r : Position) → Leads p us q → Leads q vs r → Leads p (us ++ vs) r
+leads_then [] vs p q r first second = subst (λ x. Leads x vs r) (sym first) second
+leads_then (u ∷ us) vs p q r first second = (first.0, leads_then us vs (heard p u.answer) q r first.1 second)
+
+-- ---- what is next by a command
+
+next_plain : (c : Command) (left : List ℕ) → c ≢ commands.Bye → job_of c ≡ None → command_next c left ≡ plain c left
+unfolding command_next
+next_plain commands.Bye left ne none = absurd (ne refl)
+next_plain (commands.Prune group keep dry) left ne none = cc
+next_plain c left ne none = refl
+
+next_job : (c : Command) (j : Asking) (left : List ℕ) → job_of c ≡ Some j → command_next c left ≡ job_step j left
+unfolding command_next
+next_job (commands.Prune group keep dry) j left some = inner some
+  where
+    inner : job_of (commands.Prune group keep dry) ≡ Some j → command_next (commands.Prune group keep dry) left ≡ job_step j left
+    inner is = cc
+next_job c j left some = cc
+
+pub step_is_job : (c : Command) (left : List ℕ) → IsStep (command_next c left) → IsSome (job_of c)
+unfolding command_next
+step_is_job commands.Bye left h = absurd h
+step_is_job (commands.Prune group keep dry) left h = refl
+step_is_job c left h = absurd h
+
+-- ---- by one act, or by a job's
+
+or_false : (p : Position) (b : Bool) → p.is_spent ≡ false → (b || p.is_spent) ≡ b
+or_false p b is = ap (λ x. b || x) is ∙ last b
+  where
+    last : (b : Bool) → (b || false) ≡ b
+    last true = refl
+    last false = refl
+
+pub does_plain : (before after : History → Type 0) (k : ℕ) (c : Command) (act : Act) (told : Told) → Did before after k act told → act ≡ act_of_command c → c ≢ commands.Bye → job_of c ≡ None
+    → Does before after k (command_next c) told
+does_plain before after k c act told d is_act ne none = let v = d.event in record {
+  events = v ∷ [];
+  is_short = kind v == 2;
+  history = d.history;
+  lanes = (d.lane_is, tt);
+  leads = λ p left is.
+      subst (λ b. Leads p (v ∷ []) (answered p left told.reply (kind v == 2) b)) (or_false p (v.answer).last is.on ∙ d.last)
+      (leads_command [] p p c left v told.reply refl is.on (is.next ∙ next_plain c left ne none) (d.asks ∙ is_act) d.tells);
+  short = λ last. eq-eqb (kind v) 2 (d.kind_is (inr last));
+}
+
+pub does_job : (before after : History → Type 0) (k : ℕ) (c : Command) (j : Asking) (told : Told) → job_of c ≡ Some j → Does before after k (job_step j) told → Does before after k (command_next c) told
+does_job before after k c j told some d = record {
+  events = d.events;
+  is_short = d.is_short;
+  history = d.history;
+  lanes = d.lanes;
+  leads = λ p left is. d.leads p left (subst (λ n. IsNext n p) (next_job c j left some) is);
+  short = d.short;
+}
+
+-- a command that is no job's
+pub is_none_by : (o : Option Asking) → is_some o ≡ false → o ≡ None
+is_none_by None is = refl
+is_none_by (Some j) is = cc

@@ -1,0 +1,36 @@
+-- What a command of a lane does, or the whole job of one.
+use Rattle.std.specs.Prelude.{ℕ, ◌≡◌, Bool, true, false, List, [], ◌∷◌, ◌++◌, None}
+use Rattle.wire_commands.specs.declared.reply.Reply.{Reply}
+use Rattle.store_model.specs.Lanes.{Next, job_step}
+use Rattle.store_history.specs.declared.act.Event.{Event}
+use Rattle.store_history.specs.LaneRun.{Position, next_at, may_want_at}
+use Rattle.store_history.specs.Seats.{AreOf}
+use Rattle.store_history.specs.SoFar.{Leads}
+use Rattle.core_state.specs.History.{History}
+use Rattle.lane.specs.declared.acts.Told.{Told}
+use Rattle.lane.specs.Ran.{with_events}
+
+abbrev pub IsStep : Next → Type 0
+IsStep (job_step j left) = Unit {0}
+IsStep n = ⊥
+
+-- This is next on a lane whose answers so far weren't the last. Where it is a job's step, memory may be wanting.
+pub record IsNext (n : Next) (p : Position) : Type 0 where
+  pub on : p.is_spent ≡ false
+  pub next : next_at p ≡ n
+  pub wants : IsStep n → may_want_at p ≡ true
+
+-- behind a command, or a whole job, that was told this
+abbrev pub answered : Position → List ℕ → Reply → Bool → Bool → Position
+answered p left r is_short is_spent =
+    record p { left = left; job = None; is_short = is_short; is_spent = is_spent; told = p.told ++ r ∷ [] }
+
+-- Acts of the lane were entered, all of a command or of the job of one. Wherever it is next on the lane, with this left behind it,
+-- they lead to where it was told.
+pub record Does (before after : History → Type 0) (k : ℕ) (n : List ℕ → Next) (told : Told) : Type 0 where
+  pub events : List Event
+  pub is_short : Bool
+  pub history : (h : History) → before h → after (with_events h (h.events ++ events))
+  pub lanes : AreOf k events
+  pub leads : (p : Position) (left : List ℕ) → IsNext (n left) p → Leads p events (answered p left told.reply is_short told.last)
+  pub short : told.last ≡ true → is_short ≡ true

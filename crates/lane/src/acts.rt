@@ -1,0 +1,67 @@
+//! What a lane asks of the core, and what it tells its sink.
+
+ghost use Rattle.std.specs.Prelude.{◌≡◌, ◌<◌, ◌⊎◌, ℕ, true};
+ghost use Rattle.wire_commands.specs.HasText.{ReplyHasText};
+ghost use Rattle.store_history.specs.Acts.{IsWellFormed};
+ghost use Rattle.core_state.specs.History.{History};
+ghost use Rattle.core_state.specs.Records.{Reaches};
+ghost use Rattle.core_state.specs.Reserved.{Reserved};
+ghost use Rattle.lane.specs.Acting.{IsNoEnd, IsWant, Did, Gives, LeavesReserve, MayTell};
+ghost use Rattle.lane.specs.Causes.{HasCauses};
+ghost use Rattle.lane.specs.Entries.{HasEntered};
+
+use core_state::{Act, Answer, Core};
+use disk_trait::Disk;
+use port_traits::{Clock, Sink};
+use shared_store::apply;
+use std::alloc::Global;
+use store_model::Ending;
+use wire_commands::Reply;
+
+/// What an act, or the acts of a whole job, came to.
+#[derive(Drop)]
+pub struct Told {
+    pub reply: Reply,
+    /// Memory was wanting, and the lane ends after it.
+    pub last: bool,
+}
+
+/// Does an act that is no lane's end.
+pub fn ask<D: Disk, E, C: Clock>(
+    core: &mut Core<D, E, C>,
+    alloc: Global,
+    lane: u32,
+    act: Act,
+) -> Told
+    requires lane { lane < 64 }
+    requires room { Reserved core.old lane }
+    requires formed { IsWellFormed act }
+    requires no_end { IsNoEnd act }
+    ensures did { (first : Core D E C) (began : History) → Did (Reaches D.honest D.content D.calls C.readings first began core.old) (Reaches D.honest D.content D.calls C.readings first began core.new) lane act result }
+    ensures tells { MayTell act result }
+    ensures text { ReplyHasText result.reply }
+    ensures room { LeavesReserve core.old core.new lane result.last }
+    ensures remote { core.new.remote ≡ core.old.remote }
+    ensures entered { HasEntered D.faults core.old core.new lane (IsWant act result) }
+{
+    let Answer { reply, last, .. } = apply(core, alloc, lane, act);
+    let Some(reply) = reply else {
+        unreachable!();
+    };
+    Told { reply, last }
+}
+
+impl Told {
+    /// Gives the reply to the sink. Some is how the commands come to an end.
+    pub fn give<K: Sink>(&self, sink: &mut K, given: &mut u64) -> Option<Ending>
+        requires { ReplyHasText self.now.reply }
+        ensures gives { Gives self.now (K.taken sink.old) (K.taken sink.new) given.old given.new result }
+        ensures causes { (source size : ℕ) → HasCauses source source (K.faults sink.old) (K.faults sink.new) size result }
+    {
+        match self.reply.put_counted(sink, given) {
+            Err(_) => Some(Ending::SinkFault),
+            Ok(()) if self.last => Some(Ending::NoMemory),
+            Ok(()) => None,
+        }
+    }
+}

@@ -1,0 +1,21 @@
+use Rattle.std.proofs.Common.{◌≡◌, ap, subst}
+use Rattle.std.specs.Prelude.{OnOk}
+use Rattle.store_model.specs.Lanes.{Run}
+use Rattle.store_model.specs.Weave.{go_on}
+use Rattle.plain_lanes.specs.Jobs.{shown_job}
+use Rattle.plain_lanes.specs.Nexts.{shown_next}
+use Rattle.plain_store.proofs.RunLemmas.{fault_of_job}
+use Rattle.plain_store.proofs.run.Run.tell_fault.Goals as goal
+
+pub returns-in_ok-job-in-Job-clause-told : goal.returns-in_ok-job-in-Job-clause-told
+returns-in_ok-job-in-Job-clause-told c =
+    let r = c.args.self.now in
+    let k = c.args.lane in
+    let n = c.in_ok-asking.field-0 in
+    let left = c.in-Job.left.now in
+    let job = shown_job c.in_ok-job-in-Job.job in
+    let after = go_on c.take_next.new.self k left job in
+    let told =
+    fault_of_job r k c.requires.lane n c.in_ok-asking.ensures.next c.in-Job.asking left (ap shown_next c.in-Job.is) job after c.args.refusal c.in_ok-job-in-Job.ensures.job
+    (ap (λ (x : Run). go_on x k left job) c.in_ok-asking.ensures.left) in
+    subst (λ (x : Run). OnOk c.go_on.result (c.go_on.new.self ≡ x)) told c.go_on.ensures.goes

@@ -1,0 +1,281 @@
+//! Prunes step by step, with the replies to their steps in bytes.
+
+ghost use Rattle.std.specs.Prelude.{◌≡◌, codes, IsSome, IsTrue, IfOk};
+ghost use Rattle.wire_commands.specs.HasText.{ReplyHasText};
+ghost use Rattle.store_model.specs.JobReplies.{IsReplyTo};
+ghost use Rattle.store_model.specs.Jobs.{job_of};
+
+use job_steps::{Job, replay};
+use std::alloc::Global;
+use std::test::Fail;
+use store_model::Step;
+use store_types::{Bytes, Keep, Rows};
+use wire_commands::{Command, PruneMark, PruneRow, Reply};
+
+const NONE: Keep = Keep {
+    last: 0,
+    hourly: 0,
+    daily: 0,
+    weekly: 0,
+    monthly: 0,
+    yearly: 0,
+};
+
+const LAST_AND_DAILY: Keep = Keep {
+    last: 1,
+    daily: 1,
+    ..NONE
+};
+
+const WEEKLY: Keep = Keep { weekly: 2, ..NONE };
+
+const ONE: Keep = Keep { last: 1, ..NONE };
+
+const TWO_DAYS: &[&[u8]] = &[
+    b"host/a/2020-01-14T23:59:59Z",
+    b"host/a/2020-01-15T00:00:00Z",
+    b"host/a/2020-01-15T06:30:03Z",
+];
+
+const NEW_YEAR: &[&[u8]] = &[
+    b"host/a/2020-12-31T12:00:00Z",
+    b"host/a/2021-01-03T12:00:00Z",
+    b"host/a/2021-01-04T12:00:00Z",
+];
+
+const DONE: &[u8] = &[0];
+
+const WRONG_STATE: &[u8] = &[3, 1];
+
+const BAD_NAME: &[u8] = &[4];
+
+const BUSY: &[u8] = &[6, 3, 0, 0, 0];
+
+const NO_SNAPSHOT: &[u8] = &[8];
+
+const TOO_MANY: &[u8] = &[21, 0xe8, 3, 0, 0];
+
+const DISK_FAULT: &[u8] = &[26];
+
+const NO_MEMORY: &[u8] = &[28];
+
+fn prune_of(alloc: Global, keep: Keep, dry: bool) -> Result<Command, Fail>
+    ensures { IfOk result (λ command. command ≡ Command.Prune (codes "host/a") keep dry) }
+{
+    let group = Bytes::from_slice(alloc, b"host/a")?;
+    Ok(Command::Prune { group, keep, dry })
+}
+
+/// The body of GROUP's reply.
+fn group_of(alloc: Global, snapshots: &[&[u8]]) -> Result<Vec<u8>, Fail> {
+    let mut body = Vec::new(alloc);
+    body.extend_from_slice(&[0, u8::try_from(snapshots.len())?, 0])?;
+    for snapshot in snapshots {
+        body.push(u8::try_from(snapshot.len())?)?;
+        body.extend_from_slice(snapshot)?;
+    }
+    Ok(body)
+}
+
+/// The reply that a body is, of a command of the code.
+fn reply_of(alloc: Global, code: u8, body: &[u8]) -> Result<Reply, Fail>
+    ensures { IfOk result ReplyHasText }
+{
+    match Reply::read(alloc, code, body)? {
+        Some(reply) => Ok(reply),
+        None => Err("the body is no reply".into()),
+    }
+}
+
+fn is_reply_to(step: &Step, reply: &Reply) -> bool
+    ensures { IsTrue result → IsReplyTo step.now reply.now }
+{
+    let Step::Command(command) = step;
+    match (command, reply) {
+        (Command::Prune { .. }, Reply::Refused(_)) => true,
+        (Command::Forget { .. }, Reply::Refused(_)) => true,
+        (Command::Prune { .. }, Reply::Keys(snapshots)) => snapshots.as_slice().len() <= 4096,
+        (Command::Forget { .. }, Reply::Done) => true,
+        _ => false,
+    }
+}
+
+/// A snapshot's text from the month on.
+fn short(snapshot: &Bytes) -> &[u8] {
+    let text = snapshot.as_slice();
+    if text.len() > 12 { &text[12..] } else { text }
+}
+
+fn note_step(log: &mut Vec<u8>, step: &Step) -> Result<(), Fail> {
+    log.push(b'?')?;
+    let Step::Command(command) = step;
+    match command {
+        Command::Forget { snapshot } => log.extend_from_slice(short(snapshot))?,
+        _ => log.extend_from_slice(b"group")?,
+    }
+    log.push(b' ')?;
+    Ok(())
+}
+
+/// Notes the step that the job asks, and answers it.
+fn answer(alloc: Global, log: &mut Vec<u8>, job: &mut Job, reply: Reply) -> Result<(), Fail>
+    requires { ReplyHasText reply }
+{
+    let Some(step) = job.next(alloc)? else {
+        return Err("nothing is asked".into());
+    };
+    if !is_reply_to(&step, &reply) {
+        return Err("another reply is asked".into());
+    }
+    note_step(log, &step)?;
+    job.take(reply);
+    Ok(())
+}
+
+fn number_of(mark: PruneMark) -> &'static [u8] {
+    match mark {
+        PruneMark::Removed => b"0:",
+        PruneMark::Kept => b"1:",
+        PruneMark::Held => b"2:",
+        PruneMark::Gone => b"3:",
+    }
+}
+
+fn note_rows(log: &mut Vec<u8>, rows: &[PruneRow]) -> Result<(), Fail> {
+    for row in rows {
+        log.extend_from_slice(number_of(row.mark))?;
+        log.extend_from_slice(short(&row.snapshot))?;
+        log.push(b' ')?;
+    }
+    Ok(())
+}
+
+/// Notes what a job reports that asks nothing more.
+fn note_report(alloc: Global, log: &mut Vec<u8>, job: Job) -> Result<(), Fail> {
+    if let Some(_) = job.next(alloc)? {
+        return Err("more is asked".into());
+    }
+    match job.report() {
+        Reply::Marks(rows) => note_rows(log, rows.as_slice()),
+        Reply::Refused(refusal) => {
+            let text = format!(in alloc; "{refusal:?}")?;
+            log.extend_from_slice(text.as_bytes())?;
+            Ok(())
+        }
+        _ => Err("another report".into()),
+    }
+}
+
+/// Notes what is asked, and answers it with these replies to FORGET.
+fn answer_all(
+    alloc: Global,
+    log: &mut Vec<u8>,
+    job: &mut Job,
+    replies: &[&[u8]],
+) -> Result<(), Fail> {
+    for reply in replies {
+        answer(alloc, log, job, reply_of(alloc, 32, reply)?)?;
+    }
+    Ok(())
+}
+
+/// What a prune of a group's snapshots asks, each step behind `?`, and reports, by the replies to its FORGETs.
+fn log_of(
+    alloc: Global,
+    command: &Command,
+    snapshots: &[&[u8]],
+    replies: &[&[u8]],
+) -> Result<Vec<u8>, Fail>
+    requires { IsSome (job_of command.now) }
+{
+    let mut log = Vec::new(alloc);
+    let mut job = Job::start(alloc, command)?;
+    let group = group_of(alloc, snapshots)?;
+    answer(alloc, &mut log, &mut job, reply_of(alloc, 40, &group)?)?;
+    answer_all(alloc, &mut log, &mut job, replies)?;
+    note_report(alloc, &mut log, job)?;
+    Ok(log)
+}
+
+/// Whether that is its log.
+fn tells(
+    alloc: Global,
+    keep: Keep,
+    dry: bool,
+    snapshots: &[&[u8]],
+    replies: &[&[u8]],
+    wanted: &[u8],
+) -> Result<bool, Fail> {
+    let command = prune_of(alloc, keep, dry)?;
+    let log = log_of(alloc, &command, snapshots, replies)?;
+    Ok(log.as_slice() == wanted)
+}
+
+#[test]
+fn what_is_not_kept_is_removed(rt: HostRuntime) -> Result<(), Fail> {
+    let alloc = rt.alloc();
+    // the last week of 2020 ends in the next year
+    let log = b"?group ?12-31T12:00:00Z 1:01-04T12:00:00Z 1:01-03T12:00:00Z 0:12-31T12:00:00Z ";
+    assert!(rt; tells(alloc, WEEKLY, false, NEW_YEAR, &[DONE], log)?);
+    // the day of the last is served already
+    let log = b"?group ?01-15T00:00:00Z 1:01-15T06:30:03Z 0:01-15T00:00:00Z 1:01-14T23:59:59Z ";
+    assert!(rt; tells(alloc, LAST_AND_DAILY, false, TWO_DAYS, &[DONE], log)?);
+    // the newest goes first; one that a lane holds, and one that is gone, do not end the job
+    let log =
+        b"?group ?01-15T00:00:00Z ?01-14T23:59:59Z 1:01-15T06:30:03Z 2:01-15T00:00:00Z 3:01-14T23:59:59Z ";
+    assert!(rt; tells(alloc, ONE, false, TWO_DAYS, &[BUSY, NO_SNAPSHOT], log)?);
+    Ok(())
+}
+
+#[test]
+fn nothing_is_removed(rt: HostRuntime) -> Result<(), Fail> {
+    let alloc = rt.alloc();
+    // a dry run asks no more than the group
+    let log = b"?group 1:01-15T06:30:03Z 0:01-15T00:00:00Z 1:01-14T23:59:59Z ";
+    assert!(rt; tells(alloc, LAST_AND_DAILY, true, TWO_DAYS, &[], log)?);
+    // with no option all is kept
+    let log = b"?group 1:01-04T12:00:00Z 1:01-03T12:00:00Z 1:12-31T12:00:00Z ";
+    assert!(rt; tells(alloc, NONE, false, NEW_YEAR, &[], log)?);
+    // a group without snapshots
+    assert!(rt; tells(alloc, ONE, false, &[], &[], b"?group ")?);
+    Ok(())
+}
+
+#[test]
+fn other_refusals_are_the_report(rt: HostRuntime) -> Result<(), Fail> {
+    let alloc = rt.alloc();
+    let log = b"?group ?01-15T00:00:00Z WrongState(Writer)";
+    assert!(rt; tells(alloc, ONE, false, TWO_DAYS, &[WRONG_STATE], log)?);
+    let log = b"?group ?01-15T00:00:00Z NoMemory";
+    assert!(rt; tells(alloc, ONE, false, TWO_DAYS, &[NO_MEMORY], log)?);
+    let log = b"?group ?01-15T00:00:00Z ?01-14T23:59:59Z DiskFault";
+    assert!(rt; tells(alloc, ONE, false, TWO_DAYS, &[DONE, DISK_FAULT], log)?);
+    Ok(())
+}
+
+/// What a prune reports whose own command is refused.
+fn log_of_refused(alloc: Global, body: &[u8]) -> Result<Vec<u8>, Fail> {
+    let mut log = Vec::new(alloc);
+    let command = prune_of(alloc, ONE, false)?;
+    let reply = reply_of(alloc, 33, body)?;
+    let Reply::Refused(refusal) = reply else {
+        return Err("the body is no refusal".into());
+    };
+    let replies = vec![in alloc; Reply::Refused(refusal)]?;
+    let job = replay(alloc, &command, Rows::from_vec(replies))?;
+    note_report(alloc, &mut log, job)?;
+    Ok(log)
+}
+
+#[test]
+fn a_refused_group_is_the_report(rt: HostRuntime) -> Result<(), Fail> {
+    for (body, refusal) in [
+        (WRONG_STATE, "WrongState(Writer)"),
+        (BAD_NAME, "BadName"),
+        (TOO_MANY, "TooMany { limit: 1000 }"),
+    ] {
+        let log = log_of_refused(rt.alloc(), body)?;
+        assert_eq!(rt; log.as_slice(), refusal.as_bytes());
+    }
+    Ok(())
+}

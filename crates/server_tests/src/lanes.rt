@@ -1,0 +1,357 @@
+ghost use Rattle.std.specs.Prelude.{◌<◌};
+ghost use Rattle.store_history.specs.Acts.{IsPlain};
+
+use core_state::{Act, Core, open_on};
+use disk_trait::MemoryDisk;
+use lane::{Ending, LaneReport, Port, run_alone};
+use port_traits::{FreeGate, MemSink, MemSource, SetClock};
+use shared_store::apply;
+use std::alloc::Global;
+use std::test::Fail;
+use store_types::Bytes;
+use wire_commands::Command;
+
+/// FINISH, which is refused without a writer.
+const FINISH: &[u8] = b"\x01\x00\x00\x00\x12";
+
+/// WrongState, of a lane without a session.
+const WRONG_STATE: &[u8] = b"\x02\x00\x00\x00\x03\x00";
+
+const BYE: &[u8] = b"\x01\x00\x00\x00\x3f";
+
+const DONE: &[u8] = b"\x01\x00\x00\x00\x00";
+
+/// OPEN_WRITER of `host/a/2020-01-15T06:30:03Z`.
+const OPEN_WRITER: &[u8] = b"\x1d\x00\x00\x00\x0a\x1bhost/a/2020-01-15T06:30:03Z";
+
+/// A writer without a base.
+const NO_BASE: &[u8] = b"\x02\x00\x00\x00\x00\x00";
+
+/// BLOB of the blob of `123456789`, as `a.conf.blob`.
+const BLOB: &[u8] =
+    b"\x22\x00\x00\x00\x11\x0ba.conf.blob\x42\xab\x38\x07\xbe\x83\x70\xa1\x26\x39\xf4\xcb123456789";
+
+/// OPEN_WRITER of the snapshot one second later, and its base.
+const OPEN_NEXT: &[u8] = b"\x1d\x00\x00\x00\x0a\x1bhost/a/2020-01-15T06:30:04Z";
+
+const BASE: &[u8] = b"\x1d\x00\x00\x00\x00\x1bhost/a/2020-01-15T06:30:03Z";
+
+/// BLOB of each one's manifest, without files.
+const MANIFEST: &[u8] =
+    b"\x67\x00\x00\x00\x11\x0findex.json.blob\x42\xab\x38\x07\xbe\x83\x70\xa1\xb2\x94\x08\x45{\"backup-id\":\"a\",\"backup-time\":1579069803,\"backup-type\":\"host\",\"files\":[]}";
+
+const NEXT_MANIFEST: &[u8] =
+    b"\x67\x00\x00\x00\x11\x0findex.json.blob\x42\xab\x38\x07\xbe\x83\x70\xa1\x30\x23\x87\xba{\"backup-id\":\"a\",\"backup-time\":1579069804,\"backup-type\":\"host\",\"files\":[]}";
+
+/// PRUNE of `host/a` that keeps the last one, and the same as a dry run.
+const PRUNE: &[u8] =
+    b"\x15\x00\x00\x00\x21\x06host/a\x01\x00\x00\x00\x00\x00\x00\x00\x00\x00\x00\x00\x00";
+
+const DRY_PRUNE: &[u8] =
+    b"\x15\x00\x00\x00\x21\x06host/a\x01\x00\x00\x00\x00\x00\x00\x00\x00\x00\x00\x00\x01";
+
+/// The newer snapshot is kept, the older one removed.
+const MARKS: &[u8] =
+    b"\x3d\x00\x00\x00\x00\x02\x00\x1bhost/a/2020-01-15T06:30:04Z\x01\x1bhost/a/2020-01-15T06:30:03Z\x00";
+
+/// The older one is held.
+const HELD_MARKS: &[u8] =
+    b"\x3d\x00\x00\x00\x00\x02\x00\x1bhost/a/2020-01-15T06:30:04Z\x01\x1bhost/a/2020-01-15T06:30:03Z\x02";
+
+const BOTH_KEYS: &[u8] =
+    b"\x3b\x00\x00\x00\x00\x02\x00\x1bhost/a/2020-01-15T06:30:03Z\x1bhost/a/2020-01-15T06:30:04Z";
+
+/// GROUP of `host/a`, which has the newer snapshot alone.
+const GROUP: &[u8] = b"\x08\x00\x00\x00\x28\x06host/a";
+
+const KEYS: &[u8] = b"\x1f\x00\x00\x00\x00\x01\x00\x1bhost/a/2020-01-15T06:30:04Z";
+
+/// The number of the source's call that fails, and of the sink's.
+#[derive(Clone, Copy)]
+struct Failing {
+    source: Option<u64>,
+    sink: Option<u64>,
+}
+
+const NONE: Failing = Failing {
+    source: None,
+    sink: None,
+};
+
+fn source_fails(number: u64) -> Failing {
+    Failing {
+        source: Some(number),
+        sink: None,
+    }
+}
+
+fn sink_fails(number: u64) -> Failing {
+    Failing {
+        source: None,
+        sink: Some(number),
+    }
+}
+
+#[derive(Drop)]
+struct Served {
+    told: Vec<u8>,
+    report: LaneReport,
+}
+
+fn list_of(alloc: Global, number: Option<u64>) -> Result<Vec<u64>, Fail> {
+    let mut list = Vec::new(alloc);
+    if let Some(number) = number {
+        list.push(number)?;
+    }
+    Ok(list)
+}
+
+fn joined(alloc: Global, parts: &[&[u8]]) -> Result<Vec<u8>, Fail> {
+    let mut whole = Vec::new(alloc);
+    for part in parts {
+        whole.extend_from_slice(part)?;
+    }
+    Ok(whole)
+}
+
+/// Serves a session of these parts over an empty datastore.
+fn session(alloc: Global, parts: &[&[u8]], failing: Failing) -> Result<Served, Fail> {
+    let input = joined(alloc, parts)?;
+    let clock = SetClock::new(Vec::new(alloc), 0);
+    let opened = open_on(alloc, MemoryDisk::new(alloc), None::<MemoryDisk>, clock);
+    let mut core = opened.ok().ok_or("not opened")?;
+    let source = MemSource::new(input, list_of(alloc, failing.source)?);
+    let sink = MemSink::new(alloc, list_of(alloc, failing.sink)?);
+    let mut port = Port { source, sink };
+    let report = run_alone(&mut core, alloc, 3, &mut port, &FreeGate);
+    Ok(Served {
+        told: Vec::from_slice(alloc, port.sink.as_bytes())?,
+        report,
+    })
+}
+
+/// It was told these parts, and ended so, after so many bytes.
+fn tells(
+    alloc: Global,
+    parts: &[&[u8]],
+    failing: Failing,
+    told: &[&[u8]],
+    taken: u64,
+    ending: Ending,
+) -> Result<bool, Fail> {
+    let wanted = joined(alloc, told)?;
+    let served = session(alloc, parts, failing)?;
+    let given = wanted.len() as u64;
+    let report = LaneReport {
+        taken,
+        given,
+        ending,
+    };
+    Ok(served.told.as_slice() == wanted.as_slice() && served.report == report)
+}
+
+#[test]
+fn sessions_end_where_their_input_does(rt: HostRuntime) -> Result<(), Fail> {
+    let alloc = rt.alloc();
+    assert!(rt; tells(alloc, &[], NONE, &[], 0, Ending::Clean)?);
+    assert!(rt; tells(alloc, &[BYE], NONE, &[DONE], 5, Ending::Clean)?);
+    assert!(rt; tells(alloc, &[FINISH], NONE, &[WRONG_STATE], 5, Ending::Clean)?);
+    // what is behind BYE is not read
+    assert!(rt; tells(alloc, &[BYE, FINISH], NONE, &[DONE], 5, Ending::Clean)?);
+    Ok(())
+}
+
+#[test]
+fn what_is_no_command_ends_a_session(rt: HostRuntime) -> Result<(), Fail> {
+    let alloc = rt.alloc();
+    let unknown = b"\x01\x00\x00\x00\x63";
+    let at_0 = b"\x09\x00\x00\x00\x01\x00\x00\x00\x00\x00\x00\x00\x00";
+    let at_5 = b"\x09\x00\x00\x00\x01\x05\x00\x00\x00\x00\x00\x00\x00";
+    assert!(rt;
+        tells(
+            alloc,
+            &[unknown],
+            NONE,
+            &[at_0],
+            5,
+            Ending::Broken { place: 0 }
+        )?
+    );
+    assert!(rt;
+        tells(
+            alloc,
+            &[FINISH, unknown],
+            NONE,
+            &[WRONG_STATE, at_5],
+            10,
+            Ending::Broken { place: 5 }
+        )?
+    );
+    // frames that the end of the input cuts
+    assert!(rt;
+        tells(
+            alloc,
+            &[FINISH, b"\x03\x00"],
+            NONE,
+            &[WRONG_STATE, at_5],
+            7,
+            Ending::Broken { place: 5 }
+        )?
+    );
+    assert!(rt;
+        tells(
+            alloc,
+            &[FINISH, b"\x03\x00\x00\x00\x12"],
+            NONE,
+            &[WRONG_STATE, at_5],
+            10,
+            Ending::Broken { place: 5 }
+        )?
+    );
+    // a length over the limit
+    let long = b"\x05\x00\x00\x00\x02\xff\xff\xff\xff";
+    assert!(rt;
+        tells(
+            alloc,
+            &[FINISH, b"\xff\xff\xff\xff\x00"],
+            NONE,
+            &[WRONG_STATE, long],
+            10,
+            Ending::Broken { place: 5 }
+        )?
+    );
+    Ok(())
+}
+
+#[test]
+fn sessions_are_served(rt: HostRuntime) -> Result<(), Fail> {
+    let alloc = rt.alloc();
+    let input = [OPEN_WRITER, BLOB, FINISH, BYE];
+    // FINISH finds no manifest
+    let told = [NO_BASE, DONE, b"\x01\x00\x00\x00\x09", DONE];
+    assert!(rt; tells(alloc, &input, NONE, &told, 81, Ending::Clean)?);
+    Ok(())
+}
+
+#[test]
+fn jobs_are_done(rt: HostRuntime) -> Result<(), Fail> {
+    let alloc = rt.alloc();
+    let input = [
+        OPEN_WRITER,
+        MANIFEST,
+        FINISH,
+        OPEN_NEXT,
+        NEXT_MANIFEST,
+        FINISH,
+        DRY_PRUNE,
+        PRUNE,
+        GROUP,
+        BYE,
+    ];
+    let told = [
+        NO_BASE, DONE, DONE, BASE, DONE, DONE, MARKS, MARKS, KEYS, DONE,
+    ];
+    assert!(rt; tells(alloc, &input, NONE, &told, 357, Ending::Clean)?);
+    Ok(())
+}
+
+/// What a lane is told of a session of these parts, on a datastore that other lanes have used.
+fn told_on(
+    core: &mut Core<MemoryDisk, MemoryDisk, SetClock>,
+    alloc: Global,
+    lane: u32,
+    parts: &[&[u8]],
+) -> Result<Vec<u8>, Fail>
+    requires { lane < 64 }
+{
+    if core.journal.held[lane as usize] < 3 {
+        return Err("no reserve".into());
+    }
+    let input = joined(alloc, parts)?;
+    let source = MemSource::new(input, Vec::new(alloc));
+    let sink = MemSink::new(alloc, Vec::new(alloc));
+    let mut port = Port { source, sink };
+    let _ = run_alone(core, alloc, lane, &mut port, &FreeGate);
+    Ok(Vec::from_slice(alloc, port.sink.as_bytes())?)
+}
+
+/// An act of lane 5.
+fn act_on_5(
+    core: &mut Core<MemoryDisk, MemoryDisk, SetClock>,
+    alloc: Global,
+    command: Command,
+) -> Result<(), Fail>
+    requires { IsPlain command }
+{
+    if !core.journal.room(5) {
+        return Err("no room".into());
+    }
+    let _ = apply(core, alloc, 5, Act::Plain(command));
+    Ok(())
+}
+
+/// A PRUNE of which another lane reads what is to go, and again as it has been closed.
+#[test]
+fn held_snapshots_stay(rt: HostRuntime) -> Result<(), Fail> {
+    let alloc = rt.alloc();
+    let clock = SetClock::new(Vec::new(alloc), 0);
+    let opened = open_on(alloc, MemoryDisk::new(alloc), None::<MemoryDisk>, clock);
+    let mut core = opened.ok().ok_or("not opened")?;
+    let both = [
+        OPEN_WRITER,
+        MANIFEST,
+        FINISH,
+        OPEN_NEXT,
+        NEXT_MANIFEST,
+        FINISH,
+    ];
+    let _ = told_on(&mut core, alloc, 3, &both)?;
+    let snapshot = Bytes::from_slice(alloc, b"host/a/2020-01-15T06:30:03Z")?;
+    act_on_5(&mut core, alloc, Command::OpenReader { snapshot })?;
+    let told = told_on(&mut core, alloc, 4, &[PRUNE, GROUP])?;
+    assert_eq!(rt;
+        told.as_slice(),
+        joined(alloc, &[HELD_MARKS, BOTH_KEYS])?.as_slice()
+    );
+    act_on_5(&mut core, alloc, Command::CloseReader)?;
+    let told = told_on(&mut core, alloc, 2, &[PRUNE, GROUP])?;
+    assert_eq!(rt; told.as_slice(), joined(alloc, &[MARKS, KEYS])?.as_slice());
+    Ok(())
+}
+
+#[test]
+fn ports_may_fail(rt: HostRuntime) -> Result<(), Fail> {
+    let alloc = rt.alloc();
+    assert!(rt;
+        tells(
+            alloc,
+            &[FINISH, BYE],
+            source_fails(0),
+            &[],
+            0,
+            Ending::SourceFault
+        )?
+    );
+    assert!(rt;
+        tells(
+            alloc,
+            &[FINISH, BYE],
+            source_fails(1),
+            &[WRONG_STATE],
+            5,
+            Ending::SourceFault
+        )?
+    );
+    assert!(rt;
+        tells(
+            alloc,
+            &[FINISH, BYE],
+            sink_fails(0),
+            &[],
+            5,
+            Ending::SinkFault
+        )?
+    );
+    assert!(rt; tells(alloc, &[BYE], sink_fails(0), &[], 5, Ending::SinkFault)?);
+    Ok(())
+}

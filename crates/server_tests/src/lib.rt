@@ -1,0 +1,7 @@
+//! The tests of whole sessions: by `serve`, and on one lane.
+#![tactic(auto)]
+
+#[cfg(test)]
+mod lanes;
+#[cfg(test)]
+mod serving;

@@ -1,0 +1,531 @@
+mod archives;
+mod damaged;
+mod disk_faults;
+mod fixed;
+mod frames;
+mod listings;
+mod manifests;
+mod memory;
+mod port_faults;
+mod prunes;
+mod ranges;
+mod restore_faults;
+mod reuse;
+mod talks;
+
+use archives::{
+    CHUNKS, CHUNKS_REPLIES, EMPTY_ARCHIVE, EMPTY_ARCHIVE_REPLIES, OPEN_INDEX, OPEN_INDEX_REPLIES,
+    SENT_AGAIN, SENT_AGAIN_REPLIES,
+};
+use disk_trait::{Disk, MemoryDisk};
+use lane::{Ending, LaneReport, Port};
+use listings::{BACKED_UP, BACKED_UP_REPLIES};
+use pbs_server::{Plan, Served, Status, WordFault, plan_words, serve};
+use port_traits::{FreeGate, MemSink, MemSource, SetClock, Sink};
+use prunes::{PRUNED, PRUNED_REPLIES};
+use std::alloc::{AllocError, Global};
+use std::process::Abort;
+use std::test::Fail;
+use store_types::Entry;
+
+/// The one port of a session, with a sink of this kind.
+type Ports<K> = [Port<MemSource, K>; 1];
+
+/// OPEN_WRITER of `host/a/2020-01-15T06:30:03Z`, BLOB of a manifest without files, FINISH; OPEN_READER of that snapshot, and
+/// DOWNLOAD of the manifest.
+const READ_BACK: &[u8] =
+    b"\x1d\0\0\0\x0a\x1bhost/a/2020-01-15T06:30:03Zg\0\0\0\x11\x0findex.json.blobB\xab8\x07\xbe\x83p\xa1\xb2\x94\x08E{\"backup-id\":\"a\",\"backup-time\":1579069803,\"backup-type\":\"host\",\"files\":[]}\x01\0\0\0\x12\x1d\0\0\0\x14\x1bhost/a/2020-01-15T06:30:03Z\x19\0\0\0\x15\x0findex.json.blob\0\0\0\0\0\0\0\0";
+
+const READ_BACK_REPLIES: &[u8] =
+    b"\x02\0\0\0\0\0\x01\0\0\0\0\x01\0\0\0\0\x01\0\0\0\0_\0\0\0\0V\0\0\0\0\0\0\0B\xab8\x07\xbe\x83p\xa1\xb2\x94\x08E{\"backup-id\":\"a\",\"backup-time\":1579069803,\"backup-type\":\"host\",\"files\":[]}";
+
+/// The same upload; then OPEN_WRITER of `host/a/2020-01-15T06:30:04Z`, BLOB of `a.conf.blob` and of `b.blob`, and BYE.
+const UNFINISHED: &[u8] =
+    b"\x1d\0\0\0\x0a\x1bhost/a/2020-01-15T06:30:03Zg\0\0\0\x11\x0findex.json.blobB\xab8\x07\xbe\x83p\xa1\xb2\x94\x08E{\"backup-id\":\"a\",\"backup-time\":1579069803,\"backup-type\":\"host\",\"files\":[]}\x01\0\0\0\x12\x1d\0\0\0\x0a\x1bhost/a/2020-01-15T06:30:04Z\"\0\0\0\x11\x0ba.conf.blobB\xab8\x07\xbe\x83p\xa1&9\xf4\xcb123456789\x14\0\0\0\x11\x06b.blobB\xab8\x07\xbe\x83p\xa1\0\0\0\0\x01\0\0\0?";
+
+const UNFINISHED_REPLIES: &[u8] =
+    b"\x02\0\0\0\0\0\x01\0\0\0\0\x01\0\0\0\0\x1d\0\0\0\0\x1bhost/a/2020-01-15T06:30:03Z\x01\0\0\0\0\x01\0\0\0\0\x01\0\0\0\0";
+
+/// A snapshot with `a.conf.blob`, the blob of `123456789`, which is downloaded from 0, 21 and 22.
+const RESTORE: &[u8] =
+    b"\x1d\0\0\0\x0a\x1bhost/a/2020-01-15T06:30:03Z\"\0\0\0\x11\x0ba.conf.blobB\xab8\x07\xbe\x83p\xa1&9\xf4\xcb123456789\xe9\0\0\0\x11\x0findex.json.blobB\xab8\x07\xbe\x83p\xa1\xe34\xfd\xda{\"backup-id\":\"a\",\"backup-time\":1579069803,\"backup-type\":\"host\",\"files\":[{\"crypt-mode\":\"none\",\"csum\":\"69dcb4830c28203c26a1dade2d893d7f1d13cdba5eb39e348b008f3a5a0fb688\",\"filename\":\"a.conf.blob\",\"size\":21}]}\x01\0\0\0\x12\x1d\0\0\0\x14\x1bhost/a/2020-01-15T06:30:03Z\x15\0\0\0\x15\x0ba.conf.blob\0\0\0\0\0\0\0\0\x15\0\0\0\x15\x0ba.conf.blob\x15\0\0\0\0\0\0\0\x15\0\0\0\x15\x0ba.conf.blob\x16\0\0\0\0\0\0\0";
+
+const RESTORE_REPLIES: &[u8] =
+    b"\x02\0\0\0\0\0\x01\0\0\0\0\x01\0\0\0\0\x01\0\0\0\0\x01\0\0\0\0\x1e\0\0\0\0\x15\0\0\0\0\0\0\0B\xab8\x07\xbe\x83p\xa1&9\xf4\xcb123456789\x09\0\0\0\0\x15\0\0\0\0\0\0\0\x09\0\0\0\x16\x15\0\0\0\0\0\0\0";
+
+/// ABORT without a session; the upload of `a.conf.blob`, CLOSE_READER, and ABORT; the upload of a snapshot with its manifest
+/// alone, OPEN_READER of it, ABORT, and CLOSE_READER twice.
+const CLOSED: &[u8] =
+    b"\x01\0\0\0\x13\x1d\0\0\0\x0a\x1bhost/a/2020-01-15T06:30:03Z\"\0\0\0\x11\x0ba.conf.blobB\xab8\x07\xbe\x83p\xa1&9\xf4\xcb123456789\x01\0\0\0\x18\x01\0\0\0\x13\x1d\0\0\0\x0a\x1bhost/a/2020-01-15T06:30:03Zg\0\0\0\x11\x0findex.json.blobB\xab8\x07\xbe\x83p\xa1\xb2\x94\x08E{\"backup-id\":\"a\",\"backup-time\":1579069803,\"backup-type\":\"host\",\"files\":[]}\x01\0\0\0\x12\x1d\0\0\0\x14\x1bhost/a/2020-01-15T06:30:03Z\x01\0\0\0\x13\x01\0\0\0\x18\x01\0\0\0\x18";
+
+const CLOSED_REPLIES: &[u8] =
+    b"\x02\0\0\0\x03\0\x02\0\0\0\0\0\x01\0\0\0\0\x02\0\0\0\x03\x01\x01\0\0\0\0\x02\0\0\0\0\0\x01\0\0\0\0\x01\0\0\0\0\x01\0\0\0\0\x02\0\0\0\x03\x02\x01\0\0\0\0\x02\0\0\0\x03\0";
+
+/// Uploads: eleven bytes of the empty blob, a wrong CRC, a compressed blob, the blob of `123456789`, and the empty blob.
+const BLOBS: &[u8] =
+    b"\x1d\0\0\0\x0a\x1bhost/a/2020-01-15T06:30:03Z\x13\0\0\0\x11\x06a.blobB\xab8\x07\xbe\x83p\xa1\0\0\0\x1d\0\0\0\x11\x06a.blobB\xab8\x07\xbe\x83p\xa1'9\xf4\xcb123456789\x1d\0\0\0\x11\x06a.blob1\xb9XBo\xb6\xa3\x7f&9\xf4\xcb123456789\x1d\0\0\0\x11\x06a.blobB\xab8\x07\xbe\x83p\xa1&9\xf4\xcb123456789\x14\0\0\0\x11\x06b.blobB\xab8\x07\xbe\x83p\xa1\0\0\0\0";
+
+const BLOBS_REPLIES: &[u8] =
+    b"\x02\0\0\0\0\0\x02\0\0\0\x0b\x01\x0a\0\0\0\x0b\x07'9\xf4\xcb&9\xf4\xcb\x02\0\0\0\x0b\x02\x01\0\0\0\0\x01\0\0\0\0";
+
+/// OPEN_READER of `host/a/2020-01-15T06:30:03Z`, and DOWNLOAD of its manifest.
+const NO_READER: &[u8] =
+    b"\x1d\0\0\0\x14\x1bhost/a/2020-01-15T06:30:03Z\x19\0\0\0\x15\x0findex.json.blob\0\0\0\0\0\0\0\0";
+
+/// BadFrame at 0.
+const BAD_AT_0: &[u8] = b"\x09\0\0\0\x01\0\0\0\0\0\0\0\0";
+
+/// WrongState of a lane without a session, and BadFrame at 5.
+const BAD_AT_5: &[u8] = b"\x02\0\0\0\x03\0\x09\0\0\0\x01\x05\0\0\0\0\0\0\0";
+
+/// A session, its replies, and where its frames and replies end, command by command.
+#[derive(Clone, Copy)]
+struct Session {
+    input: &'static [u8],
+    replies: &'static [u8],
+    /// How many commands are answered, the bytes of the input up to the last of them, and those of the replies. At BYE no
+    /// command more is answered.
+    marks: &'static [(usize, u64, u64)],
+    /// How many reads of one byte it takes.
+    reads: u64,
+}
+
+/// It reads to the end of its input.
+const TO_THE_END: Session = Session {
+    input: READ_BACK,
+    replies: READ_BACK_REPLIES,
+    marks: &[
+        (1, 33, 6),
+        (2, 140, 11),
+        (3, 145, 16),
+        (4, 178, 21),
+        (5, 207, 120),
+    ],
+    reads: 208,
+};
+
+/// It leaves a second snapshot unfinished.
+const TO_BYE: Session = Session {
+    input: UNFINISHED,
+    replies: UNFINISHED_REPLIES,
+    marks: &[
+        (1, 33, 6),
+        (2, 140, 11),
+        (3, 145, 16),
+        (4, 178, 49),
+        (5, 216, 54),
+        (6, 240, 59),
+        (6, 245, 64),
+    ],
+    reads: 245,
+};
+
+/// It aborts an upload, and then has nothing to abort.
+const ABORTED: Session = Session {
+    input: b"\x1d\0\0\0\x0a\x1bhost/a/2020-01-15T06:30:03Z\"\0\0\0\x11\x0ba.conf.blobB\xab8\x07\xbe\x83p\xa1&9\xf4\xcb123456789\x01\0\0\0\x13\x01\0\0\0\x13",
+    replies: b"\x02\0\0\0\0\0\x01\0\0\0\0\x01\0\0\0\0\x02\0\0\0\x03\0",
+    marks: &[(1, 33, 6), (2, 71, 11), (3, 76, 16), (4, 81, 22)],
+    reads: 82,
+};
+
+/// It sends the piece `abc` twice, closes an index with it, and aborts: the chunk stays.
+const STORED: Session = Session {
+    input: b"\x1d\0\0\0\x0a\x1bhost/a/2020-01-15T06:30:03Z\x0b\0\0\0\x0d\x09root.didx0\0\0\0\x0e\xbax\x16\xbf\x8f\x01\xcf\xeaAA@\xde]\xae\"#\xb0\x03a\xa3\x96\x17z\x9c\xb4\x10\xffa\xf2\0\x15\xadB\xab8\x07\xbe\x83p\xa1\xc2A$5abc0\0\0\0\x0e\xbax\x16\xbf\x8f\x01\xcf\xeaAA@\xde]\xae\"#\xb0\x03a\xa3\x96\x17z\x9c\xb4\x10\xffa\xf2\0\x15\xadB\xab8\x07\xbe\x83p\xa1\xc2A$5abc,\0\0\0\x0f\0\x01\0\xbax\x16\xbf\x8f\x01\xcf\xeaAA@\xde]\xae\"#\xb0\x03a\xa3\x96\x17z\x9c\xb4\x10\xffa\xf2\0\x15\xad\0\0\0\0\0\0\0\02\0\0\0\x10\0\x01\0\0\0\0\0\0\0\x03\0\0\0\0\0\0\0\x80\xa6r\x15\xaf\xf0\xc5\x85\xb6\xc0U\xe3\x8a\xa0Kv\xd4\xb2\x08\xe2\xd0\xc3\xeb1\xbf\xd0(\"\xaeb\xe1\xc0\x01\0\0\0\x13",
+    replies: b"\x02\0\0\0\0\0\x02\0\0\0\0\0\x01\0\0\0\0\x01\0\0\0\0\x01\0\0\0\0\x01\0\0\0\0\x01\0\0\0\0",
+    marks: &[
+        (1, 33, 6),
+        (2, 48, 12),
+        (3, 100, 17),
+        (4, 152, 22),
+        (5, 200, 27),
+        (6, 254, 32),
+        (7, 259, 37),
+    ],
+    reads: 260,
+};
+
+/// Files by name and size, in byte order of the names.
+type Files = &'static [(&'static str, u64)];
+
+const NOTHING: Files = &[];
+
+/// The manifest of the snapshot that is finished.
+const MANIFEST: &str = "host/a/2020-01-15T06:30:03Z/index.json.blob";
+
+const FINISHED: Files = &[(MANIFEST, 86)];
+
+/// The words `run root session`.
+fn words(alloc: Global) -> Result<Vec<String>, AllocError> {
+    let mut words = Vec::new(alloc);
+    for word in ["run", "root", "session"] {
+        words.push(String::from_str(alloc, word)?)?;
+    }
+    Ok(words)
+}
+
+/// A source of all these bytes at once.
+fn source_of(alloc: Global, input: &[u8]) -> Result<MemSource, AllocError> {
+    Ok(MemSource::new(input.to_vec(alloc)?, Vec::new(alloc)))
+}
+
+fn empty_sink(alloc: Global) -> MemSink {
+    MemSink::new(alloc, Vec::new(alloc))
+}
+
+/// Serves a session on a disk by a clock that stands at 1,600,000,000.
+fn run_on<K: Sink, D: Disk + Drop>(
+    alloc: Global,
+    ports: &mut [Port<MemSource, K>],
+    disk: D,
+) -> Result<Served<D, MemoryDisk>, AllocError> {
+    let clock = SetClock::new(Vec::new(alloc), 1_600_000_000);
+    let mut journal = empty_sink(alloc);
+    let words = words(alloc)?;
+    Ok(serve(
+        alloc,
+        &words,
+        ports,
+        disk,
+        None,
+        clock,
+        &mut journal,
+        &FreeGate,
+    ))
+}
+
+/// What the one port's sink was given.
+fn told_to(ports: &[Port<MemSource, MemSink>]) -> Result<&[u8], Fail> {
+    match ports {
+        [port] => Ok(port.sink.as_bytes()),
+        _ => Err("not one port".into()),
+    }
+}
+
+/// How the one lane was served.
+fn report_of<D>(served: &Served<D, MemoryDisk>) -> Result<LaneReport, Fail> {
+    match served.report.lanes.as_slice() {
+        [report] => Ok(*report),
+        _ => Err("not one lane".into()),
+    }
+}
+
+/// What a session leaves, whatever the disk holds.
+#[derive(Clone, Copy)]
+struct Left<'a> {
+    status: Status,
+    report: LaneReport,
+    replies: &'a [u8],
+    /// The kinds of the order's entries.
+    kinds: &'a [u8],
+}
+
+/// The order has entries of these kinds, all of lane 0 at 1,600,000,000, and as many counts of calls.
+fn assert_kinds<D>(rt: &impl Abort, served: &Served<D, MemoryDisk>, kinds: &[u8]) {
+    assert_eq!(rt; served.order.len(), kinds.len());
+    assert_eq!(rt; served.report.calls.len(), kinds.len());
+    for (entry, kind) in served.order.iter().zip(kinds) {
+        assert_eq!(rt;
+            (entry.lane, entry.moment, entry.kind),
+            (0, 1_600_000_000, *kind)
+        );
+    }
+}
+
+fn assert_run<D>(
+    rt: &impl Abort,
+    told: &[u8],
+    served: &Served<D, MemoryDisk>,
+    left: &Left<'_>,
+) -> Result<(), Fail> {
+    assert_eq!(rt; told, left.replies);
+    assert_eq!(rt; served.status, left.status);
+    assert_eq!(rt; report_of(served)?, left.report);
+    assert_kinds(rt, served, left.kinds);
+    Ok(())
+}
+
+/// The disk holds these files, and no others.
+fn assert_holds(
+    rt: &impl Abort,
+    alloc: Global,
+    mut disk: MemoryDisk,
+    files: &[(&str, u64)],
+) -> Result<(), Fail> {
+    let names = disk.list(alloc, "")?;
+    assert_eq!(rt; names.len(), files.len());
+    for (name, (wanted, size)) in names.iter().zip(files) {
+        assert_eq!(rt; name.as_str(), *wanted);
+        assert_eq!(rt; disk.size(wanted)?, Some(*size));
+    }
+    Ok(())
+}
+
+/// The first bytes.
+fn front(bytes: &[u8], count: u64) -> &[u8] {
+    &bytes[..bytes.len().min(count as usize)]
+}
+
+/// Sessions that end at BYE or between two frames, with their replies and the kinds of their entries.
+const CLEAN: [(&[u8], &[u8], &[u8]); 15] = [
+    (b"", b"", &[6]),
+    (b"\x01\0\0\0\x3f", b"\x01\0\0\0\0", &[6]),
+    // FINISH without a session
+    (b"\x01\0\0\0\x12", b"\x02\0\0\0\x03\0", &[0, 6]),
+    // OPEN_READER of a snapshot that isn't there, and DOWNLOAD without a session
+    (NO_READER, b"\x01\0\0\0\x08\x02\0\0\0\x03\0", &[0, 0, 6]),
+    (READ_BACK, READ_BACK_REPLIES, &[0, 0, 0, 0, 0, 6]),
+    (UNFINISHED, UNFINISHED_REPLIES, &[0, 0, 0, 0, 0, 0, 6]),
+    (RESTORE, RESTORE_REPLIES, &[0, 0, 0, 0, 0, 0, 0, 0, 6]),
+    (BLOBS, BLOBS_REPLIES, &[0, 0, 0, 0, 0, 0, 6]),
+    (
+        CLOSED,
+        CLOSED_REPLIES,
+        &[0, 0, 0, 0, 0, 0, 0, 0, 0, 0, 0, 0, 6],
+    ),
+    (
+        EMPTY_ARCHIVE,
+        EMPTY_ARCHIVE_REPLIES,
+        &[0, 0, 0, 0, 0, 0, 0, 0, 6],
+    ),
+    (CHUNKS, CHUNKS_REPLIES, &[0, 0, 0, 0, 0, 0, 0, 6]),
+    (OPEN_INDEX, OPEN_INDEX_REPLIES, &[0, 0, 0, 0, 0, 0, 0, 0, 6]),
+    (SENT_AGAIN, SENT_AGAIN_REPLIES, &[0, 0, 0, 0, 0, 6]),
+    (BACKED_UP, BACKED_UP_REPLIES, &[0, 0, 0, 0, 6]),
+    // the second PRUNE is two steps
+    (
+        PRUNED,
+        PRUNED_REPLIES,
+        &[0, 0, 0, 0, 0, 0, 0, 0, 0, 0, 0, 6],
+    ),
+];
+
+/// Sessions that come to a place without a command, with their replies, the kinds of their entries, how many bytes are taken,
+/// and the place.
+const BROKEN: [(&[u8], &[u8], &[u8], u64, u64); 12] = [
+    // an unknown code, an empty body, and a frame that the end of the input cuts
+    (b"\x01\0\0\0\x63", BAD_AT_0, &[6], 5, 0),
+    (b"\0\0\0\0", BAD_AT_0, &[6], 4, 0),
+    (b"\x05\0\0\0\x0a", BAD_AT_0, &[6], 5, 0),
+    (b"\x1d\0\0\0\x0a", BAD_AT_0, &[6], 5, 0),
+    // BYE with a byte more
+    (b"\x02\0\0\0\x3f\0", BAD_AT_0, &[6], 6, 0),
+    // lengths over the limit
+    (
+        b"\x01\x04\0\x01",
+        b"\x05\0\0\0\x02\x01\x04\0\x01",
+        &[6],
+        4,
+        0,
+    ),
+    (
+        b"\xff\xff\xff\xff",
+        b"\x05\0\0\0\x02\xff\xff\xff\xff",
+        &[6],
+        4,
+        0,
+    ),
+    // behind a command, with more behind it, which is not read as a command
+    (
+        b"\x01\0\0\0\x12\x01\0\0\0\x63\x01\0\0\0\x12",
+        BAD_AT_5,
+        &[0, 6],
+        10,
+        5,
+    ),
+    (b"\x01\0\0\0\x12\0\0\0\0", BAD_AT_5, &[0, 6], 9, 5),
+    // LIST without a text, and an empty body behind LIST; a PRUNE that is neither dry nor not
+    (b"\x01\0\0\0\x1e", BAD_AT_0, &[6], 5, 0),
+    (
+        b"\x02\0\0\0\x1e\0\0\0\0\0",
+        b"\x03\0\0\0\0\0\0\x09\0\0\0\x01\x06\0\0\0\0\0\0\0",
+        &[0, 6],
+        10,
+        6,
+    ),
+    (
+        b"\x15\0\0\0!\x06host/a\0\0\0\0\0\0\x02\0\0\0\0\0\x02",
+        BAD_AT_0,
+        &[6],
+        25,
+        0,
+    ),
+];
+
+/// Serves a session on an empty disk.
+fn try_source(
+    rt: &impl Abort,
+    alloc: Global,
+    source: MemSource,
+    left: &Left<'_>,
+) -> Result<(), Fail> {
+    let mut ports: Ports<MemSink> = [Port {
+        source,
+        sink: empty_sink(alloc),
+    }];
+    let served = run_on(alloc, &mut ports, MemoryDisk::new(alloc))?;
+    assert_run(rt, told_to(&ports)?, &served, left)
+}
+
+/// Serves a session, whole and one byte a read.
+fn try_session(rt: &impl Abort, alloc: Global, input: &[u8], left: &Left<'_>) -> Result<(), Fail> {
+    try_source(rt, alloc, source_of(alloc, input)?, left)?;
+    try_source(rt, alloc, source_of(alloc, input)?.at_most(1), left)
+}
+
+/// The counts of the disk's calls beside the entries: FINISH puts and syncs, DOWNLOAD asks the size and reads; CHUNK asks the size,
+/// and puts only where no file was there.
+const COUNTED: [(&[u8], &[u64]); 2] = [
+    (READ_BACK, &[0, 0, 2, 2, 4, 4]),
+    (SENT_AGAIN, &[0, 2, 2, 2, 3, 3]),
+];
+
+#[test]
+fn calls_are_counted(rt: HostRuntime) -> Result<(), Fail> {
+    let alloc = rt.alloc();
+    for (input, calls) in &COUNTED {
+        let mut ports: Ports<MemSink> = [Port {
+            source: source_of(alloc, input)?,
+            sink: empty_sink(alloc),
+        }];
+        let served = run_on(alloc, &mut ports, MemoryDisk::new(alloc))?;
+        assert_eq!(rt; served.report.calls.as_slice(), *calls);
+    }
+    Ok(())
+}
+
+#[test]
+fn sessions_are_served(rt: HostRuntime) -> Result<(), Fail> {
+    for (input, replies, kinds) in &CLEAN {
+        let report = LaneReport {
+            taken: input.len() as u64,
+            given: replies.len() as u64,
+            ending: Ending::Clean,
+        };
+        let left = Left {
+            status: Status::Ok,
+            report,
+            replies,
+            kinds,
+        };
+        try_session(&rt, rt.alloc(), input, &left)?;
+    }
+    Ok(())
+}
+
+#[test]
+fn what_is_no_command_ends_a_session(rt: HostRuntime) -> Result<(), Fail> {
+    for (input, replies, kinds, taken, place) in &BROKEN {
+        let report = LaneReport {
+            taken: *taken,
+            given: replies.len() as u64,
+            ending: Ending::Broken { place: *place },
+        };
+        let left = Left {
+            status: Status::BadFrame,
+            report,
+            replies,
+            kinds,
+        };
+        try_session(&rt, rt.alloc(), input, &left)?;
+    }
+    Ok(())
+}
+
+/// Serves a session that ends with an upload of so many zeros, behind these bytes.
+fn try_zeros(
+    rt: &impl Abort,
+    alloc: Global,
+    front: &[u8],
+    zeros: usize,
+    replies: &[u8],
+) -> Result<(), Fail> {
+    let mut input = front.to_vec(alloc)?;
+    let len = input.len().saturating_add(zeros);
+    input.resize(len, 0)?;
+    let left = Left {
+        status: Status::Ok,
+        report: LaneReport {
+            taken: len as u64,
+            given: replies.len() as u64,
+            ending: Ending::Clean,
+        },
+        replies,
+        kinds: &[0, 0, 6],
+    };
+    let source = MemSource::new(input, Vec::new(alloc));
+    try_source(rt, alloc, source, &left)
+}
+
+/// A BLOB of one data byte more than a blob may have.
+#[test]
+fn blobs_have_a_limit(rt: HostRuntime) -> Result<(), Fail> {
+    let front =
+        b"\x1d\0\0\0\x0a\x1bhost/a/2020-01-15T06:30:03Z\x15\0\0\x01\x11\x06a.blob\x42\xab\x38\x07\xbe\x83\x70\xa1\0\0\0\0";
+    let replies = b"\x02\0\0\0\0\0\x02\0\0\0\x0b\x06";
+    try_zeros(&rt, rt.alloc(), front, 16_777_217, replies)
+}
+
+/// A CHUNK of as many data bytes as a blob may have.
+#[test]
+fn chunks_have_the_same_limit(rt: HostRuntime) -> Result<(), Fail> {
+    let front =
+        b"\x1d\0\0\0\x0a\x1bhost/a/2020-01-15T06:30:03Z-\0\0\x01\x0e\x08\x0a\xcf5\xa5\x07\xac\x98I\xcf\xcb\xa4}\xc2\xad\x83\xe0\x1buf:Qby\xc8\xb9\xd2C\xb7\x19d>B\xab8\x07\xbe\x83p\xa1J\xa1|\xa4";
+    let replies = b"\x02\0\0\0\0\0\x01\0\0\0\0";
+    try_zeros(&rt, rt.alloc(), front, 16_777_216, replies)
+}
+
+#[test]
+fn words_are_read(rt: HostRuntime) -> Result<(), Fail> {
+    let alloc = rt.alloc();
+    let mut all = words(alloc)?;
+    let Ok(
+        Plan::Run {
+            root,
+            remote,
+            order,
+            sessions,
+        },
+    ) = plan_words(alloc, &all)
+    else {
+        return Err("no plan".into());
+    };
+    assert_eq!(rt; root.as_str(), "root");
+    assert!(rt; remote.is_none() && order.is_none());
+    assert_eq!(rt; sessions.len(), 1);
+    assert_eq!(rt; sessions[0].as_str(), "session");
+    let _ = all.pop();
+    assert_eq!(rt; plan_words(alloc, &all).err(), Some(WordFault::NoReading));
+    all.push(String::from_str(alloc, "--order")?)?;
+    assert_eq!(rt; plan_words(alloc, &all).err(), Some(WordFault::NoReading));
+    assert_eq!(rt; plan_words(alloc, &[]).err(), Some(WordFault::NoReading));
+    Ok(())
+}
+
+/// Two ports for words that ask for one.
+#[test]
+fn ports_are_counted(rt: HostRuntime) -> Result<(), Fail> {
+    let alloc = rt.alloc();
+    let mut ports = [
+        Port {
+            source: source_of(alloc, b"")?,
+            sink: empty_sink(alloc),
+        },
+        Port {
+            source: source_of(alloc, b"")?,
+            sink: empty_sink(alloc),
+        },
+    ];
+    let served = serve(
+        alloc,
+        &words(alloc)?,
+        &mut ports,
+        MemoryDisk::new(alloc),
+        None::<MemoryDisk>,
+        SetClock::new(Vec::new(alloc), 0),
+        &mut empty_sink(alloc),
+        &FreeGate,
+    );
+    assert_eq!(rt; (served.status, served.status.number()), (Status::Usage, 2));
+    assert!(rt; served.order.is_empty() && served.report.lanes.is_empty());
+    Ok(())
+}

@@ -1,0 +1,72 @@
+//! Each call of the disk fails in turn: in two backups and a restore, and where snapshots are forgotten and pruned.
+
+use super::prunes::GONE;
+use super::reuse::AGAIN;
+use super::talks::{Steps, talk_of};
+use super::*;
+use disk_trait::FailingDisk;
+
+/// More calls than a session makes.
+const ENOUGH: u64 = 100;
+
+/// The replies where the disk fails in the command at this place: those before it, the fault, and its place to each behind it.
+fn told_at_fault(
+    alloc: Global,
+    steps: &[(&[u8], &[u8])],
+    place: usize,
+) -> Result<Vec<u8>, AllocError> {
+    let mut told = Vec::new(alloc);
+    for (number, (_, reply)) in steps.iter().enumerate() {
+        if number < place {
+            told.extend_from_slice(reply)?;
+        } else if number == place {
+            told.extend_from_slice(b"\x01\0\0\0\x1a")?;
+        } else {
+            told.extend_from_slice(b"\x09\0\0\0\x1b")?;
+            told.extend_from_slice(&(place as u64).to_le_bytes())?;
+        }
+    }
+    Ok(told)
+}
+
+/// The disk's call with this number, from 0, fails, if it is made: that is told. Of all commands only the last may be more than
+/// one step.
+fn is_made(rt: &impl Abort, alloc: Global, steps: Steps, call: u64) -> Result<bool, Fail> {
+    let disk = FailingDisk::at_calls(MemoryDisk::new(alloc), [call].to_vec(alloc)?);
+    let mut ports: Ports<MemSink> = [Port {
+        source: source_of(alloc, &talk_of(alloc, &[steps])?.sent)?,
+        sink: empty_sink(alloc),
+    }];
+    let served = run_on(alloc, &mut ports, disk)?;
+    let fault = served.order.iter().position(|entry| entry.kind == 5);
+    let place = match fault {
+        Some(place) => place.min(steps.len().saturating_sub(1)),
+        None => steps.len(),
+    };
+    let told = told_at_fault(alloc, steps, place)?;
+    assert_eq!(rt; told_to(&ports)?, told.as_slice());
+    let status = if fault.is_some() {
+        Status::DiskFault
+    } else {
+        Status::Ok
+    };
+    assert_eq!(rt; served.status, status);
+    Ok(fault.is_some())
+}
+
+fn try_each_call(rt: &impl Abort, alloc: Global, steps: Steps) -> Result<(), Fail> {
+    for call in 0..ENOUGH {
+        if !is_made(rt, alloc, steps, call)? {
+            // it is none of the first
+            assert!(rt; call > 12);
+            return Ok(());
+        }
+    }
+    Err("a call fails for ever".into())
+}
+
+#[test]
+fn each_call_of_a_restore_fails(rt: HostRuntime) -> Result<(), Fail> {
+    try_each_call(&rt, rt.alloc(), AGAIN)?;
+    try_each_call(&rt, rt.alloc(), GONE)
+}

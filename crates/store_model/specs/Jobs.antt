@@ -1,0 +1,37 @@
+-- The jobs, as functions of the command and of the replies to their steps so far.
+use Rattle.std.specs.Prelude.{List, Option, Some, None}
+use Rattle.std.specs.List.{fold}
+use Rattle.wire_commands.specs.declared.command.Command.{Command}
+use Rattle.wire_commands.specs.declared.command.Command.TheVariants.{Prune}
+use Rattle.wire_commands.specs.declared.reply.Reply.{Reply}
+use Rattle.store_model.specs.declared.step.Step.{Step}
+use Rattle.store_model.specs.Job.{Asking, grouping, forgetting, Job, over, asking}
+use Rattle.store_model.specs.Job as job
+use Rattle.store_model.specs.PruneJob as prune
+
+-- the job of a command, with nothing done; other commands are no jobs
+abbrev pub job_of : Command → Option Asking
+job_of (Prune group keep dry) = Some (grouping (Prune group keep dry) keep dry)
+job_of _ = None
+
+-- the job after the reply to the step that it asked
+unfoldable pub take : Asking → Reply → Job
+take (grouping c keep dry) reply = prune.grouped keep dry reply
+take (forgetting before snapshot later) reply = prune.forgot before snapshot later reply
+
+-- ---- of all replies so far
+
+-- a job that is over takes no more
+abbrev pub take_more : Job → Reply → Job
+take_more (over report) reply = over report
+take_more (asking a) reply = take a reply
+
+unfoldable pub job_after : Asking → List Reply → Job
+job_after begun replies = fold take_more (asking begun) replies
+
+-- what a job asks next, and what it reports where it asks nothing
+abbrev pub next : Asking → List Reply → Option Step
+next begun replies = job.next (job_after begun replies)
+
+abbrev pub report : Asking → List Reply → Reply
+report begun replies = job.report (job_after begun replies)

@@ -1,0 +1,15 @@
+//! The tests of sessions in memory, and of chunks and files on a disk.
+#![tactic(auto)]
+
+#[cfg(test)]
+mod backup;
+#[cfg(test)]
+mod chunks;
+#[cfg(test)]
+mod fixtures;
+#[cfg(test)]
+mod restore;
+#[cfg(test)]
+mod snapshots;
+#[cfg(test)]
+mod stored;
