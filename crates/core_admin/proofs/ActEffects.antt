@@ -1,8 +1,10 @@
 -- What an act on the store as a whole leaves.
-use Rattle.std.proofs.Common.{◌≡◌, ◌-◌, ◌^◌, ◌<◌, ◌≤◌, ℕ, Option, Some, None, sym, ap, subst}
+use Rattle.std.proofs.Common.{◌≡◌, ◌-◌, ◌^◌, ◌<◌, ◌≤◌, ℕ, Option, Some, None, Result, Ok, Err, IfOk, IfSome, sym, ap, subst, arith}
 use Rattle.port_traits.specs.Readings.{Readings}
 use Rattle.disk_trait.specs.Files.{Files}
 use Rattle.disk_trait.specs.Disk.{Steps, Same}
+use Rattle.disk_trait.specs.declared.disk.DiskError.{DiskError}
+use Rattle.disk_trait.specs.declared.disk.DiskError.TheVariants as faults
 use Rattle.store_types.specs.declared.refusal.Refusal.{Refusal}
 use Rattle.store_types.specs.declared.refusal.Refusal.TheVariants.{DiskFault, Halted, NoMemory}
 use Rattle.wire_commands.specs.declared.reply.Reply.{Reply}
@@ -10,6 +12,7 @@ use Rattle.wire_commands.specs.declared.reply.Reply.TheVariants.{Refused}
 use Rattle.store_history.specs.declared.act.Answer.{Answer}
 use Rattle.snapshot_files.proofs.Placing.{none_is}
 use Rattle.core_state.specs.Begins.{Refuses, short, halted}
+use Rattle.core_state.specs.Settles.{Settles}
 use Rattle.core_state.specs.declared.kept.Kept.{Kept}
 use Rattle.core_state.specs.declared.parts.Parts.{Parts}
 use Rattle.core_state.specs.declared.state.Core.{Core}
@@ -55,7 +58,22 @@ module _ {D E C : Type 0} (calls_of : D → ℕ) (readings : C → Option Readin
       subst (λ reply. GoesFirmly content calls_of images (old.parts).disk (new.parts).disk k reply) (sym so.1)
       (firm_none honest content calls_of images (old.parts).disk (new.parts).disk k so.0)
 
+  -- it is not told to be done
+  pub refused_done : (P : Reply → Type 0) → (answer.entry).kind ≡ 0 → IfSome answer.reply P
+  refused_done P done = absurd (apart refuses)
+    where
+      apart : Refuses calls_of readings old new lane answer → ⊥
+      apart (short is) = let kind : (answer.entry).kind ≡ 2 = ap (λ x. x.kind) (is.entered).entry in omega (arith, kind, done)
+      apart (halted is) = let kind : (answer.entry).kind ≡ 5 = ap (λ x. x.kind) (is.entered).entry in omega (arith, kind, done)
+
 -- ---- one that was done
+
+-- what is told of its reply, where it is told to be done
+pub done_told : {D E C : Type 0} (calls_of : D → ℕ) (acted new : Core D E C) (lane moment : ℕ) (outcome : Result Reply DiskError) (answer : Answer) (P : Reply → Type 0)
+    → IfOk outcome P → Settles calls_of acted new lane moment outcome answer → (answer.entry).kind ≡ 0 → IfSome answer.reply P
+done_told calls_of acted new lane moment (Ok reply) answer P h e done = subst (λ r. IfSome r P) (sym e.reply_is) h
+done_told calls_of acted new lane moment (Err faults.NoMemory) answer P h e done = let kind : (answer.entry).kind ≡ 2 = ap (λ x. x.kind) e.entry in absurd (omega (arith, kind, done))
+done_told calls_of acted new lane moment (Err faults.Failed) answer P h e done = let kind : (answer.entry).kind ≡ 5 = ap (λ x. x.kind) e.entry in absurd (omega (arith, kind, done))
 
 -- nothing has changed before or since
 pub between : {D : Type 0} (P : Parts D → Parts D → Option Reply → Type 0) (old mid acted new : Parts D) (reply given : Option Reply) → mid ≡ old → new ≡ acted → reply ≡ given → P mid acted given → P old new reply

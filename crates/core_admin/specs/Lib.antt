@@ -3,3 +3,4 @@ pub mod Listings
 pub mod FileRows
 pub mod FilesTold
 pub mod Forgotten
+pub mod AnsweredBy

@@ -18,6 +18,7 @@ ghost use Rattle.core_state.specs.declared.kept.Session.TheVariants.{Idle};
 ghost use Rattle.core_state.specs.Unreadables.{TellsUnreadable};
 ghost use Rattle.core_writer.specs.Closed.{Lists, listed_by};
 ghost use Rattle.core_admin.specs.AdminActs.{IsAdmins, asked_of_admin};
+ghost use Rattle.core_admin.specs.AnsweredBy.{AnswersBy};
 ghost use Rattle.core_admin.specs.Forgotten.{GoesFirmly, GoesFirst, TakesOut, forgotten_in};
 
 use crate::file_list::files;
@@ -43,6 +44,7 @@ fn perform<D: Disk>(
     ensures calls { D.calls parts.old.disk ≤ D.calls parts.new.disk }
     ensures text { IfOk result ReplyHasText }
     ensures answers { IfOk result (λ reply. IsTrue (may_answer act reply)) }
+    ensures by_kept { IfOk result (AnswersBy act (slice_index_or parts.old.sessions.items lane Idle) parts.old.catalogue.items parts.old.locks) }
     ensures unchanged { Unchanged D.honest D.content parts.old parts.new (reply_by result) }
     ensures sessions { parts.new.sessions.items ≡ parts.old.sessions.items }
     ensures locks { parts.new.locks ≡ parts.old.locks }
@@ -86,6 +88,8 @@ pub fn admin_act<D: Disk, E, C: Clock>(
     ensures told { IsSome result.reply }
     // why it is answered so, on any disk
     ensures cause { HasCause D.faults core.old core.new act result }
+    // by its own tests it answers what the core keeps, on any disk
+    ensures by_kept { result.entry.kind ≡ 0 → IfSome result.reply (AnswersBy act (slice_index_or core.old.parts.sessions.items lane Idle) core.old.parts.catalogue.items core.old.parts.locks) }
     // a manifest is unreadable exactly where it is, as far as the disk tells
     ensures unreadable { TellsUnreadable D.honest D.content core.old.parts.disk (asked_of_admin act core.old.parts.catalogue.items) result.entry.kind result.reply }
     // a refused act leaves catalogue, sessions and locks as before, and the disk too unless it failed

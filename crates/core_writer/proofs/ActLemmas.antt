@@ -104,17 +104,22 @@ ended_is (Chunk digest checked) x h ended = absurd ended
 ended_is Short x h ended = absurd ended
 ended_is End x h ended = absurd h
 
--- an act that was refused ended nothing
-pub refused_ends : {D E C : Type 0} (calls_of : D → ℕ) (readings : C → Option Readings) (old new : Core D E C) (lane : ℕ) (a : Act) (x : Answer)
-    → Refuses calls_of readings old new lane x → IsWriters a → HasEnded a x → ⊥
-refused_ends calls_of readings old new lane a x (short is) h ended = no_done (sym (is.entered).reply_is ∙ (ended_is a x h ended).1)
+-- an act that was refused is not told to be done
+pub refused_done : {D E C : Type 0} (calls_of : D → ℕ) (readings : C → Option Readings) (old new : Core D E C) (lane : ℕ) (x : Answer)
+    → Refuses calls_of readings old new lane x → x.reply ≡ Some Done → ⊥
+refused_done calls_of readings old new lane x (short is) done = no_done (sym (is.entered).reply_is ∙ done)
   where
     no_done : Some (Refused NoMemory) ≡ Some Done → ⊥
     no_done e = cc
-refused_ends calls_of readings old new lane a x (halted is) h ended = no_done is.first (sym (is.entered).reply_is ∙ (ended_is a x h ended).1)
+refused_done calls_of readings old new lane x (halted is) done = no_done is.first (sym (is.entered).reply_is ∙ done)
   where
     no_done : (n : ℕ) → Some (Refused (Halted n)) ≡ Some Done → ⊥
     no_done n e = cc
+
+-- and ended nothing
+pub refused_ends : {D E C : Type 0} (calls_of : D → ℕ) (readings : C → Option Readings) (old new : Core D E C) (lane : ℕ) (a : Act) (x : Answer)
+    → Refuses calls_of readings old new lane x → IsWriters a → HasEnded a x → ⊥
+refused_ends calls_of readings old new lane a x refuses h ended = refused_done calls_of readings old new lane x refuses (ended_is a x h ended).1
 
 pub some_same : (r s : Reply) → Some r ≡ Some s → r ≡ s
 some_same r s e = cc

@@ -2,3 +2,4 @@ pub mod Opened
 pub mod Closed
 pub mod Ended
 pub mod WriterActs
+pub mod Finished

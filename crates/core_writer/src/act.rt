@@ -22,6 +22,7 @@ ghost use Rattle.core_state.specs.Unchanged.{Unchanged};
 ghost use Rattle.core_state.specs.Unreadables.{TellsUnreadable};
 ghost use Rattle.core_writer.specs.Closed.{Lists, listed_by};
 ghost use Rattle.core_writer.specs.Ended.{FilesGone, Removes};
+ghost use Rattle.core_writer.specs.Finished.{IsFirm, FinishesFirmly};
 ghost use Rattle.core_uploads.specs.Others.{OthersStay, ActLeaves};
 ghost use Rattle.core_writer.specs.WriterActs.{IsWriters, asked_of_writer};
 
@@ -58,6 +59,7 @@ fn perform<D: Disk>(
     ensures closed { closes act (slice_index_or parts.old.sessions.items lane Idle) ≡ true → HasClosed parts.new lane result }
     ensures unreadable { TellsUnreadable D.honest D.content parts.old.disk (asked_of_writer act (slice_index_or parts.old.sessions.items lane Idle) parts.old.catalogue.items) (kind_by result) (Some (reply_by result)) }
     ensures removed { act ≡ Act.Plain commands.Abort → reply_by result ≡ Reply.Done → FilesGone D.honest D.content parts.old parts.new.disk lane }
+    ensures finished { act ≡ Act.Plain commands.Finish → reply_by result ≡ Reply.Done → IsFirm D.content D.calls D.images parts.new.disk }
     ensures act { (remote : Option (List Snapshot)) (w : World) → IsSafe (D.content parts.old.disk) act → Acts D.honest D.content parts.old parts.new (λ s. act_outcome remote (record w { store = s }) lane moment act) result }
 {
     match act {
@@ -135,6 +137,8 @@ pub fn writer_act<D: Disk, E, C: Clock>(
     ensures remote { core.new.remote ≡ core.old.remote }
     // the files of a writer that was aborted are gone
     ensures removed { Removes D.honest D.content core.old core.new lane act result }
+    // once a FINISH is done a crash leaves what the disk reads
+    ensures finished { FinishesFirmly D.content D.calls D.images core.new.parts.disk act result.reply }
     // an ABORT that ends a writer takes no memory
     ensures memory { is_closing core.old lane act ≡ true → result.entry.kind ≡ 2 → ⊥ }
     ensures reserve { KeepsReserve core.old core.new lane (is_closing core.old lane act) result }

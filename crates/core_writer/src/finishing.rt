@@ -16,6 +16,7 @@ ghost use Rattle.core_state.specs.Replies.{answers_finish, refuses_finish};
 ghost use Rattle.core_state.specs.Settles.{reply_by};
 ghost use Rattle.core_state.specs.Unchanged.{Unchanged};
 ghost use Rattle.core_writer.specs.Closed.{closed, closed_by, kept_manifest};
+ghost use Rattle.core_writer.specs.Finished.{IsFirm};
 ghost use Rattle.core_uploads.specs.Others.{OthersStay};
 
 use crate::catalogue::insert;
@@ -63,6 +64,7 @@ fn put_manifest<D: Disk>(
     ensures calls { D.calls disk.old ≤ D.calls disk.new }
     ensures put { D.honest disk.old → OnOk result (D.content disk.new ≡ placed (D.content disk.old) path.now (Some text.now)) }
     ensures unchanged { IsErrOf result DiskError.NoMemory → D.honest disk.old → D.content disk.new ≡ D.content disk.old }
+    ensures firm { OnOk result (IsFirm D.content D.calls D.images disk.new) }
 {
     disk.put(alloc, path.as_str(), text)?;
     disk.sync()?;
@@ -106,6 +108,8 @@ pub fn finish<D: Disk>(
     ensures others { OthersStay D.honest D.content parts.old parts.new lane (Some (reply_by result)) }
     // the snapshot is listed with this number
     ensures listed { parts.new.catalogue.items ≡ closed_by (Some (reply_by result)) number (slice_index_or parts.old.sessions.items lane Idle) parts.old.catalogue.items }
+    // once it is done a crash leaves what the disk reads
+    ensures firm { reply_by result ≡ Reply.Done → IsFirm D.content D.calls D.images parts.new.disk }
     ensures act { (moment : ℕ) → Acts D.honest D.content parts.old parts.new (λ s. outcome s lane moment commands.Finish) result }
 {
     let session = &parts.sessions[lane as usize];

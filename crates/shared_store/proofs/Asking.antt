@@ -1,5 +1,5 @@
 -- What acts ask for, and which acts end no session.
-use Rattle.std.proofs.Common.{◌≡◌, ℕ, true, false, List, [], Option, None, Some, refl, subst}
+use Rattle.std.proofs.Common.{◌≡◌, ◌∙◌, ℕ, true, false, List, [], Option, None, Some, refl, sym, ap, subst}
 use Rattle.store_types.specs.declared.names.Digest32.{Digest32}
 use Rattle.store_types.specs.declared.refusal.ChunkFault.{ChunkFault}
 use Rattle.store_types.specs.declared.refusal.Refusal.TheVariants.{Damaged}
@@ -25,6 +25,15 @@ use Rattle.core_admin.specs.Forgotten.{forgotten_in}
 use Rattle.shared_store.specs.Asked.{asked, is_admins, is_readers}
 
 -- ---- which acts are readers', and which are writers'
+
+false_true : false ≡ true → ⊥
+false_true e = cc
+
+pub finish_reads : (act : Act) → act ≡ Plain Finish → is_readers act ≡ true → ⊥
+finish_reads act is reads = false_true (sym (ap is_readers is) ∙ reads)
+
+pub finish_asks : (act : Act) → act ≡ Plain Finish → is_admins act ≡ true → ⊥
+finish_asks act is asks = false_true (sym (ap is_admins is) ∙ asks)
 
 pub are_readers : (act : Act) → is_readers act ≡ true → IsReaders act
 are_readers (Plain (OpenWriter snapshot)) h = cc

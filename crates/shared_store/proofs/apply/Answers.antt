@@ -16,7 +16,7 @@ use Rattle.core_uploads.proofs.OtherNames.{acts_stay, acts_unmoved}
 use Rattle.core_writer.proofs.ListedLemmas.{refused_lists}
 use Rattle.core_writer.specs.Closed.{Lists}
 use Rattle.core_writer.specs.Ended.{HasEnded}
-use Rattle.shared_store.proofs.Asking.{are_readers, are_writers, readers_step, writers_ask, readers_ask, writers_need, readers_end, readers_list, short_closes, end_closes, are_admins, admins_step, admins_ask, admins_need, admins_end, admins_close, readers_not_admins, is_step}
+use Rattle.shared_store.proofs.Asking.{are_readers, are_writers, readers_step, writers_ask, readers_ask, writers_need, readers_end, readers_list, short_closes, end_closes, are_admins, finish_asks, finish_reads, admins_step, admins_ask, admins_need, admins_end, admins_close, readers_not_admins, is_step}
 use Rattle.shared_store.proofs.Damages.{tells_whole, end_tells_whole}
 use Rattle.shared_store.proofs.Leaving.{act_leaves, read_leaves, taken_leaves, no_admins, none_firmly}
 use Rattle.shared_store.specs.Asked.{asked}
@@ -125,6 +125,14 @@ returns-in-Short-clause-listed g c = refused_lists g.D.Disk.calls g.C.Clock.read
 pub returns-in-End-clause-listed : goal.returns-in-End-clause-listed
 returns-in-End-clause-listed g c =
     subst (λ a. Lists c.args.core.now c.end_act.new.core c.args.lane a c.end_act.result) (sym c.in-End.is) c.end_act.ensures.listed
+
+-- ---- a FINISH that is done
+
+pub returns-then-is_readers-clause-finished : goal.returns-then-is_readers-clause-finished
+returns-then-is_readers-clause-finished g c = λ is done. absurd (finish_reads c.args.act is (sym c.is_readers.ensures ∙ c.if-is_readers.true))
+
+pub returns-then-is_admins-clause-finished : goal.returns-then-is_admins-clause-finished
+returns-then-is_admins-clause-finished g c = λ is done. absurd (finish_asks c.args.act is (sym c.is_admins.ensures ∙ c.if-is_admins.true))
 
 pub returns-in-Short-clause-removed : goal.returns-in-Short-clause-removed
 returns-in-Short-clause-removed g c = λ ended none. absurd (subst (λ a. HasEnded a c.short.result) c.in-Short.is ended)

@@ -1,5 +1,5 @@
 use Rattle.std.specs.Prelude.{slice_index_or}
-use Rattle.std.proofs.Common.{◌≡◌, ◌∙◌, is_some, refl, ap}
+use Rattle.std.proofs.Common.{◌≡◌, ◌∙◌, is_some, IfOk, refl, ap, subst}
 use Rattle.store_history.specs.History.{act_outcome}
 use Rattle.core_state.specs.History.{world}
 use Rattle.core_state.specs.declared.kept.Session.TheVariants.{Idle}
@@ -14,7 +14,8 @@ use Rattle.core_writer.proofs.ListedLemmas.{refused_lists}
 use Rattle.core_admin.specs.AdminActs.{asked_of_admin}
 use Rattle.core_writer.specs.Closed.{listed_by}
 use Rattle.core_admin.specs.Forgotten.{GoesFirmly, GoesFirst, TakesOut, forgotten_in}
-use Rattle.core_admin.proofs.ActEffects.{between, refused_firmly, refused_goes, refused_takes}
+use Rattle.core_admin.specs.AnsweredBy.{AnswersBy}
+use Rattle.core_admin.proofs.ActEffects.{between, done_told, refused_done, refused_firmly, refused_goes, refused_takes}
 use Rattle.core_admin.proofs.ActLemmas.{admins_formed, admins_step, admins_safe, admins_close, adds_none}
 use Rattle.core_admin.proofs.act.admin_act.Goals as goal
 
@@ -62,6 +63,14 @@ pub returns-in-At-clause-cause : goal.returns-in-At-clause-cause
 returns-in-At-clause-cause g c = let d = g.D.Disk in
     done_caused d.honest d.calls d.faults g.C.Clock.readings _ c.begin.new.core _ _ c.args.lane c.in-At.moment c.args.act _ _ c.in-At.ensures.begun
     c.perform-outcome.ensures.serves c.perform-outcome.ensures.answers c.settle.ensures
+
+pub returns-in-Answered-clause-by_kept : goal.returns-in-Answered-clause-by_kept
+returns-in-Answered-clause-by_kept g c = refused_done g.D.Disk.calls g.C.Clock.readings _ _ c.args.lane _ c.in-Answered.ensures.begun _
+
+pub returns-in-At-clause-by_kept : goal.returns-in-At-clause-by_kept
+returns-in-At-clause-by_kept g c =
+    done_told g.D.Disk.calls _ _ c.args.lane c.in-At.moment _ _ _
+    (subst (λ p. IfOk c.perform-outcome.result (AnswersBy c.args.act (slice_index_or p.sessions.items c.args.lane Idle) p.catalogue.items p.locks)) (c.in-At.ensures.begun.begun).parts c.perform-outcome.ensures.by_kept) c.settle.ensures
 
 pub returns-in-Answered-clause-unchanged : goal.returns-in-Answered-clause-unchanged
 returns-in-Answered-clause-unchanged g c = let d = g.D.Disk in

@@ -1,4 +1,4 @@
-use Rattle.std.proofs.Common.{◌∙◌, refl, sym, ap}
+use Rattle.std.proofs.Common.{◌∙◌, refl, sym, ap, subst}
 use Rattle.store_history.specs.History.{act_outcome}
 use Rattle.core_state.specs.History.{world}
 use Rattle.core_state.proofs.Answered.{refused_stands, done_stands}
@@ -13,7 +13,8 @@ use Rattle.core_state.specs.declared.kept.Session.TheVariants.{Idle}
 use Rattle.core_state.proofs.Unreadables.{tells_refused, tells_done}
 use Rattle.core_writer.specs.WriterActs.{asked_of_writer}
 use Rattle.core_uploads.proofs.OtherNames.{acts_unmoved, acts_between}
-use Rattle.core_writer.proofs.ActLemmas.{writers_formed, writers_step, ended_is, refused_ends, some_same}
+use Rattle.core_writer.specs.Finished.{IsFirm}
+use Rattle.core_writer.proofs.ActLemmas.{writers_formed, writers_step, ended_is, refused_done, refused_ends, some_same}
 use Rattle.core_writer.proofs.EndingLemmas.{gone_between}
 use Rattle.core_writer.proofs.ListedLemmas.{refused_lists}
 use Rattle.core_state.proofs.Reserves.{refused_keeps, done_keeps, closing_kind, closing_before}
@@ -93,6 +94,13 @@ returns-in-At-clause-removed g c = let d = g.D.Disk in λ ended none.
     let before = (c.in-At.ensures.begun.begun).parts in
     gone_between d.honest d.content _ c.begin.new.core.parts _ _ c.args.lane before (ap (λ p. p.disk) c.settle.ensures.parts)
     (c.perform-outcome.ensures.removed is.0 (some_same _ _ (sym c.settle.ensures.reply_is ∙ is.1)))
+
+pub returns-in-Answered-clause-finished : goal.returns-in-Answered-clause-finished
+returns-in-Answered-clause-finished g c = λ is done. absurd (refused_done g.D.Disk.calls g.C.Clock.readings _ _ c.args.lane _ c.in-Answered.ensures.begun done)
+
+pub returns-in-At-clause-finished : goal.returns-in-At-clause-finished
+returns-in-At-clause-finished g c = let d = g.D.Disk in λ is done.
+    subst (λ p. IsFirm d.content d.calls d.images p.disk) (sym c.settle.ensures.parts) (c.perform-outcome.ensures.finished is (some_same _ _ (sym c.settle.ensures.reply_is ∙ done)))
 
 pub returns-in-Answered-clause-memory : goal.returns-in-Answered-clause-memory
 returns-in-Answered-clause-memory g c = λ closing. c.in-Answered.ensures.memory closing
