@@ -1,5 +1,6 @@
 mod watched;
 
+use crate::asserts::{same, same_at};
 use disk_trait::{Disk, DiskError, Failed, FailingDisk, FileDisk, MemoryDisk};
 use std::alloc::Global;
 use std::cell::{Cell, RefCell};
@@ -8,87 +9,140 @@ use std::process::Abort;
 use std::test::Fail;
 use watched::{Record, Watched};
 
+/// A call that changes a disk.
+#[derive(Clone, Copy, Debug)]
+enum Change {
+    Put(&'static str, &'static [u8]),
+    Rename(&'static str, &'static str),
+    Remove(&'static str),
+    Sync,
+}
+
+fn put<D: Disk>(
+    rt: &impl Abort,
+    alloc: Global,
+    disk: &mut D,
+    name: &str,
+    bytes: &[u8],
+) -> Result<(), DiskError> {
+    assert!(rt; name.len() <= 255);
+    disk.put(alloc, name, bytes)
+}
+
+fn rename<D: Disk>(rt: &impl Abort, disk: &mut D, from: &str, to: &str) -> Result<bool, Failed> {
+    assert!(rt; to.len() <= 255);
+    disk.rename(from, to)
+}
+
+fn make<D: Disk>(
+    rt: &impl Abort,
+    alloc: Global,
+    disk: &mut D,
+    change: Change,
+) -> Result<(), DiskError> {
+    match change {
+        Change::Put(name, bytes) => put(rt, alloc, disk, name, bytes)?,
+        Change::Rename(from, to) => {
+            rename(rt, disk, from, to)?;
+        }
+        Change::Remove(name) => {
+            disk.remove(name)?;
+        }
+        Change::Sync => disk.sync()?,
+    }
+    Ok(())
+}
+
+fn make_all<D: Disk>(
+    rt: &impl Abort,
+    alloc: Global,
+    disk: &mut D,
+    changes: &[Change],
+) -> Result<(), DiskError> {
+    for change in changes {
+        make(rt, alloc, disk, *change)?;
+    }
+    Ok(())
+}
+
+static FIRST: [Change; 5] = [
+    Change::Put("a/b", b"one"),
+    Change::Put("a-b", b""),
+    Change::Put("a/c/d.tmp", b"twenty bytes in a row"),
+    Change::Put("a/b", b"three"),
+    Change::Put("b", b"four"),
+];
+
+static THEN: [Change; 4] = [
+    Change::Rename("a/c/d.tmp", "a/b"),
+    Change::Rename("b", "e/f"),
+    Change::Remove("a-b"),
+    Change::Sync,
+];
+
 // Puts, reads, lists, renames and removes, as any disk does.
 fn try_all<D: Disk>(rt: &impl Abort, alloc: Global, disk: &mut D) -> Result<(), Fail> {
-    disk.put(alloc, "a/b", b"one")?;
-    disk.put(alloc, "a-b", b"")?;
-    disk.put(alloc, "a/c/d.tmp", b"twenty bytes in a row")?;
-    disk.put(alloc, "a/b", b"three")?;
-    disk.put(alloc, "b", b"four")?;
-    let found = disk.read(alloc, "a/b")?.ok_or("absent")?;
-    assert_eq!(rt; found.as_slice(), b"three".as_slice());
-    let size = disk.size("a-b")?;
-    assert_eq!(rt; size, Some(0));
-    try_list(rt, alloc, disk)?;
+    make_all(rt, alloc, disk, &FIRST)?;
+    try_sizes(rt, disk, &[("a/b", Some(5)), ("a-b", Some(0))])?;
+    try_read(rt, alloc, disk)?;
+    try_lists(rt, alloc, disk)?;
     try_parts(rt, disk)?;
-    disk.rename("a/c/d.tmp", "a/b")?;
-    disk.rename("b", "e/f")?;
-    disk.remove("a-b")?;
-    disk.sync()?;
-    let size = disk.size("a/b")?;
-    assert_eq!(rt; size, Some(21));
+    make_all(rt, alloc, disk, &THEN)?;
+    try_sizes(rt, disk, &[("a/b", Some(21))])?;
     try_absent(rt, alloc, disk)?;
-    let names = listed(alloc, disk, "")?;
-    assert_eq!(rt; names.as_str(), "a/b e/f");
-    assert_eq!(rt; disk.faults(), 0);
+    try_list(rt, alloc, disk, "", "a/b e/f")?;
+    same(rt, disk.faults(), 0);
     Ok(())
 }
 
-fn try_list<D: Disk>(rt: &impl Abort, alloc: Global, disk: &mut D) -> Result<(), Fail> {
-    for (prefix, want) in [
-        ("", "a-b a/b a/c/d.tmp b"),
-        ("a/", "a/b a/c/d.tmp"),
-        ("a/c/d", "a/c/d.tmp"),
-        ("a", "a-b a/b a/c/d.tmp"),
-        ("a/b/", ""),
-        ("c/", ""),
-        ("../", ""),
-    ] {
-        let names = listed(alloc, disk, prefix)?;
-        assert_eq!(rt; names.as_str(), want, "{prefix}");
+fn try_sizes<D: Disk>(
+    rt: &impl Abort,
+    disk: &mut D,
+    sizes: &[(&str, Option<u64>)],
+) -> Result<(), Fail> {
+    for (name, want) in sizes {
+        same_at(rt, *name, disk.size(name)?, *want);
     }
     Ok(())
 }
 
-fn try_parts<D: Disk>(rt: &impl Abort, disk: &mut D) -> Result<(), Fail> {
-    let mut part = [7u8; 4];
-    for (offset, count, want) in [
-        (7, 4, *b"byte"),
-        (19, 2, *b"owte"),
-        (21, 0, *b"owte"),
-        (u64::MAX, 0, *b"owte"),
-    ] {
-        let found = disk.read_part("a/c/d.tmp", offset, &mut part)?;
-        assert_eq!(rt; found, Some(count), "{offset}");
-        assert_eq!(rt; part, want, "{offset}");
+fn try_read<D: Disk>(rt: &impl Abort, alloc: Global, disk: &mut D) -> Result<(), Fail> {
+    let found = read(alloc, disk, "a/b")?.ok_or("absent")?;
+    same(rt, found.as_slice(), b"three");
+    Ok(())
+}
+
+fn read<D: Disk>(alloc: Global, disk: &mut D, name: &str) -> Result<Option<Vec<u8>>, DiskError> {
+    disk.read(alloc, name)
+}
+
+// Prefixes, and the names that begin with each.
+static LISTS: [(&str, &str); 7] = [
+    ("", "a-b a/b a/c/d.tmp b"),
+    ("a/", "a/b a/c/d.tmp"),
+    ("a/c/d", "a/c/d.tmp"),
+    ("a", "a-b a/b a/c/d.tmp"),
+    ("a/b/", ""),
+    ("c/", ""),
+    ("../", ""),
+];
+
+fn try_lists<D: Disk>(rt: &impl Abort, alloc: Global, disk: &mut D) -> Result<(), Fail> {
+    for (prefix, want) in &LISTS {
+        try_list(rt, alloc, disk, prefix, want)?;
     }
     Ok(())
 }
 
-// Names at which nothing is, and of which a folder can have no file.
-fn try_absent<D: Disk>(rt: &impl Abort, alloc: Global, disk: &mut D) -> Result<(), Fail> {
-    for name in [
-        "",
-        "a",
-        "a/b/c",
-        "b",
-        "none/at/all",
-        "../a",
-        "a//b",
-        "/a",
-        ".",
-    ] {
-        let size = disk.size(name)?;
-        assert_eq!(rt; size, None, "{name}");
-        let bytes = disk.read(alloc, name)?;
-        assert!(rt; bytes.is_none(), "{name}");
-        let count = disk.read_part(name, 0, &mut [])?;
-        assert_eq!(rt; count, None, "{name}");
-        let is_moved = disk.rename(name, "g")?;
-        assert!(rt; !is_moved, "{name}");
-        let is_removed = disk.remove(name)?;
-        assert!(rt; !is_removed, "{name}");
-    }
+fn try_list<D: Disk>(
+    rt: &impl Abort,
+    alloc: Global,
+    disk: &mut D,
+    prefix: &str,
+    want: &str,
+) -> Result<(), Fail> {
+    let names = listed(alloc, disk, prefix)?;
+    same_at(rt, prefix, names.as_str(), want);
     Ok(())
 }
 
@@ -104,12 +158,53 @@ fn listed<D: Disk>(alloc: Global, disk: &mut D, prefix: &str) -> Result<String, 
     Ok(text)
 }
 
+// Offsets, how many bytes are read there, and what then stands where they are read to.
+static PARTS: [(u64, usize, &[u8]); 4] = [
+    (7, 4, b"byte"),
+    (19, 2, b"owte"),
+    (21, 0, b"owte"),
+    (u64::MAX, 0, b"owte"),
+];
+
+fn try_parts<D: Disk>(rt: &impl Abort, disk: &mut D) -> Result<(), Fail> {
+    let mut part = [7u8; 4];
+    for (offset, count, want) in &PARTS {
+        let found = disk.read_part("a/c/d.tmp", *offset, &mut part)?;
+        same_at(rt, *offset, found, Some(*count));
+        same_at(rt, *offset, part.as_slice(), *want);
+    }
+    Ok(())
+}
+
+// Names at which nothing is, and of which a folder can have no file.
+static ABSENT: [&str; 9] = [
+    "",
+    "a",
+    "a/b/c",
+    "b",
+    "none/at/all",
+    "../a",
+    "a//b",
+    "/a",
+    ".",
+];
+
+fn try_absent<D: Disk>(rt: &impl Abort, alloc: Global, disk: &mut D) -> Result<(), Fail> {
+    for name in &ABSENT {
+        same_at(rt, *name, disk.size(name)?, None);
+        same_at(rt, *name, read(alloc, disk, name)?.is_some(), false);
+        same_at(rt, *name, disk.read_part(name, 0, &mut [])?, None);
+        same_at(rt, *name, rename(rt, disk, name, "g")?, false);
+        same_at(rt, *name, disk.remove(name)?, false);
+    }
+    Ok(())
+}
+
 #[test]
 fn memory_is_a_map(rt: HostRuntime) -> Result<(), Fail> {
     let alloc = rt.alloc();
     let mut disk = MemoryDisk::new(alloc);
-    try_all(&rt, alloc, &mut disk)?;
-    Ok(())
+    try_all(&rt, alloc, &mut disk)
 }
 
 #[test]
@@ -117,33 +212,47 @@ fn folder_is_a_map(rt: HostRuntime) -> Result<(), Fail> {
     let alloc = rt.alloc();
     let root = "disk_trait_test_folder";
     let _ = fs::remove_dir_all(&rt, root);
-    let mut disk = FileDisk::new(rt, alloc, root)?;
-    // No root: each call fails, and makes nothing.
-    assert_eq!(rt; disk.put(alloc, "a", b"one"), Err(DiskError::Failed));
-    assert!(rt; disk.read(alloc, "a").is_err());
-    assert_eq!(rt; disk.size("a"), Err(Failed));
-    assert_eq!(rt; disk.read_part("a", 0, &mut []), Err(Failed));
-    assert_eq!(rt; disk.rename("a", "b"), Err(Failed));
-    assert_eq!(rt; disk.remove("a"), Err(Failed));
-    assert_eq!(rt; disk.sync(), Err(Failed));
-    assert!(rt; disk.list(alloc, "").is_err());
-    assert_eq!(rt; disk.faults(), 8);
-    assert_eq!(rt; disk.calls(), 8);
-    assert!(rt; !fs::exists(&rt, root)?);
+    try_no_folder(&rt, alloc, &mut FileDisk::new(rt, alloc, root)?)?;
+    same(&rt, fs::exists(&rt, root)?, false);
     fs::create_dir(&rt, root)?;
     let mut disk = FileDisk::new(rt, alloc, root)?;
     try_all(&rt, alloc, &mut disk)?;
-    for name in ["../a", "a/b/c", "", "a/.."] {
-        assert_eq!(rt;
-            disk.put(alloc, name, b"one"),
-            Err(DiskError::Failed),
-            "{name}"
-        );
-    }
-    assert_eq!(rt; disk.faults(), 4);
+    try_bad_names(&rt, alloc, &mut disk)?;
     let text = fs::read_to_string(&rt, "disk_trait_test_folder/e/f")?;
-    assert_eq!(rt; text.as_str(), "four");
+    same(&rt, text.as_str(), "four");
     fs::remove_dir_all(&rt, root)?;
+    Ok(())
+}
+
+// One of each.
+static CHANGES: [Change; 4] = [
+    Change::Put("a", b"one"),
+    Change::Rename("a", "b"),
+    Change::Remove("a"),
+    Change::Sync,
+];
+
+// With no folder each call fails, and makes nothing.
+fn try_no_folder<D: Disk>(rt: &impl Abort, alloc: Global, disk: &mut D) -> Result<(), Fail> {
+    for change in &CHANGES {
+        let outcome = make(rt, alloc, disk, *change);
+        same_at(rt, *change, outcome, Err(DiskError::Failed));
+    }
+    same(rt, disk.size("a"), Err(Failed));
+    same(rt, disk.read_part("a", 0, &mut []), Err(Failed));
+    same(rt, read(alloc, disk, "a").is_err(), true);
+    same(rt, disk.list(alloc, "").is_err(), true);
+    same(rt, (disk.faults(), disk.calls()), (8, 8));
+    Ok(())
+}
+
+// Names outside the folder, and of which it can have no file.
+fn try_bad_names<D: Disk>(rt: &impl Abort, alloc: Global, disk: &mut D) -> Result<(), Fail> {
+    for name in &["../a", "a/b/c", "", "a/.."] {
+        let outcome = put(rt, alloc, disk, name, b"one");
+        same_at(rt, *name, outcome, Err(DiskError::Failed));
+    }
+    same(rt, disk.faults(), 4);
     Ok(())
 }
 
@@ -171,8 +280,7 @@ fn folder_is_synced(rt: HostRuntime) -> Result<(), Fail> {
         synced: RefCell::new(String::new(alloc)),
         full: Cell::new(false),
     };
-    let faults = change_folder(rt, root, &record)?;
-    assert_eq!(rt; faults, 1);
+    same(&rt, change_folder(rt, root, &record)?, 1);
     fs::remove_dir_all(&rt, root)?;
     let want = "\
         disk_trait_test_synced\n\
@@ -184,54 +292,73 @@ fn folder_is_synced(rt: HostRuntime) -> Result<(), Fail> {
         disk_trait_test_synced/c\n\
         disk_trait_test_synced/a\n\
         disk_trait_test_synced/c\n";
-    assert_eq!(rt; record.synced.into_inner().as_str(), want);
+    same(&rt, record.synced.into_inner().as_str(), want);
     Ok(())
 }
 
-// Each call of a script of puts, renames, removals and syncs.
-fn run_script<D: Disk>(alloc: Global, disk: &mut D) -> Result<(), DiskError> {
-    disk.put(alloc, "a", b"first")?;
-    disk.put(alloc, "b", b"second")?;
-    disk.sync()?;
-    disk.put(alloc, "b", b"third!")?;
-    disk.rename("b", "c")?;
-    disk.remove("a")?;
+// Puts, renames, removals and syncs, each of which a crash or a failure may cut off.
+static SCRIPT: [Change; 6] = [
+    Change::Put("a", b"first"),
+    Change::Put("b", b"second"),
+    Change::Sync,
+    Change::Put("b", b"third!"),
+    Change::Rename("b", "c"),
+    Change::Remove("a"),
+];
+
+// What a crash leaves by each choice: the names, and the sizes at `b` and `c`.
+static CRASHES: [(u8, &str, Option<u64>, Option<u64>); 4] = [
+    (0, "a b", Some(6), None),
+    (1, "c", None, Some(6)),
+    (2, "a c", None, Some(3)),
+    (3, "c", None, Some(6)),
+];
+
+#[test]
+fn crashes_by_choice(rt: HostRuntime) -> Result<(), Fail> {
+    let alloc = rt.alloc();
+    let mut disk = MemoryDisk::new(alloc);
+    make_all(&rt, alloc, &mut disk, &SCRIPT)?;
+    same(&rt, disk.steps().len(), 6);
+    for (choice, names, b, c) in &CRASHES {
+        let mut left = disk.crashed(alloc, *choice)?;
+        try_list(&rt, alloc, &mut left, "", names)?;
+        same_at(&rt, *choice, left.size("b")?, *b);
+        same_at(&rt, *choice, left.size("c")?, *c);
+    }
+    Ok(())
+}
+
+// A disk that fails after k calls.
+fn try_stop(rt: &impl Abort, alloc: Global, k: u64) -> Result<(), Fail> {
+    let mut disk = FailingDisk::stopping_after(MemoryDisk::new(alloc), k);
+    let outcome = make_all(rt, alloc, &mut disk, &SCRIPT);
+    same_at(rt, k, outcome.is_ok(), k == 6);
+    same_at(rt, k, disk.faults(), if k < 6 { 1 } else { 0 });
+    same_at(rt, k, disk.sync(), Err(Failed));
+    same_at(rt, k, disk.calls(), k.min(5) + 2);
+    same_at(rt, k, disk.into_inner().steps().len() as u64, k);
     Ok(())
 }
 
 #[test]
-fn crashes_and_fails(rt: HostRuntime) -> Result<(), Fail> {
+fn stops_after_each_call(rt: HostRuntime) -> Result<(), Fail> {
+    for k in 0..7 {
+        try_stop(&rt, rt.alloc(), k)?;
+    }
+    Ok(())
+}
+
+#[test]
+fn fails_at_the_listed_calls(rt: HostRuntime) -> Result<(), Fail> {
     let alloc = rt.alloc();
-    let mut disk = MemoryDisk::new(alloc);
-    run_script(alloc, &mut disk)?;
-    assert_eq!(rt; disk.steps().len(), 6);
-    for (choice, names, b, c) in [
-        (0, "a b", Some(6), None),
-        (1, "c", None, Some(6)),
-        (2, "a c", None, Some(3)),
-        (3, "c", None, Some(6)),
-    ] {
-        let mut left = disk.crashed(alloc, choice)?;
-        assert_eq!(rt; listed(alloc, &mut left, "")?.as_str(), names, "{choice}");
-        assert_eq!(rt; left.size("b")?, b, "{choice}");
-        assert_eq!(rt; left.size("c")?, c, "{choice}");
-    }
-    for k in 0..7u64 {
-        let mut disk = FailingDisk::stopping_after(MemoryDisk::new(alloc), k);
-        let outcome = run_script(alloc, &mut disk);
-        assert_eq!(rt; outcome.is_ok(), k == 6, "{k}");
-        assert_eq!(rt; disk.faults(), if k < 6 { 1 } else { 0 }, "{k}");
-        assert_eq!(rt; disk.sync(), Err(Failed), "{k}");
-        assert_eq!(rt; disk.calls(), k.min(5) + 2, "{k}");
-        let steps = disk.into_inner().steps().len() as u64;
-        assert_eq!(rt; steps, k, "{k}");
-    }
     let mut disk = FailingDisk::at_calls(MemoryDisk::new(alloc), Vec::from_slice(alloc, &[1, 3])?);
-    assert_eq!(rt; disk.size("a")?, None);
-    assert_eq!(rt; disk.size("a"), Err(Failed));
-    assert_eq!(rt; disk.size("a")?, None);
-    assert_eq!(rt; disk.put(alloc, "a", b"x"), Err(DiskError::Failed));
-    assert_eq!(rt; disk.size("a")?, None);
+    for want in [Ok(None), Err(Failed), Ok(None)] {
+        same(&rt, disk.size("a"), want);
+    }
+    let outcome = put(&rt, alloc, &mut disk, "a", b"x");
+    same(&rt, outcome, Err(DiskError::Failed));
+    same(&rt, disk.size("a"), Ok(None));
     Ok(())
 }
 
@@ -244,8 +371,8 @@ fn moved<D: Disk + Send>(disk: D) -> D {
 fn crosses_threads(rt: HostRuntime) -> Result<(), Fail> {
     let alloc = rt.alloc();
     let disk = moved(FailingDisk::stopping_after(MemoryDisk::new(alloc), 0));
-    assert_eq!(rt; disk.faults(), 0);
+    same(&rt, disk.faults(), 0);
     let disk = moved(FileDisk::new(rt, alloc, "none")?);
-    assert_eq!(rt; disk.faults(), 0);
+    same(&rt, disk.faults(), 0);
     Ok(())
 }

@@ -1,5 +1,6 @@
 mod snapshot;
 
+use crate::asserts::{same, same_at};
 use disk_trait::{Disk, DiskError, FailingDisk, MemoryDisk};
 use file_install::{drop_firm, install, install_firm};
 use std::alloc::Global;
@@ -13,11 +14,18 @@ enum Change {
     DropFirm,
 }
 
-fn make<D: Disk>(alloc: Global, disk: &mut D, change: Change) -> Result<(), DiskError> {
+fn make<D: Disk>(
+    rt: &impl Abort,
+    alloc: Global,
+    disk: &mut D,
+    name: &str,
+    change: Change,
+) -> Result<(), DiskError> {
+    assert!(rt; name.len() <= 251);
     match change {
-        Change::Install => install(alloc, disk, "a", b"new one"),
-        Change::InstallFirm => install_firm(alloc, disk, "a", b"new one"),
-        Change::DropFirm => Ok(drop_firm(disk, "a")?),
+        Change::Install => install(alloc, disk, name, b"new one"),
+        Change::InstallFirm => install_firm(alloc, disk, name, b"new one"),
+        Change::DropFirm => Ok(drop_firm(disk, name)?),
     }
 }
 
@@ -58,51 +66,61 @@ fn try_change(
     mut disk: FailingDisk<MemoryDisk>,
     change: Change,
     k: u64,
-    wants: [&str; 3],
+    wants: &[&str; 3],
 ) -> Result<(), Fail> {
     let is_whole = k == calls_of(change);
-    let outcome = make(alloc, &mut disk, change);
-    assert_eq!(rt; outcome.is_ok(), is_whole, "{change:?} {k}");
-    let faults = if is_whole { 0 } else { 1 };
-    assert_eq!(rt; disk.faults(), faults, "{change:?} {k}");
+    let outcome = make(rt, alloc, &mut disk, "a", change);
+    same_at(rt, (change, k), outcome.is_ok(), is_whole);
+    same_at(rt, (change, k), disk.faults(), if is_whole { 0 } else { 1 });
     let mut left = disk.into_inner();
-    let reads = shown(alloc, &mut left)?;
-    assert_eq!(rt; reads.as_str(), wants[1], "{change:?} {k}");
+    same_at(rt, (change, k), shown(alloc, &mut left)?.as_str(), wants[1]);
     for choice in 0..3u8 {
         let mut crashed = left.crashed(alloc, choice)?;
         let reads = shown(alloc, &mut crashed)?;
-        assert_eq!(rt;
+        same_at(
+            rt,
+            (change, k, choice),
             reads.as_str(),
             wants[choice as usize],
-            "{change:?} {k} {choice}"
         );
     }
     Ok(())
 }
 
+// What stands there before a change and after it, as it is shown.
+const OLD: &str = "old//other/";
+
+const WHOLE: &str = "old/new one/other/";
+
+const HALF: &str = "old/new/other/";
+
+const NEW: &str = "new one//other/";
+
+const GONE: &str = "//other/";
+
+static CHANGES: [(Change, u64, [&str; 3]); 12] = [
+    (Change::Install, 0, [OLD, OLD, OLD]),
+    (Change::Install, 1, [OLD, WHOLE, HALF]),
+    (Change::Install, 2, [WHOLE, WHOLE, WHOLE]),
+    (Change::Install, 3, [WHOLE, NEW, NEW]),
+    (Change::InstallFirm, 0, [OLD, OLD, OLD]),
+    (Change::InstallFirm, 1, [OLD, WHOLE, HALF]),
+    (Change::InstallFirm, 2, [WHOLE, WHOLE, WHOLE]),
+    (Change::InstallFirm, 3, [WHOLE, NEW, NEW]),
+    (Change::InstallFirm, 4, [NEW, NEW, NEW]),
+    (Change::DropFirm, 0, [OLD, OLD, OLD]),
+    (Change::DropFirm, 1, [OLD, GONE, OLD]),
+    (Change::DropFirm, 2, [GONE, GONE, GONE]),
+];
+
 #[test]
 fn each_call_fails(rt: HostRuntime) -> Result<(), Fail> {
     let alloc = rt.alloc();
-    let (old, new, gone) = ("old//other/", "new one//other/", "//other/");
-    let (whole, half) = ("old/new one/other/", "old/new/other/");
-    for (change, k, wants) in [
-        (Change::Install, 0, [old, old, old]),
-        (Change::Install, 1, [old, whole, half]),
-        (Change::Install, 2, [whole, whole, whole]),
-        (Change::Install, 3, [whole, new, new]),
-        (Change::InstallFirm, 0, [old, old, old]),
-        (Change::InstallFirm, 1, [old, whole, half]),
-        (Change::InstallFirm, 2, [whole, whole, whole]),
-        (Change::InstallFirm, 3, [whole, new, new]),
-        (Change::InstallFirm, 4, [new, new, new]),
-        (Change::DropFirm, 0, [old, old, old]),
-        (Change::DropFirm, 1, [old, gone, old]),
-        (Change::DropFirm, 2, [gone, gone, gone]),
-    ] {
-        let failing = FailingDisk::at_calls(old_disk(alloc)?, Vec::from_slice(alloc, &[k])?);
-        try_change(&rt, alloc, failing, change, k, wants)?;
-        let stopping = FailingDisk::stopping_after(old_disk(alloc)?, k);
-        try_change(&rt, alloc, stopping, change, k, wants)?;
+    for (change, k, wants) in &CHANGES {
+        let failing = FailingDisk::at_calls(old_disk(alloc)?, Vec::from_slice(alloc, &[*k])?);
+        try_change(&rt, alloc, failing, *change, *k, wants)?;
+        let stopping = FailingDisk::stopping_after(old_disk(alloc)?, *k);
+        try_change(&rt, alloc, stopping, *change, *k, wants)?;
     }
     Ok(())
 }
@@ -113,7 +131,7 @@ fn drops_nothing(rt: HostRuntime) -> Result<(), Fail> {
     let alloc = rt.alloc();
     let mut disk = old_disk(alloc)?;
     drop_firm(&mut disk, "c")?;
-    assert_eq!(rt; shown(alloc, &mut disk)?.as_str(), "old//other/");
-    assert_eq!(rt; disk.steps().len(), 4);
+    same(&rt, shown(alloc, &mut disk)?.as_str(), OLD);
+    same(&rt, disk.steps().len(), 4);
     Ok(())
 }

@@ -1,5 +1,7 @@
-use lock_book::{LaneHolds, LockBook};
+use crate::asserts::same_at;
+use lock_book::LockBook;
 use std::alloc::Global;
+use std::process::Abort;
 use std::test::Fail;
 use store_types::{GroupKey, SnapshotKey};
 
@@ -11,58 +13,107 @@ fn snapshot(alloc: Global, text: &str) -> Result<SnapshotKey, Fail> {
     Ok(SnapshotKey::parse(alloc, text.as_bytes())??)
 }
 
-#[test]
-fn a_group_has_one_lane(rt: HostRuntime) -> Result<(), Fail> {
-    let (a, b) = (group(rt.alloc(), "host/a")?, group(rt.alloc(), "host/b")?);
-    let mut book = LockBook::new(rt.alloc());
-    assert_eq!(rt; book.group_take(3, &a)?, Ok(()));
-    assert_eq!(rt; book.group_take(1, &a)?, Err(LaneHolds { lane: 3 }));
-    assert_eq!(rt; book.free_for_writer(1, &a), Err(LaneHolds { lane: 3 }));
-    assert_eq!(rt; book.free_for_writer(3, &a), Ok(()));
-    assert_eq!(rt; book.group_take(63, &a)?, Err(LaneHolds { lane: 3 }));
-    assert_eq!(rt; book.group_take(3, &a)?, Ok(()));
-    assert_eq!(rt; book.group_take(1, &b)?, Ok(()));
-    book.release(3);
-    assert_eq!(rt; book.free_for_writer(2, &a), Ok(()));
-    assert_eq!(rt; book.group_take(2, &a)?, Ok(()));
-    assert_eq!(rt; book.group_take(2, &b)?, Err(LaneHolds { lane: 1 }));
+/// What a lane asks of a lock book, by the names of groups and snapshots.
+#[derive(Clone, Copy, Debug)]
+enum Ask {
+    Group(&'static str),
+    Writer(&'static str),
+    WriterOver(&'static str, &'static str),
+    Shared(&'static str),
+    FreeForWriter(&'static str),
+    FreeForRemoval(&'static str),
+    Release,
+}
+
+/// The lane that holds what is asked for, where one does.
+fn holder(alloc: Global, book: &mut LockBook, lane: u32, ask: Ask) -> Result<Option<u32>, Fail> {
+    let outcome = match ask {
+        Ask::Group(name) => book.group_take(lane, &group(alloc, name)?)?,
+        Ask::Writer(name) => book.writer_take(lane, &group(alloc, name)?, None)?,
+        Ask::WriterOver(name, base) => {
+            book.writer_take(lane, &group(alloc, name)?, Some(&snapshot(alloc, base)?))?
+        }
+        Ask::Shared(name) => {
+            book.shared_take(lane, &snapshot(alloc, name)?)?;
+            Ok(())
+        }
+        Ask::FreeForWriter(name) => book.free_for_writer(lane, &group(alloc, name)?),
+        Ask::FreeForRemoval(name) => book.free_for_removal(&snapshot(alloc, name)?),
+        Ask::Release => {
+            book.release(lane);
+            Ok(())
+        }
+    };
+    Ok(outcome.err().map(|held| held.lane))
+}
+
+/// Asks in turn of an empty book, and compares who holds what is asked for.
+fn ask_all(rt: &impl Abort, alloc: Global, asks: &[(u32, Ask, Option<u32>)]) -> Result<(), Fail> {
+    let mut book = LockBook::new(alloc);
+    for (lane, ask, want) in asks {
+        let found = holder(alloc, &mut book, *lane, *ask)?;
+        same_at(rt, (*lane, *ask), found, *want);
+    }
     Ok(())
 }
+
+static GROUPS: [(u32, Ask, Option<u32>); 11] = [
+    (3, Ask::Group("host/a"), None),
+    (1, Ask::Group("host/a"), Some(3)),
+    (1, Ask::FreeForWriter("host/a"), Some(3)),
+    (3, Ask::FreeForWriter("host/a"), None),
+    (63, Ask::Group("host/a"), Some(3)),
+    (3, Ask::Group("host/a"), None),
+    (1, Ask::Group("host/b"), None),
+    (3, Ask::Release, None),
+    (2, Ask::FreeForWriter("host/a"), None),
+    (2, Ask::Group("host/a"), None),
+    (2, Ask::Group("host/b"), Some(1)),
+];
+
+#[test]
+fn a_group_has_one_lane(rt: HostRuntime) -> Result<(), Fail> {
+    ask_all(&rt, rt.alloc(), &GROUPS)
+}
+
+/// A snapshot, and a later one of its group.
+const KEY: &str = "vm/a/2020-01-15T06:30:03Z";
+
+const LATER: &str = "vm/a/2020-01-15T06:30:04Z";
+
+static WRITERS: [(u32, Ask, Option<u32>); 9] = [
+    (3, Ask::Writer("vm/b"), None),
+    (0, Ask::FreeForRemoval(KEY), None),
+    (4, Ask::WriterOver("vm/a", KEY), None),
+    (0, Ask::FreeForRemoval(KEY), Some(4)),
+    (0, Ask::WriterOver("vm/a", KEY), Some(4)),
+    (0, Ask::FreeForRemoval(KEY), Some(4)),
+    (4, Ask::Release, None),
+    (0, Ask::FreeForRemoval(KEY), None),
+    (0, Ask::FreeForWriter("vm/b"), Some(3)),
+];
 
 #[test]
 fn a_writer_has_a_base(rt: HostRuntime) -> Result<(), Fail> {
-    let key = snapshot(rt.alloc(), "vm/a/2020-01-15T06:30:03Z")?;
-    let (a, b) = (group(rt.alloc(), "vm/a")?, group(rt.alloc(), "vm/b")?);
-    let mut book = LockBook::new(rt.alloc());
-    assert_eq!(rt; book.writer_take(3, &b, None)?, Ok(()));
-    assert_eq!(rt; book.free_for_removal(&key), Ok(()));
-    assert_eq!(rt; book.writer_take(4, &a, Some(&key))?, Ok(()));
-    assert_eq!(rt; book.free_for_removal(&key), Err(LaneHolds { lane: 4 }));
-    let held = book.writer_take(0, &a, Some(&key))?;
-    assert_eq!(rt; held, Err(LaneHolds { lane: 4 }));
-    assert_eq!(rt; book.free_for_removal(&key), Err(LaneHolds { lane: 4 }));
-    book.release(4);
-    assert_eq!(rt; book.free_for_removal(&key), Ok(()));
-    assert_eq!(rt; book.free_for_writer(0, &b), Err(LaneHolds { lane: 3 }));
-    Ok(())
+    ask_all(&rt, rt.alloc(), &WRITERS)
 }
+
+static SHARES: [(u32, Ask, Option<u32>); 12] = [
+    (0, Ask::FreeForRemoval(KEY), None),
+    (5, Ask::Shared(KEY), None),
+    (3, Ask::Shared(KEY), None),
+    (7, Ask::Shared(KEY), None),
+    (0, Ask::Shared(LATER), None),
+    (0, Ask::FreeForRemoval(KEY), Some(3)),
+    (3, Ask::Release, None),
+    (0, Ask::FreeForRemoval(KEY), Some(5)),
+    (5, Ask::Release, None),
+    (7, Ask::Release, None),
+    (0, Ask::FreeForRemoval(KEY), None),
+    (0, Ask::FreeForRemoval(LATER), Some(0)),
+];
 
 #[test]
 fn a_snapshot_is_shared(rt: HostRuntime) -> Result<(), Fail> {
-    let key = snapshot(rt.alloc(), "vm/a/2020-01-15T06:30:03Z")?;
-    let later = snapshot(rt.alloc(), "vm/a/2020-01-15T06:30:04Z")?;
-    let mut book = LockBook::new(rt.alloc());
-    assert_eq!(rt; book.free_for_removal(&key), Ok(()));
-    for lane in [5, 3, 7] {
-        book.shared_take(lane, &key)?;
-    }
-    book.shared_take(0, &later)?;
-    assert_eq!(rt; book.free_for_removal(&key), Err(LaneHolds { lane: 3 }));
-    book.release(3);
-    assert_eq!(rt; book.free_for_removal(&key), Err(LaneHolds { lane: 5 }));
-    book.release(5);
-    book.release(7);
-    assert_eq!(rt; book.free_for_removal(&key), Ok(()));
-    assert_eq!(rt; book.free_for_removal(&later), Err(LaneHolds { lane: 0 }));
-    Ok(())
+    ask_all(&rt, rt.alloc(), &SHARES)
 }

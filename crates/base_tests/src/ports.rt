@@ -1,3 +1,4 @@
+use crate::asserts::same;
 use port_traits::{
     Clock, Failed, FileSink, FileSource, FreeGate, Gate, MemSink, MemSource, SetClock, Sink,
     Source, WallClock, write_all_of, write_counted,
@@ -25,24 +26,27 @@ fn pass<G: Gate + Sync>(gate: &G) {
 }
 
 #[test]
-fn memory_fails_at_the_listed_calls(rt: HostRuntime) -> Result<(), Fail> {
+fn memory_source_fails_at_the_listed_calls(rt: HostRuntime) -> Result<(), Fail> {
     let bytes = b"abcde".to_vec(rt.alloc())?;
     let mut source = MemSource::new(bytes, [1].to_vec(rt.alloc())?).at_most(2);
     let mut into = [0u8; 4];
-    let expected = [Ok(2), Err(Failed), Ok(2), Ok(1), Ok(0)];
-    for want in expected {
-        assert_eq!(rt; read(&mut source, &mut into), want);
+    for want in [Ok(2), Err(Failed), Ok(2), Ok(1), Ok(0)] {
+        same(&rt, read(&mut source, &mut into), want);
     }
-    assert_eq!(rt; into, *b"ed\0\0");
-    assert_eq!(rt; source.faults(), 1);
+    same(&rt, into, *b"ed\0\0");
+    same(&rt, source.faults(), 1);
+    Ok(())
+}
 
+#[test]
+fn memory_sink_fails_at_the_listed_calls(rt: HostRuntime) -> Result<(), Fail> {
     let mut sink = MemSink::new(rt.alloc(), [3].to_vec(rt.alloc())?).at_most(2);
-    assert_eq!(rt; write_all_of(&mut sink, b"abc"), Ok(()));
-    assert_eq!(rt; put(&mut sink, b"defg"), (Err(Failed), 2));
-    assert_eq!(rt; put(&mut sink, b"fg"), (Ok(()), 2));
-    assert_eq!(rt; sink.faults(), 1);
-    assert_eq!(rt; sink.as_bytes(), b"abcdefg".as_slice());
-    assert_eq!(rt; sink.into_bytes().as_slice(), b"abcdefg".as_slice());
+    same(&rt, write_all_of(&mut sink, b"abc"), Ok(()));
+    same(&rt, put(&mut sink, b"defg"), (Err(Failed), 2));
+    same(&rt, put(&mut sink, b"fg"), (Ok(()), 2));
+    same(&rt, sink.faults(), 1);
+    same(&rt, sink.as_bytes(), b"abcdefg".as_slice());
+    same(&rt, sink.into_bytes().as_slice(), b"abcdefg".as_slice());
     Ok(())
 }
 
@@ -50,7 +54,7 @@ fn memory_fails_at_the_listed_calls(rt: HostRuntime) -> Result<(), Fail> {
 fn clocks_and_gates(rt: HostRuntime) -> Result<(), Fail> {
     let mut clock = SetClock::new([5, 3].to_vec(rt.alloc())?, 9);
     for want in [5, 3, 9, 9] {
-        assert_eq!(rt; tell(&mut clock), want);
+        same(&rt, tell(&mut clock), want);
     }
     let now = tell(&mut WallClock::new(rt));
     assert!(rt; now > 1_600_000_000, "the system's clock tells {now}");
@@ -63,22 +67,26 @@ fn files_hold_what_was_written(rt: HostRuntime) -> Result<(), Fail> {
     let path = "port_traits_test.bin";
     fs::write(&rt, path, "old text that is longer")?;
     let mut sink = FileSink::create(&rt, path);
-    assert_eq!(rt; put(&mut sink, b"hello"), (Ok(()), 5));
+    same(&rt, put(&mut sink, b"hello"), (Ok(()), 5));
     let mut source = FileSource::new(rt, String::from_str(rt.alloc(), path)?);
     let mut into = [0u8; 8];
-    assert_eq!(rt; read(&mut source, &mut into), Ok(5));
-    assert_eq!(rt; into, *b"hello\0\0\0");
-    assert_eq!(rt; read(&mut source, &mut into), Ok(0));
+    same(&rt, read(&mut source, &mut into), Ok(5));
+    same(&rt, into, *b"hello\0\0\0");
+    same(&rt, read(&mut source, &mut into), Ok(0));
     fs::remove_file(&rt, path)?;
+    Ok(())
+}
 
-    let mut missing = FileSource::new(rt, String::from_str(rt.alloc(), path)?);
-    assert_eq!(rt; read(&mut missing, &mut into), Err(Failed));
-    assert_eq!(rt; missing.faults(), 1);
-    let mut nowhere = FileSink::create(&rt, "no_such_folder/file");
-    assert_eq!(rt; nowhere.faults(), 0);
-    assert_eq!(rt; put(&mut nowhere, b"x"), (Err(Failed), 0));
-    assert_eq!(rt; nowhere.faults(), 1);
+#[test]
+fn files_that_are_not_there(rt: HostRuntime) -> Result<(), Fail> {
+    let mut source = FileSource::new(rt, String::from_str(rt.alloc(), "no_such_file")?);
+    same(&rt, read(&mut source, &mut [0; 8]), Err(Failed));
+    same(&rt, source.faults(), 1);
+    let mut sink = FileSink::create(&rt, "no_such_folder/file");
+    same(&rt, sink.faults(), 0);
+    same(&rt, put(&mut sink, b"x"), (Err(Failed), 0));
+    same(&rt, sink.faults(), 1);
     let mut out = FileSink::over(io::writer(&rt));
-    assert_eq!(rt; put(&mut out, b"x\n"), (Ok(()), 2));
+    same(&rt, put(&mut out, b"x\n"), (Ok(()), 2));
     Ok(())
 }

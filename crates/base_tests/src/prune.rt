@@ -3,11 +3,13 @@
 ghost use Rattle.std.specs.Prelude.{◌≤◌, All, IfOk};
 ghost use Rattle.store_types.specs.Times.{last_moment};
 
+use crate::asserts::same_at;
 use prune_rules::{Item, Keep, Mark, marks, marks_into};
 use std::alloc::{AllocError, Global};
+use std::process::Abort;
 use std::test::Fail;
 
-const DATES: [(&str, u32, u16, u8); 26] = [
+static DATES: [(&str, u32, u16, u8); 26] = [
     ("2020-02-28", 1582848000, 2020, 9),
     ("2020-02-29", 1582934400, 2020, 9),
     ("2020-03-01", 1583020800, 2020, 9),
@@ -44,6 +46,22 @@ const NONE: Keep = Keep {
     monthly: 0,
     yearly: 0,
 };
+
+const LAST_AND_DAILY: Keep = Keep {
+    last: 1,
+    daily: 1,
+    ..NONE
+};
+
+const HOURLY: Keep = Keep { hourly: 2, ..NONE };
+
+const DAILY: Keep = Keep { daily: 1, ..NONE };
+
+const WEEKLY: Keep = Keep { weekly: 2, ..NONE };
+
+const MONTHLY: Keep = Keep { monthly: 2, ..NONE };
+
+const YEARLY: Keep = Keep { yearly: 2, ..NONE };
 
 fn text_of(alloc: Global, marks: &[Mark]) -> Result<String, Fail> {
     let mut text = String::new(alloc);
@@ -85,22 +103,33 @@ fn share_period(alloc: Global, first: u32, second: u32, keep: Keep) -> Result<bo
     Ok(kept.as_str() != "kk")
 }
 
+/// Compares whether two moments are in one period with whether they should be.
+fn try_period(
+    rt: &impl Abort,
+    alloc: Global,
+    moments: (u32, u32),
+    keep: Keep,
+    want: bool,
+) -> Result<(), Fail> {
+    let found = share_period(alloc, moments.0, moments.1, keep)?;
+    same_at(rt, (moments, keep), found, want);
+    Ok(())
+}
+
 #[test]
 fn weeks_are_those_of_the_standard(rt: HostRuntime) -> Result<(), Fail> {
-    let weekly = Keep { weekly: 2, ..NONE };
-    for (date, time, year, week) in DATES {
+    for (_, time, year, week) in &DATES {
         let end = time.saturating_add(86_399);
-        for (other, later, other_year, other_week) in DATES {
+        for (_, later, other_year, other_week) in &DATES {
             let same = year == other_year && week == other_week;
-            let found = share_period(rt.alloc(), end, later, weekly)?;
-            assert_eq!(rt; found, same, "{date} and {other}");
+            try_period(&rt, rt.alloc(), (end, *later), WEEKLY, same)?;
         }
     }
     Ok(())
 }
 
 // The ends of months and of a year, each with its year and month.
-const ENDS: [(u32, u16, u8); 5] = [
+static ENDS: [(u32, u16, u8); 5] = [
     (1_582_934_400, 2020, 2), // 2020-02-29
     (1_583_020_799, 2020, 2), // its last second
     (1_583_020_800, 2020, 3), // 2020-03-01
@@ -110,66 +139,65 @@ const ENDS: [(u32, u16, u8); 5] = [
 
 #[test]
 fn months_and_years(rt: HostRuntime) -> Result<(), Fail> {
-    let monthly = Keep { monthly: 2, ..NONE };
-    let yearly = Keep { yearly: 2, ..NONE };
-    for (time, year, month) in ENDS {
-        for (later, other_year, other_month) in ENDS {
+    for (time, year, month) in &ENDS {
+        for (later, other_year, other_month) in &ENDS {
+            let moments = (*time, *later);
             let same = year == other_year && month == other_month;
-            let found = share_period(rt.alloc(), time, later, monthly)?;
-            assert_eq!(rt; found, same, "months of {time} and {later}");
-            let found = share_period(rt.alloc(), time, later, yearly)?;
-            assert_eq!(rt; found, year == other_year, "years of {time} and {later}");
+            try_period(&rt, rt.alloc(), moments, MONTHLY, same)?;
+            try_period(&rt, rt.alloc(), moments, YEARLY, year == other_year)?;
         }
     }
     Ok(())
 }
 
+// noon of 2020-12-31 (a Thursday), 2021-01-03 (a Sunday) and 2021-01-04
+const TURN: &[(u32, bool)] = &[
+    (1_609_416_000, true),
+    (1_609_675_200, true),
+    (1_609_761_600, true),
+];
+
+// the end of 2020-01-14, and two of the 15th: the day of the last is served already
+const DAYS: &[(u32, bool)] = &[
+    (1_579_046_399, true),
+    (1_579_046_400, true),
+    (1_579_069_803, true),
+];
+
+// in any order, and with two of one time, of which the earlier in the list is kept
+const MIXED: &[(u32, bool)] = &[
+    (1_579_069_803, true),
+    (1_579_046_399, true),
+    (1_579_069_803, true),
+    (1_579_046_400, true),
+];
+
+// what still runs is kept
+const RUNNING: &[(u32, bool)] = &[
+    (1_579_046_399, false),
+    (1_579_046_400, true),
+    (1_579_069_803, false),
+];
+
+/// Times, the options, and which of the times are kept.
+static PRUNES: [(&[(u32, bool)], Keep, &str); 8] = [
+    (TURN, WEEKLY, "-kk"),
+    (DAYS, LAST_AND_DAILY, "k-k"),
+    (DAYS, DAILY, "--k"),
+    (DAYS, HOURLY, "-kk"),
+    (MIXED, LAST_AND_DAILY, "kk--"),
+    // with no option all is kept
+    (DAYS, NONE, "kkk"),
+    (RUNNING, DAILY, "-kk"),
+    (&[], DAILY, ""),
+];
+
 #[test]
 fn prunes_by_hand(rt: HostRuntime) -> Result<(), Fail> {
-    // noon of 2020-12-31 (a Thursday), 2021-01-03 (a Sunday) and 2021-01-04
-    let turn = [
-        (1_609_416_000, true),
-        (1_609_675_200, true),
-        (1_609_761_600, true),
-    ];
-    let weekly = Keep { weekly: 2, ..NONE };
-    assert_eq!(rt; kept(rt.alloc(), &turn, weekly)?.as_str(), "-kk");
-
-    // the end of 2020-01-14, and two of the 15th: the day of the last is served already
-    let days = [
-        (1_579_046_399, true),
-        (1_579_046_400, true),
-        (1_579_069_803, true),
-    ];
-    let daily = Keep {
-        last: 1,
-        daily: 1,
-        ..NONE
-    };
-    assert_eq!(rt; kept(rt.alloc(), &days, daily)?.as_str(), "k-k");
-    let only_daily = Keep { daily: 1, ..NONE };
-    assert_eq!(rt; kept(rt.alloc(), &days, only_daily)?.as_str(), "--k");
-    let hourly = Keep { hourly: 2, ..NONE };
-    assert_eq!(rt; kept(rt.alloc(), &days, hourly)?.as_str(), "-kk");
-
-    // in any order, and with two of one time, of which the earlier in the list is kept
-    let mixed = [
-        (1_579_069_803, true),
-        (1_579_046_399, true),
-        (1_579_069_803, true),
-        (1_579_046_400, true),
-    ];
-    assert_eq!(rt; kept(rt.alloc(), &mixed, daily)?.as_str(), "kk--");
-
-    // with no option all is kept, and so is one that still runs
-    assert_eq!(rt; kept(rt.alloc(), &days, NONE)?.as_str(), "kkk");
-    let running = [
-        (1_579_046_399, false),
-        (1_579_046_400, true),
-        (1_579_069_803, false),
-    ];
-    assert_eq!(rt; kept(rt.alloc(), &running, only_daily)?.as_str(), "-kk");
-    assert_eq!(rt; kept(rt.alloc(), &[], only_daily)?.as_str(), "");
+    for (times, keep, want) in &PRUNES {
+        let found = kept(rt.alloc(), times, *keep)?;
+        same_at(&rt, (*times, *keep), found.as_str(), *want);
+    }
     Ok(())
 }
 
@@ -210,11 +238,7 @@ fn as_many_items_as_the_table_holds_and_more(rt: HostRuntime) -> Result<(), Fail
         let items = minutes(rt.alloc(), count)?;
         let marks = marked_in_place(rt.alloc(), &items, &keep)?;
         let kept = kept_minutes(rt.alloc(), &items, &marks)?;
-        assert_eq!(rt;
-            kept.as_slice(),
-            [5759, 7198, 8191].as_slice(),
-            "{count} items"
-        );
+        same_at(&rt, count, kept.as_slice(), [5759, 7198, 8191].as_slice());
     }
     Ok(())
 }

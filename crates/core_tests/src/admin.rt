@@ -1,266 +1,223 @@
-ghost use Rattle.std.specs.Prelude.{◌<◌};
+ghost use Rattle.core_admin.specs.AdminActs.{IsAdmins};
 
 mod pages;
 
-use crate::fixtures::{
-    DIGITS, FIRST, MANIFEST_PATH, OTHER, SECOND, WITH_FILE, is_bad_name, is_done, is_unreadable,
-    is_wrong_state, opened, opened_parts, upload, upload_manifest,
+use crate::asserts::same;
+use crate::calls::{
+    BAD_NAME, Call, Calls, DONE, FIRST_BASE, IN_WRITER, NO_BASE, NO_SNAPSHOT, NONE_THERE,
+    SECOND_BASE, UNREADABLE, after, frame, keep, try_calls,
 };
-use blob_codec::encode;
-use core_admin::{admin_act, files, forget, group, list, prune_group};
-use core_state::{Act, Parts};
-use core_writer::{abort, finish, open_writer};
+use crate::fixtures::{DIGITS, FIRST, MANIFEST_PATH, MemoryCore, OTHER, SECOND, WITH_FILE, opened};
+use core_admin::admin_act;
+use core_state::{Act, Answer, Parts};
 use disk_trait::{Disk, MemoryDisk};
 use std::alloc::Global;
 use std::process::Abort;
 use std::test::Fail;
-use store_types::{Bytes, Keep, Refusal, SessionState};
-use wire_commands::{Command, Reply};
-
-/// The SHA-256 of the blob of `123456789`.
-const CSUM: [u8; 32] = [
-    0x69, 0xdc, 0xb4, 0x83, 0x0c, 0x28, 0x20, 0x3c, 0x26, 0xa1, 0xda, 0xde, 0x2d, 0x89, 0x3d, 0x7f,
-    0x1d, 0x13, 0xcd, 0xba, 0x5e, 0xb3, 0x9e, 0x34, 0x8b, 0x00, 0x8f, 0x3a, 0x5a, 0x0f, 0xb6, 0x88,
-];
+use store_types::Bytes;
+use wire_commands::Command;
 
 const LATER: &[u8] =
     b"{\"backup-id\":\"a\",\"backup-time\":1579069804,\"backup-type\":\"host\",\"files\":[]}";
 
+/// The blob of the same.
+const LATER_BLOB: &[u8] =
+    b"B\xab8\x07\xbe\x83p\xa10#\x87\xba{\"backup-id\":\"a\",\"backup-time\":1579069804,\"backup-type\":\"host\",\"files\":[]}";
+
 const ELSEWHERE: &[u8] =
     b"{\"backup-id\":\"b\",\"backup-time\":1579069803,\"backup-type\":\"host\",\"files\":[]}";
 
-const KEEP: Keep = Keep {
-    last: 1000,
-    hourly: 0,
-    daily: 0,
-    weekly: 0,
-    monthly: 0,
-    yearly: 0,
-};
-
-/// The snapshot of the lane's writer is finished with the manifest of these bytes.
-fn finish_with(parts: &mut Parts<MemoryDisk>, alloc: Global, json: &[u8]) -> Result<(), Fail> {
-    let _ = upload_manifest(parts, alloc, 3, json)?;
-    if is_done(&finish(parts, alloc, 3, 1)?) {
-        Ok(())
-    } else {
-        Err("not finished".into())
-    }
-}
-
 /// Two snapshots of one group, the first with a file, and one of another group.
-fn write_all(parts: &mut Parts<MemoryDisk>, alloc: Global) -> Result<(), Fail> {
-    let _ = open_writer(parts, alloc, 3, 1000, OTHER)?;
-    finish_with(parts, alloc, ELSEWHERE)?;
-    let _ = open_writer(parts, alloc, 3, 1000, FIRST)?;
-    let _ = upload(parts, alloc, 3, b"a.conf.blob", DIGITS)?;
-    finish_with(parts, alloc, WITH_FILE)?;
-    let _ = open_writer(parts, alloc, 3, 1000, SECOND)?;
-    finish_with(parts, alloc, LATER)
-}
+static WRITTEN: Calls = &[
+    (3, Call::OpenWriter(OTHER), NO_BASE),
+    (3, Call::Manifest(ELSEWHERE), DONE),
+    (3, Call::Finish, DONE),
+    (3, Call::OpenWriter(FIRST), NO_BASE),
+    (3, Call::Blob(b"a.conf.blob", DIGITS), DONE),
+    (3, Call::Manifest(WITH_FILE), DONE),
+    (3, Call::Finish, DONE),
+    (3, Call::OpenWriter(SECOND), FIRST_BASE),
+    (3, Call::Manifest(LATER), DONE),
+    (3, Call::Finish, DONE),
+];
 
-fn is_listing(reply: &Reply, wanted: &[(&[u8], u8)]) -> bool {
-    let Reply::Listing(rows) = reply else {
-        return false;
-    };
-    let rows = rows.as_slice();
-    rows.len() == wanted.len()
-        && rows.iter().zip(wanted).all(|(row, wanted)| {
-            row.snapshot.as_slice() == wanted.0 && !row.damaged && row.files == wanted.1
-        })
-}
+/// LIST tells the snapshot of the other group alone, and that one behind the second.
+const OTHER_LISTED: &[u8] = b"!\0\0\0\0\x01\0\x1bhost/b/2020-01-15T06:30:03Z\0\x01";
 
-fn are_keys(reply: &Reply, wanted: &[&[u8]]) -> bool {
-    let Reply::Keys(texts) = reply else {
-        return false;
-    };
-    let texts = texts.as_slice();
-    texts.len() == wanted.len()
-        && texts
-            .iter()
-            .zip(wanted)
-            .all(|(text, wanted)| text.as_slice() == *wanted)
-}
+const TWO_LISTED: &[u8] =
+    b"?\0\0\0\0\x02\0\x1bhost/a/2020-01-15T06:30:04Z\0\x01\x1bhost/b/2020-01-15T06:30:03Z\0\x01";
 
-/// LIST tells just these, with their numbers of files.
-fn try_list(
-    rt: &impl Abort,
-    parts: &Parts<MemoryDisk>,
-    alloc: Global,
-    after: &[u8],
-    wanted: &[(&[u8], u8)],
-) -> Result<(), Fail> {
-    assert!(rt; is_listing(&list(parts, alloc, after)?, wanted));
-    Ok(())
-}
+static LISTED: Calls = &[
+    (
+        5,
+        Call::List(b""),
+        b"]\0\0\0\0\x03\0\x1bhost/a/2020-01-15T06:30:03Z\0\x02\x1bhost/a/2020-01-15T06:30:04Z\0\x01\x1bhost/b/2020-01-15T06:30:03Z\0\x01",
+    ),
+    (5, Call::List(FIRST), TWO_LISTED),
+    (5, Call::List(b"host/a/2021-01-15T06:30:03Z"), OTHER_LISTED),
+    (5, Call::List(OTHER), NONE_THERE),
+    (5, Call::List(b"host/a"), BAD_NAME),
+];
 
 #[test]
 fn snapshots_are_listed(rt: HostRuntime) -> Result<(), Fail> {
     let alloc = rt.alloc();
-    let mut parts = opened_parts(alloc)?;
-    try_list(&rt, &parts, alloc, b"", &[])?;
-    write_all(&mut parts, alloc)?;
-    let all = [(FIRST, 2), (SECOND, 1), (OTHER, 1)];
-    try_list(&rt, &parts, alloc, b"", &all)?;
-    try_list(&rt, &parts, alloc, FIRST, &[(SECOND, 1), (OTHER, 1)])?;
-    let between = b"host/a/2021-01-15T06:30:03Z";
-    try_list(&rt, &parts, alloc, between, &[(OTHER, 1)])?;
-    try_list(&rt, &parts, alloc, OTHER, &[])?;
-    assert!(rt; is_bad_name(&list(&parts, alloc, b"host/a")?));
-    Ok(())
+    let mut parts = after(&rt, alloc, &[(5, Call::List(b""), NONE_THERE)])?;
+    try_calls(&rt, &mut parts, alloc, WRITTEN)?;
+    try_calls(&rt, &mut parts, alloc, LISTED)
 }
+
+/// The two of one group are told.
+const BOTH: &[u8] =
+    b";\0\0\0\0\x02\0\x1bhost/a/2020-01-15T06:30:03Z\x1bhost/a/2020-01-15T06:30:04Z";
+
+static TOLD: Calls = &[
+    (5, Call::Group(b"host/a"), BOTH),
+    (5, Call::Group(b"vm/a"), NONE_THERE),
+    (5, Call::Group(FIRST), BAD_NAME),
+];
 
 #[test]
 fn groups_are_told(rt: HostRuntime) -> Result<(), Fail> {
     let alloc = rt.alloc();
-    let mut parts = opened_parts(alloc)?;
-    write_all(&mut parts, alloc)?;
-    assert!(rt; are_keys(&group(&parts, alloc, b"host/a")?, &[FIRST, SECOND]));
-    assert!(rt; are_keys(&group(&parts, alloc, b"vm/a")?, &[]));
-    assert!(rt; is_bad_name(&group(&parts, alloc, FIRST)?));
-    Ok(())
+    let mut parts = after(&rt, alloc, WRITTEN)?;
+    try_calls(&rt, &mut parts, alloc, TOLD)
 }
 
-/// The first step of a PRUNE on lane 5.
-fn prune(
-    parts: &Parts<MemoryDisk>,
-    alloc: Global,
-    name: &[u8],
-    keep: &Keep,
-) -> Result<Reply, Fail> {
-    Ok(prune_group(parts, alloc, 5, name, keep)?)
-}
+/// The first steps of prunes, and what they are refused.
+static BEGUN: Calls = &[
+    (
+        5,
+        Call::Prune(b"host/b", 0),
+        b"\x1f\0\0\0\0\x01\0\x1bhost/b/2020-01-15T06:30:03Z",
+    ),
+    (
+        5,
+        Call::Prune(b"host/b", 1001),
+        b"\x05\0\0\0\x15\xe8\x03\0\0",
+    ),
+    (5, Call::Prune(FIRST, 1001), BAD_NAME),
+    (5, Call::OpenWriter(b"vm/a/2020-01-15T06:30:03Z"), NO_BASE),
+    (5, Call::Prune(FIRST, 1001), IN_WRITER),
+];
 
 #[test]
 fn prunes_begin(rt: HostRuntime) -> Result<(), Fail> {
     let alloc = rt.alloc();
-    let mut parts = opened_parts(alloc)?;
-    write_all(&mut parts, alloc)?;
-    assert!(rt; are_keys(&prune(&parts, alloc, b"host/b", &KEEP)?, &[OTHER]));
-    let many = Keep {
-        yearly: 1001,
-        ..KEEP
-    };
-    let refused = prune(&parts, alloc, b"host/b", &many)?;
-    assert!(rt; matches!(refused, Reply::Refused(Refusal::TooMany { limit: 1000 })));
-    assert!(rt; is_bad_name(&prune(&parts, alloc, FIRST, &many)?));
-    let _ = open_writer(&mut parts, alloc, 5, 1000, b"vm/a/2020-01-15T06:30:03Z")?;
-    let refused = prune(&parts, alloc, FIRST, &many)?;
-    assert!(rt; is_wrong_state(&refused, SessionState::Writer));
-    Ok(())
+    let mut parts = after(&rt, alloc, WRITTEN)?;
+    try_calls(&rt, &mut parts, alloc, BEGUN)
 }
 
-/// The file's name, its size, and whether the checksum is that of the digits' blob.
-fn are_files(reply: &Reply, wanted: &[(&[u8], usize, bool)]) -> bool {
-    let Reply::Files(rows) = reply else {
-        return false;
-    };
-    let rows = rows.as_slice();
-    rows.len() == wanted.len()
-        && rows.iter().zip(wanted).all(|(row, wanted)| {
-            row.file.as_slice() == wanted.0
-                && row.size == wanted.1 as u64
-                && (row.csum.0 == CSUM) == wanted.2
-        })
-}
+/// The files of a snapshot; then its manifest is a blob of other bytes, another snapshot's manifest, and gone.
+static FILES: Calls = &[
+    (
+        5,
+        Call::Files(FIRST),
+        b"n\0\0\0\0\x02\x0ba.conf.blob\x15\0\0\0\0\0\0\0i\xdc\xb4\x83\x0c( <&\xa1\xda\xde-\x89=\x7f\x1d\x13\xcd\xba^\xb3\x9e4\x8b\0\x8f:Z\x0f\xb6\x88\x0findex.json.blob\xc4\0\0\0\0\0\0\0\x07\x86\xbdrCA\x09\x1d\x05\xd3\x02\xe7m}+i\xf6/\xf7\xe0\xce\xce\xc0\x1d\xe6\xd5W\x14o\x04\xdc\xca",
+    ),
+    (5, Call::Files(b"host/c/2020-01-15T06:30:03Z"), NO_SNAPSHOT),
+    (5, Call::Files(b"host/a"), BAD_NAME),
+    (5, Call::Put(MANIFEST_PATH, DIGITS), DONE),
+    (5, Call::Files(FIRST), UNREADABLE),
+    (5, Call::Put(MANIFEST_PATH, LATER_BLOB), DONE),
+    (
+        5,
+        Call::Files(FIRST),
+        b":\0\0\0\0\x01\x0findex.json.blobV\0\0\0\0\0\0\0Og\xd4)\xf4\xea\xadp\x9e\x91\xe0|\x01\x94kU]\x82\x0a\xf8\x1b\xd6m\x89\x11\x9dI\x88WE\x9bn",
+    ),
+    (5, Call::Remove(MANIFEST_PATH), DONE),
+    (5, Call::Files(FIRST), UNREADABLE),
+];
 
 #[test]
 fn files_are_told(rt: HostRuntime) -> Result<(), Fail> {
     let alloc = rt.alloc();
-    let mut parts = opened_parts(alloc)?;
-    write_all(&mut parts, alloc)?;
-    let own = WITH_FILE.len() + 12;
-    assert!(rt;
-        are_files(
-            &files(&mut parts, alloc, FIRST)?,
-            &[(b"a.conf.blob", 21, true), (b"index.json.blob", own, false)],
-        )
-    );
-    let missing = files(&mut parts, alloc, b"host/c/2020-01-15T06:30:03Z")?;
-    assert!(rt; matches!(missing, Reply::Refused(Refusal::NoSnapshot)));
-    assert!(rt; is_bad_name(&files(&mut parts, alloc, b"host/a")?));
-    // a blob that is no manifest
-    parts.disk.put(alloc, MANIFEST_PATH, DIGITS)?;
-    assert!(rt; is_unreadable(&files(&mut parts, alloc, FIRST)?, MANIFEST_PATH));
-    // the manifest of another snapshot, which lists no files
-    let text = encode(alloc, LATER)?.ok().ok_or("too long")?;
-    parts.disk.put(alloc, MANIFEST_PATH, &text)?;
-    assert!(rt;
-        are_files(
-            &files(&mut parts, alloc, FIRST)?,
-            &[(b"index.json.blob", LATER.len() + 12, false)],
-        )
-    );
-    assert!(rt; parts.disk.remove(MANIFEST_PATH)?);
-    assert!(rt; is_unreadable(&files(&mut parts, alloc, FIRST)?, MANIFEST_PATH));
-    Ok(())
+    let mut parts = after(&rt, alloc, WRITTEN)?;
+    try_calls(&rt, &mut parts, alloc, FILES)
 }
 
-fn is_held(reply: &Reply, holder: u32) -> bool {
-    matches!(reply, Reply::Refused(Refusal::SnapshotBusy { lane }) if *lane == holder)
+/// A writer has the second as base, which is not forgotten then.
+static HELD: Calls = &[
+    (
+        6,
+        Call::OpenWriter(b"host/a/2020-01-15T06:30:05Z"),
+        SECOND_BASE,
+    ),
+    (5, Call::Forget(SECOND), b"\x05\0\0\0\x06\x06\0\0\0"),
+    (6, Call::Forget(SECOND), IN_WRITER),
+    (5, Call::Forget(b"host/a"), BAD_NAME),
+];
+
+/// The first is forgotten.
+static GONE: Calls = &[(5, Call::Forget(FIRST), DONE)];
+
+/// The first is gone, and the second is forgotten once its holder has ended.
+static LEFT: Calls = &[
+    (5, Call::Forget(FIRST), NO_SNAPSHOT),
+    (5, Call::List(b""), TWO_LISTED),
+    (6, Call::Abort, DONE),
+    (5, Call::Forget(SECOND), DONE),
+    (5, Call::Group(b"host/a"), NONE_THERE),
+];
+
+fn count_names(parts: &mut Parts<MemoryDisk>, alloc: Global, prefix: &str) -> Result<usize, Fail> {
+    Ok(parts.disk.list(alloc, prefix)?.len())
 }
 
 #[test]
 fn snapshots_are_forgotten(rt: HostRuntime) -> Result<(), Fail> {
     let alloc = rt.alloc();
-    let mut parts = opened_parts(alloc)?;
-    write_all(&mut parts, alloc)?;
-    // a writer has the second as base
-    let _ = open_writer(&mut parts, alloc, 6, 1000, b"host/a/2020-01-15T06:30:05Z")?;
-    assert!(rt; is_held(&forget(&mut parts, alloc, 5, SECOND)?, 6));
-    let busy = forget(&mut parts, alloc, 6, SECOND)?;
-    assert!(rt; is_wrong_state(&busy, SessionState::Writer));
-    assert!(rt; is_bad_name(&forget(&mut parts, alloc, 5, b"host/a")?));
+    let mut parts = after(&rt, alloc, WRITTEN)?;
+    try_calls(&rt, &mut parts, alloc, HELD)?;
     let before = parts.disk.calls();
-    assert!(rt; is_done(&forget(&mut parts, alloc, 5, FIRST)?));
+    try_calls(&rt, &mut parts, alloc, GONE)?;
     // the manifest, a sync, the other file
-    assert_eq!(rt; parts.disk.calls() - before, 3);
-    assert_eq!(rt;
-        parts.disk.list(alloc, "host/a/2020-01-15T06:30:03Z")?.len(),
-        0
-    );
-    assert_eq!(rt; parts.disk.list(alloc, "host/")?.len(), 2);
-    let again = forget(&mut parts, alloc, 5, FIRST)?;
-    assert!(rt; matches!(again, Reply::Refused(Refusal::NoSnapshot)));
-    assert!(rt; is_listing(&list(&parts, alloc, b"")?, &[(SECOND, 1), (OTHER, 1)]));
-    let _ = abort(&mut parts, 6)?;
-    assert!(rt; is_done(&forget(&mut parts, alloc, 5, SECOND)?));
-    assert!(rt; are_keys(&group(&parts, alloc, b"host/a")?, &[]));
+    same(&rt, parts.disk.calls().saturating_sub(before), 3);
+    let gone = "host/a/2020-01-15T06:30:03Z";
+    same(&rt, count_names(&mut parts, alloc, gone)?, 0);
+    same(&rt, count_names(&mut parts, alloc, "host/")?, 2);
+    try_calls(&rt, &mut parts, alloc, LEFT)
+}
+
+/// An act on lane 6, where there is room: the frame of its reply, and the moment, kind and place of its entry.
+fn try_act(
+    rt: &impl Abort,
+    core: &mut MemoryCore,
+    alloc: Global,
+    act: Act,
+    expected: &[u8],
+    entered: (u64, u8, u64),
+) -> Result<(), Fail>
+    requires { IsAdmins act }
+{
+    if !core.journal.room(6) {
+        return Err("no room".into());
+    }
+    let Answer {
+        reply,
+        entry,
+        place,
+        ..
+    } = admin_act(core, alloc, 6, act);
+    same(rt, frame(alloc, reply)?.as_bytes(), expected);
+    same(rt, (entry.moment, entry.kind, place), entered);
+    same(rt, entry.lane, 6);
     Ok(())
 }
 
+/// A FORGET and the first step of a PRUNE, by a clock that goes back.
 #[test]
 fn acts_are_entered(rt: HostRuntime) -> Result<(), Fail> {
     let alloc = rt.alloc();
     let mut core = opened(alloc, &[100, 90], 110)?;
-    write_all(&mut core.parts, alloc)?;
+    try_calls(&rt, &mut core.parts, alloc, WRITTEN)?;
     let snapshot = Bytes::from_slice(alloc, OTHER)?;
-    assert!(rt; core.journal.room(6));
-    let first = admin_act(
-        &mut core,
-        alloc,
-        6,
-        Act::Plain(Command::Forget { snapshot }),
-    );
-    assert!(rt; matches!(first.reply, Some(Reply::Done)));
-    assert_eq!(rt;
-        (first.entry.lane, first.entry.moment, first.entry.kind),
-        (6, 100, 0)
-    );
-    let name = Bytes::from_slice(alloc, b"host/a")?;
-    assert!(rt; core.journal.room(6));
-    let second = admin_act(
-        &mut core,
-        alloc,
-        6,
-        Act::JobGroup(Command::Prune {
-            group: name,
-            keep: KEEP,
-            dry: false,
-        }),
-    );
-    let reply = second.reply.ok_or("no reply")?;
-    assert!(rt; are_keys(&reply, &[FIRST, SECOND]));
-    assert_eq!(rt; (second.entry.moment, second.place), (100, 1));
-    Ok(())
+    let act = Act::Plain(Command::Forget { snapshot });
+    try_act(&rt, &mut core, alloc, act, DONE, (100, 0, 0))?;
+    let act = Act::JobGroup(Command::Prune {
+        group: Bytes::from_slice(alloc, b"host/a")?,
+        keep: keep(0),
+        dry: false,
+    });
+    try_act(&rt, &mut core, alloc, act, BOTH, (100, 0, 1))
 }

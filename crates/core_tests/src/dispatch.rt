@@ -1,9 +1,12 @@
-ghost use Rattle.std.specs.Prelude.{◌<◌, IfOk};
+ghost use Rattle.std.specs.Prelude.{IfOk};
 ghost use Rattle.store_history.specs.Acts.{IsWellFormed};
 
+use crate::asserts::same;
+use crate::calls::{
+    DONE, FIRST_BASE, IN_NONE, IN_READER, IN_WRITER, NO_BASE, NO_SNAPSHOT, NONE_THERE, frame,
+};
 use crate::fixtures::{FIRST, MANIFEST, MemoryCore, SECOND, checked, opened};
 use core_state::{Act, enter};
-use port_traits::MemSink;
 use shared_store::apply;
 use std::alloc::{AllocError, Global};
 use std::process::Abort;
@@ -35,83 +38,68 @@ const ONE_KEY: &[u8] = b"\x1f\0\0\0\0\x01\0\x1bhost/a/2020-01-15T06:30:03Z";
 
 /// Two lanes want writers of one group, and a third wants to forget what is a base: each act with the frame of its reply, and
 /// the kind of its entry.
-const STEPS: [(u32, Step, &[u8], u8); 17] = [
-    (3, Step::OpenWriter(FIRST), b"\x02\0\0\0\0\0", 0),
+static STEPS: [(u32, Step, &[u8], u8); 17] = [
+    (3, Step::OpenWriter(FIRST), NO_BASE, 0),
     (1, Step::OpenWriter(SECOND), b"\x05\0\0\0\x05\x03\0\0\0", 0),
-    (3, Step::Manifest, b"\x01\0\0\0\0", 0),
-    (3, Step::Finish, b"\x01\0\0\0\0", 0),
+    (3, Step::Manifest, DONE, 0),
+    (3, Step::Finish, DONE, 0),
     (
         1,
         Step::OpenWriter(FIRST),
         b"\x09\0\0\0\x07\x6b\xb1\x1e\x5e\0\0\0\0",
         0,
     ),
-    (
-        1,
-        Step::OpenWriter(SECOND),
-        b"\x1d\0\0\0\0\x1bhost/a/2020-01-15T06:30:03Z",
-        0,
-    ),
+    (1, Step::OpenWriter(SECOND), FIRST_BASE, 0),
     (1, Step::End, b"", 6),
     (5, Step::List, ONE_LISTED, 0),
-    (
-        2,
-        Step::OpenWriter(SECOND),
-        b"\x1d\0\0\0\0\x1bhost/a/2020-01-15T06:30:03Z",
-        0,
-    ),
+    (2, Step::OpenWriter(SECOND), FIRST_BASE, 0),
     (5, Step::Forget(FIRST), b"\x05\0\0\0\x06\x02\0\0\0", 0),
     (5, Step::List, ONE_LISTED, 0),
-    (2, Step::Abort, b"\x01\0\0\0\0", 0),
+    (2, Step::Abort, DONE, 0),
     (5, Step::List, ONE_LISTED, 0),
-    (5, Step::Forget(FIRST), b"\x01\0\0\0\0", 0),
-    (5, Step::Forget(FIRST), b"\x01\0\0\0\x08", 0),
-    (2, Step::List, b"\x03\0\0\0\0\0\0", 0),
+    (5, Step::Forget(FIRST), DONE, 0),
+    (5, Step::Forget(FIRST), NO_SNAPSHOT, 0),
+    (2, Step::List, NONE_THERE, 0),
     (5, Step::Short, b"\x01\0\0\0\x1c", 2),
 ];
 
 /// Lanes whose sessions are closed, or are not theirs to close: each act with the frame of its reply, and how many entries
 /// the lane then has in reserve. What ends a session fills up nothing, and takes an entry of the reserve where no spare one is.
-const CLOSINGS: [(u32, Step, &[u8], u8); 12] = [
-    (3, Step::Abort, b"\x02\0\0\0\x03\0", 3),
-    (3, Step::OpenWriter(FIRST), b"\x02\0\0\0\0\0", 3),
-    (3, Step::CloseReader, b"\x02\0\0\0\x03\x01", 3),
-    (3, Step::Abort, b"\x01\0\0\0\0", 2),
-    (1, Step::OpenWriter(FIRST), b"\x02\0\0\0\0\0", 3),
-    (1, Step::Manifest, b"\x01\0\0\0\0", 3),
-    (1, Step::Finish, b"\x01\0\0\0\0", 3),
-    (2, Step::OpenReader(FIRST), b"\x01\0\0\0\0", 3),
-    (2, Step::Abort, b"\x02\0\0\0\x03\x02", 3),
-    (2, Step::CloseReader, b"\x01\0\0\0\0", 2),
-    (2, Step::CloseReader, b"\x02\0\0\0\x03\0", 3),
+static CLOSINGS: [(u32, Step, &[u8], u8); 12] = [
+    (3, Step::Abort, IN_NONE, 3),
+    (3, Step::OpenWriter(FIRST), NO_BASE, 3),
+    (3, Step::CloseReader, IN_WRITER, 3),
+    (3, Step::Abort, DONE, 2),
+    (1, Step::OpenWriter(FIRST), NO_BASE, 3),
+    (1, Step::Manifest, DONE, 3),
+    (1, Step::Finish, DONE, 3),
+    (2, Step::OpenReader(FIRST), DONE, 3),
+    (2, Step::Abort, IN_READER, 3),
+    (2, Step::CloseReader, DONE, 2),
+    (2, Step::CloseReader, IN_NONE, 3),
     (3, Step::End, b"", 1),
 ];
 
 /// Lanes that hold the first snapshot, as base or with a reader, while another prunes its group: each act with the frame of
 /// its reply, and the least lane that then holds it.
-const HOLDERS: [(u32, Step, &[u8], Option<u32>); 18] = [
-    (3, Step::OpenWriter(FIRST), b"\x02\0\0\0\0\0", None),
-    (3, Step::Manifest, b"\x01\0\0\0\0", None),
-    (3, Step::Finish, b"\x01\0\0\0\0", None),
-    (
-        4,
-        Step::OpenWriter(SECOND),
-        b"\x1d\0\0\0\0\x1bhost/a/2020-01-15T06:30:03Z",
-        Some(4),
-    ),
-    (5, Step::OpenReader(FIRST), b"\x01\0\0\0\0", Some(4)),
-    (2, Step::OpenReader(FIRST), b"\x01\0\0\0\0", Some(2)),
+static HOLDERS: [(u32, Step, &[u8], Option<u32>); 18] = [
+    (3, Step::OpenWriter(FIRST), NO_BASE, None),
+    (3, Step::Manifest, DONE, None),
+    (3, Step::Finish, DONE, None),
+    (4, Step::OpenWriter(SECOND), FIRST_BASE, Some(4)),
+    (5, Step::OpenReader(FIRST), DONE, Some(4)),
+    (2, Step::OpenReader(FIRST), DONE, Some(2)),
     (6, Step::Forget(FIRST), b"\x05\0\0\0\x06\x02\0\0\0", Some(2)),
-    (2, Step::Forget(FIRST), b"\x02\0\0\0\x03\x02", Some(2)),
-    (4, Step::Prune, b"\x02\0\0\0\x03\x01", Some(2)),
-    (2, Step::CloseReader, b"\x01\0\0\0\0", Some(4)),
+    (2, Step::Forget(FIRST), IN_READER, Some(2)),
+    (4, Step::Prune, IN_WRITER, Some(2)),
+    (2, Step::CloseReader, DONE, Some(4)),
     (
         1,
         Step::OpenWriter(SECOND),
         b"\x05\0\0\0\x05\x04\0\0\0",
         Some(4),
     ),
-    (4, Step::Abort, b"\x01\0\0\0\0", Some(5)),
+    (4, Step::Abort, DONE, Some(5)),
     (6, Step::Prune, ONE_KEY, Some(5)),
     (6, Step::Forget(FIRST), b"\x05\0\0\0\x06\x05\0\0\0", Some(5)),
     (
@@ -121,8 +109,8 @@ const HOLDERS: [(u32, Step, &[u8], Option<u32>); 18] = [
         Some(5),
     ),
     (5, Step::End, b"", None),
-    (6, Step::Forget(FIRST), b"\x01\0\0\0\0", None),
-    (6, Step::Prune, b"\x03\0\0\0\0\0\0", None),
+    (6, Step::Forget(FIRST), DONE, None),
+    (6, Step::Prune, NONE_THERE, None),
 ];
 
 const KEEP_ALL: Keep = Keep {
@@ -188,18 +176,13 @@ fn try_step(
     lane: u32,
     step: Step,
     expected: &[u8],
-) -> Result<(), Fail>
-    requires { lane < 64 }
-{
+) -> Result<(), Fail> {
     let act = act_of(alloc, step)?;
-    if !core.room(lane, &act) {
+    if lane >= 64 || !core.room(lane, &act) {
         return Err("no room".into());
     }
-    let mut sink = MemSink::new(alloc, Vec::new(alloc));
-    if let Some(reply) = apply(core, alloc, lane, act).reply {
-        assert!(rt; reply.put(&mut sink).is_ok());
-    }
-    assert_eq!(rt; sink.as_bytes(), expected);
+    let reply = apply(core, alloc, lane, act).reply;
+    same(rt, frame(alloc, reply)?.as_bytes(), expected);
     Ok(())
 }
 
@@ -208,19 +191,21 @@ fn groups_have_one_writer(rt: HostRuntime) -> Result<(), Fail> {
     let alloc = rt.alloc();
     let mut core = opened(alloc, &[], 1000)?;
     for (lane, step, expected, _) in &STEPS {
-        if *lane < 64 {
-            try_step(&rt, &mut core, alloc, *lane, *step, expected)?;
-        }
+        try_step(&rt, &mut core, alloc, *lane, *step, expected)?;
     }
     let order = core.parts().order;
-    assert_eq!(rt; order.len(), STEPS.len());
+    same(&rt, order.len(), STEPS.len());
     for (entry, (lane, _, _, kind)) in order.iter().zip(&STEPS) {
-        assert_eq!(rt;
-            (entry.lane, entry.moment, entry.kind),
-            (*lane, 1000, *kind)
-        );
+        let entered = (entry.lane, entry.moment, entry.kind);
+        same(&rt, entered, (*lane, 1000, *kind));
     }
     Ok(())
+}
+
+/// The least lane that holds the snapshot.
+fn holder_of(core: &MemoryCore, key: &SnapshotKey) -> Option<u32> {
+    let free = core.parts.locks.free_for_removal(key);
+    free.err().map(|held| held.lane)
 }
 
 #[test]
@@ -229,11 +214,8 @@ fn snapshots_are_held(rt: HostRuntime) -> Result<(), Fail> {
     let mut core = opened(alloc, &[], 1000)?;
     let key = SnapshotKey::parse(alloc, FIRST)??;
     for (lane, step, expected, holder) in &HOLDERS {
-        if *lane < 64 {
-            try_step(&rt, &mut core, alloc, *lane, *step, expected)?;
-            let free = core.parts.locks.free_for_removal(&key);
-            assert_eq!(rt; free.err().map(|held| held.lane), *holder);
-        }
+        try_step(&rt, &mut core, alloc, *lane, *step, expected)?;
+        same(&rt, holder_of(&core, &key), *holder);
     }
     Ok(())
 }
@@ -243,27 +225,29 @@ fn held(core: &MemoryCore, lane: u32) -> u8 {
     core.journal.held.get(lane as usize).map_or(0, |held| *held)
 }
 
+fn has_room(core: &MemoryCore, lane: u32) -> bool {
+    lane < 64 && core.room(lane, &Act::Short)
+}
+
 #[test]
 fn sessions_are_closed_by_the_reserve(rt: HostRuntime) -> Result<(), Fail> {
     let alloc = rt.alloc();
     let mut core = opened(alloc, &[], 1000)?;
     for (lane, step, expected, left) in &CLOSINGS {
-        if *lane < 64 {
-            try_step(&rt, &mut core, alloc, *lane, *step, expected)?;
-            assert_eq!(rt; core.journal.spare, 0);
-            assert_eq!(rt; held(&core, *lane), *left);
-            assert!(rt; core.room(*lane, &Act::Short));
-        }
+        try_step(&rt, &mut core, alloc, *lane, *step, expected)?;
+        let now = (core.journal.spare, held(&core, *lane));
+        same(&rt, now, (0, *left));
+        same(&rt, has_room(&core, *lane), true);
     }
     core.reserve(2)?;
-    assert_eq!(rt; core.journal.spare, 2);
+    same(&rt, core.journal.spare, 2);
     Ok(())
 }
 
 /// A want of memory on lane 3 that takes an entry of the lane's reserve, since none is spare.
 fn use_reserve(rt: &impl Abort, core: &mut MemoryCore) {
     assert!(rt; core.journal.room(3));
-    assert!(rt; enter(core, 3, 1000, 2, None).last);
+    same(rt, enter(core, 3, 1000, 2, None).last, true);
 }
 
 /// How many entries and counts of calls the order has memory for.
@@ -279,13 +263,12 @@ fn capacities(core: &MemoryCore) -> (usize, usize) {
 fn lanes_end_without_memory(rt: HostRuntime) -> Result<(), Fail> {
     let alloc = rt.alloc();
     let mut core = opened(alloc, &[], 1000)?;
-    let no_base = b"\x02\0\0\0\0\0";
-    try_step(&rt, &mut core, alloc, 3, Step::OpenWriter(FIRST), no_base)?;
+    try_step(&rt, &mut core, alloc, 3, Step::OpenWriter(FIRST), NO_BASE)?;
     use_reserve(&rt, &mut core);
     use_reserve(&rt, &mut core);
     let before = capacities(&core);
     try_step(&rt, &mut core, alloc, 3, Step::End, b"")?;
-    assert_eq!(rt; capacities(&core), before);
-    assert!(rt; !core.journal.room(3));
-    try_step(&rt, &mut core, alloc, 4, Step::OpenWriter(FIRST), no_base)
+    same(&rt, capacities(&core), before);
+    same(&rt, core.journal.room(3), false);
+    try_step(&rt, &mut core, alloc, 4, Step::OpenWriter(FIRST), NO_BASE)
 }

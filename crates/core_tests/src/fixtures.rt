@@ -1,17 +1,17 @@
 //! Cores over disks in memory, snapshots, and bytes that several tests use. Digests and checksums were made elsewhere.
 
-ghost use Rattle.std.specs.Prelude.{◌<◌};
+ghost use Rattle.std.specs.Prelude.{◌<◌, IfOk};
+ghost use Rattle.wire_commands.specs.HasText.{ReplyHasText};
 ghost use Rattle.store_history.specs.Acts.{IsChecked};
 
 use blob_codec::{decode, encode};
 use core_state::{Core, Parts, open_on};
 use core_uploads::blob;
-use core_writer::{finish, open_writer};
 use disk_trait::MemoryDisk;
 use port_traits::SetClock;
 use std::alloc::Global;
 use std::test::Fail;
-use store_types::{Bytes, Digest32, Refusal, SessionState};
+use store_types::{Bytes, Digest32, Refusal};
 use wire_commands::Reply;
 
 pub(crate) type MemoryCore = Core<MemoryDisk, MemoryDisk, SetClock>;
@@ -49,6 +49,12 @@ pub(crate) const DE: Digest32 = Digest32([
     0x50, 0x12, 0x9f, 0x21, 0x09, 0xe8, 0x17, 0xde, 0xc0, 0x98, 0xc0, 0x0c, 0x9e, 0x5d, 0x25, 0x78,
 ]);
 
+/// SHA-256 of nothing.
+pub(crate) const NOTHING: Digest32 = Digest32([
+    0xe3, 0xb0, 0xc4, 0x42, 0x98, 0xfc, 0x1c, 0x14, 0x9a, 0xfb, 0xf4, 0xc8, 0x99, 0x6f, 0xb9, 0x24,
+    0x27, 0xae, 0x41, 0xe4, 0x64, 0x9b, 0x93, 0x4c, 0xa4, 0x95, 0x99, 0x1b, 0x78, 0x52, 0xb8, 0x55,
+]);
+
 /// A core without snapshots, whose clock tells these moments and then always the last one.
 pub(crate) fn opened(alloc: Global, moments: &[u64], last: u64) -> Result<MemoryCore, Fail> {
     let clock = SetClock::new(moments.to_vec(alloc)?, last);
@@ -79,6 +85,7 @@ pub(crate) fn upload(
     text: &[u8],
 ) -> Result<Reply, Fail>
     requires { lane < 64 }
+    ensures { IfOk result ReplyHasText }
 {
     let text = Bytes::from_slice(alloc, text)?;
     Ok(blob(parts, alloc, lane, name, checked(text))?)
@@ -92,35 +99,8 @@ pub(crate) fn upload_manifest(
     json: &[u8],
 ) -> Result<Reply, Fail>
     requires { lane < 64 }
+    ensures { IfOk result ReplyHasText }
 {
     let text = encode(alloc, json)?.ok().ok_or("too long")?;
     upload(parts, alloc, lane, b"index.json.blob", &text)
-}
-
-/// The first snapshot is finished, of its manifest alone.
-pub(crate) fn write_first(parts: &mut Parts<MemoryDisk>, alloc: Global) -> Result<(), Fail> {
-    let _ = open_writer(parts, alloc, 3, 1000, FIRST)?;
-    let _ = upload(parts, alloc, 3, b"index.json.blob", MANIFEST)?;
-    let _ = finish(parts, alloc, 3, 2)?;
-    Ok(())
-}
-
-pub(crate) fn is_done(reply: &Reply) -> bool {
-    matches!(reply, Reply::Done)
-}
-
-pub(crate) fn is_bad_name(reply: &Reply) -> bool {
-    matches!(reply, Reply::Refused(Refusal::BadName))
-}
-
-pub(crate) fn is_wrong_state(reply: &Reply, state: SessionState) -> bool {
-    matches!(reply, Reply::Refused(Refusal::WrongState(found)) if *found == state)
-}
-
-pub(crate) fn is_part(reply: &Reply, size: u64, wanted: &[u8]) -> bool {
-    matches!(reply, Reply::Part { total, bytes } if *total == size && bytes.as_slice() == wanted)
-}
-
-pub(crate) fn is_unreadable(reply: &Reply, path: &str) -> bool {
-    matches!(reply, Reply::Refused(Refusal::Unreadable { name }) if name.as_slice() == path.as_bytes())
 }

@@ -4,6 +4,10 @@
 #[cfg(test)]
 mod admin;
 #[cfg(test)]
+mod asserts;
+#[cfg(test)]
+mod calls;
+#[cfg(test)]
 mod damage;
 #[cfg(test)]
 mod dispatch;

@@ -1,110 +1,119 @@
-ghost use Rattle.std.specs.Prelude.{◌<◌};
+ghost use Rattle.store_history.specs.declared.act.Act.TheVariants.{Plain};
+ghost use Rattle.core_reader.specs.ReaderActs.{IsReaders};
 
-use crate::fixtures::{
-    FIRST, MANIFEST, MANIFEST_PATH, is_bad_name, is_done, is_part, is_unreadable, is_wrong_state,
-    opened, opened_parts, write_first,
+use crate::asserts::same;
+use crate::calls::{
+    BAD_NAME, Call, Calls, DONE, IN_NONE, IN_READER, IN_WRITER, NO_BASE, NO_FILE, NO_SNAPSHOT,
+    UNREADABLE, after, frame, try_calls,
 };
-use core_reader::{close_reader, download, open_reader, reader_act};
-use core_state::{Act, Parts};
-use core_writer::{abort, open_writer};
-use disk_trait::{Disk, MemoryDisk};
+use crate::fixtures::{FIRST, MANIFEST, MANIFEST_PATH, MemoryCore, OTHER, SECOND, opened};
+use core_reader::reader_act;
+use core_state::{Act, Answer};
 use std::alloc::Global;
+use std::process::Abort;
 use std::test::Fail;
-use store_types::{Bytes, Refusal, SessionState};
-use wire_commands::{Command, Reply};
+use store_types::Bytes;
+use wire_commands::Command;
 
-fn open(parts: &mut Parts<MemoryDisk>, alloc: Global, snapshot: &[u8]) -> Result<Reply, Fail> {
-    Ok(open_reader(parts, alloc, 5, snapshot)?)
-}
+const NAME: &[u8] = b"index.json.blob";
 
-fn manifest_from(parts: &mut Parts<MemoryDisk>, alloc: Global, offset: u64) -> Result<Reply, Fail> {
-    Ok(download(parts, alloc, 5, b"index.json.blob", offset)?)
-}
+/// The end of the manifest, of 86 bytes.
+const REST: &[u8] = b"\x0f\0\0\0\0V\0\0\0\0\0\0\0s\":[]}";
+
+/// The first snapshot, of its manifest alone.
+static WRITTEN: Calls = &[
+    (3, Call::OpenWriter(FIRST), NO_BASE),
+    (3, Call::Blob(NAME, MANIFEST), DONE),
+    (3, Call::Finish, DONE),
+];
+
+static READ: Calls = &[
+    (5, Call::Download(NAME, 0), IN_NONE),
+    (5, Call::OpenReader(SECOND), NO_SNAPSHOT),
+    (5, Call::OpenReader(b"host/a"), BAD_NAME),
+    (5, Call::OpenReader(FIRST), DONE),
+    (5, Call::OpenReader(FIRST), IN_READER),
+    (
+        5,
+        Call::Download(NAME, 0),
+        b"_\0\0\0\0V\0\0\0\0\0\0\0B\xab8\x07\xbe\x83p\xa1\xb2\x94\x08E{\"backup-id\":\"a\",\"backup-time\":1579069803,\"backup-type\":\"host\",\"files\":[]}",
+    ),
+    (5, Call::Download(NAME, 80), REST),
+    (5, Call::Download(NAME, 86), b"\x09\0\0\0\0V\0\0\0\0\0\0\0"),
+    (
+        5,
+        Call::Download(NAME, 87),
+        b"\x09\0\0\0\x16V\0\0\0\0\0\0\0",
+    ),
+    (5, Call::Download(b"x.conf.blob", 0), NO_FILE),
+    (5, Call::Download(b"../x", 0), BAD_NAME),
+    (5, Call::Remove(MANIFEST_PATH), DONE),
+    (5, Call::Download(NAME, 0), UNREADABLE),
+];
 
 /// A reader of one snapshot, and what it is refused.
 #[test]
 fn snapshots_are_read(rt: HostRuntime) -> Result<(), Fail> {
     let alloc = rt.alloc();
-    let mut parts = opened_parts(alloc)?;
-    write_first(&mut parts, alloc)?;
-
-    let none = manifest_from(&mut parts, alloc, 0)?;
-    assert!(rt; is_wrong_state(&none, SessionState::Idle));
-    let later = open(&mut parts, alloc, b"host/a/2020-01-15T06:30:04Z")?;
-    assert!(rt; matches!(later, Reply::Refused(Refusal::NoSnapshot)));
-    let group = open(&mut parts, alloc, b"host/a")?;
-    assert!(rt; is_bad_name(&group));
-    assert!(rt; is_done(&open(&mut parts, alloc, FIRST)?));
-    let twice = open(&mut parts, alloc, FIRST)?;
-    assert!(rt; is_wrong_state(&twice, SessionState::Reader));
-
-    assert!(rt; is_part(&manifest_from(&mut parts, alloc, 0)?, 86, MANIFEST));
-    assert!(rt; is_part(&manifest_from(&mut parts, alloc, 80)?, 86, b"s\":[]}"));
-    assert!(rt; is_part(&manifest_from(&mut parts, alloc, 86)?, 86, b""));
-    let beyond = manifest_from(&mut parts, alloc, 87)?;
-    assert!(rt; matches!(beyond, Reply::Refused(Refusal::BadRange { size: 86 })));
-    let missing = download(&mut parts, alloc, 5, b"x.conf.blob", 0)?;
-    assert!(rt; matches!(missing, Reply::Refused(Refusal::NoFile)));
-    let outside = download(&mut parts, alloc, 5, b"../x", 0)?;
-    assert!(rt; is_bad_name(&outside));
-
-    assert!(rt; parts.disk.remove(MANIFEST_PATH)?);
-    assert!(rt; is_unreadable(&manifest_from(&mut parts, alloc, 0)?, MANIFEST_PATH));
-    Ok(())
+    let mut parts = after(&rt, alloc, WRITTEN)?;
+    try_calls(&rt, &mut parts, alloc, READ)
 }
 
-/// Two acts of a reader on one lane.
-#[test]
-fn readers_acts_are_entered(rt: HostRuntime) -> Result<(), Fail> {
-    let alloc = rt.alloc();
-    let mut core = opened(alloc, &[100, 90], 110)?;
-    write_first(&mut core.parts, alloc)?;
-
-    let snapshot = Bytes::from_slice(alloc, FIRST)?;
-    assert!(rt; core.journal.room(6));
-    let first = reader_act(
-        &mut core,
-        alloc,
-        6,
-        Act::Plain(Command::OpenReader { snapshot }),
-    );
-    assert!(rt; matches!(first.reply, Some(Reply::Done)));
-    assert_eq!(rt;
-        (first.entry.lane, first.entry.moment, first.entry.kind),
-        (6, 100, 0)
-    );
-
-    let file = Bytes::from_slice(alloc, b"index.json.blob")?;
-    assert!(rt; core.journal.room(6));
-    let second = reader_act(
-        &mut core,
-        alloc,
-        6,
-        Act::Plain(Command::Download { file, offset: 80 }),
-    );
-    let reply = second.reply.ok_or("no reply")?;
-    assert!(rt; is_part(&reply, 86, b"s\":[]}"));
-    assert_eq!(rt;
-        (second.entry.moment, second.entry.kind, second.place),
-        (100, 0, 1)
-    );
-    Ok(())
-}
+static CLOSED: Calls = &[
+    (5, Call::CloseReader, IN_NONE),
+    (3, Call::OpenWriter(OTHER), NO_BASE),
+    (3, Call::CloseReader, IN_WRITER),
+    (5, Call::OpenReader(FIRST), DONE),
+    (5, Call::Abort, IN_READER),
+    (5, Call::CloseReader, DONE),
+    (5, Call::Download(NAME, 0), IN_NONE),
+    (5, Call::CloseReader, IN_NONE),
+];
 
 /// A reader is closed, and no other session is.
 #[test]
 fn readers_are_closed(rt: HostRuntime) -> Result<(), Fail> {
     let alloc = rt.alloc();
-    let mut parts = opened_parts(alloc)?;
-    write_first(&mut parts, alloc)?;
+    let mut parts = after(&rt, alloc, WRITTEN)?;
+    try_calls(&rt, &mut parts, alloc, CLOSED)
+}
 
-    assert!(rt; is_wrong_state(&close_reader(&mut parts, 5)?, SessionState::Idle));
-    let _ = open_writer(&mut parts, alloc, 3, 1000, b"host/b/2020-01-15T06:30:03Z")?;
-    assert!(rt; is_wrong_state(&close_reader(&mut parts, 3)?, SessionState::Writer));
-    assert!(rt; is_done(&open(&mut parts, alloc, FIRST)?));
-    assert!(rt; is_wrong_state(&abort(&mut parts, 5)?, SessionState::Reader));
-    assert!(rt; is_done(&close_reader(&mut parts, 5)?));
-    assert!(rt; is_wrong_state(&manifest_from(&mut parts, alloc, 0)?, SessionState::Idle));
-    assert!(rt; is_wrong_state(&close_reader(&mut parts, 5)?, SessionState::Idle));
+/// An act on lane 6, where there is room: the frame of its reply, and the moment, kind and place of its entry.
+fn try_act(
+    rt: &impl Abort,
+    core: &mut MemoryCore,
+    alloc: Global,
+    command: Command,
+    expected: &[u8],
+    entered: (u64, u8, u64),
+) -> Result<(), Fail>
+    requires { IsReaders (Plain command) }
+{
+    if !core.journal.room(6) {
+        return Err("no room".into());
+    }
+    let Answer {
+        reply,
+        entry,
+        place,
+        ..
+    } = reader_act(core, alloc, 6, Act::Plain(command));
+    same(rt, frame(alloc, reply)?.as_bytes(), expected);
+    same(rt, (entry.moment, entry.kind, place), entered);
+    same(rt, entry.lane, 6);
     Ok(())
+}
+
+/// Two acts of a reader on one lane, by a clock that goes back.
+#[test]
+fn readers_acts_are_entered(rt: HostRuntime) -> Result<(), Fail> {
+    let alloc = rt.alloc();
+    let mut core = opened(alloc, &[100, 90], 110)?;
+    try_calls(&rt, &mut core.parts, alloc, WRITTEN)?;
+    let snapshot = Bytes::from_slice(alloc, FIRST)?;
+    let open = Command::OpenReader { snapshot };
+    try_act(&rt, &mut core, alloc, open, DONE, (100, 0, 0))?;
+    let file = Bytes::from_slice(alloc, NAME)?;
+    let download = Command::Download { file, offset: 80 };
+    try_act(&rt, &mut core, alloc, download, REST, (100, 0, 1))
 }

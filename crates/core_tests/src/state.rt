@@ -1,12 +1,45 @@
 ghost use Rattle.std.specs.Prelude.{◌<◌};
 
+use crate::asserts::same;
 use crate::fixtures::{MemoryCore, opened};
-use core_state::{Act, Begun, Journal, begin, begin_end, enter, settle, short};
-use std::alloc::AllocError;
+use core_state::{Act, Answer, Begun, Journal, begin, begin_end, enter, settle, short};
+use std::alloc::{AllocError, Global};
 use std::process::Abort;
 use std::test::Fail;
 use store_types::{Entry, Refusal};
 use wire_commands::Reply;
+
+/// Lane, moment and kind of the entry, and its place.
+fn entered(answer: &Answer) -> (u32, u64, u8, u64) {
+    let entry = &answer.entry;
+    (entry.lane, entry.moment, entry.kind, answer.place)
+}
+
+fn want_memory(core: &mut MemoryCore, alloc: Global) -> Result<Answer, Fail> {
+    if !core.journal.room(7) {
+        return Err("no room".into());
+    }
+    Ok(short(core, alloc, 7))
+}
+
+/// An act that is done.
+fn act(core: &mut MemoryCore, alloc: Global) -> Result<Answer, Fail> {
+    if !core.journal.room(7) {
+        return Err("no room".into());
+    }
+    let Begun::At(moment) = begin(core, alloc, 7, &Act::Short) else {
+        return Err("not begun".into());
+    };
+    Ok(settle(core, 7, moment, Ok(Reply::Done)))
+}
+
+fn end(core: &mut MemoryCore) -> Result<Answer, Fail> {
+    let moment = begin_end(core);
+    if !core.journal.room(7) {
+        return Err("no room".into());
+    }
+    Ok(enter(core, 7, moment, 6, None))
+}
 
 /// Acts on one lane, by a clock that goes back.
 #[test]
@@ -14,36 +47,24 @@ fn acts_are_entered(rt: HostRuntime) -> Result<(), Fail> {
     let alloc = rt.alloc();
     let mut core = opened(alloc, &[100, 90], 110)?;
 
-    assert!(rt; core.journal.room(7));
+    same(&rt, core.journal.room(7), true);
     core.journal.reserve(2)?;
-    assert_eq!(rt; core.journal.spare, 2);
+    same(&rt, core.journal.spare, 2);
 
-    let first = short(&mut core, alloc, 7);
-    assert_eq!(rt;
-        (first.entry.lane, first.entry.moment, first.entry.kind),
-        (7, 100, 2)
-    );
-    assert!(rt; matches!(first.reply, Some(Reply::Refused(Refusal::NoMemory))));
-    assert!(rt; !first.last && first.place == 0);
+    let first = want_memory(&mut core, alloc)?;
+    same(&rt, entered(&first), (7, 100, 2, 0));
+    same(&rt, first.last, false);
+    let is_told = matches!(first.reply, Some(Reply::Refused(Refusal::NoMemory)));
+    same(&rt, is_told, true);
 
-    assert!(rt; core.journal.room(7));
-    let Begun::At(moment) = begin(&mut core, alloc, 7, &Act::Short) else {
-        return Err("not begun".into());
-    };
-    let second = settle(&mut core, 7, moment, Ok(Reply::Done));
-    assert_eq!(rt;
-        (second.entry.moment, second.entry.kind, second.place),
-        (100, 0, 1)
-    );
-
-    let moment = begin_end(&mut core);
-    assert!(rt; core.journal.room(7));
-    let end = enter(&mut core, 7, moment, 6, None);
-    assert_eq!(rt; (end.entry.moment, end.entry.kind, end.place), (110, 6, 2));
+    let second = act(&mut core, alloc)?;
+    same(&rt, entered(&second), (7, 100, 0, 1));
+    let end = end(&mut core)?;
+    same(&rt, entered(&end), (7, 110, 6, 2));
 
     let parts = core.parts();
-    assert_eq!(rt; parts.order.len(), 3);
-    assert_eq!(rt; parts.calls.as_slice(), [0, 0, 0].as_slice());
+    same(&rt, parts.order.len(), 3);
+    same(&rt, parts.calls.as_slice(), [0, 0, 0].as_slice());
     Ok(())
 }
 
@@ -60,23 +81,31 @@ fn try_entry(journal: &mut Journal) -> Option<bool> {
     Some(journal.enter(7, entry, 0))
 }
 
+fn try_entries(rt: &impl Abort, journal: &mut Journal, expected: &[Option<bool>]) {
+    for is_held in expected {
+        same(rt, try_entry(journal), *is_held);
+    }
+}
+
+/// Whether the entries are of the lane's reserve, and where there is no more room: without a spare entry, with two, and once
+/// the reserve is filled again, with one.
+static BEGUN: [Option<bool>; 4] = [Some(true), Some(true), Some(true), None];
+
+static SPARE: [Option<bool>; 3] = [Some(false), Some(false), None];
+
+static FILLED: [Option<bool>; 5] = [Some(false), Some(true), Some(true), Some(true), None];
+
 /// Each lane has three entries, and those that are spare are used first.
 #[test]
 fn a_reserve_has_an_edge(rt: HostRuntime) -> Result<(), Fail> {
     let mut journal = Journal::new(rt.alloc())?;
-    for expected in [Some(true), Some(true), Some(true), None] {
-        assert_eq!(rt; try_entry(&mut journal), expected);
-    }
-    assert!(rt; journal.room(6) && journal.room(8));
+    try_entries(&rt, &mut journal, &BEGUN);
+    same(&rt, journal.room(6) && journal.room(8), true);
     journal.reserve(2)?;
-    for expected in [Some(false), Some(false), None] {
-        assert_eq!(rt; try_entry(&mut journal), expected);
-    }
+    try_entries(&rt, &mut journal, &SPARE);
     journal.fill(7)?;
-    for expected in [Some(false), Some(true), Some(true), Some(true), None] {
-        assert_eq!(rt; try_entry(&mut journal), expected);
-    }
-    assert_eq!(rt; (journal.entries.len(), journal.calls.len()), (9, 9));
+    try_entries(&rt, &mut journal, &FILLED);
+    same(&rt, (journal.entries.len(), journal.calls.len()), (9, 9));
     Ok(())
 }
 
@@ -88,8 +117,10 @@ fn make_spare(core: &mut MemoryCore) -> Result<(), AllocError> {
 fn try_last(rt: &impl Abort, core: &mut MemoryCore, kind: u8, expected: bool) {
     assert!(rt; core.journal.room(7));
     let answer = enter(core, 7, 0, kind, None);
-    assert_eq!(rt; answer.last, expected);
+    same(rt, answer.last, expected);
 }
+
+static LASTS: [(u8, bool); 4] = [(2, false), (0, false), (2, true), (6, false)];
 
 /// Want of memory by an entry of the reserve ends its lane, and no other act does.
 #[test]
@@ -98,9 +129,9 @@ fn the_last_is_told(rt: HostRuntime) -> Result<(), Fail> {
     let mut core = opened(alloc, &[], 0)?;
     make_spare(&mut core)?;
     // the first entry is the spare one
-    for (kind, expected) in [(2, false), (0, false), (2, true), (6, false)] {
-        try_last(&rt, &mut core, kind, expected);
+    for (kind, expected) in &LASTS {
+        try_last(&rt, &mut core, *kind, *expected);
     }
-    assert!(rt; !core.journal.room(7));
+    same(&rt, core.journal.room(7), false);
     Ok(())
 }

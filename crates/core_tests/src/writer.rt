@@ -1,91 +1,75 @@
-use crate::fixtures::{
-    DIGITS, FIRST, MANIFEST_PATH, SECOND, WITH_FILE, is_done, is_wrong_state, opened_parts, upload,
-    upload_manifest,
+use crate::asserts::same;
+use crate::calls::{
+    Call, Calls, DONE, EXISTS, FIRST_BASE, IN_NONE, NO_BASE, NO_FILE, after, try_calls,
 };
-use core_state::Parts;
-use core_writer::{abort, end, finish, open_writer};
-use disk_trait::{Disk, MemoryDisk};
-use std::alloc::Global;
+use crate::fixtures::{DIGITS, FIRST, MANIFEST_PATH, SECOND, WITH_FILE};
+use disk_trait::Disk;
 use std::test::Fail;
-use store_types::{Refusal, SessionState};
-use wire_commands::Reply;
 
 /// The blob of nothing.
-const NOTHING: &[u8] = b"\x42\xab\x38\x07\xbe\x83\x70\xa1\x00\x00\x00\x00";
+const EMPTY: &[u8] = b"\x42\xab\x38\x07\xbe\x83\x70\xa1\x00\x00\x00\x00";
 
-/// The file of the second snapshot.
+/// A file of the first snapshot, and one of the second.
+const A_PATH: &str = "host/a/2020-01-15T06:30:03Z/a.conf.blob";
+
 const B_PATH: &str = "host/a/2020-01-15T06:30:04Z/b.blob";
 
-fn is_base(reply: &Reply, text: &[u8]) -> bool {
-    matches!(reply, Reply::Base { snapshot } if snapshot.as_slice() == text)
-}
+static WRITTEN: Calls = &[
+    (3, Call::OpenWriter(FIRST), NO_BASE),
+    (4, Call::OpenWriter(SECOND), b"\x05\0\0\0\x05\x03\0\0\0"),
+    (3, Call::Blob(b"a.conf.blob", DIGITS), DONE),
+    (3, Call::Blob(b"a.conf.blob", DIGITS), EXISTS),
+    (3, Call::Finish, NO_FILE),
+    (3, Call::Manifest(WITH_FILE), DONE),
+    (3, Call::Stands(MANIFEST_PATH), NO_FILE),
+    (3, Call::Finish, DONE),
+];
 
-fn stands(parts: &mut Parts<MemoryDisk>, alloc: Global, path: &str) -> Result<bool, Fail> {
-    Ok(parts.disk.read(alloc, path)?.is_some())
-}
+/// The group has a snapshot then, which is the base of the next.
+static NEXT: Calls = &[
+    (
+        3,
+        Call::OpenWriter(FIRST),
+        b"\x09\0\0\0\x07\x6b\xb1\x1e\x5e\0\0\0\0",
+    ),
+    (4, Call::OpenWriter(SECOND), FIRST_BASE),
+    (4, Call::Blob(b"b.blob", EMPTY), DONE),
+    (4, Call::End, DONE),
+    (4, Call::Stands(B_PATH), NO_FILE),
+    (5, Call::OpenWriter(SECOND), FIRST_BASE),
+];
 
 /// One snapshot from its writer's first command to its last, and one that is never finished.
 #[test]
 fn snapshots_are_written(rt: HostRuntime) -> Result<(), Fail> {
     let alloc = rt.alloc();
-    let mut parts = opened_parts(alloc)?;
-
-    assert!(rt; is_base(&open_writer(&mut parts, alloc, 3, 1000, FIRST)?, b""));
-    let busy = open_writer(&mut parts, alloc, 4, 1000, SECOND)?;
-    assert!(rt; matches!(busy, Reply::Refused(Refusal::GroupBusy { lane: 3 })));
-
-    assert!(rt; is_done(&upload(&mut parts, alloc, 3, b"a.conf.blob", DIGITS)?));
-    let again = upload(&mut parts, alloc, 3, b"a.conf.blob", DIGITS)?;
-    assert!(rt; matches!(again, Reply::Refused(Refusal::Exists)));
-    let early = finish(&mut parts, alloc, 3, 5)?;
-    assert!(rt; matches!(early, Reply::Refused(Refusal::NoFile)));
-    assert!(rt; is_done(&upload_manifest(&mut parts, alloc, 3, WITH_FILE)?));
-    assert!(rt; !stands(&mut parts, alloc, MANIFEST_PATH)?);
-    assert!(rt; is_done(&finish(&mut parts, alloc, 3, 6)?));
-    let put = parts.disk.read(alloc, MANIFEST_PATH)?.ok_or("no manifest")?;
-    assert_eq!(rt; put.len(), WITH_FILE.len() + 12);
-
-    let late = open_writer(&mut parts, alloc, 3, 1000, FIRST)?;
-    assert!(rt;
-        matches!(
-            late,
-            Reply::Refused(Refusal::NotNewer {
-                latest: 1_579_069_803
-            })
-        )
-    );
-    assert!(rt; is_base(&open_writer(&mut parts, alloc, 4, 1000, SECOND)?, FIRST));
-    assert!(rt; is_done(&upload(&mut parts, alloc, 4, b"b.blob", NOTHING)?));
-    end(&mut parts, 4)?;
-    assert!(rt; !stands(&mut parts, alloc, B_PATH)?);
-    assert!(rt; is_base(&open_writer(&mut parts, alloc, 5, 1000, SECOND)?, FIRST));
-    Ok(())
+    let mut parts = after(&rt, alloc, WRITTEN)?;
+    let manifest = parts.disk.read(alloc, MANIFEST_PATH)?.ok_or("none")?;
+    same(&rt, manifest.len(), WITH_FILE.len() + 12);
+    try_calls(&rt, &mut parts, alloc, NEXT)
 }
+
+static ABORTED: Calls = &[
+    (3, Call::Abort, IN_NONE),
+    (3, Call::OpenWriter(FIRST), NO_BASE),
+    (3, Call::Blob(b"a.conf.blob", DIGITS), DONE),
+    (3, Call::Manifest(WITH_FILE), DONE),
+    (3, Call::Finish, DONE),
+    (4, Call::OpenWriter(SECOND), FIRST_BASE),
+    (4, Call::Blob(b"b.blob", EMPTY), DONE),
+    (4, Call::Blob(b"index.json.blob", EMPTY), DONE),
+    (4, Call::Stands(B_PATH), DONE),
+    (4, Call::Abort, DONE),
+    (4, Call::Stands(B_PATH), NO_FILE),
+    (4, Call::Stands(A_PATH), DONE),
+    (4, Call::Stands(MANIFEST_PATH), DONE),
+    (4, Call::Abort, IN_NONE),
+    (5, Call::OpenWriter(SECOND), FIRST_BASE),
+];
 
 /// What an ABORT takes away, and what it leaves.
 #[test]
 fn writers_are_aborted(rt: HostRuntime) -> Result<(), Fail> {
-    let alloc = rt.alloc();
-    let mut parts = opened_parts(alloc)?;
-
-    let none = abort(&mut parts, 3)?;
-    assert!(rt; is_wrong_state(&none, SessionState::Idle));
-    let _ = open_writer(&mut parts, alloc, 3, 1000, FIRST)?;
-    let _ = upload(&mut parts, alloc, 3, b"a.conf.blob", DIGITS)?;
-    let _ = upload_manifest(&mut parts, alloc, 3, WITH_FILE)?;
-    assert!(rt; is_done(&finish(&mut parts, alloc, 3, 4)?));
-
-    assert!(rt; is_base(&open_writer(&mut parts, alloc, 4, 1000, SECOND)?, FIRST));
-    let _ = upload(&mut parts, alloc, 4, b"b.blob", NOTHING)?;
-    let _ = upload(&mut parts, alloc, 4, b"index.json.blob", NOTHING)?;
-    assert!(rt; stands(&mut parts, alloc, B_PATH)?);
-    assert!(rt; is_done(&abort(&mut parts, 4)?));
-    assert!(rt; !stands(&mut parts, alloc, B_PATH)?);
-    assert!(rt; stands(&mut parts, alloc, "host/a/2020-01-15T06:30:03Z/a.conf.blob")?);
-    assert!(rt; stands(&mut parts, alloc, MANIFEST_PATH)?);
-
-    let again = abort(&mut parts, 4)?;
-    assert!(rt; is_wrong_state(&again, SessionState::Idle));
-    assert!(rt; is_base(&open_writer(&mut parts, alloc, 5, 1000, SECOND)?, FIRST));
+    after(&rt, rt.alloc(), ABORTED)?;
     Ok(())
 }

@@ -1,5 +1,7 @@
 //! Books whose bytes and checksums were made elsewhere.
 
+use crate::asserts::{same, same_at};
+use crate::fixtures::front;
 use atime_book::{Book, cutoff};
 use std::alloc::Global;
 use std::test::Fail;
@@ -26,36 +28,58 @@ fn file(
     Ok(text)
 }
 
+/// When a run starts, the oldest running session's start, and the cutoff.
+static CUTOFFS: [(u64, Option<u64>, u64); 5] = [
+    (1_000_000, None, 913_300),
+    (1_000_000, Some(900_000), 899_700),
+    (1_000_000, Some(950_000), 913_300),
+    (100, None, 0),
+    (1_000_000, Some(100), 0),
+];
+
 #[test]
 fn cutoffs(rt: HostRuntime) {
-    for (start, oldest, expected) in [
-        (1_000_000, None, 913_300),
-        (1_000_000, Some(900_000), 899_700),
-        (1_000_000, Some(950_000), 913_300),
-        (100, None, 0),
-        (1_000_000, Some(100), 0),
-    ] {
-        assert_eq!(rt; cutoff(start, oldest), expected, "from {start}");
+    for (start, oldest, expected) in &CUTOFFS {
+        same_at(&rt, *start, cutoff(*start, *oldest), *expected);
     }
+}
+
+fn digest(byte: u8) -> Digest32 {
+    Digest32([byte; 32])
+}
+
+/// When the chunks of the bytes 1, 2 and 3 were touched last.
+fn touched(book: &Book) -> (Option<u64>, Option<u64>, Option<u64>) {
+    (
+        book.last(&digest(1)),
+        book.last(&digest(2)),
+        book.last(&digest(3)),
+    )
 }
 
 #[test]
 fn touched_and_swept(rt: HostRuntime) -> Result<(), Fail> {
-    let (a, b) = (Digest32([1; 32]), Digest32([2; 32]));
     let mut book = Book::new(rt.alloc());
-    assert_eq!(rt; book.moment(), 0);
-    assert_eq!(rt; book.last(&a), None);
-    assert!(rt; !book.sweep_one(&a, 10));
-    book.touch(&b, 7)?;
-    book.touch(&a, 5)?;
-    book.touch(&a, 9)?;
-    assert_eq!(rt; book.last(&a), Some(9));
-    assert!(rt; !book.sweep_one(&a, 9));
-    assert_eq!(rt; book.last(&a), Some(9));
-    assert!(rt; book.sweep_one(&a, 10));
-    assert_eq!(rt; book.last(&a), None);
-    assert_eq!(rt; book.last(&b), Some(7));
+    same(&rt, book.moment(), 0);
+    same(&rt, touched(&book), (None, None, None));
+    same(&rt, book.sweep_one(&digest(1), 10), false);
+    for (byte, moment) in [(2, 7), (1, 5), (1, 9)] {
+        book.touch(&digest(byte), moment)?;
+    }
+    same(&rt, touched(&book), (Some(9), Some(7), None));
+    same(&rt, book.sweep_one(&digest(1), 9), false);
+    same(&rt, touched(&book), (Some(9), Some(7), None));
+    same(&rt, book.sweep_one(&digest(1), 10), true);
+    same(&rt, touched(&book), (None, Some(7), None));
     Ok(())
+}
+
+/// A book of two touches, as it is written.
+fn written(alloc: Global) -> Result<Vec<u8>, Fail> {
+    let mut book = Book::new(alloc);
+    book.touch(&Digest32([2; 32]), 1_000_000)?;
+    book.touch(&Digest32([1; 32]), 5)?;
+    Ok(book.text(alloc, 1_000_000)?)
 }
 
 #[test]
@@ -63,18 +87,10 @@ fn written_and_read(rt: HostRuntime) -> Result<(), Fail> {
     let csum = "69341ebf56d98403b7610d7aea05ae6bb5d9d12a4e348d5a91590af28717e01c";
     let touches = [(1, 5), (2, 1_000_000)];
     let text = file(rt.alloc(), b"PBSBOOK1", (1_000_000, 2), &touches, csum)?;
-    let mut book = Book::new(rt.alloc());
-    book.touch(&Digest32([2; 32]), 1_000_000)?;
-    book.touch(&Digest32([1; 32]), 5)?;
-    assert_eq!(rt;
-        book.text(rt.alloc(), 1_000_000)?.as_slice(),
-        text.as_slice()
-    );
-    let read = Book::read(rt.alloc(), &text)?.ok_or("a book")?;
-    assert_eq!(rt; read.moment(), 1_000_000);
-    assert_eq!(rt; read.last(&Digest32([1; 32])), Some(5));
-    assert_eq!(rt; read.last(&Digest32([2; 32])), Some(1_000_000));
-    assert_eq!(rt; read.last(&Digest32([3; 32])), None);
+    same(&rt, written(rt.alloc())?.as_slice(), text.as_slice());
+    let book = Book::read(rt.alloc(), &text)?.ok_or("a book")?;
+    same(&rt, book.moment(), 1_000_000);
+    same(&rt, touched(&book), (Some(5), Some(1_000_000), None));
     Ok(())
 }
 
@@ -139,15 +155,19 @@ static FILES: [Made; 8] = [
     ),
 ];
 
+fn is_book(alloc: Global, text: &[u8]) -> Result<bool, Fail> {
+    Ok(Book::read(alloc, text)?.is_some())
+}
+
 #[test]
 fn no_books(rt: HostRuntime) -> Result<(), Fail> {
-    for (magic, numbers, touches, csum, is_book) in FILES {
-        let text = file(rt.alloc(), magic.as_slice(), numbers, touches, csum)?;
-        let read = Book::read(rt.alloc(), &text)?;
-        assert_eq!(rt; read.is_some(), is_book, "with {csum}");
+    let alloc = rt.alloc();
+    for (magic, numbers, touches, csum, expected) in &FILES {
+        let text = file(alloc, magic.as_slice(), *numbers, touches, csum)?;
+        same_at(&rt, *csum, is_book(alloc, &text)?, *expected);
     }
-    let text = file(rt.alloc(), b"PBSBOOK1", (10, 1), &[(1, 5)], GOOD)?;
-    assert!(rt; Book::read(rt.alloc(), text.get(..95).unwrap_or(&text))?.is_none());
-    assert!(rt; Book::read(rt.alloc(), b"")?.is_none());
+    let text = file(alloc, b"PBSBOOK1", (10, 1), &[(1, 5)], GOOD)?;
+    same(&rt, is_book(alloc, front(&text, 95))?, false);
+    same(&rt, is_book(alloc, b"")?, false);
     Ok(())
 }

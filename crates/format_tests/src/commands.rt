@@ -1,6 +1,9 @@
 ghost use Rattle.wire_commands.specs.HasText.{ReplyHasText};
 
+use crate::asserts::{same, same_at};
 use port_traits::{Failed, MemSink, Sink};
+use std::alloc::Global;
+use std::process::Abort;
 use std::test::Fail;
 use wire_commands::{BadFrame, Command, Reply};
 
@@ -238,34 +241,52 @@ fn put<K: Sink>(reply: &Reply, sink: &mut K) -> Result<u64, Failed>
     Ok(given)
 }
 
+fn try_command(rt: &impl Abort, alloc: Global, body: &[u8]) -> Result<(), Fail> {
+    let command = Command::read(alloc, body)??;
+    same(rt, command.text(alloc)?.as_slice(), body);
+    Ok(())
+}
+
 #[test]
 fn commands_are_read_and_written(rt: HostRuntime) -> Result<(), Fail> {
-    for body in COMMANDS {
-        let command = Command::read(rt.alloc(), body)??;
-        assert_eq!(rt; command.text(rt.alloc())?.as_slice(), body);
-    }
-    for body in BAD_BODIES {
-        assert_eq!(rt;
-            Command::read(rt.alloc(), body)?.err(),
-            Some(BadFrame),
-            "{body:?}"
-        );
+    for body in &COMMANDS {
+        try_command(&rt, rt.alloc(), body)?;
     }
     Ok(())
 }
 
 #[test]
-fn replies_are_read_and_written(rt: HostRuntime) -> Result<(), Fail> {
-    for (code, frame) in REPLIES {
-        let body = frame.get(4..).ok_or("no frame")?;
-        let reply = Reply::read(rt.alloc(), code, body)?.ok_or("no reply")?;
-        let mut sink = MemSink::new(rt.alloc(), Vec::new(rt.alloc()));
-        reply.put(&mut sink)?;
-        assert_eq!(rt; sink.as_bytes(), frame);
-        assert_eq!(rt; put(&reply, &mut sink)?, frame.len() as u64);
+fn no_commands(rt: HostRuntime) -> Result<(), Fail> {
+    for body in &BAD_BODIES {
+        let command = Command::read(rt.alloc(), body)?;
+        same_at(&rt, *body, command.err(), Some(BadFrame));
     }
-    for (code, body) in BAD_REPLIES {
-        assert!(rt; Reply::read(rt.alloc(), code, body)?.is_none(), "{body:?}");
+    Ok(())
+}
+
+fn try_reply(rt: &impl Abort, alloc: Global, code: u8, frame: &[u8]) -> Result<(), Fail> {
+    let body = frame.get(4..).ok_or("no frame")?;
+    let reply = Reply::read(alloc, code, body)?.ok_or("no reply")?;
+    let mut sink = MemSink::new(alloc, Vec::new(alloc));
+    reply.put(&mut sink)?;
+    same(rt, sink.as_bytes(), frame);
+    same(rt, put(&reply, &mut sink)?, frame.len() as u64);
+    Ok(())
+}
+
+#[test]
+fn replies_are_read_and_written(rt: HostRuntime) -> Result<(), Fail> {
+    for (code, frame) in &REPLIES {
+        try_reply(&rt, rt.alloc(), *code, frame)?;
+    }
+    Ok(())
+}
+
+#[test]
+fn no_replies(rt: HostRuntime) -> Result<(), Fail> {
+    for (code, body) in &BAD_REPLIES {
+        let reply = Reply::read(rt.alloc(), *code, body)?;
+        same_at(&rt, (*code, *body), reply.is_none(), true);
     }
     Ok(())
 }

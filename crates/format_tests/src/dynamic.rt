@@ -1,6 +1,7 @@
 //! Indexes against bytes and checksums that were made elsewhere.
 
-use crate::fixtures::{ABC, front, zeros};
+use crate::asserts::{same, same_at};
+use crate::fixtures::{ABC, ABC_BYTES, front, put, same_parts, zeros};
 use dynamic_index::{BadIndex, DynamicView, DynamicWriter, IndexFault};
 use std::alloc::Global;
 use std::process::Abort;
@@ -31,60 +32,76 @@ fn two_pieces(rt: &impl Abort, alloc: Global) -> Result<Vec<u8>, Fail> {
     writer.append(&ABC, 3)?;
     writer.append_all(alloc, &[(Digest32(DE), 2)])?;
     let (entries, end, csum) = writer.facts();
-    assert_eq!(rt; (entries, end), (2, 5));
-    assert_eq!(rt; csum, Digest32(CSUM));
+    same(rt, (entries, end), (2, 5));
+    same(rt, csum, Digest32(CSUM));
     Ok(writer.close(alloc)?)
 }
+
+/// The index's text, but for the zeros of its head.
+static PARTS: [(usize, usize, &[u8]); 8] = [
+    (0, 8, b"\x1c\x91\x4e\xa5\x19\xba\xb3\xcd"),
+    (8, 24, &[1; 16]),
+    (24, 32, b"\x6b\xb1\x1e\x5e\0\0\0\0"),
+    (32, 64, &CSUM),
+    (4096, 4104, b"\x03\0\0\0\0\0\0\0"),
+    (4104, 4136, &ABC_BYTES),
+    (4136, 4144, b"\x05\0\0\0\0\0\0\0"),
+    (4144, 4176, &DE),
+];
 
 #[test]
 fn text_of_two_pieces(rt: HostRuntime) -> Result<(), Fail> {
     let text = two_pieces(&rt, rt.alloc())?;
-    assert_eq!(rt; text.len(), 4176);
-    assert_eq!(rt; &text[..8], b"\x1c\x91\x4e\xa5\x19\xba\xb3\xcd".as_slice());
-    assert_eq!(rt; &text[8..24], [1; 16].as_slice());
-    assert_eq!(rt; &text[24..32], b"\x6b\xb1\x1e\x5e\0\0\0\0".as_slice());
-    assert_eq!(rt; &text[32..64], CSUM.as_slice());
-    assert!(rt; text[64..4096].iter().all(|b| *b == 0));
-    assert_eq!(rt; &text[4096..4104], b"\x03\0\0\0\0\0\0\0".as_slice());
-    assert_eq!(rt; &text[4104..4136], ABC.0.as_slice());
-    assert_eq!(rt; &text[4136..4144], b"\x05\0\0\0\0\0\0\0".as_slice());
-    assert_eq!(rt; &text[4144..], DE.as_slice());
+    same(&rt, text.len(), 4176);
+    same_parts(&rt, &text, &PARTS);
+    let head = zeros(rt.alloc(), 4096 - 64)?;
+    same_parts(&rt, &text, &[(64, 4096, &head)]);
     Ok(())
 }
+
+/// Offsets, and the piece that each is in.
+static PLACES: [(u64, Option<u32>); 6] = [
+    (0, Some(0)),
+    (2, Some(0)),
+    (3, Some(1)),
+    (4, Some(1)),
+    (5, None),
+    (u64::MAX, None),
+];
 
 #[test]
 fn view_of_two_pieces(rt: HostRuntime) -> Result<(), Fail> {
     let text = two_pieces(&rt, rt.alloc())?;
     let view = DynamicView::open_on(&text)?;
-    assert_eq!(rt; (view.len(), view.size()), (2, 5));
-    assert_eq!(rt; view.csum(), Digest32(CSUM));
-    assert_eq!(rt; view.digest(0), ABC);
-    assert_eq!(rt; view.digest(1), Digest32(DE));
-    assert_eq!(rt; view.span(0), (0, 3));
-    assert_eq!(rt; view.span(1), (3, 5));
-    for (offset, place) in [
-        (0, Some(0)),
-        (2, Some(0)),
-        (3, Some(1)),
-        (4, Some(1)),
-        (5, None),
-        (u64::MAX, None),
-    ] {
-        assert_eq!(rt; view.chunk_at(offset), place, "at {offset}");
+    same(&rt, (view.len(), view.size()), (2, 5));
+    same(&rt, view.csum(), Digest32(CSUM));
+    same(&rt, piece(&view, 0), Some((ABC, (0, 3))));
+    same(&rt, piece(&view, 1), Some((Digest32(DE), (3, 5))));
+    for (offset, place) in &PLACES {
+        same_at(&rt, *offset, view.chunk_at(*offset), *place);
     }
     Ok(())
+}
+
+/// A piece's digest, and where it begins and ends.
+fn piece(view: &DynamicView, i: u32) -> Option<(Digest32, (u64, u64))> {
+    if i < view.len() {
+        Some((view.digest(i), view.span(i)))
+    } else {
+        None
+    }
 }
 
 #[test]
 fn no_pieces(rt: HostRuntime) -> Result<(), Fail> {
     let writer = DynamicWriter::new(rt.alloc(), [0; 16], -1);
-    assert_eq!(rt; writer.facts(), (0, 0, Digest32(EMPTY_CSUM)));
+    same(&rt, writer.facts(), (0, 0, Digest32(EMPTY_CSUM)));
     let text = writer.close(rt.alloc())?;
-    assert_eq!(rt; text.len(), 4096);
-    assert_eq!(rt; &text[32..64], EMPTY_CSUM.as_slice());
+    same(&rt, text.len(), 4096);
+    same_parts(&rt, &text, &[(32, 64, &EMPTY_CSUM)]);
     let view = DynamicView::open_on(&text)?;
-    assert_eq!(rt; (view.len(), view.size()), (0, 0));
-    assert_eq!(rt; view.chunk_at(0), None);
+    same(&rt, (view.len(), view.size()), (0, 0));
+    same(&rt, view.chunk_at(0), None);
     Ok(())
 }
 
@@ -92,46 +109,44 @@ fn cause_of(bytes: &[u8]) -> Option<IndexFault> {
     DynamicView::open_on(bytes).err().map(|e: BadIndex| e.cause)
 }
 
-/// Puts bytes at places, where these are there.
-fn change(text: &mut [u8], changes: &[(usize, u8)]) {
-    for (at, byte) in changes {
-        if let Some(place) = text.get_mut(*at) {
-            *place = *byte;
-        }
-    }
-}
+/// A byte that is put at a place, as often as need be, how many of the first bytes are left, and the cause. The second piece
+/// begins at 3, and its end stands at 4136, the lowest byte first.
+static CAUSES: [(&[(usize, u8)], usize, Option<IndexFault>); 14] = [
+    (&[(8, 9)], 4176, None),
+    (&[(0, 47)], 4095, Some(IndexFault::Short)),
+    (&[(0, 47), (7, 206)], 4096, Some(IndexFault::Magic)),
+    (&[(7, 206), (32, 0)], 4175, Some(IndexFault::Magic)),
+    (&[(32, 0), (4136, 3)], 4175, Some(IndexFault::Length)),
+    (&[(32, 0), (4096, 0)], 4136, Some(IndexFault::Sizes)),
+    (&[(4136, 3)], 4176, Some(IndexFault::Sizes)),
+    (&[(4136, 2)], 4176, Some(IndexFault::Sizes)),
+    (&[(4136, 4), (4139, 1)], 4176, Some(IndexFault::Sizes)),
+    (&[(4136, 3), (4139, 1)], 4176, Some(IndexFault::Csum)),
+    (&[(4136, 6)], 4176, Some(IndexFault::Csum)),
+    (&[(4175, 0)], 4176, Some(IndexFault::Csum)),
+    (&[(63, 0)], 4176, Some(IndexFault::Csum)),
+    (&[], 4136, Some(IndexFault::Csum)),
+];
 
-// The second piece begins at 3, and its end stands at 4136, the lowest byte first.
 #[test]
 fn first_cause(rt: HostRuntime) -> Result<(), Fail> {
-    for (changes, len, cause) in [
-        ([(0, 28), (8, 9)], 4176, None),
-        ([(0, 47), (0, 47)], 4095, Some(IndexFault::Short)),
-        ([(0, 47), (7, 206)], 4096, Some(IndexFault::Magic)),
-        ([(7, 206), (32, 0)], 4175, Some(IndexFault::Magic)),
-        ([(32, 0), (4136, 3)], 4175, Some(IndexFault::Length)),
-        ([(32, 0), (4096, 0)], 4136, Some(IndexFault::Sizes)),
-        ([(4136, 3), (0, 28)], 4176, Some(IndexFault::Sizes)),
-        ([(4136, 2), (0, 28)], 4176, Some(IndexFault::Sizes)),
-        ([(4136, 4), (4139, 1)], 4176, Some(IndexFault::Sizes)),
-        ([(4136, 3), (4139, 1)], 4176, Some(IndexFault::Csum)),
-        ([(4136, 6), (0, 28)], 4176, Some(IndexFault::Csum)),
-        ([(4175, 0), (0, 28)], 4176, Some(IndexFault::Csum)),
-        ([(63, 0), (0, 28)], 4176, Some(IndexFault::Csum)),
-        ([(0, 28), (0, 28)], 4136, Some(IndexFault::Csum)),
-    ] {
-        let mut text = two_pieces(&rt, rt.alloc())?;
-        change(&mut text, &changes);
-        assert_eq!(rt; cause_of(front(&text, len)), cause);
+    let text = two_pieces(&rt, rt.alloc())?;
+    for (changes, len, cause) in &CAUSES {
+        let mut changed = text.clone()?;
+        for (at, byte) in *changes {
+            put(&mut changed, *at, &[*byte]);
+        }
+        same_at(&rt, *changes, cause_of(front(&changed, *len)), *cause);
     }
+    Ok(())
+}
+
+#[test]
+fn too_many_pieces(rt: HostRuntime) -> Result<(), Fail> {
     let mut long = zeros(rt.alloc(), 4096 + 40 * 1_048_577)?;
-    let magic = [28, 145, 78, 165, 25, 186, 179, 205];
-    assert!(rt; 8 <= long.len());
-    long[..8].copy_from_slice(&magic);
-    assert_eq!(rt; cause_of(&long), Some(IndexFault::Count));
-    assert_eq!(rt;
-        cause_of(front(&long, 4096 + 40 * 1_048_576)),
-        Some(IndexFault::Sizes)
-    );
+    put(&mut long, 0, b"\x1c\x91\x4e\xa5\x19\xba\xb3\xcd");
+    same(&rt, cause_of(&long), Some(IndexFault::Count));
+    let most = front(&long, 4096 + 40 * 1_048_576);
+    same(&rt, cause_of(most), Some(IndexFault::Sizes));
     Ok(())
 }

@@ -1,6 +1,7 @@
 //! Indexes against bytes and checksums that were made elsewhere.
 
-use crate::fixtures::{front, zeros};
+use crate::asserts::{same, same_at};
+use crate::fixtures::{front, put, same_parts, zeros};
 use fixed_index::{BadIndex, FixedView, FixedWriter, IndexFault};
 use std::alloc::Global;
 use std::process::Abort;
@@ -20,34 +21,55 @@ fn two_pieces(rt: &impl Abort, alloc: Global, last: u32) -> Result<Vec<u8>, Fail
     writer.append(&Digest32([7; 32]), 4096)?;
     writer.append(&Digest32([9; 32]), last)?;
     let (entries, end, csum) = writer.facts();
-    assert_eq!(rt; (entries, end), (2, 4096 + last as u64));
-    assert_eq!(rt; csum, Digest32(CSUM));
+    same(rt, (entries, end), (2, 4096 + last as u64));
+    same(rt, csum, Digest32(CSUM));
     Ok(writer.close(alloc)?)
 }
 
+/// The text with a last piece of one byte, but for the zeros of its head.
+static PARTS: [(usize, usize, &[u8]); 8] = [
+    (0, 8, b"\x2f\x7f\x41\xed\x91\xfd\x0f\xcd"),
+    (8, 24, &[1; 16]),
+    (24, 32, b"\x6b\xb1\x1e\x5e\0\0\0\0"),
+    (32, 64, &CSUM),
+    (64, 72, b"\x01\x10\0\0\0\0\0\0"),
+    (72, 80, b"\0\x10\0\0\0\0\0\0"),
+    (4096, 4128, &[7; 32]),
+    (4128, 4160, &[9; 32]),
+];
+
 #[test]
-fn a_short_last_piece(rt: HostRuntime) -> Result<(), Fail> {
+fn text_of_a_short_last_piece(rt: HostRuntime) -> Result<(), Fail> {
     let text = two_pieces(&rt, rt.alloc(), 1)?;
-    assert_eq!(rt; text.len(), 4160);
-    assert_eq!(rt; &text[..8], b"\x2f\x7f\x41\xed\x91\xfd\x0f\xcd".as_slice());
-    assert_eq!(rt; &text[8..24], [1; 16].as_slice());
-    assert_eq!(rt; &text[24..32], b"\x6b\xb1\x1e\x5e\0\0\0\0".as_slice());
-    assert_eq!(rt; &text[32..64], CSUM.as_slice());
-    assert_eq!(rt;
-        &text[64..80],
-        b"\x01\x10\0\0\0\0\0\0\0\x10\0\0\0\0\0\0".as_slice()
-    );
-    assert!(rt; text[80..4096].iter().all(|b| *b == 0));
-    assert_eq!(rt; &text[4096..4128], [7; 32].as_slice());
-    assert_eq!(rt; &text[4128..], [9; 32].as_slice());
+    same(&rt, text.len(), 4160);
+    same_parts(&rt, &text, &PARTS);
+    let head = zeros(rt.alloc(), 4096 - 80)?;
+    same_parts(&rt, &text, &[(80, 4096, &head)]);
+    Ok(())
+}
+
+/// A piece's digest, and where it begins and ends.
+fn piece(view: &FixedView, i: u32) -> Option<(Digest32, (u64, u64))> {
+    if i < view.len() {
+        Some((view.digest(i), view.span(i)))
+    } else {
+        None
+    }
+}
+
+#[test]
+fn view_of_a_short_last_piece(rt: HostRuntime) -> Result<(), Fail> {
+    let text = two_pieces(&rt, rt.alloc(), 1)?;
     let view = FixedView::open_on(&text)?;
-    assert_eq!(rt; view.len(), 2);
-    assert_eq!(rt; view.digest(0), Digest32([7; 32]));
-    assert_eq!(rt; view.digest(1), Digest32([9; 32]));
-    assert_eq!(rt; view.span(0), (0, 4096));
-    assert_eq!(rt; view.span(1), (4096, 4097));
-    assert_eq!(rt; (view.size(), view.chunk_size()), (4097, 4096));
-    assert_eq!(rt; view.csum(), Digest32(CSUM));
+    same(&rt, view.len(), 2);
+    same(&rt, piece(&view, 0), Some((Digest32([7; 32]), (0, 4096))));
+    same(
+        &rt,
+        piece(&view, 1),
+        Some((Digest32([9; 32]), (4096, 4097))),
+    );
+    same(&rt, (view.size(), view.chunk_size()), (4097, 4096));
+    same(&rt, view.csum(), Digest32(CSUM));
     Ok(())
 }
 
@@ -55,9 +77,13 @@ fn a_short_last_piece(rt: HostRuntime) -> Result<(), Fail> {
 fn two_whole_pieces(rt: HostRuntime) -> Result<(), Fail> {
     let text = two_pieces(&rt, rt.alloc(), 4096)?;
     let view = FixedView::open_on(&text)?;
-    assert_eq!(rt; view.len(), 2);
-    assert_eq!(rt; view.span(0), (0, 4096));
-    assert_eq!(rt; view.span(1), (4096, 8192));
+    same(&rt, view.len(), 2);
+    same(&rt, piece(&view, 0), Some((Digest32([7; 32]), (0, 4096))));
+    same(
+        &rt,
+        piece(&view, 1),
+        Some((Digest32([9; 32]), (4096, 8192))),
+    );
     Ok(())
 }
 
@@ -66,17 +92,17 @@ fn pieces_at_once(rt: HostRuntime) -> Result<(), Fail> {
     let mut writer = FixedWriter::new(rt.alloc(), [1; 16], 1_579_069_803, 4097, 4096);
     let pieces = [(Digest32([7; 32]), 4096), (Digest32([9; 32]), 1)];
     writer.append_all(rt.alloc(), &pieces)?;
-    assert_eq!(rt; (writer.len(), writer.end()), (2, 4097));
-    assert_eq!(rt; writer.facts().2, Digest32(CSUM));
+    same(&rt, (writer.len(), writer.end()), (2, 4097));
+    same(&rt, writer.facts().2, Digest32(CSUM));
     Ok(())
 }
 
 #[test]
 fn no_pieces(rt: HostRuntime) -> Result<(), Fail> {
     let text = FixedWriter::new(rt.alloc(), [0; 16], -1, 0, 16_777_216).close(rt.alloc())?;
-    assert_eq!(rt; text.len(), 4096);
-    assert_eq!(rt; &text[32..36], b"\xe3\xb0\xc4\x42".as_slice());
-    assert_eq!(rt; FixedView::open_on(&text)?.len(), 0);
+    same(&rt, text.len(), 4096);
+    same_parts(&rt, &text, &[(32, 36, b"\xe3\xb0\xc4\x42")]);
+    same(&rt, FixedView::open_on(&text)?.len(), 0);
     Ok(())
 }
 
@@ -84,29 +110,42 @@ fn cause_of(bytes: &[u8]) -> Option<IndexFault> {
     FixedView::open_on(bytes).err().map(|e: BadIndex| e.cause)
 }
 
+/// A byte that is put at a place, and the cause.
+static CAUSES: [(usize, u8, IndexFault); 6] = [
+    (0, 28, IndexFault::Magic),
+    (72, 136, IndexFault::Sizes),
+    (73, 32, IndexFault::Sizes),
+    (65, 32, IndexFault::Sizes),
+    (40, 0, IndexFault::Csum),
+    (4100, 0, IndexFault::Csum),
+];
+
+/// How many of the first bytes are left, and the cause.
+static FRONTS: [(usize, Option<IndexFault>); 4] = [
+    (4160, None),
+    (4095, Some(IndexFault::Short)),
+    (4159, Some(IndexFault::Length)),
+    (4128, Some(IndexFault::Sizes)),
+];
+
 #[test]
 fn first_cause(rt: HostRuntime) -> Result<(), Fail> {
-    for (at, byte, cause) in [
-        (0, 28, IndexFault::Magic),
-        (72, 136, IndexFault::Sizes),
-        (73, 32, IndexFault::Sizes),
-        (65, 32, IndexFault::Sizes),
-        (40, 0, IndexFault::Csum),
-        (4100, 0, IndexFault::Csum),
-    ] {
-        let mut text = two_pieces(&rt, rt.alloc(), 1)?;
-        assert!(rt; at < text.len());
-        text[at] = byte;
-        assert_eq!(rt; cause_of(&text), Some(cause), "at {at}");
-    }
     let text = two_pieces(&rt, rt.alloc(), 1)?;
-    assert_eq!(rt; cause_of(&text), None);
-    assert_eq!(rt; cause_of(front(&text, 4095)), Some(IndexFault::Short));
-    assert_eq!(rt; cause_of(front(&text, 4159)), Some(IndexFault::Length));
-    assert_eq!(rt; cause_of(front(&text, 4128)), Some(IndexFault::Sizes));
+    for (at, byte, cause) in &CAUSES {
+        let mut changed = text.clone()?;
+        put(&mut changed, *at, &[*byte]);
+        same_at(&rt, *at, cause_of(&changed), Some(*cause));
+    }
+    for (len, cause) in &FRONTS {
+        same_at(&rt, *len, cause_of(front(&text, *len)), *cause);
+    }
+    Ok(())
+}
+
+#[test]
+fn too_many_pieces(rt: HostRuntime) -> Result<(), Fail> {
     let mut long = zeros(rt.alloc(), 4096 + 32 * 1_048_577)?;
-    assert!(rt; 8 <= long.len() && 8 <= text.len());
-    long[..8].copy_from_slice(&text[..8]);
-    assert_eq!(rt; cause_of(&long), Some(IndexFault::Count));
+    put(&mut long, 0, b"\x2f\x7f\x41\xed\x91\xfd\x0f\xcd");
+    same(&rt, cause_of(&long), Some(IndexFault::Count));
     Ok(())
 }

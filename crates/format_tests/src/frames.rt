@@ -1,3 +1,4 @@
+use crate::asserts::{same, same_at};
 use port_traits::{Failed, MemSink};
 use std::alloc::{AllocError, Global};
 use std::process::Abort;
@@ -43,31 +44,32 @@ const STREAM: &[u8] = b"\x01\0\0\0\x3f\0\0\0\0\x05\0\0\0hello\x02\0\0\0o";
 
 const END: &[u8] = b"k\x01\x04\0\x01";
 
+/// The frames of the stream, and their offsets.
+static EXPECTED: [(u64, &[u8]); 4] = [(0, b"\x3f"), (5, b""), (9, b"hello"), (18, b"ok")];
+
+fn try_pieces(rt: &impl Abort, alloc: Global, size: usize) -> Result<(), Fail> {
+    let mut cutter = Cutter::new(alloc);
+    let mut found = Vec::new(alloc);
+    take_frames(rt, alloc, &mut cutter, STREAM, size, &mut found)?;
+    same_at(rt, size, found.len(), 3);
+    same_at(rt, size, matches!(cutter.next(), Ok(None)), true);
+    take_frames(rt, alloc, &mut cutter, END, size, &mut found)?;
+    same_at(rt, size, cutter.fed(), 28);
+    same_at(rt, size, found.len(), 4);
+    for (got, want) in found.iter().zip(&EXPECTED) {
+        same_at(rt, size, (got.0, got.1.as_slice()), *want);
+    }
+    for _ in 0..2 {
+        let end = cutter.next().err();
+        same_at(rt, size, end, Some(TooLong { length: 16_778_241 }));
+    }
+    Ok(())
+}
+
 #[test]
 fn pieces_of_any_size_give_the_same_frames(rt: HostRuntime) -> Result<(), Fail> {
-    let alloc = rt.alloc();
-    let expected: [(u64, &[u8]); 4] = [(0, b"\x3f"), (5, b""), (9, b"hello"), (18, b"ok")];
-    for size in [1usize, 3, 100] {
-        let mut cutter = Cutter::new(alloc);
-        let mut found = Vec::new(alloc);
-        take_frames(&rt, alloc, &mut cutter, STREAM, size, &mut found)?;
-        assert_eq!(rt; found.len(), 3, "pieces of {size}");
-        assert!(rt; matches!(cutter.next(), Ok(None)), "pieces of {size}");
-        take_frames(&rt, alloc, &mut cutter, END, size, &mut found)?;
-        assert_eq!(rt; cutter.fed(), 28, "pieces of {size}");
-        assert_eq!(rt; found.len(), 4, "pieces of {size}");
-        for (got, want) in found.iter().zip(&expected) {
-            assert_eq!(rt; got.0, want.0, "pieces of {size}");
-            assert_eq!(rt; got.1.as_slice(), want.1, "pieces of {size}");
-        }
-        for _ in 0..2 {
-            let end = cutter.next().err();
-            assert_eq!(rt;
-                end,
-                Some(TooLong { length: 16_778_241 }),
-                "pieces of {size}"
-            );
-        }
+    for size in [1, 3, 100] {
+        try_pieces(&rt, rt.alloc(), size)?;
     }
     Ok(())
 }
@@ -76,12 +78,9 @@ fn pieces_of_any_size_give_the_same_frames(rt: HostRuntime) -> Result<(), Fail> 
 fn frames_are_written(rt: HostRuntime) -> Result<(), Fail> {
     let mut sink = MemSink::new(rt.alloc(), [4].to_vec(rt.alloc())?);
     let mut given = 0;
-    assert_eq!(rt; put_frame(&mut sink, b"\x3f", b""), Ok(()));
-    assert_eq!(rt;
-        put_frame_counted(&mut sink, b"\0", b"ab", &mut given),
-        Err(Failed)
-    );
-    assert_eq!(rt; given, 5);
-    assert_eq!(rt; sink.as_bytes(), b"\x01\0\0\0\x3f\x03\0\0\0\0".as_slice());
+    same(&rt, put_frame(&mut sink, b"\x3f", b""), Ok(()));
+    let outcome = put_frame_counted(&mut sink, b"\0", b"ab", &mut given);
+    same(&rt, (outcome, given), (Err(Failed), 5));
+    same(&rt, sink.as_bytes(), b"\x01\0\0\0\x3f\x03\0\0\0\0");
     Ok(())
 }

@@ -1,6 +1,8 @@
+use crate::asserts::{same, same_at};
 use crate::fixtures::ABC;
 use manifest::{BadManifest, FileFact, Manifest, check, read};
 use std::alloc::{AllocError, Global};
+use std::process::Abort;
 use std::test::Fail;
 use store_types::{Bytes, Digest32, FileName, Kind, Rows, SnapshotKey};
 
@@ -209,18 +211,38 @@ fn nested(alloc: Global, depth: usize) -> Result<String, AllocError> {
 
 #[test]
 fn first_cause(rt: HostRuntime) -> Result<(), Fail> {
-    let alloc = rt.alloc();
     for (text, cause) in &WHOLE {
-        assert_eq!(rt; cause_of(alloc, text.as_bytes())?, *cause, "{text}");
+        let found = cause_of(rt.alloc(), text.as_bytes())?;
+        same_at(&rt, *text, found, *cause);
     }
-    for (entries, cause) in &ENTRIES {
-        let text = with_entries(alloc, entries)?;
-        assert_eq!(rt; cause_of(alloc, text.as_bytes())?, *cause, "{entries}");
-    }
-    assert_eq!(rt; cause_of(alloc, b"\"\xff\"")?, 1);
-    assert_eq!(rt; cause_of(alloc, nested(alloc, 126)?.as_bytes())?, 0);
-    assert_eq!(rt; cause_of(alloc, nested(alloc, 127)?.as_bytes())?, 1);
+    let found = cause_of(rt.alloc(), b"\"\xff\"")?;
+    same(&rt, found, 1);
     Ok(())
+}
+
+#[test]
+fn first_cause_of_entries(rt: HostRuntime) -> Result<(), Fail> {
+    for (entries, cause) in &ENTRIES {
+        let text = with_entries(rt.alloc(), entries)?;
+        let found = cause_of(rt.alloc(), text.as_bytes())?;
+        same_at(&rt, *entries, found, *cause);
+    }
+    Ok(())
+}
+
+#[test]
+fn nested_as_deep_as_is_read(rt: HostRuntime) -> Result<(), Fail> {
+    for (depth, cause) in [(126, 0), (127, 1)] {
+        let text = nested(rt.alloc(), depth)?;
+        let found = cause_of(rt.alloc(), text.as_bytes())?;
+        same_at(&rt, depth, found, cause);
+    }
+    Ok(())
+}
+
+/// Compares a listed file with its name, size and checksum.
+fn same_file(rt: &impl Abort, file: &FileFact, want: Listed) {
+    same(rt, (file.name.as_str(), file.size, file.csum), want);
 }
 
 #[test]
@@ -231,19 +253,13 @@ fn what_is_read(rt: HostRuntime) -> Result<(), Fail> {
         "{\"filename\":\"root.didx\",\"size\":5,\"csum\":\"BA7816BF8F01CFEA414140DE5DAE2223B00361A396177A9CB410FF61F20015AD\",\"extra\":[]},{\"crypt-mode\":\"none\",\"csum\":\"0000000000000000000000000000000000000000000000000000000000000000\",\"filename\":\"a.conf.blob\",\"size\":0}",
     )?;
     let manifest = read(alloc, text.as_bytes())??;
-    assert_eq!(rt;
-        manifest.key,
-        SnapshotKey::parse(alloc, b"host/a/2020-01-15T06:30:03Z")??
-    );
     let [root, conf] = manifest.files.as_slice() else {
         return Err(Fail::from("not two files"));
     };
-    assert_eq!(rt; root.name.as_str(), "root.didx");
-    assert_eq!(rt; root.size, 5);
-    assert_eq!(rt; root.csum, ABC);
-    assert_eq!(rt; conf.name.as_str(), "a.conf.blob");
-    assert_eq!(rt; conf.size, 0);
-    assert_eq!(rt; conf.csum, ZEROS);
+    same_file(&rt, root, ("root.didx", 5, ABC));
+    same_file(&rt, conf, ("a.conf.blob", 0, ZEROS));
+    let key = SnapshotKey::parse(alloc, b"host/a/2020-01-15T06:30:03Z")??;
+    same(&rt, manifest.key, key);
     Ok(())
 }
 
@@ -358,35 +374,64 @@ fn told(
     }
 }
 
+fn try_upload(
+    rt: &impl Abort,
+    manifest: &Manifest,
+    session: &SnapshotKey,
+    uploads: &[FileFact],
+    want: (&str, u8),
+) -> Result<(), Fail> {
+    let (file, field) = told(manifest, session, uploads)?;
+    let file = match &file {
+        Some(file) => file.as_str(),
+        None => "",
+    };
+    same(rt, (file, field), want);
+    Ok(())
+}
+
+/// The snapshot `host/a` at 7, with a manifest that lists these files.
+fn manifest(alloc: Global, files: &[Listed]) -> Result<Manifest, Fail> {
+    let key = key(alloc, Kind::Host, b"a", 7)?;
+    let files = Rows::from_vec(facts(alloc, files)?);
+    Ok(Manifest { key, files })
+}
+
+static LISTS: [Listed; 2] = [("root.didx", 5, ABC), ("a.blob", 6, ABC)];
+
 #[test]
 fn first_mismatch(rt: HostRuntime) -> Result<(), Fail> {
     let alloc = rt.alloc();
-    let mut manifest = Manifest {
-        key: key(alloc, Kind::Host, b"a", 7)?,
-        files: Rows::from_vec(facts(alloc, &[("root.didx", 5, ABC), ("a.blob", 6, ABC)])?),
-    };
+    let manifest = manifest(alloc, &LISTS)?;
     let session = key(alloc, Kind::Host, b"a", 7)?;
     for (uploads, name, field) in &UPLOADS {
         let uploads = facts(alloc, uploads)?;
-        let (file, found) = told(&manifest, &session, &uploads)?;
-        let file = match &file {
-            Some(file) => file.as_str(),
-            None => "",
-        };
-        assert_eq!(rt; (file, found), (*name, *field));
+        try_upload(&rt, &manifest, &session, &uploads, (*name, *field))?;
     }
+    Ok(())
+}
+
+#[test]
+fn another_snapshot(rt: HostRuntime) -> Result<(), Fail> {
+    let alloc = rt.alloc();
+    let manifest = manifest(alloc, &LISTS)?;
     let uploads = facts(alloc, &[("a.blob", 6, ABC), ("root.didx", 5, ABC)])?;
     for (kind, id, time, field) in &KEYS {
         let session = key(alloc, *kind, id, *time)?;
-        let (file, found) = told(&manifest, &session, &uploads)?;
-        assert!(rt; file.is_none());
-        assert_eq!(rt; found, *field);
+        try_upload(&rt, &manifest, &session, &uploads, ("", *field))?;
     }
-    // a manifest that lists itself
-    manifest.files = Rows::from_vec(facts(alloc, &[("index.json.blob", 1, ABC)])?);
-    let uploads = facts(alloc, &[("index.json.blob", 1, ABC)])?;
+    Ok(())
+}
+
+#[test]
+fn a_manifest_that_lists_itself(rt: HostRuntime) -> Result<(), Fail> {
+    let alloc = rt.alloc();
+    let files = [("index.json.blob", 1, ABC)];
+    let manifest = manifest(alloc, &files)?;
+    let session = key(alloc, Kind::Host, b"a", 7)?;
+    let uploads = facts(alloc, &files)?;
     let (file, field) = told(&manifest, &session, &uploads)?;
-    assert_eq!(rt; file, Some(FileName::manifest(alloc)?));
-    assert_eq!(rt; field, 4);
+    same(&rt, file, Some(FileName::manifest(alloc)?));
+    same(&rt, field, 4);
     Ok(())
 }

@@ -1,12 +1,14 @@
 ghost use Rattle.std.specs.Prelude.{◌<◌};
 ghost use Rattle.store_history.specs.Acts.{IsPlain};
 
+use crate::asserts::same;
 use core_state::{Act, Core, open_on};
 use disk_trait::MemoryDisk;
 use lane::{Ending, LaneReport, Port, run_alone};
 use port_traits::{FreeGate, MemSink, MemSource, SetClock};
 use shared_store::apply;
 use std::alloc::Global;
+use std::process::Abort;
 use std::test::Fail;
 use store_types::Bytes;
 use wire_commands::Command;
@@ -78,19 +80,20 @@ const NONE: Failing = Failing {
     sink: None,
 };
 
-fn source_fails(number: u64) -> Failing {
-    Failing {
-        source: Some(number),
-        sink: None,
-    }
-}
+const FIRST_READ: Failing = Failing {
+    source: Some(0),
+    sink: None,
+};
 
-fn sink_fails(number: u64) -> Failing {
-    Failing {
-        source: None,
-        sink: Some(number),
-    }
-}
+const SECOND_READ: Failing = Failing {
+    source: Some(1),
+    sink: None,
+};
+
+const FIRST_WRITE: Failing = Failing {
+    source: None,
+    sink: Some(0),
+};
 
 #[derive(Drop)]
 struct Served {
@@ -130,113 +133,103 @@ fn session(alloc: Global, parts: &[&[u8]], failing: Failing) -> Result<Served, F
     })
 }
 
-/// It was told these parts, and ended so, after so many bytes.
-fn tells(
-    alloc: Global,
-    parts: &[&[u8]],
-    failing: Failing,
-    told: &[&[u8]],
-    taken: u64,
-    ending: Ending,
-) -> Result<bool, Fail> {
+type Parts = &'static [&'static [u8]];
+
+/// A session of these parts on ports that may fail, what it is told, after how many bytes it ends, and how.
+type Row = (Parts, Failing, Parts, u64, Ending);
+
+fn try_row(rt: &impl Abort, alloc: Global, row: &Row) -> Result<(), Fail> {
+    let (parts, failing, told, taken, ending) = row;
     let wanted = joined(alloc, told)?;
-    let served = session(alloc, parts, failing)?;
-    let given = wanted.len() as u64;
+    let served = session(alloc, parts, *failing)?;
+    same(rt, served.told.as_slice(), wanted.as_slice());
     let report = LaneReport {
-        taken,
-        given,
-        ending,
+        taken: *taken,
+        given: wanted.len() as u64,
+        ending: *ending,
     };
-    Ok(served.told.as_slice() == wanted.as_slice() && served.report == report)
+    same(rt, served.report, report);
+    Ok(())
 }
+
+fn try_rows(rt: &impl Abort, alloc: Global, rows: &[Row]) -> Result<(), Fail> {
+    for row in rows {
+        try_row(rt, alloc, row)?;
+    }
+    Ok(())
+}
+
+static CLEAN: [Row; 5] = [
+    (&[], NONE, &[], 0, Ending::Clean),
+    (&[BYE], NONE, &[DONE], 5, Ending::Clean),
+    (&[FINISH], NONE, &[WRONG_STATE], 5, Ending::Clean),
+    // what is behind BYE is not read
+    (&[BYE, FINISH], NONE, &[DONE], 5, Ending::Clean),
+    // FINISH finds no manifest
+    (
+        &[OPEN_WRITER, BLOB, FINISH, BYE],
+        NONE,
+        &[NO_BASE, DONE, b"\x01\x00\x00\x00\x09", DONE],
+        81,
+        Ending::Clean,
+    ),
+];
 
 #[test]
 fn sessions_end_where_their_input_does(rt: HostRuntime) -> Result<(), Fail> {
-    let alloc = rt.alloc();
-    assert!(rt; tells(alloc, &[], NONE, &[], 0, Ending::Clean)?);
-    assert!(rt; tells(alloc, &[BYE], NONE, &[DONE], 5, Ending::Clean)?);
-    assert!(rt; tells(alloc, &[FINISH], NONE, &[WRONG_STATE], 5, Ending::Clean)?);
-    // what is behind BYE is not read
-    assert!(rt; tells(alloc, &[BYE, FINISH], NONE, &[DONE], 5, Ending::Clean)?);
-    Ok(())
+    try_rows(&rt, rt.alloc(), &CLEAN)
 }
+
+/// BadFrame at 0, and at 5.
+const AT_0: &[u8] = b"\x09\x00\x00\x00\x01\x00\x00\x00\x00\x00\x00\x00\x00";
+
+const AT_5: &[u8] = b"\x09\x00\x00\x00\x01\x05\x00\x00\x00\x00\x00\x00\x00";
+
+const UNKNOWN: &[u8] = b"\x01\x00\x00\x00\x63";
+
+const BROKEN_AT_5: Ending = Ending::Broken { place: 5 };
+
+static BROKEN: [Row; 5] = [
+    (&[UNKNOWN], NONE, &[AT_0], 5, Ending::Broken { place: 0 }),
+    (
+        &[FINISH, UNKNOWN],
+        NONE,
+        &[WRONG_STATE, AT_5],
+        10,
+        BROKEN_AT_5,
+    ),
+    // frames that the end of the input cuts
+    (
+        &[FINISH, b"\x03\x00"],
+        NONE,
+        &[WRONG_STATE, AT_5],
+        7,
+        BROKEN_AT_5,
+    ),
+    (
+        &[FINISH, b"\x03\x00\x00\x00\x12"],
+        NONE,
+        &[WRONG_STATE, AT_5],
+        10,
+        BROKEN_AT_5,
+    ),
+    // a length over the limit
+    (
+        &[FINISH, b"\xff\xff\xff\xff\x00"],
+        NONE,
+        &[WRONG_STATE, b"\x05\x00\x00\x00\x02\xff\xff\xff\xff"],
+        10,
+        BROKEN_AT_5,
+    ),
+];
 
 #[test]
 fn what_is_no_command_ends_a_session(rt: HostRuntime) -> Result<(), Fail> {
-    let alloc = rt.alloc();
-    let unknown = b"\x01\x00\x00\x00\x63";
-    let at_0 = b"\x09\x00\x00\x00\x01\x00\x00\x00\x00\x00\x00\x00\x00";
-    let at_5 = b"\x09\x00\x00\x00\x01\x05\x00\x00\x00\x00\x00\x00\x00";
-    assert!(rt;
-        tells(
-            alloc,
-            &[unknown],
-            NONE,
-            &[at_0],
-            5,
-            Ending::Broken { place: 0 }
-        )?
-    );
-    assert!(rt;
-        tells(
-            alloc,
-            &[FINISH, unknown],
-            NONE,
-            &[WRONG_STATE, at_5],
-            10,
-            Ending::Broken { place: 5 }
-        )?
-    );
-    // frames that the end of the input cuts
-    assert!(rt;
-        tells(
-            alloc,
-            &[FINISH, b"\x03\x00"],
-            NONE,
-            &[WRONG_STATE, at_5],
-            7,
-            Ending::Broken { place: 5 }
-        )?
-    );
-    assert!(rt;
-        tells(
-            alloc,
-            &[FINISH, b"\x03\x00\x00\x00\x12"],
-            NONE,
-            &[WRONG_STATE, at_5],
-            10,
-            Ending::Broken { place: 5 }
-        )?
-    );
-    // a length over the limit
-    let long = b"\x05\x00\x00\x00\x02\xff\xff\xff\xff";
-    assert!(rt;
-        tells(
-            alloc,
-            &[FINISH, b"\xff\xff\xff\xff\x00"],
-            NONE,
-            &[WRONG_STATE, long],
-            10,
-            Ending::Broken { place: 5 }
-        )?
-    );
-    Ok(())
+    try_rows(&rt, rt.alloc(), &BROKEN)
 }
 
-#[test]
-fn sessions_are_served(rt: HostRuntime) -> Result<(), Fail> {
-    let alloc = rt.alloc();
-    let input = [OPEN_WRITER, BLOB, FINISH, BYE];
-    // FINISH finds no manifest
-    let told = [NO_BASE, DONE, b"\x01\x00\x00\x00\x09", DONE];
-    assert!(rt; tells(alloc, &input, NONE, &told, 81, Ending::Clean)?);
-    Ok(())
-}
-
-#[test]
-fn jobs_are_done(rt: HostRuntime) -> Result<(), Fail> {
-    let alloc = rt.alloc();
-    let input = [
+static PRUNED: [Row; 1] = [(
+    &[
         OPEN_WRITER,
         MANIFEST,
         FINISH,
@@ -247,12 +240,18 @@ fn jobs_are_done(rt: HostRuntime) -> Result<(), Fail> {
         PRUNE,
         GROUP,
         BYE,
-    ];
-    let told = [
+    ],
+    NONE,
+    &[
         NO_BASE, DONE, DONE, BASE, DONE, DONE, MARKS, MARKS, KEYS, DONE,
-    ];
-    assert!(rt; tells(alloc, &input, NONE, &told, 357, Ending::Clean)?);
-    Ok(())
+    ],
+    357,
+    Ending::Clean,
+)];
+
+#[test]
+fn jobs_are_done(rt: HostRuntime) -> Result<(), Fail> {
+    try_rows(&rt, rt.alloc(), &PRUNED)
 }
 
 /// What a lane is told of a session of these parts, on a datastore that other lanes have used.
@@ -290,6 +289,21 @@ fn act_on_5(
     Ok(())
 }
 
+fn try_told(
+    rt: &impl Abort,
+    core: &mut Core<MemoryDisk, MemoryDisk, SetClock>,
+    alloc: Global,
+    lane: u32,
+    parts: &[&[u8]],
+    told: &[&[u8]],
+) -> Result<(), Fail>
+    requires { lane < 64 }
+{
+    let found = told_on(core, alloc, lane, parts)?;
+    same(rt, found.as_slice(), joined(alloc, told)?.as_slice());
+    Ok(())
+}
+
 /// A PRUNE of which another lane reads what is to go, and again as it has been closed.
 #[test]
 fn held_snapshots_stay(rt: HostRuntime) -> Result<(), Fail> {
@@ -305,53 +319,30 @@ fn held_snapshots_stay(rt: HostRuntime) -> Result<(), Fail> {
         NEXT_MANIFEST,
         FINISH,
     ];
-    let _ = told_on(&mut core, alloc, 3, &both)?;
+    let replies = [NO_BASE, DONE, DONE, BASE, DONE, DONE];
+    try_told(&rt, &mut core, alloc, 3, &both, &replies)?;
     let snapshot = Bytes::from_slice(alloc, b"host/a/2020-01-15T06:30:03Z")?;
     act_on_5(&mut core, alloc, Command::OpenReader { snapshot })?;
-    let told = told_on(&mut core, alloc, 4, &[PRUNE, GROUP])?;
-    assert_eq!(rt;
-        told.as_slice(),
-        joined(alloc, &[HELD_MARKS, BOTH_KEYS])?.as_slice()
-    );
+    let held = [HELD_MARKS, BOTH_KEYS];
+    try_told(&rt, &mut core, alloc, 4, &[PRUNE, GROUP], &held)?;
     act_on_5(&mut core, alloc, Command::CloseReader)?;
-    let told = told_on(&mut core, alloc, 2, &[PRUNE, GROUP])?;
-    assert_eq!(rt; told.as_slice(), joined(alloc, &[MARKS, KEYS])?.as_slice());
-    Ok(())
+    try_told(&rt, &mut core, alloc, 2, &[PRUNE, GROUP], &[MARKS, KEYS])
 }
+
+static FAILED: [Row; 4] = [
+    (&[FINISH, BYE], FIRST_READ, &[], 0, Ending::SourceFault),
+    (
+        &[FINISH, BYE],
+        SECOND_READ,
+        &[WRONG_STATE],
+        5,
+        Ending::SourceFault,
+    ),
+    (&[FINISH, BYE], FIRST_WRITE, &[], 5, Ending::SinkFault),
+    (&[BYE], FIRST_WRITE, &[], 5, Ending::SinkFault),
+];
 
 #[test]
 fn ports_may_fail(rt: HostRuntime) -> Result<(), Fail> {
-    let alloc = rt.alloc();
-    assert!(rt;
-        tells(
-            alloc,
-            &[FINISH, BYE],
-            source_fails(0),
-            &[],
-            0,
-            Ending::SourceFault
-        )?
-    );
-    assert!(rt;
-        tells(
-            alloc,
-            &[FINISH, BYE],
-            source_fails(1),
-            &[WRONG_STATE],
-            5,
-            Ending::SourceFault
-        )?
-    );
-    assert!(rt;
-        tells(
-            alloc,
-            &[FINISH, BYE],
-            sink_fails(0),
-            &[],
-            5,
-            Ending::SinkFault
-        )?
-    );
-    assert!(rt; tells(alloc, &[BYE], sink_fails(0), &[], 5, Ending::SinkFault)?);
-    Ok(())
+    try_rows(&rt, rt.alloc(), &FAILED)
 }

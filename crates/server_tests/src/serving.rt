@@ -13,6 +13,7 @@ mod restore_faults;
 mod reuse;
 mod talks;
 
+use crate::asserts::same;
 use archives::{
     CHUNKS, CHUNKS_REPLIES, EMPTY_ARCHIVE, EMPTY_ARCHIVE_REPLIES, OPEN_INDEX, OPEN_INDEX_REPLIES,
     SENT_AGAIN, SENT_AGAIN_REPLIES,
@@ -221,13 +222,11 @@ struct Left<'a> {
 
 /// The order has entries of these kinds, all of lane 0 at 1,600,000,000, and as many counts of calls.
 fn assert_kinds<D>(rt: &impl Abort, served: &Served<D, MemoryDisk>, kinds: &[u8]) {
-    assert_eq!(rt; served.order.len(), kinds.len());
-    assert_eq!(rt; served.report.calls.len(), kinds.len());
+    same(rt, served.order.len(), kinds.len());
+    same(rt, served.report.calls.len(), kinds.len());
     for (entry, kind) in served.order.iter().zip(kinds) {
-        assert_eq!(rt;
-            (entry.lane, entry.moment, entry.kind),
-            (0, 1_600_000_000, *kind)
-        );
+        let entered = (entry.lane, entry.moment, entry.kind);
+        same(rt, entered, (0, 1_600_000_000, *kind));
     }
 }
 
@@ -237,9 +236,9 @@ fn assert_run<D>(
     served: &Served<D, MemoryDisk>,
     left: &Left<'_>,
 ) -> Result<(), Fail> {
-    assert_eq!(rt; told, left.replies);
-    assert_eq!(rt; served.status, left.status);
-    assert_eq!(rt; report_of(served)?, left.report);
+    same(rt, told, left.replies);
+    same(rt, served.status, left.status);
+    same(rt, report_of(served)?, left.report);
     assert_kinds(rt, served, left.kinds);
     Ok(())
 }
@@ -252,10 +251,10 @@ fn assert_holds(
     files: &[(&str, u64)],
 ) -> Result<(), Fail> {
     let names = disk.list(alloc, "")?;
-    assert_eq!(rt; names.len(), files.len());
+    same(rt, names.len(), files.len());
     for (name, (wanted, size)) in names.iter().zip(files) {
-        assert_eq!(rt; name.as_str(), *wanted);
-        assert_eq!(rt; disk.size(wanted)?, Some(*size));
+        same(rt, name.as_str(), *wanted);
+        same(rt, disk.size(wanted)?, Some(*size));
     }
     Ok(())
 }
@@ -266,7 +265,7 @@ fn front(bytes: &[u8], count: u64) -> &[u8] {
 }
 
 /// Sessions that end at BYE or between two frames, with their replies and the kinds of their entries.
-const CLEAN: [(&[u8], &[u8], &[u8]); 15] = [
+static CLEAN: [(&[u8], &[u8], &[u8]); 15] = [
     (b"", b"", &[6]),
     (b"\x01\0\0\0\x3f", b"\x01\0\0\0\0", &[6]),
     // FINISH without a session
@@ -301,7 +300,7 @@ const CLEAN: [(&[u8], &[u8], &[u8]); 15] = [
 
 /// Sessions that come to a place without a command, with their replies, the kinds of their entries, how many bytes are taken,
 /// and the place.
-const BROKEN: [(&[u8], &[u8], &[u8], u64, u64); 12] = [
+static BROKEN: [(&[u8], &[u8], &[u8], u64, u64); 12] = [
     // an unknown code, an empty body, and a frame that the end of the input cuts
     (b"\x01\0\0\0\x63", BAD_AT_0, &[6], 5, 0),
     (b"\0\0\0\0", BAD_AT_0, &[6], 4, 0),
@@ -374,7 +373,7 @@ fn try_session(rt: &impl Abort, alloc: Global, input: &[u8], left: &Left<'_>) ->
 
 /// The counts of the disk's calls beside the entries: FINISH puts and syncs, DOWNLOAD asks the size and reads; CHUNK asks the size,
 /// and puts only where no file was there.
-const COUNTED: [(&[u8], &[u64]); 2] = [
+static COUNTED: [(&[u8], &[u64]); 2] = [
     (READ_BACK, &[0, 0, 2, 2, 4, 4]),
     (SENT_AGAIN, &[0, 2, 2, 2, 3, 3]),
 ];
@@ -388,7 +387,7 @@ fn calls_are_counted(rt: HostRuntime) -> Result<(), Fail> {
             sink: empty_sink(alloc),
         }];
         let served = run_on(alloc, &mut ports, MemoryDisk::new(alloc))?;
-        assert_eq!(rt; served.report.calls.as_slice(), *calls);
+        same(&rt, served.report.calls.as_slice(), *calls);
     }
     Ok(())
 }
@@ -489,15 +488,27 @@ fn words_are_read(rt: HostRuntime) -> Result<(), Fail> {
     else {
         return Err("no plan".into());
     };
-    assert_eq!(rt; root.as_str(), "root");
-    assert!(rt; remote.is_none() && order.is_none());
-    assert_eq!(rt; sessions.len(), 1);
-    assert_eq!(rt; sessions[0].as_str(), "session");
+    same(&rt, root.as_str(), "root");
+    same(&rt, (remote.is_none(), order.is_none()), (true, true));
+    same(&rt, sessions.len(), 1);
+    same(&rt, sessions[0].as_str(), "session");
     let _ = all.pop();
-    assert_eq!(rt; plan_words(alloc, &all).err(), Some(WordFault::NoReading));
+    same(
+        &rt,
+        plan_words(alloc, &all).err(),
+        Some(WordFault::NoReading),
+    );
     all.push(String::from_str(alloc, "--order")?)?;
-    assert_eq!(rt; plan_words(alloc, &all).err(), Some(WordFault::NoReading));
-    assert_eq!(rt; plan_words(alloc, &[]).err(), Some(WordFault::NoReading));
+    same(
+        &rt,
+        plan_words(alloc, &all).err(),
+        Some(WordFault::NoReading),
+    );
+    same(
+        &rt,
+        plan_words(alloc, &[]).err(),
+        Some(WordFault::NoReading),
+    );
     Ok(())
 }
 
@@ -525,7 +536,11 @@ fn ports_are_counted(rt: HostRuntime) -> Result<(), Fail> {
         &mut empty_sink(alloc),
         &FreeGate,
     );
-    assert_eq!(rt; (served.status, served.status.number()), (Status::Usage, 2));
-    assert!(rt; served.order.is_empty() && served.report.lanes.is_empty());
+    same(
+        &rt,
+        (served.status, served.status.number()),
+        (Status::Usage, 2),
+    );
+    same(&rt, (served.order.len(), served.report.lanes.len()), (0, 0));
     Ok(())
 }

@@ -1,372 +1,443 @@
 //! Sessions against sizes and checksums that were made elsewhere.
 
-ghost use Rattle.std.specs.Prelude.{◌≡◌, ◌≤◌, None, IfOk, OnOk};
+ghost use Rattle.std.specs.Prelude.{◌≡◌, None, IfOk, OnOk};
 
-use crate::fixtures::{ABC, DE, NOTHING, key, named};
+use crate::asserts::same_at;
+use crate::faults::{Fault, refusal};
+use crate::fixtures::{ABC, DE, NINES, NOTHING, SEVENS, key, named};
 use backup_session::{Writer, open_writer};
 use blob_codec::{decode, encode};
-use std::alloc::{AllocError, Global};
+use std::alloc::Global;
 use std::process::Abort;
 use std::test::Fail;
-use store_types::{Bytes, CloseFault, Digest32, FileName, Refusal};
+use store_types::{CloseFault, Digest32, FileName, Refusal};
 
 /// The checksum of the index of both.
-const CSUM: [u8; 32] = [
+const CSUM: Digest32 = Digest32([
     0xda, 0x46, 0x4a, 0xae, 0x3d, 0x9f, 0x63, 0xd0, 0x6f, 0x30, 0x87, 0x10, 0x06, 0x2b, 0x5d, 0xb4,
     0x19, 0x96, 0xb1, 0xe3, 0x69, 0x90, 0xb9, 0x2e, 0xcc, 0x69, 0x34, 0x40, 0xe6, 0x66, 0x01, 0x51,
-];
+]);
 
 /// SHA-256 of 32 bytes 07.
-const FIRST: [u8; 32] = [
+const FIRST: Digest32 = Digest32([
     0x4b, 0xb0, 0x6f, 0x8e, 0x4e, 0x3a, 0x77, 0x15, 0xd2, 0x01, 0xd5, 0x73, 0xd0, 0xaa, 0x42, 0x37,
     0x62, 0xe5, 0x5d, 0xab, 0xd6, 0x1a, 0x2c, 0x02, 0x27, 0x8f, 0xa5, 0x6c, 0xc6, 0xd2, 0x94, 0xe0,
-];
+]);
 
 /// SHA-256 of 32 bytes 07 and 32 bytes 09.
-const BOTH: [u8; 32] = [
+const BOTH: Digest32 = Digest32([
     0x49, 0x44, 0x0f, 0xa4, 0x64, 0xb1, 0x71, 0xc0, 0x74, 0x62, 0xbb, 0x22, 0x42, 0x2a, 0xac, 0x0a,
     0xd0, 0x08, 0x6d, 0x5f, 0x23, 0x1a, 0xd3, 0xe0, 0x50, 0x71, 0xff, 0x5e, 0x88, 0x26, 0xd7, 0x54,
+]);
+
+/// A call of a writer. The index that it appends to or closes is the first.
+#[derive(Clone, Copy, Debug)]
+enum Call {
+    Dynamic(&'static str),
+    /// A fixed index, of an archive of so many bytes in pieces of so many.
+    Fixed(&'static str, u64, u64),
+    Chunk(Digest32, u32),
+    Append(&'static [(Digest32, u64)]),
+    /// By the number of pieces, their size and the checksum. The file is kept.
+    Close(u64, u64, Digest32),
+    /// The same, but the file goes back.
+    CloseBack(u64, u64, Digest32),
+    /// The blob of nothing, which is kept.
+    Blob(&'static str),
+    /// The same, but it goes back.
+    BlobBack(&'static str),
+    /// The blob of a manifest of these bytes, which is kept.
+    Manifest(&'static [u8]),
+    Finish,
+}
+
+/// What a call tells: an index's number, the length of a closed index's text, how many files a manifest lists, and 0
+/// where it tells nothing.
+type Told = Result<u64, Refusal>;
+
+type Calls = &'static [(Call, Result<u64, Fault>)];
+
+fn expected_of(alloc: Global, expected: Result<u64, Fault>) -> Result<Told, Fail> {
+    match expected {
+        Ok(value) => Ok(Ok(value)),
+        Err(fault) => Ok(Err(refusal(alloc, fault)?)),
+    }
+}
+
+fn begin(w: &mut Writer, alloc: Global, name: &str) -> Result<Told, Fail>
+    requires { w.old.pending ≡ None }
+    ensures { w.new.pending ≡ None }
+{
+    let name = named(alloc, name)?;
+    match w.new_dynamic(alloc, name, 1_579_069_803)? {
+        Ok(number) => Ok(Ok(number as u64)),
+        Err(refusal) => Ok(Err(refusal)),
+    }
+}
+
+fn begin_fixed(
+    w: &mut Writer,
+    alloc: Global,
+    name: &str,
+    size: u64,
+    chunk_size: u64,
+) -> Result<Told, Fail>
+    requires { w.old.pending ≡ None }
+    ensures { w.new.pending ≡ None }
+{
+    let name = named(alloc, name)?;
+    match w.new_fixed(alloc, name, 1_579_069_803, size, chunk_size)? {
+        Ok(number) => Ok(Ok(number as u64)),
+        Err(refusal) => Ok(Err(refusal)),
+    }
+}
+
+fn note_chunk(w: &mut Writer, digest: &Digest32, length: u32) -> Result<Told, Fail>
+    requires { w.old.pending ≡ None }
+    ensures { w.new.pending ≡ None }
+{
+    if length == 0 || length > 16_777_216 {
+        return Err("no chunk's length".into());
+    }
+    w.chunk(digest, length)?;
+    Ok(Ok(0))
+}
+
+fn append(w: &mut Writer, alloc: Global, entries: &[(Digest32, u64)]) -> Result<Told, Fail>
+    requires { w.old.pending ≡ None }
+    ensures { w.new.pending ≡ None }
+{
+    match w.append(alloc, 0, entries)? {
+        Ok(()) => Ok(Ok(0)),
+        Err(refusal) => Ok(Err(refusal)),
+    }
+}
+
+fn close(
+    w: &mut Writer,
+    alloc: Global,
+    count: u64,
+    size: u64,
+    csum: &Digest32,
+    kept: bool,
+) -> Result<Told, Fail>
+    requires { w.old.pending ≡ None }
+    ensures { OnOk result (w.new.pending ≡ None) }
+{
+    match w.close_index(alloc, 0, count, size, csum)? {
+        Ok(text) => {
+            if kept {
+                w.keep()
+            } else {
+                w.back()
+            }
+            Ok(Ok(text.len() as u64))
+        }
+        Err(refusal) => Ok(Err(refusal)),
+    }
+}
+
+fn take(
+    w: &mut Writer,
+    alloc: Global,
+    name: FileName,
+    data: &[u8],
+    kept: bool,
+) -> Result<Told, Fail>
+    requires { w.old.pending ≡ None }
+    ensures { OnOk result (w.new.pending ≡ None) }
+{
+    let text = encode(alloc, data)??;
+    decode(&text)?;
+    match w.blob(alloc, name, &text)? {
+        Ok(()) => {
+            if kept {
+                w.keep()
+            } else {
+                w.back()
+            }
+            Ok(Ok(0))
+        }
+        Err(refusal) => Ok(Err(refusal)),
+    }
+}
+
+fn finish(w: &Writer, alloc: Global) -> Result<Told, Fail>
+    requires { w.now.pending ≡ None }
+{
+    match w.finish_check(alloc)? {
+        Ok(manifest) => Ok(Ok(manifest.files.as_slice().len() as u64)),
+        Err(refusal) => Ok(Err(refusal)),
+    }
+}
+
+fn make(w: &mut Writer, alloc: Global, call: Call) -> Result<Told, Fail>
+    requires { w.old.pending ≡ None }
+    ensures { OnOk result (w.new.pending ≡ None) }
+{
+    match call {
+        Call::Dynamic(name) => begin(w, alloc, name),
+        Call::Fixed(name, size, chunk_size) => begin_fixed(w, alloc, name, size, chunk_size),
+        Call::Chunk(digest, length) => note_chunk(w, &digest, length),
+        Call::Append(entries) => append(w, alloc, entries),
+        Call::Close(count, size, csum) => close(w, alloc, count, size, &csum, true),
+        Call::CloseBack(count, size, csum) => close(w, alloc, count, size, &csum, false),
+        Call::Blob(name) => take(w, alloc, named(alloc, name)?, b"", true),
+        Call::BlobBack(name) => take(w, alloc, named(alloc, name)?, b"", false),
+        Call::Manifest(data) => take(w, alloc, FileName::manifest(alloc)?, data, true),
+        Call::Finish => finish(w, alloc),
+    }
+}
+
+fn try_call(
+    rt: &impl Abort,
+    w: &mut Writer,
+    alloc: Global,
+    call: Call,
+    expected: Result<u64, Fault>,
+) -> Result<(), Fail>
+    requires { w.old.pending ≡ None }
+    ensures { OnOk result (w.new.pending ≡ None) }
+{
+    let told = make(w, alloc, call)?;
+    same_at(rt, call, told, expected_of(alloc, expected)?);
+    Ok(())
+}
+
+/// Makes the calls one after another, and compares what each tells.
+fn try_calls(
+    rt: &impl Abort,
+    w: &mut Writer,
+    alloc: Global,
+    calls: &[(Call, Result<u64, Fault>)],
+) -> Result<(), Fail>
+    requires { w.old.pending ≡ None }
+    ensures { OnOk result (w.new.pending ≡ None) }
+{
+    for (call, expected) in calls {
+        try_call(rt, w, alloc, *call, *expected)?;
+    }
+    Ok(())
+}
+
+/// A new writer after these calls.
+fn after(
+    rt: &impl Abort,
+    alloc: Global,
+    calls: &[(Call, Result<u64, Fault>)],
+) -> Result<Writer, Fail>
+    ensures { IfOk result (λ w. w.pending ≡ None) }
+{
+    let mut w = open_writer(alloc, key(alloc)?, 1_579_069_803, None);
+    try_calls(rt, &mut w, alloc, calls)?;
+    Ok(w)
+}
+
+/// Makes calls of a new writer, and then the calls that are tried.
+fn try_after(rt: &impl Abort, alloc: Global, before: Calls, calls: Calls) -> Result<(), Fail> {
+    let mut w = after(rt, alloc, before)?;
+    try_calls(rt, &mut w, alloc, calls)
+}
+
+/// `root.didx` is open, and `abc` may be appended.
+static BEGUN: Calls = &[
+    (Call::Dynamic("root.didx"), Ok(0)),
+    (Call::Chunk(ABC, 3), Ok(0)),
 ];
 
-fn writer(alloc: Global) -> Result<Writer, Fail>
-    ensures { IfOk result (λ w. w.pending ≡ None) }
-{
-    Ok(open_writer(alloc, key(alloc)?, 1_579_069_803, None))
-}
-
-/// Begins an index, and compares the answer.
-fn begins(
-    rt: &impl Abort,
-    alloc: Global,
-    w: &mut Writer,
-    name: &str,
-    expected: Result<u8, Refusal>,
-) -> Result<(), Fail>
-    requires { w.old.pending ≡ None }
-    ensures { w.new.pending ≡ None }
-{
-    let name = named(alloc, name)?;
-    let answer = w.new_dynamic(alloc, name, 1_579_069_803)?;
-    assert_eq!(rt; answer, expected);
-    Ok(())
-}
-
-/// Appends to an index, and compares the answer.
-fn appends(
-    rt: &impl Abort,
-    alloc: Global,
-    w: &mut Writer,
-    number: u8,
-    entries: &[(Digest32, u64)],
-    expected: Result<(), Refusal>,
-) -> Result<(), Fail>
-    requires { w.old.pending ≡ None }
-    ensures { w.new.pending ≡ None }
-{
-    let answer = w.append(alloc, number, entries)?;
-    assert_eq!(rt; answer, expected);
-    Ok(())
-}
-
-/// Closes an index, and compares the length of the text or the refusal. The file is kept, or it goes back.
-fn closes(
-    rt: &impl Abort,
-    alloc: Global,
-    w: &mut Writer,
-    facts: (u8, u64, u64, Digest32),
-    kept: bool,
-    expected: Result<usize, Refusal>,
-) -> Result<(), Fail>
-    requires { w.old.pending ≡ None }
-    ensures { OnOk result (w.new.pending ≡ None) }
-{
-    let (number, count, size, csum) = facts;
-    match w.close_index(alloc, number, count, size, &csum)? {
-        Ok(text) => {
-            assert_eq!(rt; Ok(text.len()), expected);
-            if kept { w.keep() } else { w.back() }
-        }
-        Err(refusal) => assert_eq!(rt; Err(refusal), expected),
-    }
-    Ok(())
-}
-
-/// Takes a blob, and compares the answer. The file is kept, or it goes back.
-fn takes(
-    rt: &impl Abort,
-    alloc: Global,
-    w: &mut Writer,
-    name: &str,
-    kept: bool,
-    expected: Result<(), Refusal>,
-) -> Result<(), Fail>
-    requires { w.old.pending ≡ None }
-    ensures { OnOk result (w.new.pending ≡ None) }
-{
-    let name = named(alloc, name)?;
-    let text = encode(alloc, b"")??;
-    decode(&text)?;
-    let answer = w.blob(alloc, name, &text)?;
-    if answer.is_ok() {
-        if kept { w.keep() } else { w.back() }
-    }
-    assert_eq!(rt; answer, expected);
-    Ok(())
-}
-
-/// A writer with `root.didx` open, to which `abc` may be appended.
-fn begun(rt: &impl Abort, alloc: Global) -> Result<Writer, Fail>
-    ensures { IfOk result (λ w. w.pending ≡ None) }
-{
-    let mut w = writer(alloc)?;
-    begins(rt, alloc, &mut w, "root.didx", Ok(0))?;
-    w.chunk(&ABC, 3)?;
-    Ok(w)
-}
+const ABC_AND_DE: Call = Call::Append(&[(ABC, 0), (DE, 3)]);
 
 /// The same with `abc` and `de` appended.
-fn grown(rt: &impl Abort, alloc: Global) -> Result<Writer, Fail>
-    ensures { IfOk result (λ w. w.pending ≡ None) }
-{
-    let mut w = begun(rt, alloc)?;
-    w.chunk(&DE, 2)?;
-    let entries = [(ABC, 0), (DE, 3)];
-    appends(rt, alloc, &mut w, 0, &entries, Ok(()))?;
-    Ok(w)
-}
+static GROWN: Calls = &[
+    (Call::Dynamic("root.didx"), Ok(0)),
+    (Call::Chunk(ABC, 3), Ok(0)),
+    (Call::Chunk(DE, 2), Ok(0)),
+    (ABC_AND_DE, Ok(0)),
+];
+
+const MISPLACED: Call = Call::Append(&[(ABC, 0), (DE, 2)]);
+
+static ALL_OR_NOTHING: Calls = &[
+    (MISPLACED, Err(Fault::UnknownChunk(1))),
+    (Call::Chunk(DE, 2), Ok(0)),
+    (MISPLACED, Err(Fault::BadOffset(1, 3))),
+    (Call::Close(0, 0, NOTHING), Ok(4096)),
+];
 
 #[test]
 fn appends_all_or_nothing(rt: HostRuntime) -> Result<(), Fail> {
-    let alloc = rt.alloc();
-    let mut w = begun(&rt, alloc)?;
-    let entries = [(ABC, 0), (DE, 2)];
-    let unknown = Refusal::UnknownChunk { place: 1 };
-    appends(&rt, alloc, &mut w, 0, &entries, Err(unknown))?;
-    w.chunk(&DE, 2)?;
-    let expected = 3;
-    let misplaced = Refusal::BadOffset { place: 1, expected };
-    appends(&rt, alloc, &mut w, 0, &entries, Err(misplaced))?;
-    let empty = (0, 0, 0, NOTHING);
-    closes(&rt, alloc, &mut w, empty, true, Ok(4096))
+    try_after(&rt, rt.alloc(), BEGUN, ALL_OR_NOTHING)
 }
+
+static WRONG_FACTS: Calls = &[
+    (
+        Call::Close(1, 6, ABC),
+        Err(Fault::BadClose(CloseFault::Count(2))),
+    ),
+    (
+        Call::Close(2, 6, ABC),
+        Err(Fault::BadClose(CloseFault::Size(5))),
+    ),
+    (
+        Call::Close(2, 5, ABC),
+        Err(Fault::BadClose(CloseFault::Csum(CSUM))),
+    ),
+];
 
 #[test]
 fn closes_by_its_facts(rt: HostRuntime) -> Result<(), Fail> {
-    let alloc = rt.alloc();
-    let mut w = grown(&rt, alloc)?;
-    let (right, wrong) = (Digest32(CSUM), ABC);
-    let count = Refusal::BadClose(CloseFault::Count(2));
-    closes(&rt, alloc, &mut w, (0, 1, 6, wrong), true, Err(count))?;
-    let size = Refusal::BadClose(CloseFault::Size(5));
-    closes(&rt, alloc, &mut w, (0, 2, 6, wrong), true, Err(size))?;
-    let csum = Refusal::BadClose(CloseFault::Csum(right));
-    closes(&rt, alloc, &mut w, (0, 2, 5, wrong), true, Err(csum))
+    try_after(&rt, rt.alloc(), GROWN, WRONG_FACTS)
 }
+
+static CLOSINGS: Calls = &[
+    (Call::CloseBack(2, 5, CSUM), Ok(4176)),
+    (Call::Close(2, 5, CSUM), Ok(4176)),
+    (Call::Close(2, 5, CSUM), Err(Fault::NoFile)),
+];
 
 #[test]
 fn goes_back_or_is_kept(rt: HostRuntime) -> Result<(), Fail> {
-    let alloc = rt.alloc();
-    let mut w = grown(&rt, alloc)?;
-    let facts = (0, 2, 5, Digest32(CSUM));
-    closes(&rt, alloc, &mut w, facts, false, Ok(4176))?;
-    closes(&rt, alloc, &mut w, facts, true, Ok(4176))?;
-    closes(&rt, alloc, &mut w, facts, true, Err(Refusal::NoFile))
+    try_after(&rt, rt.alloc(), GROWN, CLOSINGS)
 }
+
+static NAMES: Calls = &[
+    (Call::Dynamic("b.blob"), Err(Fault::BadName)),
+    (Call::Dynamic("root.didx"), Err(Fault::Exists)),
+    (Call::Dynamic("home.didx"), Ok(1)),
+];
 
 #[test]
 fn names_are_taken_once(rt: HostRuntime) -> Result<(), Fail> {
-    let alloc = rt.alloc();
-    let mut w = begun(&rt, alloc)?;
-    begins(&rt, alloc, &mut w, "b.blob", Err(Refusal::BadName))?;
-    begins(&rt, alloc, &mut w, "root.didx", Err(Refusal::Exists))?;
-    begins(&rt, alloc, &mut w, "home.didx", Ok(1))
+    try_after(&rt, rt.alloc(), BEGUN, NAMES)
 }
+
+static MANIFESTS: Calls = &[
+    (Call::BlobBack("index.json.blob"), Ok(0)),
+    (Call::Blob("index.json.blob"), Ok(0)),
+    (Call::Blob("index.json.blob"), Err(Fault::Exists)),
+];
 
 #[test]
 fn the_manifest_is_taken_once(rt: HostRuntime) -> Result<(), Fail> {
-    let alloc = rt.alloc();
-    let mut w = writer(alloc)?;
-    let name = "index.json.blob";
-    takes(&rt, alloc, &mut w, name, false, Ok(()))?;
-    takes(&rt, alloc, &mut w, name, true, Ok(()))?;
-    takes(&rt, alloc, &mut w, name, true, Err(Refusal::Exists))
+    try_after(&rt, rt.alloc(), &[], MANIFESTS)
 }
 
-/// Begins a fixed index, and compares the answer.
-fn begins_fixed(
-    rt: &impl Abort,
-    alloc: Global,
-    w: &mut Writer,
-    name: &str,
-    sizes: (u64, u64),
-    expected: Result<u8, Refusal>,
-) -> Result<(), Fail>
-    requires { w.old.pending ≡ None }
-    ensures { w.new.pending ≡ None }
-{
-    let name = named(alloc, name)?;
-    let answer = w.new_fixed(alloc, name, 1_579_069_803, sizes.0, sizes.1)?;
-    assert_eq!(rt; answer, expected);
-    Ok(())
-}
+static SIZES: Calls = &[
+    (Call::Fixed("root.didx", 8192, 4096), Err(Fault::BadName)),
+    (
+        Call::Fixed("root.fidx", 8192, 5000),
+        Err(Fault::WrongSize(0, 5000)),
+    ),
+    (
+        Call::Fixed("root.fidx", 4_294_967_297, 4096),
+        Err(Fault::TooMany(1_048_576)),
+    ),
+    (Call::Fixed("root.fidx", 4_294_967_296, 4096), Ok(0)),
+];
 
 #[test]
 fn sizes_of_fixed_archives(rt: HostRuntime) -> Result<(), Fail> {
-    let alloc = rt.alloc();
-    let mut w = writer(alloc)?;
-    let odd = Refusal::WrongSize {
-        place: 0,
-        size: 5000,
-    };
-    begins_fixed(
-        &rt,
-        alloc,
-        &mut w,
-        "root.didx",
-        (8192, 4096),
-        Err(Refusal::BadName),
-    )?;
-    begins_fixed(&rt, alloc, &mut w, "root.fidx", (8192, 5000), Err(odd))?;
-    let limit = Refusal::TooMany { limit: 1_048_576 };
-    begins_fixed(
-        &rt,
-        alloc,
-        &mut w,
-        "root.fidx",
-        (4_294_967_297, 4096),
-        Err(limit),
-    )?;
-    begins_fixed(
-        &rt,
-        alloc,
-        &mut w,
-        "root.fidx",
-        (4_294_967_296, 4096),
-        Ok(0),
-    )
+    try_after(&rt, rt.alloc(), &[], SIZES)
 }
+
+/// Pieces of the base may be appended, the second of one byte.
+fn note_short(w: &mut Writer, alloc: Global) -> Result<(), Fail>
+    requires { w.old.pending ≡ None }
+    ensures { w.new.pending ≡ None }
+{
+    w.previous(alloc, &[(SEVENS, 4096), (NINES, 1), (DE, 2)])?;
+    Ok(())
+}
+
+static SHORT_BEGUN: Calls = &[(Call::Fixed("root.fidx", 4097, 4096), Ok(0))];
+
+/// A fixed archive whose last piece has one byte.
+static SHORT: Calls = &[
+    (
+        Call::Append(&[(SEVENS, 0), (DE, 4096)]),
+        Err(Fault::WrongSize(1, 2)),
+    ),
+    (Call::Append(&[(SEVENS, 0)]), Ok(0)),
+    (
+        Call::Close(1, 4096, FIRST),
+        Err(Fault::BadClose(CloseFault::Rest(4097))),
+    ),
+    (Call::Append(&[(NINES, 4096)]), Ok(0)),
+    (Call::Append(&[(NINES, 4097)]), Err(Fault::WrongSize(0, 1))),
+    (Call::Close(2, 4097, BOTH), Ok(4160)),
+];
 
 #[test]
 fn a_short_last_piece(rt: HostRuntime) -> Result<(), Fail> {
     let alloc = rt.alloc();
-    let mut w = writer(alloc)?;
-    begins_fixed(&rt, alloc, &mut w, "root.fidx", (4097, 4096), Ok(0))?;
-    let (first, last) = (Digest32([7; 32]), Digest32([9; 32]));
-    w.previous(alloc, &[(first, 4096), (last, 1), (DE, 2)])?;
-    let entries = [(first, 0), (DE, 4096)];
-    let long = Refusal::WrongSize { place: 1, size: 2 };
-    appends(&rt, alloc, &mut w, 0, &entries, Err(long))?;
-    appends(&rt, alloc, &mut w, 0, &[(first, 0)], Ok(()))?;
-    let rest = Refusal::BadClose(CloseFault::Rest(4097));
-    closes(
-        &rt,
-        alloc,
-        &mut w,
-        (0, 1, 4096, Digest32(FIRST)),
-        true,
-        Err(rest),
-    )?;
-    appends(&rt, alloc, &mut w, 0, &[(last, 4096)], Ok(()))?;
-    let full = Refusal::WrongSize { place: 0, size: 1 };
-    appends(&rt, alloc, &mut w, 0, &[(last, 4097)], Err(full))?;
-    closes(
-        &rt,
-        alloc,
-        &mut w,
-        (0, 2, 4097, Digest32(BOTH)),
-        true,
-        Ok(4160),
-    )
+    let mut w = after(&rt, alloc, SHORT_BEGUN)?;
+    note_short(&mut w, alloc)?;
+    try_calls(&rt, &mut w, alloc, SHORT)
 }
+
+/// Two whole pieces of the base may be appended.
+fn note_whole(w: &mut Writer, alloc: Global) -> Result<(), Fail>
+    requires { w.old.pending ≡ None }
+    ensures { w.new.pending ≡ None }
+{
+    w.previous(alloc, &[(SEVENS, 4096), (NINES, 4096)])?;
+    Ok(())
+}
+
+static WHOLE_BEGUN: Calls = &[(Call::Fixed("root.fidx", 8192, 4096), Ok(0))];
+
+/// A fixed archive of two whole pieces.
+static WHOLE: Calls = &[
+    (Call::Append(&[(SEVENS, 0), (NINES, 4096)]), Ok(0)),
+    (Call::Close(2, 8192, BOTH), Ok(4160)),
+];
 
 #[test]
 fn two_whole_pieces(rt: HostRuntime) -> Result<(), Fail> {
     let alloc = rt.alloc();
-    let mut w = writer(alloc)?;
-    begins_fixed(&rt, alloc, &mut w, "root.fidx", (8192, 4096), Ok(0))?;
-    let (first, last) = (Digest32([7; 32]), Digest32([9; 32]));
-    w.previous(alloc, &[(first, 4096), (last, 4096)])?;
-    appends(&rt, alloc, &mut w, 0, &[(first, 0), (last, 4096)], Ok(()))?;
-    closes(
-        &rt,
-        alloc,
-        &mut w,
-        (0, 2, 8192, Digest32(BOTH)),
-        true,
-        Ok(4160),
-    )
+    let mut w = after(&rt, alloc, WHOLE_BEGUN)?;
+    note_whole(&mut w, alloc)?;
+    try_calls(&rt, &mut w, alloc, WHOLE)
 }
 
-/// The manifest becomes a file, with these data.
-fn lists(alloc: Global, w: &mut Writer, data: &[u8]) -> Result<(), Fail>
-    requires { w.old.pending ≡ None }
-    ensures { OnOk result (w.new.pending ≡ None) }
-{
-    let name = FileName::manifest(alloc)?;
-    let text = encode(alloc, data)??;
-    decode(&text)?;
-    let answer = w.blob(alloc, name, &text)?;
-    if answer.is_ok() {
-        w.keep();
-    }
-    Ok(())
-}
+/// The file `root.didx`, of 5 bytes in two pieces.
+static UPLOADED: Calls = &[
+    (Call::Dynamic("root.didx"), Ok(0)),
+    (Call::Chunk(ABC, 3), Ok(0)),
+    (Call::Chunk(DE, 2), Ok(0)),
+    (ABC_AND_DE, Ok(0)),
+    (Call::Finish, Err(Fault::OpenIndexes(1))),
+    (Call::Close(2, 5, CSUM), Ok(4176)),
+];
 
-/// Tests whether the backup may be finished, and compares the number of listed files or the refusal.
-fn finishes(
-    rt: &impl Abort,
-    alloc: Global,
-    w: &Writer,
-    expected: Result<usize, Refusal>,
-) -> Result<(), Fail>
-    requires { w.now.pending ≡ None }
-{
-    match w.finish_check(alloc)? {
-        Ok(manifest) => assert_eq!(rt; Ok(manifest.files.as_slice().len()), expected),
-        Err(refusal) => assert_eq!(rt; Err(refusal), expected),
-    }
-    Ok(())
-}
-
-/// A writer with the file `root.didx`, of 5 bytes in two pieces.
-fn uploaded(rt: &impl Abort, alloc: Global) -> Result<Writer, Fail>
-    ensures { IfOk result (λ w. w.pending ≡ None) }
-{
-    let mut w = grown(rt, alloc)?;
-    finishes(rt, alloc, &w, Err(Refusal::OpenIndexes { count: 1 }))?;
-    closes(rt, alloc, &mut w, (0, 2, 5, Digest32(CSUM)), true, Ok(4176))?;
-    Ok(w)
-}
-
-/// A manifest that lists `root.didx` with this size.
-fn listing(alloc: Global, size: u64) -> Result<String, AllocError> {
-    format!(in alloc;
-        "{{\"backup-type\":\"host\",\"backup-id\":\"a\",\"backup-time\":1579069803,\"files\":[{{\"filename\":\"root.didx\",\"size\":{size},\"csum\":\"da464aae3d9f63d06f308710062b5db41996b1e36990b92ecc693440e6660151\"}}]}}"
-    )
-}
+static NO_MANIFEST: Calls = &[
+    (Call::Finish, Err(Fault::NoFile)),
+    (Call::Manifest(b"[]"), Ok(0)),
+    (Call::Finish, Err(Fault::BadManifest(2))),
+];
 
 #[test]
 fn no_manifest(rt: HostRuntime) -> Result<(), Fail> {
-    let alloc = rt.alloc();
-    let mut w = uploaded(&rt, alloc)?;
-    finishes(&rt, alloc, &w, Err(Refusal::NoFile))?;
-    lists(alloc, &mut w, b"[]")?;
-    finishes(&rt, alloc, &w, Err(Refusal::BadManifest { cause: 2 }))
+    try_after(&rt, rt.alloc(), UPLOADED, NO_MANIFEST)
 }
+
+/// A manifest that lists `root.didx` with its 5 bytes, and one that lists it with 6.
+const OF_FIVE: &[u8] =
+    b"{\"backup-type\":\"host\",\"backup-id\":\"a\",\"backup-time\":1579069803,\"files\":[{\"filename\":\"root.didx\",\"size\":5,\"csum\":\"da464aae3d9f63d06f308710062b5db41996b1e36990b92ecc693440e6660151\"}]}";
+
+const OF_SIX: &[u8] =
+    b"{\"backup-type\":\"host\",\"backup-id\":\"a\",\"backup-time\":1579069803,\"files\":[{\"filename\":\"root.didx\",\"size\":6,\"csum\":\"da464aae3d9f63d06f308710062b5db41996b1e36990b92ecc693440e6660151\"}]}";
+
+static LISTED: Calls = &[(Call::Manifest(OF_FIVE), Ok(0)), (Call::Finish, Ok(1))];
+
+static MISLISTED: Calls = &[
+    (Call::Manifest(OF_SIX), Ok(0)),
+    (Call::Finish, Err(Fault::ManifestMismatch("root.didx", 6))),
+];
 
 #[test]
 fn the_manifest_lists_the_files(rt: HostRuntime) -> Result<(), Fail> {
     let alloc = rt.alloc();
-    let mut w = uploaded(&rt, alloc)?;
-    lists(alloc, &mut w, listing(alloc, 5)?.as_bytes())?;
-    finishes(&rt, alloc, &w, Ok(1))?;
-    let mut w = uploaded(&rt, alloc)?;
-    lists(alloc, &mut w, listing(alloc, 6)?.as_bytes())?;
-    let file = Bytes::from_slice(alloc, b"root.didx")?;
-    finishes(
-        &rt,
-        alloc,
-        &w,
-        Err(Refusal::ManifestMismatch { file, field: 6 }),
-    )
+    try_after(&rt, alloc, UPLOADED, LISTED)?;
+    try_after(&rt, alloc, UPLOADED, MISLISTED)
 }

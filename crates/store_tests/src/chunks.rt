@@ -1,10 +1,13 @@
 ghost use Rattle.std.specs.Prelude.{◌≡◌};
 ghost use Rattle.sha2.specs.Sha256.{sha256};
 
-use chunk_store::{ChunkName, LoadFault, insert, load, remove, scan};
+use crate::asserts::{same, same_at};
+use crate::fixtures::{ABC, NOTHING};
+use chunk_store::{Chunk, ChunkName, LoadFault, insert, load, remove, scan};
 use disk_trait::{Disk, DiskError, Failed, FailingDisk, MemoryDisk};
 use sha2::{Digest, Sha256};
 use std::alloc::Global;
+use std::process::Abort;
 use std::test::Fail;
 use store_types::{ChunkFault, Digest32};
 
@@ -20,60 +23,92 @@ fn digest_of(piece: &[u8]) -> Digest32
     Digest32(Sha256::digest(piece))
 }
 
-#[test]
-fn pieces_are_kept(rt: HostRuntime) -> Result<(), Fail> {
-    let alloc = rt.alloc();
-    let mut disk = MemoryDisk::new(alloc);
-    let abc = digest_of(b"abc");
-    assert_eq!(rt; ChunkName::of(&abc).as_str(), ABC_CHUNK);
-    put(alloc, &mut disk, b"abc")?;
-    assert_eq!(rt; disk.steps().len(), 1);
-    put(alloc, &mut disk, b"abc")?;
-    assert_eq!(rt; disk.steps().len(), 1);
-    let chunk = load(alloc, &mut disk, &abc)?;
-    assert_eq!(rt; chunk.piece(), b"abc".as_slice());
-    assert_eq!(rt; chunk.blob(), ABC_BLOB);
-    assert_eq!(rt; chunk.into_blob().as_slice(), ABC_BLOB);
-    assert!(rt; remove(&mut disk, &abc)?);
-    assert!(rt; !remove(&mut disk, &abc)?);
-    Ok(())
-}
-
 fn put(alloc: Global, disk: &mut MemoryDisk, piece: &[u8]) -> Result<(), Fail> {
     if piece.is_empty() || piece.len() > 16_777_216 {
-        return Ok(());
+        return Err("no piece".into());
     }
     insert(alloc, disk, &digest_of(piece), piece)?;
     Ok(())
 }
 
+fn load_from(disk: &mut MemoryDisk, alloc: Global, digest: &Digest32) -> Result<Chunk, LoadFault> {
+    load(alloc, disk, digest)
+}
+
+/// The chunk of `abc` is there.
+fn try_abc(rt: &impl Abort, alloc: Global, disk: &mut MemoryDisk) -> Result<(), Fail> {
+    let chunk = load_from(disk, alloc, &ABC)?;
+    same(rt, chunk.piece(), b"abc".as_slice());
+    same(rt, chunk.blob(), ABC_BLOB);
+    same(rt, chunk.into_blob().as_slice(), ABC_BLOB);
+    Ok(())
+}
+
+fn remove_abc(disk: &mut MemoryDisk) -> Result<bool, Fail> {
+    Ok(remove(disk, &ABC)?)
+}
+
+#[test]
+fn pieces_are_kept(rt: HostRuntime) -> Result<(), Fail> {
+    let alloc = rt.alloc();
+    let mut disk = MemoryDisk::new(alloc);
+    same(&rt, digest_of(b"abc"), ABC);
+    same(&rt, ChunkName::of(&ABC).as_str(), ABC_CHUNK);
+    put(alloc, &mut disk, b"abc")?;
+    same(&rt, disk.steps().len(), 1);
+    put(alloc, &mut disk, b"abc")?;
+    same(&rt, disk.steps().len(), 1);
+    try_abc(&rt, alloc, &mut disk)?;
+    same(&rt, remove_abc(&mut disk)?, true);
+    same(&rt, remove_abc(&mut disk)?, false);
+    Ok(())
+}
+
+/// The blob of nothing.
+const EMPTY: &[u8] = b"\x42\xab\x38\x07\xbe\x83\x70\xa1\0\0\0\0";
+
+/// SHA-256 of `123456789`.
+const DIGITS: Digest32 = Digest32([
+    0x15, 0xe2, 0xb0, 0xd3, 0xc3, 0x38, 0x91, 0xeb, 0xb0, 0xf1, 0xef, 0x60, 0x9e, 0xc4, 0x19, 0x42,
+    0x0c, 0x20, 0xe3, 0x20, 0xce, 0x94, 0xc6, 0x5f, 0xbc, 0x8c, 0x33, 0x12, 0x44, 0x8e, 0xb2, 0x25,
+]);
+
+/// What stands under the name of `abc`'s chunk, and what is told of it.
+static DAMAGE: [(Option<&[u8]>, ChunkFault); 5] = [
+    (None, ChunkFault::Nothing),
+    (Some(b""), ChunkFault::NotABlob),
+    (
+        Some(b"\x42\xab\x38\x07\xbe\x83\x70\xa1\xc2\x41\x24\x35abd"),
+        ChunkFault::NotABlob,
+    ),
+    (
+        Some(b"\x42\xab\x38\x07\xbe\x83\x70\xa1\x26\x39\xf4\xcb123456789"),
+        ChunkFault::Other(DIGITS),
+    ),
+    (Some(EMPTY), ChunkFault::Other(NOTHING)),
+];
+
+fn try_damage(
+    rt: &impl Abort,
+    alloc: Global,
+    digest: Digest32,
+    text: Option<&[u8]>,
+    found: ChunkFault,
+) -> Result<(), Fail> {
+    let mut disk = MemoryDisk::new(alloc);
+    if let Some(text) = text {
+        disk.put(alloc, ChunkName::of(&digest).as_str(), text)?;
+    }
+    let fault = load_from(&mut disk, alloc, &digest).err();
+    let damaged = LoadFault::Damaged { digest, found };
+    same_at(rt, text, fault, Some(damaged));
+    Ok(())
+}
+
 #[test]
 fn damage_is_told(rt: HostRuntime) -> Result<(), Fail> {
-    let alloc = rt.alloc();
-    let abc = digest_of(b"abc");
-    let nothing = digest_of(b"");
-    for (text, found) in [
-        (None, ChunkFault::Nothing),
-        (Some(b"".as_slice()), ChunkFault::NotABlob),
-        (
-            Some(b"\x42\xab\x38\x07\xbe\x83\x70\xa1\xc2\x41\x24\x35abd"),
-            ChunkFault::NotABlob,
-        ),
-        (
-            Some(b"\x42\xab\x38\x07\xbe\x83\x70\xa1\x26\x39\xf4\xcb123456789"),
-            ChunkFault::Other(digest_of(b"123456789")),
-        ),
-        (
-            Some(b"\x42\xab\x38\x07\xbe\x83\x70\xa1\0\0\0\0"),
-            ChunkFault::Other(nothing),
-        ),
-    ] {
-        let mut disk = MemoryDisk::new(alloc);
-        if let Some(text) = text {
-            disk.put(alloc, ABC_CHUNK, text)?;
-        }
-        let fault = load(alloc, &mut disk, &abc).err();
-        assert_eq!(rt; fault, Some(LoadFault::Damaged { digest: abc, found }));
+    for (text, found) in &DAMAGE {
+        try_damage(&rt, rt.alloc(), ABC, *text, *found)?;
     }
     Ok(())
 }
@@ -81,63 +116,79 @@ fn damage_is_told(rt: HostRuntime) -> Result<(), Fail> {
 /// The blob of nothing is no chunk, not even under the digest of nothing.
 #[test]
 fn nothing_is_no_piece(rt: HostRuntime) -> Result<(), Fail> {
-    let alloc = rt.alloc();
-    let digest = digest_of(b"");
-    let mut disk = MemoryDisk::new(alloc);
-    let name = ChunkName::of(&digest);
-    disk.put(
-        alloc,
-        name.as_str(),
-        b"\x42\xab\x38\x07\xbe\x83\x70\xa1\0\0\0\0",
-    )?;
-    let found = ChunkFault::Other(digest);
-    let fault = load(alloc, &mut disk, &digest).err();
-    assert_eq!(rt; fault, Some(LoadFault::Damaged { digest, found }));
+    let found = ChunkFault::Other(NOTHING);
+    try_damage(&rt, rt.alloc(), NOTHING, Some(EMPTY), found)
+}
+
+/// Names that are none of a chunk.
+static NAMES: [&str; 6] = [
+    ".chunks/book",
+    ".chunks/ba78/ba7816bf8f01cfea414140de5dae2223b00361a396177a9cb410ff61f20015ad.tmp",
+    ".chunks/BA78/BA7816BF8F01CFEA414140DE5DAE2223B00361A396177A9CB410FF61F20015AD",
+    ".chunks/ba79/ba7816bf8f01cfea414140de5dae2223b00361a396177a9cb410ff61f20015ad",
+    ".chunks/ba78/ba7816bf8f01cfea414140de5dae2223b00361a396177a9cb410ff61f20015a",
+    "host/a/2020-01-15T06:30:03Z/index.json.blob",
+];
+
+fn put_names(disk: &mut MemoryDisk, alloc: Global) -> Result<(), Fail> {
+    for name in &NAMES {
+        disk.put(alloc, name, b"")?;
+    }
     Ok(())
+}
+
+fn digests_on(disk: &mut MemoryDisk, alloc: Global) -> Result<Vec<Digest32>, Fail> {
+    Ok(scan(alloc, disk)?)
 }
 
 #[test]
 fn names_of_the_form_are_listed(rt: HostRuntime) -> Result<(), Fail> {
     let alloc = rt.alloc();
     let mut disk = MemoryDisk::new(alloc);
-    for name in [
-        ".chunks/book",
-        ".chunks/ba78/ba7816bf8f01cfea414140de5dae2223b00361a396177a9cb410ff61f20015ad.tmp",
-        ".chunks/BA78/BA7816BF8F01CFEA414140DE5DAE2223B00361A396177A9CB410FF61F20015AD",
-        ".chunks/ba79/ba7816bf8f01cfea414140de5dae2223b00361a396177a9cb410ff61f20015ad",
-        ".chunks/ba78/ba7816bf8f01cfea414140de5dae2223b00361a396177a9cb410ff61f20015a",
-        "host/a/2020-01-15T06:30:03Z/index.json.blob",
-    ] {
-        disk.put(alloc, name, b"")?;
-    }
-    assert_eq!(rt; scan(alloc, &mut disk)?.len(), 0);
+    put_names(&mut disk, alloc)?;
+    same(&rt, digests_on(&mut disk, alloc)?.len(), 0);
     put(alloc, &mut disk, b"abc")?;
     put(alloc, &mut disk, b"abd")?;
-    disk.put(alloc, ChunkName::of(&digest_of(b"")).as_str(), b"")?;
-    let digests = scan(alloc, &mut disk)?;
-    let wanted = [digest_of(b"abd"), digest_of(b"abc"), digest_of(b"")];
-    assert_eq!(rt; digests.as_slice(), wanted.as_slice());
+    disk.put(alloc, ChunkName::of(&NOTHING).as_str(), b"")?;
+    let digests = digests_on(&mut disk, alloc)?;
+    let wanted = [digest_of(b"abd"), ABC, NOTHING];
+    same(&rt, digests.as_slice(), wanted.as_slice());
     Ok(())
+}
+
+type Failing = FailingDisk<MemoryDisk>;
+
+fn insert_abc(disk: &mut Failing, alloc: Global) -> Result<(), DiskError> {
+    insert(alloc, disk, &digest_of(b"abc"), b"abc")
+}
+
+fn load_abc(disk: &mut Failing, alloc: Global) -> Result<Chunk, LoadFault> {
+    load(alloc, disk, &ABC)
+}
+
+fn remove_failing(disk: &mut Failing) -> Result<bool, Failed> {
+    remove(disk, &ABC)
+}
+
+fn scan_failing(disk: &mut Failing, alloc: Global) -> Result<Vec<Digest32>, DiskError> {
+    scan(alloc, disk)
 }
 
 /// The second call of an insert fails, and the first of each other.
 #[test]
 fn faults_are_told(rt: HostRuntime) -> Result<(), Fail> {
     let alloc = rt.alloc();
-    let abc = digest_of(b"abc");
-    let mut disk = FailingDisk::at_calls(
-        MemoryDisk::new(alloc),
-        Vec::from_slice(alloc, &[1, 4, 5, 6])?,
-    );
-    assert_eq!(rt;
-        insert(alloc, &mut disk, &abc, b"abc"),
-        Err(DiskError::Failed)
-    );
-    insert(alloc, &mut disk, &abc, b"abc")?;
-    assert_eq!(rt; load(alloc, &mut disk, &abc).err(), Some(LoadFault::Failed));
-    assert_eq!(rt; remove(&mut disk, &abc), Err(Failed));
-    assert_eq!(rt; scan(alloc, &mut disk).err(), Some(DiskError::Failed));
-    assert_eq!(rt; disk.faults(), 4);
-    assert_eq!(rt; load(alloc, &mut disk, &abc)?.piece(), b"abc".as_slice());
+    let plan = Vec::from_slice(alloc, &[1, 4, 5, 6])?;
+    let mut disk = FailingDisk::at_calls(MemoryDisk::new(alloc), plan);
+    same(&rt, insert_abc(&mut disk, alloc), Err(DiskError::Failed));
+    same(&rt, insert_abc(&mut disk, alloc), Ok(()));
+    let load_fault = load_abc(&mut disk, alloc).err();
+    same(&rt, load_fault, Some(LoadFault::Failed));
+    same(&rt, remove_failing(&mut disk), Err(Failed));
+    let scan_fault = scan_failing(&mut disk, alloc).err();
+    same(&rt, scan_fault, Some(DiskError::Failed));
+    same(&rt, disk.faults(), 4);
+    let chunk = load_abc(&mut disk, alloc)?;
+    same(&rt, chunk.piece(), b"abc".as_slice());
     Ok(())
 }

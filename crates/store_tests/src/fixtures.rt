@@ -25,6 +25,11 @@ pub(crate) const NOTHING: Digest32 = Digest32([
     0x27, 0xae, 0x41, 0xe4, 0x64, 0x9b, 0x93, 0x4c, 0xa4, 0x95, 0x99, 0x1b, 0x78, 0x52, 0xb8, 0x55,
 ]);
 
+/// Digests of no piece, which say what they are.
+pub(crate) const SEVENS: Digest32 = Digest32([7; 32]);
+
+pub(crate) const NINES: Digest32 = Digest32([9; 32]);
+
 /// A file of the snapshot.
 pub(crate) const ROOT: &str = "host/a/2020-01-15T06:30:03Z/root.didx";
 

@@ -1,7 +1,8 @@
+use crate::asserts::{same, same_at};
 use crate::fixtures::{ROOT, key, named};
 use blob_codec::encode;
 use disk_trait::{Disk, DiskError, FailingDisk, MemoryDisk};
-use snapshot_files::{finish, forget, path_of, put_file, remove_files, scan};
+use snapshot_files::{FilePath, Found, finish, forget, path_of, put_file, remove_files, scan};
 use std::alloc::Global;
 use std::process::Abort;
 use std::test::Fail;
@@ -50,23 +51,42 @@ fn make<D: Disk>(disk: &mut D, alloc: Global, change: Change) -> Result<bool, Fa
     Ok(true)
 }
 
+fn put_all(disk: &mut MemoryDisk, alloc: Global, files: &[(&str, &[u8])]) -> Result<(), Fail> {
+    for (path, text) in files {
+        if path.len() > 255 {
+            return Err("a long path".into());
+        }
+        disk.put(alloc, path, text)?;
+    }
+    Ok(())
+}
+
+fn put_set(disk: &mut MemoryDisk, alloc: Global) -> Result<(), Fail> {
+    let set = named(alloc, "set.blob")?;
+    put_file(disk, alloc, &key(alloc)?, &set, b"set")?;
+    Ok(())
+}
+
+static REPLACED: [(&str, &[u8]); 2] = [(OTHER, b"other"), (SET, b"old")];
+
+static FORGOTTEN: [(&str, &[u8]); 4] = [
+    (OTHER, b"other"),
+    (MANIFEST, b"manifest"),
+    (ROOT, b"root"),
+    (SET, b"set"),
+];
+
 // What is there before. All is synced, but for the file that is put before a snapshot is finished.
 fn disk_before(alloc: Global, change: Change) -> Result<MemoryDisk, Fail> {
     let mut disk = MemoryDisk::new(alloc);
-    disk.put(alloc, OTHER, b"other")?;
     match change {
-        Change::PutFile => disk.put(alloc, SET, b"old")?,
+        Change::PutFile => put_all(&mut disk, alloc, &REPLACED)?,
         Change::Finish => {
-            let key = key(alloc)?;
-            let set = named(alloc, "set.blob")?;
-            put_file(&mut disk, alloc, &key, &set, b"set")?;
+            disk.put(alloc, OTHER, b"other")?;
+            put_set(&mut disk, alloc)?;
             return Ok(disk);
         }
-        Change::Forget => {
-            disk.put(alloc, MANIFEST, b"manifest")?;
-            disk.put(alloc, ROOT, b"root")?;
-            disk.put(alloc, SET, b"set")?;
-        }
+        Change::Forget => put_all(&mut disk, alloc, &FORGOTTEN)?,
     }
     disk.sync()?;
     Ok(disk)
@@ -85,6 +105,12 @@ fn shown(alloc: Global, disk: &mut MemoryDisk) -> Result<String, Fail> {
     Ok(text)
 }
 
+// What a crash leaves, by its choice.
+fn shown_after(alloc: Global, left: &MemoryDisk, choice: u8) -> Result<String, Fail> {
+    let mut crashed = left.crashed(alloc, choice)?;
+    shown(alloc, &mut crashed)
+}
+
 // A change on a disk that fails at its call k, counted from 0: what a crash leaves by each choice, the second of which is
 // what reads.
 fn try_change(
@@ -97,54 +123,89 @@ fn try_change(
 ) -> Result<(), Fail> {
     let is_whole = k == calls_of(change);
     let is_made = make(&mut disk, alloc, change)?;
-    assert_eq!(rt; is_made, is_whole, "{change:?} {k}");
+    same_at(rt, (change, k), is_made, is_whole);
     let faults = if is_whole { 0 } else { 1 };
-    assert_eq!(rt; disk.faults(), faults, "{change:?} {k}");
+    same_at(rt, (change, k), disk.faults(), faults);
     let mut left = disk.into_inner();
     let reads = shown(alloc, &mut left)?;
-    assert_eq!(rt; reads.as_str(), wants[1], "{change:?} {k}");
+    same_at(rt, (change, k), reads.as_str(), wants[1]);
     for choice in 0..3u8 {
-        let mut crashed = left.crashed(alloc, choice)?;
-        let reads = shown(alloc, &mut crashed)?;
-        assert_eq!(rt;
-            reads.as_str(),
-            wants[choice as usize],
-            "{change:?} {k} {choice}"
-        );
+        let reads = shown_after(alloc, &left, choice)?;
+        let want = wants[choice as usize];
+        same_at(rt, (change, k, choice), reads.as_str(), want);
     }
     Ok(())
+}
+
+const OLD: &str = "///old//other/";
+
+const PUT: &str = "///old/newest/other/";
+
+const TORN_PUT: &str = "///old/new/other/";
+
+const NEW: &str = "///newest//other/";
+
+const UNNAMED: &str = "////set/other/";
+
+const NAMED: &str = "///set//other/";
+
+const BEGUN: &str = "/manifest//set//other/";
+
+const TORN: &str = "/mani//set//other/";
+
+const FINISHED: &str = "manifest///set//other/";
+
+const WHOLE: &str = "manifest//root/set//other/";
+
+const GONE: &str = "//root/set//other/";
+
+static CHANGES: [(Change, u64, [&str; 3]); 14] = [
+    (Change::PutFile, 0, [OLD, OLD, OLD]),
+    (Change::PutFile, 1, [OLD, PUT, TORN_PUT]),
+    (Change::PutFile, 2, [PUT, PUT, PUT]),
+    (Change::PutFile, 3, [PUT, NEW, NEW]),
+    (Change::Finish, 0, [UNNAMED, NAMED, NAMED]),
+    (Change::Finish, 1, [UNNAMED, BEGUN, TORN]),
+    (Change::Finish, 2, [BEGUN, BEGUN, BEGUN]),
+    (Change::Finish, 3, [BEGUN, FINISHED, FINISHED]),
+    (Change::Finish, 4, [FINISHED, FINISHED, FINISHED]),
+    (Change::Forget, 0, [WHOLE, WHOLE, WHOLE]),
+    (Change::Forget, 1, [WHOLE, GONE, WHOLE]),
+    (Change::Forget, 2, [GONE, GONE, GONE]),
+    (Change::Forget, 3, [GONE, "//root///other/", GONE]),
+    (Change::Forget, 4, [GONE, "/////other/", GONE]),
+];
+
+// The change fails at its call k alone, and from there on.
+fn try_both(
+    rt: &impl Abort,
+    alloc: Global,
+    change: Change,
+    k: u64,
+    wants: [&str; 3],
+) -> Result<(), Fail> {
+    let plan = Vec::from_slice(alloc, &[k])?;
+    let failing = FailingDisk::at_calls(disk_before(alloc, change)?, plan);
+    try_change(rt, alloc, failing, change, k, wants)?;
+    let stopping = FailingDisk::stopping_after(disk_before(alloc, change)?, k);
+    try_change(rt, alloc, stopping, change, k, wants)
 }
 
 #[test]
 fn each_call_fails(rt: HostRuntime) -> Result<(), Fail> {
     let alloc = rt.alloc();
-    let (old, new) = ("///old//other/", "///newest//other/");
-    let (staged, half) = ("///old/newest/other/", "///old/new/other/");
-    let (unnamed, named) = ("////set/other/", "///set//other/");
-    let (begun, finished) = ("/manifest//set//other/", "manifest///set//other/");
-    let (whole, gone) = ("manifest//root/set//other/", "//root/set//other/");
-    for (change, k, wants) in [
-        (Change::PutFile, 0, [old, old, old]),
-        (Change::PutFile, 1, [old, staged, half]),
-        (Change::PutFile, 2, [staged, staged, staged]),
-        (Change::PutFile, 3, [staged, new, new]),
-        (Change::Finish, 0, [unnamed, named, named]),
-        (Change::Finish, 1, [unnamed, begun, "/mani//set//other/"]),
-        (Change::Finish, 2, [begun, begun, begun]),
-        (Change::Finish, 3, [begun, finished, finished]),
-        (Change::Finish, 4, [finished, finished, finished]),
-        (Change::Forget, 0, [whole, whole, whole]),
-        (Change::Forget, 1, [whole, gone, whole]),
-        (Change::Forget, 2, [gone, gone, gone]),
-        (Change::Forget, 3, [gone, "//root///other/", gone]),
-        (Change::Forget, 4, [gone, "/////other/", gone]),
-    ] {
-        let plan = Vec::from_slice(alloc, &[k])?;
-        let failing = FailingDisk::at_calls(disk_before(alloc, change)?, plan);
-        try_change(&rt, alloc, failing, change, k, wants)?;
-        let stopping = FailingDisk::stopping_after(disk_before(alloc, change)?, k);
-        try_change(&rt, alloc, stopping, change, k, wants)?;
+    for (change, k, wants) in &CHANGES {
+        try_both(&rt, alloc, *change, *k, *wants)?;
     }
+    Ok(())
+}
+
+fn path(alloc: Global, name: &str) -> Result<FilePath, Fail> {
+    Ok(path_of(alloc, &key(alloc)?, &named(alloc, name)?)?)
+}
+
+fn remove(disk: &mut MemoryDisk, paths: &[FilePath]) -> Result<(), Fail> {
+    remove_files(disk, paths)?;
     Ok(())
 }
 
@@ -152,15 +213,11 @@ fn each_call_fails(rt: HostRuntime) -> Result<(), Fail> {
 fn files_are_removed(rt: HostRuntime) -> Result<(), Fail> {
     let alloc = rt.alloc();
     let mut disk = disk_before(alloc, Change::Forget)?;
-    let key = key(alloc)?;
-    let path = path_of(alloc, &key, &named(alloc, "set.blob")?)?;
-    assert_eq!(rt; path.as_str(), SET);
-    let absent = path_of(alloc, &key, &named(alloc, "b.blob")?)?;
-    remove_files(&mut disk, &[path, absent])?;
-    assert_eq!(rt;
-        shown(alloc, &mut disk)?.as_str(),
-        "manifest//root///other/"
-    );
+    let set = path(alloc, "set.blob")?;
+    same(&rt, set.as_str(), SET);
+    remove(&mut disk, &[set, path(alloc, "b.blob")?])?;
+    let reads = shown(alloc, &mut disk)?;
+    same(&rt, reads.as_str(), "manifest//root///other/");
     Ok(())
 }
 
@@ -192,102 +249,122 @@ fn manifest_of(alloc: Global, further: u32) -> Result<Vec<u8>, Fail> {
     Ok(encode(alloc, text.as_str().as_bytes())??)
 }
 
+fn push_name(text: &mut String, name: &[u8]) -> Result<(), Fail> {
+    text.push_str(str::from_utf8(name).unwrap_or("no text"))?;
+    Ok(())
+}
+
+fn tell(text: &mut String, found: &Found) -> Result<(), Fail> {
+    write!(text, "[{:?} ", found.key.kind)?;
+    push_name(text, found.key.id.as_slice())?;
+    if let Some(manifest) = &found.manifest {
+        write!(text, " {}", manifest.files.as_slice().len())?;
+    }
+    if let Some(name) = &found.unreadable {
+        text.push(' ')?;
+        push_name(text, name.as_slice())?;
+    }
+    text.push(']')?;
+    Ok(())
+}
+
 // Each snapshot with the number of files that its manifest lists, and the name that makes it damaged.
 fn found_on(alloc: Global, disk: &mut MemoryDisk) -> Result<String, Fail> {
     let mut text = String::new(alloc);
     for found in &scan(alloc, disk)? {
-        write!(text, "[{:?} ", found.key.kind)?;
-        text.push_str(str::from_utf8(found.key.id.as_slice()).unwrap_or("no text"))?;
-        if let Some(manifest) = &found.manifest {
-            write!(text, " {}", manifest.files.as_slice().len())?;
-        }
-        if let Some(name) = &found.unreadable {
-            text.push(' ')?;
-            text.push_str(str::from_utf8(name.as_slice()).unwrap_or("no text"))?;
-        }
-        text.push(']')?;
+        tell(&mut text, found)?;
     }
     Ok(text)
 }
 
 // Names whose byte order is not the snapshots', a snapshot without a manifest, and names that are none of a snapshot.
-fn datastore(alloc: Global) -> Result<MemoryDisk, Fail> {
-    let mut disk = MemoryDisk::new(alloc);
-    disk.put(
-        alloc,
-        "vm/a/2020-01-15T06:30:03Z/index.json.blob",
-        OTHER_BLOB,
-    )?;
-    disk.put(
-        alloc,
-        "host/a-b/2020-01-15T06:30:03Z/index.json.blob",
-        OTHER_BLOB,
-    )?;
-    disk.put(alloc, "ct/z/2020-01-15T06:30:03Z/index.json.blob", b"abc")?;
-    disk.put(alloc, STAGED, OTHER_BLOB)?;
-    disk.put(alloc, OTHER, b"set")?;
-    disk.put(
-        alloc,
-        "host/a/2020-01-15T06:30:03Z/x/index.json.blob",
-        OTHER_BLOB,
-    )?;
-    disk.put(
-        alloc,
-        "host/a/2020-01-15T06:30:03z/index.json.blob",
-        OTHER_BLOB,
-    )?;
-    disk.put(
-        alloc,
+static FILES: [(&str, &[u8]); 8] = [
+    ("vm/a/2020-01-15T06:30:03Z/index.json.blob", OTHER_BLOB),
+    ("host/a-b/2020-01-15T06:30:03Z/index.json.blob", OTHER_BLOB),
+    ("ct/z/2020-01-15T06:30:03Z/index.json.blob", b"abc"),
+    (STAGED, OTHER_BLOB),
+    (OTHER, b"set"),
+    ("host/a/2020-01-15T06:30:03Z/x/index.json.blob", OTHER_BLOB),
+    ("host/a/2020-01-15T06:30:03z/index.json.blob", OTHER_BLOB),
+    (
         ".chunks/host/a/2020-01-15T06:30:03Z/index.json.blob",
         OTHER_BLOB,
-    )?;
+    ),
+];
+
+fn datastore(alloc: Global) -> Result<MemoryDisk, Fail> {
+    let mut disk = MemoryDisk::new(alloc);
+    put_all(&mut disk, alloc, &FILES)?;
     Ok(disk)
+}
+
+// How many files the manifest of `host/a` lists beside two that are there or not, and what is found of it.
+static FOUND: [(u32, bool, bool, &str); 5] = [
+    (0, true, true, "[Host a 2]"),
+    (
+        0,
+        false,
+        true,
+        "[Host a 2 host/a/2020-01-15T06:30:03Z/set.blob]",
+    ),
+    (
+        0,
+        false,
+        false,
+        "[Host a 2 host/a/2020-01-15T06:30:03Z/root.didx]",
+    ),
+    (
+        61,
+        true,
+        true,
+        "[Host a 63 host/a/2020-01-15T06:30:03Z/0.blob]",
+    ),
+    (
+        62,
+        true,
+        true,
+        "[Host a 64 host/a/2020-01-15T06:30:03Z/index.json.blob]",
+    ),
+];
+
+fn listed(alloc: Global, further: u32, has_set: bool, has_root: bool) -> Result<MemoryDisk, Fail> {
+    let mut disk = datastore(alloc)?;
+    disk.put(alloc, MANIFEST, &manifest_of(alloc, further)?)?;
+    if has_set {
+        disk.put(alloc, SET, b"set")?;
+    }
+    if has_root {
+        disk.put(alloc, ROOT, b"root")?;
+    }
+    Ok(disk)
+}
+
+fn expected_of(alloc: Global, wanted: &str) -> Result<String, Fail> {
+    Ok(format!(in alloc;
+        "[Ct z ct/z/2020-01-15T06:30:03Z/index.json.blob]{wanted}[Host a-b 0][Vm a 0]"
+    )?)
 }
 
 #[test]
 fn what_is_found(rt: HostRuntime) -> Result<(), Fail> {
     let alloc = rt.alloc();
-    for (further, has_set, has_root, wanted) in [
-        (0, true, true, "[Host a 2]"),
-        (
-            0,
-            false,
-            true,
-            "[Host a 2 host/a/2020-01-15T06:30:03Z/set.blob]",
-        ),
-        (
-            0,
-            false,
-            false,
-            "[Host a 2 host/a/2020-01-15T06:30:03Z/root.didx]",
-        ),
-        (
-            61,
-            true,
-            true,
-            "[Host a 63 host/a/2020-01-15T06:30:03Z/0.blob]",
-        ),
-        (
-            62,
-            true,
-            true,
-            "[Host a 64 host/a/2020-01-15T06:30:03Z/index.json.blob]",
-        ),
-    ] {
-        let mut disk = datastore(alloc)?;
-        disk.put(alloc, MANIFEST, &manifest_of(alloc, further)?)?;
-        if has_set {
-            disk.put(alloc, SET, b"set")?;
-        }
-        if has_root {
-            disk.put(alloc, ROOT, b"root")?;
-        }
+    for (further, has_set, has_root, wanted) in &FOUND {
+        let mut disk = listed(alloc, *further, *has_set, *has_root)?;
         let text = found_on(alloc, &mut disk)?;
-        let expected = format!(in alloc;
-            "[Ct z ct/z/2020-01-15T06:30:03Z/index.json.blob]{wanted}[Host a-b 0][Vm a 0]"
-        )?;
-        assert_eq!(rt; text.as_str(), expected.as_str());
+        let expected = expected_of(alloc, wanted)?;
+        same(&rt, text.as_str(), expected.as_str());
     }
+    Ok(())
+}
+
+fn try_scan(rt: &impl Abort, alloc: Global, k: u64, fails: bool) -> Result<(), Fail> {
+    let mut disk = datastore(alloc)?;
+    disk.put(alloc, MANIFEST, &manifest_of(alloc, 0)?)?;
+    let plan = Vec::from_slice(alloc, &[k])?;
+    let mut failing = FailingDisk::at_calls(disk, plan);
+    let outcome = scan(alloc, &mut failing);
+    let has_failed = matches!(&outcome, Err(DiskError::Failed));
+    same_at(rt, k, has_failed, fails);
     Ok(())
 }
 
@@ -296,13 +373,7 @@ fn what_is_found(rt: HostRuntime) -> Result<(), Fail> {
 fn each_call_of_a_scan_fails(rt: HostRuntime) -> Result<(), Fail> {
     let alloc = rt.alloc();
     for k in 0..10 {
-        let mut disk = datastore(alloc)?;
-        disk.put(alloc, MANIFEST, &manifest_of(alloc, 0)?)?;
-        let plan = Vec::from_slice(alloc, &[k])?;
-        let mut failing = FailingDisk::at_calls(disk, plan);
-        let outcome = scan(alloc, &mut failing);
-        let has_failed = matches!(&outcome, Err(DiskError::Failed));
-        assert_eq!(rt; has_failed, k < 9, "{k}");
+        try_scan(&rt, alloc, k, k < 9)?;
     }
     Ok(())
 }

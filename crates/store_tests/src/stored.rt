@@ -1,8 +1,8 @@
 //! Files on a disk in memory.
 
-ghost use Rattle.std.specs.Prelude.{length, ◌≤◌};
-
-use crate::fixtures::ROOT;
+use crate::asserts::{same, same_at};
+use crate::faults::{Fault, refusal};
+use crate::fixtures::{NINES, ROOT, SEVENS};
 use disk_trait::{Disk, DiskError, FailingDisk, MemoryDisk};
 use dynamic_index::DynamicWriter;
 use fixed_index::FixedWriter;
@@ -23,16 +23,16 @@ const NOTHING: &str = "host/a/2020-01-15T06:30:03Z/none.didx";
 /// The index of 4,097 bytes in pieces of 4,096. It has 4,160 bytes.
 fn fixed_text(alloc: Global) -> Result<Vec<u8>, Fail> {
     let mut writer = FixedWriter::new(alloc, [1; 16], 1_579_069_803, 4097, 4096);
-    writer.append(&Digest32([7; 32]), 4096)?;
-    writer.append(&Digest32([9; 32]), 1)?;
+    writer.append(&SEVENS, 4096)?;
+    writer.append(&NINES, 1)?;
     Ok(writer.close(alloc)?)
 }
 
 /// The index of a piece of 3 bytes and one of 2. It has 4,176 bytes.
 fn dynamic_text(alloc: Global) -> Result<Vec<u8>, Fail> {
     let mut writer = DynamicWriter::new(alloc, [1; 16], 1_579_069_803);
-    writer.append(&Digest32([7; 32]), 3)?;
-    writer.append(&Digest32([9; 32]), 2)?;
+    writer.append(&SEVENS, 3)?;
+    writer.append(&NINES, 2)?;
     Ok(writer.close(alloc)?)
 }
 
@@ -45,128 +45,187 @@ fn disk_of_indexes(alloc: Global) -> Result<MemoryDisk, Fail> {
     Ok(disk)
 }
 
+/// What is read from an offset of a file on: of an index, whose kind is told, or of any file.
+#[derive(Clone, Copy, Debug)]
+enum Read {
+    Fixed(&'static str, u64),
+    Dynamic(&'static str, u64),
+    Part(&'static str, u64),
+}
+
+/// What is told: the file's size, the bytes from the offset on, and an index's entries, none for any file.
+type Told = (u64, &'static [u8], &'static [(Digest32, u64)]);
+
+/// The index of the kind, where the path is no longer than a path may be.
+fn index_at(
+    disk: &mut MemoryDisk,
+    alloc: Global,
+    path: &str,
+    is_fixed: bool,
+    offset: u64,
+) -> Result<Result<IndexPart, Refusal>, Fail> {
+    if path.len() > 255 {
+        return Err("a long path".into());
+    }
+    Ok(read_index(disk, alloc, path, is_fixed, offset)?)
+}
+
+/// The part of any file, as that of an index without entries.
+fn part_at(
+    disk: &mut MemoryDisk,
+    alloc: Global,
+    path: &str,
+    offset: u64,
+) -> Result<Result<IndexPart, Refusal>, Fail> {
+    if path.len() > 255 {
+        return Err("a long path".into());
+    }
+    match read_part(disk, alloc, path, offset)? {
+        Ok(part) => Ok(Ok(IndexPart {
+            part,
+            entries: Vec::new(alloc),
+        })),
+        Err(refusal) => Ok(Err(refusal)),
+    }
+}
+
+fn make(
+    disk: &mut MemoryDisk,
+    alloc: Global,
+    read: Read,
+) -> Result<Result<IndexPart, Refusal>, Fail> {
+    match read {
+        Read::Fixed(path, offset) => index_at(disk, alloc, path, true, offset),
+        Read::Dynamic(path, offset) => index_at(disk, alloc, path, false, offset),
+        Read::Part(path, offset) => part_at(disk, alloc, path, offset),
+    }
+}
+
 fn is_part(reply: &Reply, size: u64, wanted: &[u8]) -> bool {
     matches!(reply, Reply::Part { total, bytes } if *total == size && bytes.as_slice() == wanted)
 }
 
-fn is_unreadable<T>(told: &Result<T, Refusal>, path: &str) -> bool {
-    matches!(told, Err(Refusal::Unreadable { name }) if name.as_slice() == path.as_bytes())
+fn try_told(rt: &impl Abort, read: Read, told: &IndexPart, wanted: &Told) {
+    let (size, text, entries) = wanted;
+    same_at(rt, read, is_part(&told.part, *size, text), true);
+    same_at(rt, read, told.entries.as_slice(), *entries);
 }
 
-fn is_beyond<T>(told: &Result<T, Refusal>, end: u64) -> bool {
-    matches!(told, Err(Refusal::BadRange { size }) if *size == end)
-}
-
-/// The index is read from where its second entry begins.
-fn try_index(
-    rt: &impl Abort,
-    read: &IndexPart,
-    size: u64,
-    rest: &[u8],
-    ends: [u64; 2],
-) -> Result<(), Fail> {
-    assert!(rt; is_part(&read.part, size, rest));
-    let wanted = [(Digest32([7; 32]), ends[0]), (Digest32([9; 32]), ends[1])];
-    assert_eq!(rt; read.entries.as_slice(), wanted.as_slice());
-    Ok(())
-}
-
-#[test]
-fn both_kinds_of_index(rt: HostRuntime) -> Result<(), Fail> {
-    let alloc = rt.alloc();
-    let mut disk = disk_of_indexes(alloc)?;
-    let read = read_index(&mut disk, alloc, FIXED, true, 4128)?;
-    try_index(
-        &rt,
-        &read.ok().ok_or("fixed")?,
-        4160,
-        &[9; 32],
-        [4096, 4097],
-    )?;
-    let read = read_index(&mut disk, alloc, ROOT, false, 4144)?;
-    try_index(&rt, &read.ok().ok_or("dynamic")?, 4176, &[9; 32], [3, 5])?;
-    let read = read_index(&mut disk, alloc, FIXED, true, 4160)?;
-    try_index(
-        &rt,
-        &read.ok().ok_or("at the end")?,
-        4160,
-        b"",
-        [4096, 4097],
-    )?;
-    let beyond = read_index(&mut disk, alloc, ROOT, false, 4177)?;
-    assert!(rt; is_beyond(&beyond, 4176));
-    Ok(())
-}
-
-/// No index of the kind can be read at the path, which is told.
-fn try_unreadable(
+fn try_read(
     rt: &impl Abort,
     disk: &mut MemoryDisk,
     alloc: Global,
-    path: &str,
-    fixed: bool,
-    offset: u64,
-) -> Result<(), Fail>
-    requires { length path.now ≤ 255 }
-{
-    let told = read_index(disk, alloc, path, fixed, offset)?;
-    assert!(rt; is_unreadable(&told, path));
+    read: Read,
+    wanted: &Told,
+) -> Result<(), Fail> {
+    let told = make(disk, alloc, read)?.ok().ok_or("refused")?;
+    try_told(rt, read, &told, wanted);
     Ok(())
 }
 
+fn try_refused(
+    rt: &impl Abort,
+    disk: &mut MemoryDisk,
+    alloc: Global,
+    read: Read,
+    fault: Fault,
+) -> Result<(), Fail> {
+    let found = make(disk, alloc, read)?.err();
+    same_at(rt, read, found, Some(refusal(alloc, fault)?));
+    Ok(())
+}
+
+/// Where the pieces of both indexes end.
+const FIXED_ENDS: &[(Digest32, u64)] = &[(SEVENS, 4096), (NINES, 4097)];
+
+const DYNAMIC_ENDS: &[(Digest32, u64)] = &[(SEVENS, 3), (NINES, 5)];
+
+/// From where the second entry begins, at the end, and of any file.
+static READ: [(Read, Told); 5] = [
+    (Read::Fixed(FIXED, 4128), (4160, &[9; 32], FIXED_ENDS)),
+    (Read::Dynamic(ROOT, 4144), (4176, &[9; 32], DYNAMIC_ENDS)),
+    (Read::Fixed(FIXED, 4160), (4160, b"", FIXED_ENDS)),
+    (Read::Part(CUT, 4144), (4175, &[9; 31], &[])),
+    (Read::Part(CUT, 4175), (4175, b"", &[])),
+];
+
 #[test]
-fn what_is_no_index(rt: HostRuntime) -> Result<(), Fail> {
+fn parts_are_read(rt: HostRuntime) -> Result<(), Fail> {
     let alloc = rt.alloc();
     let mut disk = disk_of_indexes(alloc)?;
-    try_unreadable(&rt, &mut disk, alloc, NOTHING, false, 0)?;
-    try_unreadable(&rt, &mut disk, alloc, CUT, false, 4175)?;
+    for (read, wanted) in &READ {
+        try_read(&rt, &mut disk, alloc, *read, wanted)?;
+    }
+    Ok(())
+}
+
+static REFUSED: [(Read, Fault); 8] = [
+    (Read::Dynamic(ROOT, 4177), Fault::BadRange(4176)),
+    // the offset comes before the index
+    (Read::Dynamic(CUT, 4176), Fault::BadRange(4175)),
+    (Read::Part(CUT, 4176), Fault::BadRange(4175)),
+    (Read::Dynamic(NOTHING, 0), Fault::Unreadable(NOTHING)),
+    (Read::Dynamic(CUT, 4175), Fault::Unreadable(CUT)),
     // the other kind has another magic number
-    try_unreadable(&rt, &mut disk, alloc, ROOT, true, 0)?;
-    try_unreadable(&rt, &mut disk, alloc, FIXED, false, 0)
-}
+    (Read::Fixed(ROOT, 0), Fault::Unreadable(ROOT)),
+    (Read::Dynamic(FIXED, 0), Fault::Unreadable(FIXED)),
+    (Read::Part(NOTHING, 0), Fault::Unreadable(NOTHING)),
+];
 
 #[test]
-fn the_offset_comes_before_the_index(rt: HostRuntime) -> Result<(), Fail> {
+fn reads_are_refused(rt: HostRuntime) -> Result<(), Fail> {
     let alloc = rt.alloc();
     let mut disk = disk_of_indexes(alloc)?;
-    let beyond = read_index(&mut disk, alloc, CUT, false, 4176)?;
-    assert!(rt; is_beyond(&beyond, 4175));
+    for (read, fault) in &REFUSED {
+        try_refused(&rt, &mut disk, alloc, *read, *fault)?;
+    }
     Ok(())
 }
 
-#[test]
-fn parts_of_a_file(rt: HostRuntime) -> Result<(), Fail> {
-    let alloc = rt.alloc();
-    let mut disk = disk_of_indexes(alloc)?;
-    let part = read_part(&mut disk, alloc, CUT, 4144)?;
-    assert!(rt; is_part(&part.ok().ok_or("refused")?, 4175, &[9; 31]));
-    let part = read_part(&mut disk, alloc, CUT, 4175)?;
-    assert!(rt; is_part(&part.ok().ok_or("at the end")?, 4175, b""));
-    assert!(rt; is_beyond(&read_part(&mut disk, alloc, CUT, 4176)?, 4175));
-    assert!(rt; is_unreadable(&read_part(&mut disk, alloc, NOTHING, 0)?, NOTHING));
+fn read_root(
+    disk: &mut FailingDisk<MemoryDisk>,
+    alloc: Global,
+) -> Result<Result<IndexPart, Refusal>, DiskError> {
+    read_index(disk, alloc, ROOT, false, 4144)
+}
+
+/// A disk that fails at its call of this number, and then no more.
+fn failing_at(alloc: Global, number: u64) -> Result<FailingDisk<MemoryDisk>, Fail> {
+    let plan = Vec::from_slice(alloc, &[number])?;
+    Ok(FailingDisk::at_calls(disk_of_indexes(alloc)?, plan))
+}
+
+static ROOT_READ: Told = (4176, &[9; 32], DYNAMIC_ENDS);
+
+fn try_root(
+    rt: &impl Abort,
+    alloc: Global,
+    disk: &mut FailingDisk<MemoryDisk>,
+) -> Result<(), Fail> {
+    let told = read_root(disk, alloc)?.ok().ok_or("refused")?;
+    try_told(rt, Read::Dynamic(ROOT, 4144), &told, &ROOT_READ);
     Ok(())
+}
+
+fn try_fault(rt: &impl Abort, alloc: Global, number: u64) -> Result<(), Fail> {
+    let mut disk = failing_at(alloc, number)?;
+    let failed = read_root(&mut disk, alloc).err();
+    same_at(rt, number, failed, Some(DiskError::Failed));
+    try_root(rt, alloc, &mut disk)
 }
 
 /// The size is asked first, and then the text.
 #[test]
 fn a_call_fails(rt: HostRuntime) -> Result<(), Fail> {
     let alloc = rt.alloc();
-    for number in 0..2 {
-        let plan = Vec::from_slice(alloc, &[number])?;
-        let mut disk = FailingDisk::at_calls(disk_of_indexes(alloc)?, plan);
-        let failed = read_index(&mut disk, alloc, ROOT, false, 4144);
-        assert!(rt; matches!(failed, Err(DiskError::Failed)), "{number}");
-        let read = read_index(&mut disk, alloc, ROOT, false, 4144)?;
-        try_index(&rt, &read.ok().ok_or("refused")?, 4176, &[9; 32], [3, 5])?;
-    }
-    Ok(())
+    try_fault(&rt, alloc, 0)?;
+    try_fault(&rt, alloc, 1)
 }
 
 #[test]
 fn lengths(rt: HostRuntime) -> Result<(), Fail> {
-    let entries = [(Digest32([7; 32]), 3), (Digest32([9; 32]), 5)];
-    let pieces = lengths_of(rt.alloc(), &entries)?;
-    let wanted = [(Digest32([7; 32]), 3), (Digest32([9; 32]), 2)];
-    assert_eq!(rt; pieces.as_slice(), wanted.as_slice());
+    let pieces = lengths_of(rt.alloc(), DYNAMIC_ENDS)?;
+    let wanted = [(SEVENS, 3), (NINES, 2)];
+    same(&rt, pieces.as_slice(), wanted.as_slice());
     Ok(())
 }

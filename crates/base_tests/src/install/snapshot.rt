@@ -4,6 +4,7 @@ ghost use Rattle.disk_trait.specs.Files.{Files};
 ghost use Rattle.disk_trait.specs.Disk.{Serves, LeavesOnly, Now};
 ghost use Rattle.base_tests.specs.Snapshot.{loaded};
 
+use crate::asserts::same;
 use disk_trait::{Disk, DiskError, Failed, MemoryDisk};
 use file_install::{drop_firm, install, install_firm};
 use std::alloc::Global;
@@ -42,8 +43,8 @@ fn saves_and_forgets(rt: HostRuntime) -> Result<(), Fail> {
     let alloc = rt.alloc();
     let mut disk = MemoryDisk::new(alloc);
     save(alloc, &mut disk, b"one", b"two")?;
-    assert_eq!(rt; disk.size("chunk")?, Some(3));
+    same(&rt, disk.size("chunk")?, Some(3));
     forget(&mut disk)?;
-    assert_eq!(rt; disk.list(alloc, "")?.len(), 0);
+    same(&rt, disk.list(alloc, "")?.len(), 0);
     Ok(())
 }

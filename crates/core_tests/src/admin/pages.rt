@@ -1,5 +1,6 @@
 //! LIST of many snapshots, page by page.
 
+use crate::asserts::same;
 use crate::fixtures::opened_parts;
 use core_admin::list;
 use core_state::{Kept, Listed, Parts};
@@ -42,14 +43,17 @@ fn assert_page(
     let Reply::Listing(rows) = list(parts, alloc, after)? else {
         return Err("no listing".into());
     };
-    assert_eq!(rt; rows.as_slice().len() as u64, to.saturating_sub(from));
+    same(rt, rows.as_slice().len() as u64, to.saturating_sub(from));
     for (row, second) in rows.as_slice().iter().zip(from..to) {
         let snapshot = snapshot_at(alloc, second)?;
-        assert_eq!(rt; row.snapshot.as_slice(), snapshot.as_bytes());
-        assert_eq!(rt; (row.damaged, row.files), (false, 0));
+        same(rt, row.snapshot.as_slice(), snapshot.as_bytes());
+        same(rt, (row.damaged, row.files), (false, 0));
     }
     Ok(())
 }
+
+/// The last snapshot of a page, and the end of the next.
+static PAGES: [(u64, u64); 3] = [(1023, 2048), (2047, 3000), (2999, 3000)];
 
 /// Pages of 1,024, the last of them shorter, and none behind it.
 #[test]
@@ -58,16 +62,10 @@ fn listings_come_in_pages(rt: HostRuntime) -> Result<(), Fail> {
     let mut parts = opened_parts(alloc)?;
     list_many(&mut parts, alloc, 3000)?;
     assert_page(&rt, &parts, alloc, b"", 0, 1024)?;
-    for (last, to) in [(1023, 2048), (2047, 3000), (2999, 3000)] {
-        let after = snapshot_at(alloc, last)?;
-        assert_page(
-            &rt,
-            &parts,
-            alloc,
-            after.as_bytes(),
-            last.saturating_add(1),
-            to,
-        )?;
+    for (last, to) in &PAGES {
+        let after = snapshot_at(alloc, *last)?;
+        let from = last.saturating_add(1);
+        assert_page(&rt, &parts, alloc, after.as_bytes(), from, *to)?;
     }
     Ok(())
 }

@@ -25,7 +25,7 @@ pub const WHOLE: Steps = &[
 ];
 
 /// What stands under the name of `abc` before, and the reply to GET_CHUNK and RANGE of it. A CHUNK does not touch what is there.
-pub const DAMAGED: [(&[u8], &[u8]); 4] = [
+pub static DAMAGED: [(&[u8], &[u8]); 4] = [
     // the last byte is another
     (
         b"B\xab8\x07\xbe\x83p\xa1\xc2A$5abd",

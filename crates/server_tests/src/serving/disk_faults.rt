@@ -32,7 +32,7 @@ struct Fault {
 }
 
 /// FINISH puts the manifest and syncs, and DOWNLOAD asks for the size and reads. In the end no call is left to fail.
-const TO_THE_END_FAULTS: [Fault; 5] = [
+static TO_THE_END_FAULTS: [Fault; 5] = [
     Fault {
         told: 11,
         behind: b"\x01\0\0\0\x1a\x09\0\0\0\x1b\x02\0\0\0\0\0\0\0\x09\0\0\0\x1b\x02\0\0\0\0\0\0\0",
@@ -72,7 +72,7 @@ const TO_THE_END_FAULTS: [Fault; 5] = [
 
 /// FINISH puts the manifest and syncs, each upload puts its file, and the end removes both. A fault of the end is not told, and
 /// the end then comes again, without a call.
-const TO_BYE_FAULTS: [Fault; 7] = [
+static TO_BYE_FAULTS: [Fault; 7] = [
     Fault {
         told: 11,
         behind: b"\x01\0\0\0\x1a\x09\0\0\0\x1b\x02\0\0\0\0\0\0\0\x09\0\0\0\x1b\x02\0\0\0\0\0\0\0\x09\0\0\0\x1b\x02\0\0\0\0\0\0\0\x01\0\0\0\0",
@@ -125,7 +125,7 @@ const TO_BYE_FAULTS: [Fault; 7] = [
 ];
 
 /// The upload puts its file, and ABORT removes it.
-const ABORTED_FAULTS: [Fault; 3] = [
+static ABORTED_FAULTS: [Fault; 3] = [
     Fault {
         told: 6,
         behind: b"\x01\0\0\0\x1a\x09\0\0\0\x1b\x01\0\0\0\0\0\0\0\x09\0\0\0\x1b\x01\0\0\0\0\0\0\0",
@@ -164,7 +164,7 @@ const WITH_INDEX: Files = &[
 ];
 
 /// CHUNK asks whether the chunk's file is there and puts it, once; CLOSE_INDEX puts the index, and ABORT removes it.
-const STORED_FAULTS: [Fault; 5] = [
+static STORED_FAULTS: [Fault; 5] = [
     Fault {
         told: 12,
         behind: b"\x01\0\0\0\x1a\x09\0\0\0\x1b\x02\0\0\0\0\0\0\0\x09\0\0\0\x1b\x02\0\0\0\0\0\0\0\x09\0\0\0\x1b\x02\0\0\0\0\0\0\0\x09\0\0\0\x1b\x02\0\0\0\0\0\0\0",

@@ -39,7 +39,7 @@ pub const FINISHED: Steps = &[
 ];
 
 /// BLOB of a manifest behind `ROOT_SENT` and `PUT_CONF`, and the reply to FINISH. By number: a bad manifest's cause; what differs.
-pub const MANIFESTS: [(&[u8], &[u8]); 32] = [
+pub static MANIFESTS: [(&[u8], &[u8]); 32] = [
     // 1: not UTF-8, and no JSON
     (
         b"\x1e\0\0\0\x11\x0findex.json.blobB\xab8\x07\xbe\x83p\xa1\0\0\0\xff\xff",

@@ -15,9 +15,9 @@ fn assert_cut_off(
     let [done @ .., end] = served.order.as_slice() else {
         return Err("no entry".into());
     };
-    assert_eq!(rt; done.len(), commands);
-    assert!(rt; done.iter().all(|entry| entry.kind == 0));
-    assert_eq!(rt; end.kind, 6);
+    same(rt, done.len(), commands);
+    same(rt, done.iter().all(|entry| entry.kind == 0), true);
+    same(rt, end.kind, 6);
     let files = if commands < 3 { NOTHING } else { FINISHED };
     assert_holds(rt, alloc, served.disk, files)
 }
@@ -67,12 +67,10 @@ fn try_read(
         given: told,
         ending: Ending::SourceFault,
     };
-    assert_eq!(rt; told_to(&ports)?, front(session.replies, told));
-    assert_eq!(rt; report_of(&served)?, report);
-    assert_eq!(rt;
-        (served.status, served.status.number()),
-        (Status::SourceFault, 4)
-    );
+    same(rt, told_to(&ports)?, front(session.replies, told));
+    same(rt, report_of(&served)?, report);
+    let status = (served.status, served.status.number());
+    same(rt, status, (Status::SourceFault, 4));
     assert_cut_off(rt, alloc, served, commands)
 }
 
@@ -100,11 +98,9 @@ fn assert_sink_failed(
     told: u64,
 ) -> Result<(), Fail> {
     let report = report_of(&served)?;
-    assert_eq!(rt; (report.given, report.ending), (told, Ending::SinkFault));
-    assert_eq!(rt;
-        (served.status, served.status.number()),
-        (Status::SinkFault, 5)
-    );
+    same(rt, (report.given, report.ending), (told, Ending::SinkFault));
+    let status = (served.status, served.status.number());
+    same(rt, status, (Status::SinkFault, 5));
     assert_cut_off(rt, alloc, served, answered_before(session, told))
 }
 
@@ -115,7 +111,7 @@ fn try_write(rt: &impl Abort, alloc: Global, session: &Session, told: u64) -> Re
         sink: MemSink::new(alloc, [told].to_vec(alloc)?).at_most(1),
     }];
     let served = run_on(alloc, &mut ports, MemoryDisk::new(alloc))?;
-    assert_eq!(rt; told_to(&ports)?, front(session.replies, told));
+    same(rt, told_to(&ports)?, front(session.replies, told));
     assert_sink_failed(rt, alloc, session, served, told)
 }
 

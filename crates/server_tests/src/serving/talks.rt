@@ -63,9 +63,9 @@ fn try_talk(
         given: talk.told.len() as u64,
         ending: Ending::Clean,
     };
-    assert_eq!(rt; told_to(&ports)?, talk.told.as_slice());
-    assert_eq!(rt; served.status, Status::Ok);
-    assert_eq!(rt; report_of(&served)?, report);
+    same(rt, told_to(&ports)?, talk.told.as_slice());
+    same(rt, served.status, Status::Ok);
+    same(rt, report_of(&served)?, report);
     Ok(served.disk)
 }
 
@@ -79,7 +79,7 @@ const DE_FILE: &str =
 const BOTH: Files = &[(DE_FILE, 14), (ABC_FILE, 15)];
 
 /// Sessions on an empty disk.
-const TALKS: [&[Steps]; 4] = [
+static TALKS: [&[Steps]; 4] = [
     &[UNASKED, ROOT_SENT, RESTORED],
     &[NONE_BEFORE, ROOT_SENT, REUSED],
     &[FIXED_REFUSED],
