@@ -1,4 +1,4 @@
--- What is answered by what the core keeps, on any disk.
+-- What an act's own tests answer by what the core keeps, on any disk.
 use Rattle.std.specs.Prelude.{◌≡◌, List}
 use Rattle.lock_book.specs.Locks.{Locks}
 use Rattle.wire_commands.specs.declared.command.Command.TheVariants.{List as ListAll, Files as FilesOf, Forget, Prune, Group}
@@ -12,11 +12,13 @@ use Rattle.core_admin.specs.FilesTold.{AnswersFiles, named_kept}
 use Rattle.core_admin.specs.Forgotten.{forget_told}
 use Rattle.core_admin.specs.Listings.{list_told, group_told, prune_told}
 
--- LIST, FORGET, GROUP and the first step of a PRUNE wholly, with the lane's session, the catalogue and the locks; of FILES, whether there are rows
+-- LIST, FORGET, GROUP and the first step of a PRUNE wholly, with the lane's session, the catalogue and the locks; of FILES, whether there is
+-- such a snapshot: where there is one, rows, or that its manifest is unreadable
 abbrev pub AnswersBy : Act → Session → List Listed → Locks → Reply → Type 0
 AnswersBy (Plain (ListAll after)) session catalogue locks reply = reply ≡ reply_told (list_told after catalogue)
 AnswersBy (Plain (FilesOf snapshot)) session catalogue locks reply = AnswersFiles (named_kept snapshot catalogue) reply
 AnswersBy (Plain (Forget snapshot)) session catalogue locks reply = reply ≡ reply_told (forget_told snapshot session catalogue locks)
 AnswersBy (Plain (Group group)) session catalogue locks reply = reply ≡ reply_told (group_told group catalogue)
 AnswersBy (JobGroup (Prune group keep dry)) session catalogue locks reply = reply ≡ reply_told (prune_told group keep session catalogue)
+AnswersBy (JobGroup _) session catalogue locks reply = ⊥
 AnswersBy _ session catalogue locks reply = Unit {0}

@@ -88,7 +88,7 @@ pub fn admin_act<D: Disk, E, C: Clock>(
     ensures told { IsSome result.reply }
     // why it is answered so, on any disk
     ensures cause { HasCause D.faults core.old core.new act result }
-    // by its own tests it answers what the core keeps, on any disk
+    // on any disk its own tests answer what the core keeps; of FILES, whether there is such a snapshot
     ensures by_kept { result.entry.kind ≡ 0 → IfSome result.reply (AnswersBy act (slice_index_or core.old.parts.sessions.items lane Idle) core.old.parts.catalogue.items core.old.parts.locks) }
     // a manifest is unreadable exactly where it is, as far as the disk tells
     ensures unreadable { TellsUnreadable D.honest D.content core.old.parts.disk (asked_of_admin act core.old.parts.catalogue.items) result.entry.kind result.reply }

@@ -8,7 +8,7 @@ use Rattle.wire_commands.specs.declared.reply.Reply.TheVariants.{Done}
 use Rattle.store_history.specs.declared.act.Act.{Act}
 use Rattle.store_history.specs.declared.act.Act.TheVariants.{Plain}
 
--- A crash now leaves what the disk reads, and nothing else.
+-- Of an honest disk a crash now leaves what it reads, and nothing else. Another has no images, so of it nothing is said.
 abbrev pub IsFirm : {D : Type 0} → (D → Files) → (D → ℕ) → (D → ℕ → Files → Type 0) → D → Type 0
 IsFirm content calls images disk = Now calls images disk (λ c. c ≡ content disk)
 

@@ -137,7 +137,7 @@ pub fn writer_act<D: Disk, E, C: Clock>(
     ensures remote { core.new.remote ≡ core.old.remote }
     // the files of a writer that was aborted are gone
     ensures removed { Removes D.honest D.content core.old core.new lane act result }
-    // once a FINISH is done a crash leaves what the disk reads
+    // once a FINISH is done a crash leaves what an honest disk reads
     ensures finished { FinishesFirmly D.content D.calls D.images core.new.parts.disk act result.reply }
     // an ABORT that ends a writer takes no memory
     ensures memory { is_closing core.old lane act ≡ true → result.entry.kind ≡ 2 → ⊥ }

@@ -53,7 +53,7 @@ fn manifest_of(w: &Writing) -> Option<(&Path, &[u8])>
     Some((&file.path, text))
 }
 
-/// Puts the manifest, and makes sure that it and the files put before it outlast a crash.
+/// Puts the manifest, and makes sure that on an honest disk it and the files put before it outlast a crash.
 fn put_manifest<D: Disk>(
     disk: &mut D,
     alloc: Global,
@@ -108,7 +108,7 @@ pub fn finish<D: Disk>(
     ensures others { OthersStay D.honest D.content parts.old parts.new lane (Some (reply_by result)) }
     // the snapshot is listed with this number
     ensures listed { parts.new.catalogue.items ≡ closed_by (Some (reply_by result)) number (slice_index_or parts.old.sessions.items lane Idle) parts.old.catalogue.items }
-    // once it is done a crash leaves what the disk reads
+    // once it is done a crash leaves what an honest disk reads
     ensures firm { reply_by result ≡ Reply.Done → IsFirm D.content D.calls D.images parts.new.disk }
     ensures act { (moment : ℕ) → Acts D.honest D.content parts.old parts.new (λ s. outcome s lane moment commands.Finish) result }
 {

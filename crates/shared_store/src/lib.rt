@@ -98,7 +98,7 @@ pub fn apply<D: Disk, E, C: Clock>(
     // commands leaves all as it was. Once it is done, the manifest is gone for good
     ensures crash { is_admins act ≡ true → GoesFirst D.calls D.images core.old.parts.disk core.new.parts.disk (forgotten_in act core.old.parts.catalogue.items) result.reply }
     ensures firm { GoesFirmly D.content D.calls D.images core.old.parts.disk core.new.parts.disk (forgotten_in act core.old.parts.catalogue.items) result.reply }
-    // on any disk such a command's own tests answer what the core keeps
+    // on any disk such a command's own tests answer what the core keeps; of FILES, whether there is such a snapshot
     ensures by_kept { is_admins act ≡ true → result.entry.kind ≡ 0 → IfSome result.reply (AnswersBy act (slice_index_or core.old.parts.sessions.items lane Idle) core.old.parts.catalogue.items core.old.parts.locks) }
     // and it leaves sessions and locks as before
     ensures admin { is_admins act ≡ true → (core.new.parts.sessions.items ≡ core.old.parts.sessions.items) × (core.new.parts.locks ≡ core.old.parts.locks) }
@@ -108,7 +108,7 @@ pub fn apply<D: Disk, E, C: Clock>(
     ensures short { act ≡ Act.Short → result.entry.kind ≡ 2 }
     // the files of a writer that has ended are gone
     ensures removed { Removes D.honest D.content core.old core.new lane act result }
-    // once a FINISH is done a crash leaves what the disk reads
+    // once a FINISH is done a crash leaves what an honest disk reads
     ensures finished { FinishesFirmly D.content D.calls D.images core.new.parts.disk act result.reply }
     // an ABORT or a CLOSE_READER that ends a session takes no memory
     ensures memory { is_closing core.old lane act ≡ true → result.entry.kind ≡ 2 → ⊥ }
