@@ -1,9 +1,10 @@
 //! The entries of an APPEND.
 
-ghost use Rattle.std.specs.Prelude.{◌≡◌, ◌≤◌, ◌*◌, length, map, Ok, Err, IfOk, MatchResult};
+ghost use Rattle.std.specs.Prelude.{◌≡◌, ◌≤◌, ◌*◌, length, map, Ok, Err, IfErr, IfOk, MatchResult};
 ghost use Rattle.std.specs.FinMap.{entries as entries_of};
 ghost use Rattle.store_model.specs.Archives.{piece_named as piece_by, pieces_named as pieces_by, want_entries as entries_fit};
 ghost use Rattle.dynamic_index.specs.Writing.{known_of};
+ghost use Rattle.wire_commands.specs.HasText.{FitsRefusal};
 ghost use Rattle.backup_session.specs.Indexes.{layout_view, FitsPieces};
 ghost use Rattle.backup_session.specs.Steps.{known_in, pieces_for as pieces_of};
 ghost use Rattle.backup_session.specs.Kept.{HasLengths};
@@ -15,7 +16,8 @@ use store_types::{Digest32, Refusal};
 
 /// So many entries fit a command, and an index that has so many pieces.
 fn want_entries(pieces: u32, entries: usize) -> Result<(), Refusal>
-    ensures { result ≡ entries_fit pieces entries }
+    ensures value { result ≡ entries_fit pieces entries }
+    ensures text { IfErr result FitsRefusal }
 {
     if entries > 4096 {
         return Err(Refusal::TooMany { limit: 4096 });
@@ -40,6 +42,7 @@ fn piece_named(
         (λ length. piece_by (known_in (entries_of pool.now)) (λ k. k.1) (layout_view layout) place end entry.now ≡ Ok (known_of ((entry.now).0, length)))
         (λ refusal. piece_by (known_in (entries_of pool.now)) (λ k. k.1) (layout_view layout) place end entry.now ≡ Err refusal) }
     ensures short { IfOk result (λ length. length ≤ 16_777_216) }
+    ensures text { IfErr result FitsRefusal }
 {
     let Some(length) = pool.find(&entry.0) else {
         return Err(Refusal::UnknownChunk { place });
@@ -70,9 +73,10 @@ fn pieces_named(
     requires count { length entries.now ≤ 4096 }
     requires start { start ≤ 1_048_576 * 16_777_216 }
     requires lengths { HasLengths (entries_of pool.now) }
-    ensures { IfOk result (λ told. MatchResult told
+    ensures exact { IfOk result (λ told. MatchResult told
         (λ pieces. pieces_by (known_in (entries_of pool.now)) (λ k. k.1) (layout_view layout) 0 start entries.now ≡ Ok (map known_of pieces.items))
         (λ refusal. pieces_by (known_in (entries_of pool.now)) (λ k. k.1) (layout_view layout) 0 start entries.now ≡ Err refusal)) }
+    ensures text { IfOk result (λ told. IfErr told FitsRefusal) }
 {
     let mut pieces = Vec::new(alloc);
     let mut end = start;
@@ -103,6 +107,7 @@ pub fn pieces_for(
         (λ pieces. pieces_of (entries_of pool.now) index.now entries.now ≡ Ok (map known_of pieces.items))
         (λ refusal. pieces_of (entries_of pool.now) index.now entries.now ≡ Err refusal)) }
     ensures fits { IfOk result (λ told. IfOk told (λ pieces. FitsPieces index.now (map known_of pieces.items))) }
+    ensures text { IfOk result (λ told. IfErr told FitsRefusal) }
 {
     if let Err(refusal) = want_entries(index.len(), entries.len()) {
         return Ok(Err(refusal));

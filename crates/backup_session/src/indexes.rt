@@ -1,9 +1,10 @@
 //! The open indexes.
 
-ghost use Rattle.std.specs.Prelude.{◌≡◌, ◌==◌, position, IfOk, MatchResult, Ok, Err};
+ghost use Rattle.std.specs.Prelude.{◌≡◌, ◌==◌, position, IfErr, IfOk, MatchResult, Ok, Err};
 ghost use Rattle.std.specs.List.{list_any};
 ghost use Rattle.store_types.specs.Names.{IsKey};
 ghost use Rattle.store_model.specs.Archives.{uuid_of as uuid_by, want_sizes as sizes_fit, want_size as size_reached, want_number as number_left, free_number as least_free};
+ghost use Rattle.wire_commands.specs.HasText.{FitsRefusal};
 ghost use Rattle.backup_session.specs.Indexes.{layout_view, text_of};
 ghost use Rattle.backup_session.specs.Kept.{opens_of, open_of, left_of, IsClosing};
 ghost use Rattle.backup_session.specs.Steps.{numbers, want_close as close_test, fact_of};
@@ -82,7 +83,8 @@ pub fn place_of(begun: &[Begun], number: u8) -> Option<usize>
 
 /// The pieces of a fixed archive reach its size.
 fn want_size(layout: Layout, end: u64) -> Result<(), Refusal>
-    ensures { result ≡ size_reached (layout_view layout) end }
+    ensures value { result ≡ size_reached (layout_view layout) end }
+    ensures text { IfErr result FitsRefusal }
 {
     match layout {
         Layout::Fixed { size, .. } if end < size => Err(Refusal::BadClose(CloseFault::Rest(size))),
@@ -92,7 +94,8 @@ fn want_size(layout: Layout, end: u64) -> Result<(), Refusal>
 
 /// An index has so many pieces, they end there, this is its checksum, and the size is reached.
 fn want_close(index: &OpenIndex, count: u64, size: u64, csum: &Digest32) -> Result<(), Refusal>
-    ensures { result ≡ close_test index.now count size csum.now }
+    ensures value { result ≡ close_test index.now count size csum.now }
+    ensures text { IfErr result FitsRefusal }
 {
     let (pieces, end, found) = index.facts();
     if count != pieces as u64 {
@@ -115,9 +118,10 @@ pub fn closed(
     size: u64,
     csum: &Digest32,
 ) -> Result<Result<(Vec<u8>, FileFact), Refusal>, AllocError>
-    ensures { IfOk result (λ told. MatchResult told
+    ensures exact { IfOk result (λ told. MatchResult told
         (λ closed. (close_test begun.now.index count size csum.now ≡ Ok tt) × (closed.0.items ≡ text_of begun.now.index) × (closed.1 ≡ fact_of (open_of begun.now)))
         (λ refusal. close_test begun.now.index count size csum.now ≡ Err refusal)) }
+    ensures text { IfOk result (λ told. IfErr told FitsRefusal) }
 {
     if let Err(refusal) = want_close(&begun.index, count, size, csum) {
         return Ok(Err(refusal));

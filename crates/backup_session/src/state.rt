@@ -283,7 +283,8 @@ impl State {
         number: u8,
         entries: &[(Digest32, u64)],
     ) -> Result<Result<(), Refusal>, AllocError>
-        ensures { Does (λ u. u) (λ w. w) self.old self.new result (steps.append self.old number entries.now) }
+        ensures does { Does (λ u. u) (λ w. w) self.old self.new result (steps.append self.old number entries.now) }
+        ensures text { IfOk result (λ told. IfErr told FitsRefusal) }
     {
         let Some(place) = place_of(&self.begun, number) else {
             return Ok(Err(Refusal::NoFile));
@@ -304,7 +305,8 @@ impl State {
         size: u64,
         csum: &Digest32,
     ) -> Result<Result<(Vec<u8>, Pending), Refusal>, AllocError>
-        ensures { HoldsBack (λ a. a.0.items) (λ a. a.1) self.old self.new result (steps.close_index self.old number count size csum.now) }
+        ensures does { HoldsBack (λ a. a.0.items) (λ a. a.1) self.old self.new result (steps.close_index self.old number count size csum.now) }
+        ensures text { IfOk result (λ told. IfErr told FitsRefusal) }
     {
         let Some(place) = place_of(&self.begun, number) else {
             return Ok(Err(Refusal::NoFile));

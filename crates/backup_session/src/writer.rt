@@ -224,6 +224,8 @@ impl Writer {
         ensures does { Does (λ u. u) settled self.old self.new result (steps.append self.old.writer number entries.now) }
         ensures settled { self.new.pending ≡ None }
         ensures plain { DoesPlainly (λ u. u) settled self.old self.new result (λ w. plain.append w number entries.now) }
+        // a refusal has a spelling
+        ensures text { IfOk result (λ told. IfErr told FitsRefusal) }
     {
         self.state.append(alloc, number, entries)
     }
@@ -244,6 +246,8 @@ impl Writer {
         ensures does { Does (λ text. text.items) (held self.old.writer) self.old self.new result (steps.close_index self.old.writer number count size csum.now) }
         ensures pending { IsPendingAt self.new result }
         ensures plain { DoesPlainly (λ text. text.items) (held self.old.writer) self.old self.new result (λ w. plain.close_index w number count size csum.now) }
+        // a refusal has a spelling
+        ensures text { IfOk result (λ told. IfErr told FitsRefusal) }
     {
         match self.state.close_index(alloc, number, count, size, csum)? {
             Ok(closed) => {

@@ -23,8 +23,8 @@ fn make<D: Disk>(
 ) -> Result<(), DiskError> {
     assert!(rt; name.len() <= 251);
     match change {
-        Change::Install => install(alloc, disk, name, b"new one"),
-        Change::InstallFirm => install_firm(alloc, disk, name, b"new one"),
+        Change::Install => install(disk, alloc, name, b"new one"),
+        Change::InstallFirm => install_firm(disk, alloc, name, b"new one"),
         Change::DropFirm => Ok(drop_firm(disk, name)?),
     }
 }

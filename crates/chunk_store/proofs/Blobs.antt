@@ -14,7 +14,7 @@ use Rattle.store_types.specs.declared.refusal.BadBlob.{BadBlob}
 use Rattle.store_types.specs.declared.refusal.ChunkFault.{ChunkFault}
 use Rattle.store_types.specs.declared.refusal.ChunkFault.TheVariants.{NotABlob, Other}
 use Rattle.store_files.specs.Archive.{digest_of}
-use Rattle.store_model.specs.Stands.{IsPiece}
+use Rattle.store_files.specs.Folder.{IsPiece}
 use Rattle.chunk_store.specs.Pieces.{by_data, checked, piece_in}
 
 -- the data stand behind the header

@@ -7,14 +7,14 @@ use Rattle.std.proofs.lemmas.Slice.Eq.{bytes_eq-Decides}
 use Rattle.sha2.specs.Sha256.{sha256}
 use Rattle.disk_trait.specs.Files.{Files, placed}
 use Rattle.disk_trait.specs.Laws.{by_name, other_name, get_placed, placed_same, placed_other}
+use Rattle.file_install.specs.Install.{temporary, installed}
+use Rattle.file_install.proofs.InstallLaws.{installed_name, installed_other}
 use Rattle.blob_codec.specs.Blob.{blob}
 use Rattle.blob_codec.specs.Laws.{AreBytes}
 use Rattle.store_types.specs.declared.names.SnapshotKey.{SnapshotKey}
-use Rattle.store_model.specs.Stands.{IsPiece, IsDigest, HasWholeChunks, chunk_name}
-use Rattle.store_model.specs.Uploads.{file_path}
-use Rattle.store_model.proofs.Paths.{chunk_apart}
+use Rattle.store_files.specs.Folder.{IsPiece, IsDigest, HasWholeChunks, chunk_name, file_path}
 use Rattle.chunk_store.specs.Pieces.{IsChunk, IsFree, IsHeld, AddsPiece, TakesPiece, found_in, piece_at, with_chunk}
-use Rattle.chunk_store.proofs.Names.{same_digest}
+use Rattle.chunk_store.proofs.Names.{same_digest, chunk_not_temporary, file_not_chunk, file_not_staged}
 use Rattle.chunk_store.proofs.Blobs.{piece_in_blob, same_data, data_are_bytes}
 
 -- where the same stands under a digest, the same piece does
@@ -33,23 +33,38 @@ no_piece files d e = ap (λ o. result_ok (found_in d o)) e
 -- ---- what is put
 
 module _ (files : Files) (digest bytes : List ℕ) where
-  pub with_absent : get files (chunk_name digest) ≡ None → with_chunk digest bytes files ≡ placed files (chunk_name digest) (Some bytes)
-  with_absent e = ap (λ o. if is_some o then files else placed files (chunk_name digest) (Some bytes)) e
+  pub with_absent : get files (chunk_name digest) ≡ None → with_chunk digest bytes files ≡ installed files (chunk_name digest) bytes
+  with_absent e = ap (λ o. if is_some o then files else installed files (chunk_name digest) bytes) e
 
   pub with_present : (there : List ℕ) → get files (chunk_name digest) ≡ Some there → with_chunk digest bytes files ≡ files
-  with_present there e = ap (λ o. if is_some o then files else placed files (chunk_name digest) (Some bytes)) e
+  with_present there e = ap (λ o. if is_some o then files else installed files (chunk_name digest) bytes) e
 
   -- all other names stay
-  pub with_other : (q : List ℕ) → q ≢ chunk_name digest → get (with_chunk digest bytes files) q ≡ get files q
-  with_other q ne = by_case (get files (chunk_name digest)) refl
+  pub with_other : (q : List ℕ) → q ≢ chunk_name digest → q ≢ temporary (chunk_name digest) → get (with_chunk digest bytes files) q ≡ get files q
+  with_other q ne not_temporary = by_case (get files (chunk_name digest)) refl
     where
       by_case : (o : Option (List ℕ)) → get files (chunk_name digest) ≡ o → get (with_chunk digest bytes files) q ≡ get files q
-      by_case None e = ap (λ m. get m q) (with_absent e) ∙ placed_other files (chunk_name digest) (Some bytes) q ne
+      by_case None e = ap (λ m. get m q) (with_absent e) ∙ installed_other files (chunk_name digest) bytes q ne not_temporary
       by_case (Some there) e = ap (λ m. get m q) (with_present there e)
 
-  -- so do the files of snapshots
+  -- so do the other chunks
+  pub with_other_chunk : (d : List ℕ) → chunk_name d ≢ chunk_name digest → get (with_chunk digest bytes files) (chunk_name d) ≡ get files (chunk_name d)
+  with_other_chunk d ne = with_other (chunk_name d) ne (chunk_not_temporary d digest)
+
+  -- a chunk that is there stays
+  pub with_kept : (d there : List ℕ) → get files (chunk_name d) ≡ Some there → get (with_chunk digest bytes files) (chunk_name d) ≡ Some there
+  with_kept d there at = by_case (get files (chunk_name digest)) refl
+    where
+      no_some : None ≡ Some there → ⊥
+      no_some e = cc
+
+      by_case : (o : Option (List ℕ)) → get files (chunk_name digest) ≡ o → get (with_chunk digest bytes files) (chunk_name d) ≡ Some there
+      by_case None e = with_other_chunk d (λ same. no_some (sym e ∙ ap (get files) (sym same) ∙ at)) ∙ at
+      by_case (Some found) e = ap (λ m. get m (chunk_name d)) (with_present found e) ∙ at
+
+  -- the files of snapshots stay
   pub with_file : (key : SnapshotKey) (name : List ℕ) → get (with_chunk digest bytes files) (file_path key name) ≡ get files (file_path key name)
-  with_file key name = with_other (file_path key name) (λ e. chunk_apart digest key name (sym e))
+  with_file key name = with_other (file_path key name) (file_not_chunk key name digest) (file_not_staged key name digest)
 
 -- the same of each digest but one, and this of that one
 by_digest : (digest : List ℕ) (at : List ℕ → Option (List ℕ)) (value : Option (List ℕ)) (d : List ℕ) → (d ≡ digest → at d ≡ value) → (other : Option (List ℕ)) → (d ≢ digest → at d ≡ other) → at d ≡ (if bytes_eq d digest then value else other)
@@ -69,12 +84,12 @@ module _ (files : Files) (digest : List ℕ) (is : IsDigest digest) where
   adds bytes p text are piece named free d other =
       by_digest digest (piece_at (with_chunk digest bytes files)) (Some p) d
       (λ e. subst (λ x. piece_at (with_chunk digest bytes files) x ≡ Some p) (sym e) (here (get files (chunk_name digest)) refl free))
-      (piece_at files d) (λ ne. same_piece files (with_chunk digest bytes files) d (with_other files digest bytes (chunk_name d) (apart d other ne)))
+      (piece_at files d) (λ ne. same_piece files (with_chunk digest bytes files) d (with_other_chunk files digest bytes d (apart d other ne)))
     where
       here : (o : Option (List ℕ)) → get files (chunk_name digest) ≡ o → IsFree digest p files → piece_at (with_chunk digest bytes files) digest ≡ Some p
       here None e free =
           piece_there (with_chunk digest bytes files) digest bytes p
-          (ap (λ m. get m (chunk_name digest)) (with_absent files digest bytes e) ∙ placed_same files (chunk_name digest) (Some bytes))
+          (ap (λ m. get m (chunk_name digest)) (with_absent files digest bytes e) ∙ installed_name files (chunk_name digest) bytes)
           (piece_in_blob digest bytes p text are piece named)
       here (Some there) e (inl none) = absurd (not_none there (sym none ∙ e))
       here (Some there) e (inr had) = ap (λ m. piece_at m digest) (with_present files digest bytes there e) ∙ had
@@ -92,7 +107,7 @@ module _ (files : Files) (digest : List ℕ) (is : IsDigest digest) where
       (piece_at files d) (λ ne. same_piece files (placed files (chunk_name digest) None) d (placed_other files (chunk_name digest) None (chunk_name d) (apart d other ne)))
 
   pub whole_with : (bytes : List ℕ) → IsChunk digest bytes → HasWholeChunks files → HasWholeChunks (with_chunk digest bytes files)
-  whole_with bytes chunk whole d found other there = by_name d digest (IsChunk d found) here (λ ne. whole d found other (sym (with_other files digest bytes (chunk_name d) (apart d other ne)) ∙ there))
+  whole_with bytes chunk whole d found other there = by_name d digest (IsChunk d found) here (λ ne. whole d found other (sym (with_other_chunk files digest bytes d (apart d other ne)) ∙ there))
     where
       same_bytes : (a b : List ℕ) → Some a ≡ Some b → a ≡ b
       same_bytes a b e = cc
@@ -100,7 +115,7 @@ module _ (files : Files) (digest : List ℕ) (is : IsDigest digest) where
       put_here : (o : Option (List ℕ)) → get files (chunk_name digest) ≡ o → get (with_chunk digest bytes files) (chunk_name digest) ≡ Some found → IsChunk digest found
       put_here None e at =
           subst (IsChunk digest)
-          (same_bytes bytes found (sym (ap (λ m. get m (chunk_name digest)) (with_absent files digest bytes e) ∙ placed_same files (chunk_name digest) (Some bytes)) ∙ at)) chunk
+          (same_bytes bytes found (sym (ap (λ m. get m (chunk_name digest)) (with_absent files digest bytes e) ∙ installed_name files (chunk_name digest) bytes) ∙ at)) chunk
       put_here (Some was) e at = whole digest found is (sym (ap (λ m. get m (chunk_name digest)) (with_present files digest bytes was e)) ∙ at)
 
       here : d ≡ digest → IsChunk d found

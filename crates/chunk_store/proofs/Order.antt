@@ -11,7 +11,7 @@ use Rattle.std.proofs.lemmas.List.{length-take-le}
 use Rattle.std.proofs.lemmas.List.Elements.{All-head, All-tail}
 use Rattle.hex.specs.Hex.{encode_lower, encode_with, lower_digits}
 use Rattle.store_types.specs.Names.{text_cmp}
-use Rattle.store_model.specs.Stands.{IsDigest, chunk_name}
+use Rattle.store_files.specs.Folder.{IsDigest, chunk_name}
 use Rattle.chunk_store.proofs.Names.{length_digits}
 
 then_assoc : (a b c : Ordering) → ordering_then (ordering_then a b) c ≡ ordering_then a (ordering_then b c)

@@ -17,7 +17,7 @@ use Rattle.hex.proofs.HexLemmas.{decode_sized-ok, decode_sized-twice, decode_of-
 use Rattle.disk_trait.specs.Files.{Files}
 use Rattle.store_types.specs.declared.names.Digest32.{Digest32}
 use Rattle.store_types.specs.Names.{text_cmp, name_lt}
-use Rattle.store_model.specs.Stands.{IsDigest, chunk_name}
+use Rattle.store_files.specs.Folder.{IsDigest, chunk_name}
 use Rattle.chunk_store.specs.Listed.{Lists, digests_rise, digest_named, by_digits}
 use Rattle.chunk_store.proofs.Names.{bytes_of, digits_behind}
 use Rattle.chunk_store.proofs.Order.{name_order}

@@ -8,7 +8,7 @@ use Rattle.hex.specs.declared.error.FromHexError.{FromHexError}
 use Rattle.disk_trait.specs.Files.{Files}
 use Rattle.store_types.specs.declared.names.Digest32.{Digest32}
 use Rattle.store_types.specs.Names.{name_lt}
-use Rattle.store_model.specs.Stands.{IsDigest, chunk_name}
+use Rattle.store_files.specs.Folder.{IsDigest, chunk_name}
 
 -- each digest is above the one before it, in byte order
 abbrev pub digests_rise : List Digest32 → Bool

@@ -4,13 +4,14 @@ use Rattle.std.specs.Result.{result_ok}
 use Rattle.std.specs.Str.{bytes_eq}
 use Rattle.std.specs.FinMap.{get}
 use Rattle.sha2.specs.Sha256.{sha256}
-use Rattle.disk_trait.specs.Files.{Files, placed, SameBut}
+use Rattle.disk_trait.specs.Files.{Files}
+use Rattle.file_install.specs.Install.{installed, Installs}
 use Rattle.store_types.specs.declared.refusal.BadBlob.{BadBlob}
 use Rattle.store_types.specs.declared.refusal.ChunkFault.{ChunkFault}
 use Rattle.store_types.specs.declared.refusal.ChunkFault.TheVariants.{Nothing, NotABlob, Other}
 use Rattle.blob_codec.specs.Blob.{blob, data_of}
 use Rattle.store_files.specs.Archive.{digest_of}
-use Rattle.store_model.specs.Stands.{IsPiece, IsDigest, chunk_name}
+use Rattle.store_files.specs.Folder.{IsPiece, IsDigest, chunk_name}
 
 -- the bytes are the blob of a piece with this digest
 abbrev pub IsChunk : List ℕ → List ℕ → Type 0
@@ -50,7 +51,7 @@ IsHeld files p = (get files (chunk_name (sha256 p)) ≡ Some (blob p)) × IsPiec
 
 -- a file that is there stays, whatever it holds
 abbrev pub with_chunk : List ℕ → List ℕ → Files → Files
-with_chunk digest bytes files = if is_some (get files (chunk_name digest)) then files else placed files (chunk_name digest) (Some bytes)
+with_chunk digest bytes files = if is_some (get files (chunk_name digest)) then files else installed files (chunk_name digest) bytes
 
 -- nothing stands under the digest, or this piece
 abbrev pub IsFree : List ℕ → List ℕ → Files → Type 0
@@ -64,6 +65,6 @@ AddsPiece digest p old new = (d : List ℕ) → IsDigest d → piece_at new d �
 abbrev pub TakesPiece : List ℕ → Files → Files → Type 0
 TakesPiece digest old new = (d : List ℕ) → IsDigest d → piece_at new d ≡ (if bytes_eq d digest then None else piece_at old d)
 
--- a chunk that is written: until a sync, a crash may leave anything under its name, and all else is as it was
-abbrev pub MayWrite : List ℕ → Files → Files → Type 0
-MayWrite digest old new = SameBut (chunk_name digest) old new
+-- what a crash leaves of a chunk that is installed, on a disk that read so: where nothing stood there, nothing or the whole chunk
+abbrev pub Stores : List ℕ → List ℕ → Files → Files → Files → Type 0
+Stores digest bytes read old new = (new ≡ old) ⊎ ((get read (chunk_name digest) ≡ None) × Installs read (chunk_name digest) bytes old new)

@@ -2,7 +2,7 @@
 
 ghost use Rattle.std.specs.Prelude.{◌≡◌, ℕ, List, Ok, Err, MatchResult};
 ghost use Rattle.sha2.specs.Sha256.{sha256};
-ghost use Rattle.store_model.specs.Stands.{IsPiece};
+ghost use Rattle.store_files.specs.Folder.{IsPiece};
 ghost use Rattle.blob_codec.specs.Blob.{blob as blob_of};
 ghost use Rattle.chunk_store.specs.Pieces.{checked, piece_in};
 ghost use Rattle.chunk_store.specs.declared.chunk.LoadFault.TheVariants.{Failed as FailedDisk, NoMemory};

@@ -2,7 +2,8 @@
 
 ghost use Rattle.std.specs.Prelude.{◌≡◌, string_bytes, IfOk, IsErrOf};
 ghost use Rattle.std.specs.List.{filter_map};
-ghost use Rattle.disk_trait.specs.Disk.{Serves, Ticks, Steps, Same};
+ghost use Rattle.disk_trait.specs.Disk.{Ticks};
+ghost use Rattle.disk_trait.specs.Effects.{OnlyReads};
 ghost use Rattle.chunk_store.specs.Listed.{Lists, digest_named};
 
 use crate::name::ChunkName;
@@ -37,11 +38,9 @@ fn digests_of(alloc: Global, names: &[String]) -> Result<Vec<Digest32>, AllocErr
 }
 
 /// The digests under which a file stands, whatever it holds, in byte order. Names of another form are passed over.
-pub fn scan<D: Disk>(alloc: Global, disk: &mut D) -> Result<Vec<Digest32>, DiskError>
-    ensures serves { Serves D.honest D.faults disk.old disk.new (IsErrOf result DiskError.Failed) }
-    ensures moment { Ticks D.honest D.calls disk.old disk.new }
-    ensures crash { Steps D.calls D.images disk.old disk.new Same }
-    ensures same { D.honest disk.old → D.content disk.new ≡ D.content disk.old }
+pub fn scan<D: Disk>(disk: &mut D, alloc: Global) -> Result<Vec<Digest32>, DiskError>
+    ensures reads { OnlyReads D.Disk disk.old disk.new (IsErrOf result DiskError.Failed) }
+    ensures tick { Ticks D.honest D.calls disk.old disk.new }
     ensures digests { D.honest disk.old → IfOk result (λ digests. Lists (D.content disk.old) digests.items) }
 {
     let names = disk.list(alloc, ".chunks/")?;

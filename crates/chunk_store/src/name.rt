@@ -3,7 +3,7 @@
 ghost use Rattle.std.specs.Prelude.{◌≡◌, ◌≤◌, length};
 ghost use Rattle.hex.specs.Hex.{encode_lower};
 ghost use Rattle.blob_codec.specs.Laws.{AreBytes};
-ghost use Rattle.store_model.specs.Stands.{IsDigest, chunk_name};
+ghost use Rattle.store_files.specs.Folder.{IsDigest, chunk_name};
 
 use arrayvec::ArrayString;
 use std::marker::Model;

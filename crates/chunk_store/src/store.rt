@@ -1,38 +1,43 @@
 //! A map from digests to pieces, on a disk.
 
-ghost use Rattle.std.specs.Prelude.{◌≡◌, ℕ, List, Some, None, Ok, Err, false, is_some, IfOk, IfErr, OnOk, IsErr, IsErrOf, IsSome, MatchResult};
+ghost use Rattle.std.specs.Prelude.{◌≡◌, ◌⊎◌, ℕ, List, Some, None, Ok, Err, false, is_some, IfOk, IfErr, OnOk, IsErr, IsErrOf, IsSome, MatchResult};
 ghost use Rattle.std.specs.FinMap.{get};
 ghost use Rattle.sha2.specs.Sha256.{sha256};
 ghost use Rattle.disk_trait.specs.Files.{placed};
 ghost use Rattle.disk_trait.specs.Disk.{Serves, Ticks, Steps, Same, MayGo};
+ghost use Rattle.disk_trait.specs.Effects.{OnlyReads};
 ghost use Rattle.blob_codec.specs.Blob.{blob as blob_of};
 ghost use Rattle.store_types.specs.declared.names.Digest32.{Digest32};
 ghost use Rattle.store_types.specs.declared.refusal.ChunkFault.{ChunkFault};
-ghost use Rattle.store_model.specs.Stands.{HasWholeChunks, IsPiece, chunk_name};
+ghost use Rattle.store_files.specs.Folder.{HasWholeChunks, IsPiece, chunk_name};
 ghost use Rattle.chunk_store.specs.declared.chunk.LoadFault.TheVariants.{Damaged};
 ghost use Rattle.chunk_store.specs.Faults.{IsNotDamaged};
-ghost use Rattle.chunk_store.specs.Pieces.{AddsPiece, IsChunk, IsFree, IsHeld, MayWrite, TakesPiece, found_at, with_chunk};
+ghost use Rattle.chunk_store.specs.Pieces.{AddsPiece, IsChunk, IsFree, IsHeld, Stores, TakesPiece, found_at, with_chunk};
 
 use crate::chunk::{Chunk, LoadFault, check};
 use crate::name::ChunkName;
 use blob_codec::encode;
 use disk_trait::{Disk, DiskError, Failed};
+use file_install::install;
 use std::alloc::Global;
 use store_types::{ChunkFault, Digest32};
 
-/// Puts a piece's blob under its digest. Where a file is there, nothing is written, whatever it holds.
+/// Installs a piece's blob under its digest. Where a file is there, nothing is written, whatever it holds.
 ///
-/// Until a sync, a crash may leave anything under a name that was free. It takes memory for the disk's put alone.
+/// A crash leaves nothing or the whole blob under a name that was free, with all that the disk read before; any bytes or
+/// nothing under its temporary name, and all else as it was. Until a sync, the blob may go again.
+///
+/// Four calls of the disk: size, put, sync and rename. It takes memory for the temporary name and the disk's put alone.
 pub fn insert_blob<D: Disk>(
-    alloc: Global,
     disk: &mut D,
+    alloc: Global,
     digest: &Digest32,
     blob: &[u8],
 ) -> Result<(), DiskError>
     requires { IsChunk digest.now.0 blob.now }
     ensures serves { Serves D.honest D.faults disk.old disk.new (IsErrOf result DiskError.Failed) }
-    ensures moment { Ticks D.honest D.calls disk.old disk.new }
-    ensures crash { Steps D.calls D.images disk.old disk.new (MayWrite digest.now.0) }
+    ensures tick { Ticks D.honest D.calls disk.old disk.new }
+    ensures crash { Steps D.calls D.images disk.old disk.new (Stores digest.now.0 blob.now (D.content disk.old)) }
     ensures stored { D.honest disk.old → OnOk result (D.content disk.new ≡ with_chunk digest.now.0 blob.now (D.content disk.old)) }
     ensures present { D.honest disk.old → IsSome (get (D.content disk.old) (chunk_name digest.now.0)) → (D.content disk.new ≡ D.content disk.old)
         × Steps D.calls D.images disk.old disk.new Same }
@@ -47,21 +52,22 @@ pub fn insert_blob<D: Disk>(
     if disk.size(name.as_str())?.is_some() {
         return Ok(());
     }
-    disk.put(alloc, name.as_str(), blob)?;
+    install(disk, alloc, name.as_str(), blob)?;
     Ok(())
 }
 
 /// Puts a piece under its digest, as [`insert_blob`] does its blob, which takes memory here.
 pub fn insert<D: Disk>(
-    alloc: Global,
     disk: &mut D,
+    alloc: Global,
     digest: &Digest32,
     piece: &[u8],
 ) -> Result<(), DiskError>
     requires piece { IsPiece piece.now }
     requires digest { sha256 piece.now ≡ digest.now.0 }
     ensures serves { Serves D.honest D.faults disk.old disk.new (IsErrOf result DiskError.Failed) }
-    ensures crash { Steps D.calls D.images disk.old disk.new (MayWrite digest.now.0) }
+    ensures tick { IsErrOf result DiskError.NoMemory ⊎ Ticks D.honest D.calls disk.old disk.new }
+    ensures crash { Steps D.calls D.images disk.old disk.new (Stores digest.now.0 (blob_of piece.now) (D.content disk.old)) }
     ensures stored { D.honest disk.old → OnOk result (D.content disk.new ≡ with_chunk digest.now.0 (blob_of piece.now) (D.content disk.old)) }
     ensures present { D.honest disk.old → IsSome (get (D.content disk.old) (chunk_name digest.now.0)) → (D.content disk.new ≡ D.content disk.old)
         × Steps D.calls D.images disk.old disk.new Same }
@@ -75,17 +81,15 @@ pub fn insert<D: Disk>(
     let Ok(blob) = encode(alloc, piece)? else {
         unreachable!();
     };
-    insert_blob(alloc, disk, digest, &blob)?;
+    insert_blob(disk, alloc, digest, &blob)?;
     Ok(())
 }
 
 /// The chunk under a digest. It is damaged where nothing is there, where the file is no blob, and where its data are not
 /// a piece with this digest: the first of these is told, the last with the digest of the data.
-pub fn load<D: Disk>(alloc: Global, disk: &mut D, digest: &Digest32) -> Result<Chunk, LoadFault>
-    ensures serves { Serves D.honest D.faults disk.old disk.new (IsErrOf result LoadFault.Failed) }
-    ensures moment { Ticks D.honest D.calls disk.old disk.new }
-    ensures crash { Steps D.calls D.images disk.old disk.new Same }
-    ensures same { D.honest disk.old → D.content disk.new ≡ D.content disk.old }
+pub fn load<D: Disk>(disk: &mut D, alloc: Global, digest: &Digest32) -> Result<Chunk, LoadFault>
+    ensures reads { OnlyReads D.Disk disk.old disk.new (IsErrOf result LoadFault.Failed) }
+    ensures tick { Ticks D.honest D.calls disk.old disk.new }
     ensures piece { D.honest disk.old → IfOk result (λ chunk. found_at (D.content disk.old) digest.now.0 ≡ Ok chunk) }
     ensures damaged { D.honest disk.old → IfErr result (λ e. (asked : Digest32) (found : ChunkFault) → e ≡ Damaged asked found →
         (asked ≡ digest.now) × (found_at (D.content disk.old) digest.now.0 ≡ Err found)) }
@@ -120,7 +124,7 @@ fn damaged(digest: &Digest32, found: ChunkFault) -> LoadFault
 /// Until a sync, it may or may not have happened.
 pub fn remove<D: Disk>(disk: &mut D, digest: &Digest32) -> Result<bool, Failed>
     ensures serves { Serves D.honest D.faults disk.old disk.new (IsErr result) }
-    ensures moment { Ticks D.honest D.calls disk.old disk.new }
+    ensures tick { Ticks D.honest D.calls disk.old disk.new }
     ensures crash { Steps D.calls D.images disk.old disk.new (MayGo (chunk_name digest.now.0)) }
     ensures there { D.honest disk.old → IfOk result (λ done. done ≡ is_some (get (D.content disk.old) (chunk_name digest.now.0))) }
     ensures removed { D.honest disk.old → OnOk result (D.content disk.new ≡ placed (D.content disk.old) (chunk_name digest.now.0) None) }

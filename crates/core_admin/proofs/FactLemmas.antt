@@ -11,11 +11,12 @@ use Rattle.blob_codec.specs.Laws.{AreBytes}
 use Rattle.blob_codec.proofs.RoundTrips.{data_of-blob}
 use Rattle.store_files.specs.Archive.{Content, archive, blob, File, Snapshot, file_text, file_named}
 use Rattle.store_files.specs.Manifest.{Manifest, manifest_of}
-use Rattle.store_model.specs.Uploads.{file_path}
+use Rattle.store_files.specs.Folder.{file_path}
 use Rattle.store_model.specs.Manifests.{fact_of, blob_data, data_in, manifest_data}
 use Rattle.store_model.specs.Load.{read_manifest}
 use Rattle.store_model.specs.AdminSteps.{facts_in, fact_shown, file_row, file_rows}
-use Rattle.store_model.specs.Stands.{Files, IsSnapshot, HoldsFiles, FitsContent, manifest_path}
+use Rattle.store_model.specs.Stands.{IsSnapshot, HoldsFiles, FitsContent}
+use Rattle.store_files.specs.Folder.{Files, manifest_path}
 use Rattle.store_model.proofs.FileInsertions.{only_named}
 use Rattle.core_admin.specs.FileRows.{own_fact, fact_by, rows_by}
 use Rattle.core_state.proofs.Finding.{some_same, found_in, found_passes}

@@ -16,7 +16,8 @@ use Rattle.wire_commands.specs.declared.rows.FileRow.{FileRow}
 use Rattle.wire_commands.specs.declared.command.Command.TheVariants.{Files as FilesOf}
 use Rattle.wire_commands.specs.declared.reply.Reply.TheVariants.{Files}
 use Rattle.store_model.specs.AdminSteps.{file_rows, files}
-use Rattle.store_model.specs.Stands.{IsSnapshot, HoldsFiles, manifest_path, file_limit}
+use Rattle.store_model.specs.Stands.{IsSnapshot, HoldsFiles, file_limit}
+use Rattle.store_files.specs.Folder.{manifest_path}
 use Rattle.store_model.specs.Store.{Store, Outcome, snapshot_named}
 use Rattle.store_model.specs.Steps.{outcome}
 use Rattle.core_state.specs.declared.kept.Kept.{Kept}
@@ -27,10 +28,11 @@ use Rattle.core_state.specs.Shown.{shown_file, shown_files, shown_snapshot}
 use Rattle.core_state.proofs.Finding.{found_in}
 use Rattle.core_state.proofs.Found.{kept_is}
 use Rattle.core_admin.specs.FileRows.{rows_by}
-use Rattle.core_admin.specs.FilesTold.{named_kept, rows_in, rows_read}
+use Rattle.core_admin.specs.FilesTold.{HasBytes, rows_in, rows_read}
+use Rattle.core_state.specs.Found.{named_kept}
 use Rattle.core_admin.proofs.FactLemmas.{has_manifest, rows_are}
 use Rattle.core_admin.proofs.Filtering.{map_twice}
-use Rattle.core_admin.proofs.ListingRead.{BytesAt, listing_is}
+use Rattle.core_admin.proofs.ListingRead.{listing_is}
 use Rattle.core_admin.proofs.Told.{tells}
 
 -- ---- what is read of a finished snapshot
@@ -45,7 +47,7 @@ abbrev given : List FileRow → Result (List FileRow) Refusal
 given rows = Ok rows
 
 -- its rows are the plain store's
-read_is : (m : Content) (x : Snapshot) → IsSnapshot x → HoldsFiles m x → BytesAt m (manifest_path x.key) → rows_read m (shown_snapshot x) ≡ Ok (file_rows x.files)
+read_is : (m : Content) (x : Snapshot) → IsSnapshot x → HoldsFiles m x → HasBytes m (manifest_path x.key) → rows_read m (shown_snapshot x) ≡ Ok (file_rows x.files)
 read_is m x is held are =
     let h = has_manifest m x is held in
     ap (λ o. or_else (Unreadable (manifest_path x.key)) o >>= λ read. given (rows_in read (shown_snapshot x))) (listing_is m x h are)
@@ -83,7 +85,7 @@ module _ (s : Store) (lane moment : ℕ) (text : List ℕ) (catalogue : List Lis
       by_name None e = let same : BadName ≡ r = cc in ap (λ x. Err x) same
       by_name (Some key) e = by_kept (snapshot_named key s.snapshots) (sym (ap (or_else NoSnapshot) (kept_is catalogue s.snapshots key shown)) ∙ e)
 
-  pub files_read : (m : Content) (k : Kept) → All IsSnapshot s.snapshots → All (HoldsFiles m) s.snapshots → named_kept text catalogue ≡ Ok k → BytesAt m (manifest_path k.key)
+  pub files_read : (m : Content) (k : Kept) → All IsSnapshot s.snapshots → All (HoldsFiles m) s.snapshots → named_kept text catalogue ≡ Ok k → HasBytes m (manifest_path k.key)
       → outcome s lane moment (FilesOf text) ≡ (rows_read m k >>= λ rows. tells s (Files rows))
   files_read m k each held is are = step_is s lane moment text ∙ by_name (key_of text) (sym (named_by text catalogue) ∙ is)
     where

@@ -1,5 +1,7 @@
 -- What FILES answers, by what the core keeps and what was read.
-use Rattle.std.proofs.Common.{◌≡◌, ℕ, List, Option, Some, None, Result, Ok, Err, refl, sym, ap, subst, ◌∙◌}
+use Rattle.disk_trait.specs.declared.disk.Disk.{Ghosts}
+use Rattle.disk_trait.specs.declared.disk.DiskError.TheVariants as disks
+use Rattle.std.proofs.Common.{◌≡◌, ℕ, true, false, IsTrue, List, Option, Some, None, Result, Ok, Err, IfOk, refl, sym, ap, subst, ◌∙◌}
 use Rattle.std.specs.Option.{option_map}
 use Rattle.disk_trait.specs.Files.{Files as Content}
 use Rattle.store_types.specs.declared.refusal.Refusal.{Refusal}
@@ -12,21 +14,28 @@ use Rattle.wire_commands.specs.declared.rows.FileRow.{FileRow}
 use Rattle.wire_commands.specs.declared.command.Command.TheVariants.{Files as FilesOf}
 use Rattle.wire_commands.specs.declared.reply.Reply.{Reply}
 use Rattle.wire_commands.specs.declared.reply.Reply.TheVariants.{Done, Files, Refused}
-use Rattle.store_model.specs.Stands.{manifest_path}
+use Rattle.store_files.specs.Folder.{manifest_path}
 use Rattle.store_model.specs.Store.{Store}
-use Rattle.store_model.specs.Steps.{answered, outcome}
+use Rattle.store_model.specs.Steps.{outcome}
 use Rattle.core_state.specs.declared.kept.Kept.{Kept}
 use Rattle.core_state.specs.declared.kept.Listed.{Listed}
 use Rattle.core_state.specs.declared.parts.Parts.{Parts}
 use Rattle.core_state.specs.Found.{kept_named}
-use Rattle.core_state.specs.Holds.{Holds, Does}
+use Rattle.core_state.specs.Holds.{Holds}
 use Rattle.core_state.specs.Listing.{listing_at}
-use Rattle.core_state.specs.Replies.{reply_told}
+use Rattle.core_state.specs.Settles.{kind_by, reply_by}
+use Rattle.core_state.specs.Stops.{Gives, IfRefused, told}
+use Rattle.core_state.specs.declared.stop.Stop.{Stop}
+use Rattle.core_state.specs.declared.stop.Stop.TheVariants as stops
 use Rattle.core_state.specs.Unreadables.{Asked, part_read, TellsUnreadable}
-use Rattle.core_state.proofs.Unreadables.{tells_other}
-use Rattle.core_admin.specs.FilesTold.{named_kept, asked_at, asked_files, rows_in, rows_read, files_told}
+use Rattle.core_state.specs.Replies.{answers_files}
+use Rattle.core_state.specs.Unchanged.{is_uncalled}
+use Rattle.core_state.proofs.Commanding.{refused_as}
+use Rattle.core_state.proofs.Unreadables.{tells_other, tells_failed}
+use Rattle.core_admin.specs.FilesTold.{AnswersFiles, HasBytes, IfTold, asked_at, asked_files, rows_in, rows_read, files_told}
+use Rattle.core_state.specs.Found.{named_kept}
 use Rattle.core_admin.proofs.FilesRead.{kept_by, named_by, files_read}
-use Rattle.core_admin.proofs.ListingRead.{BytesAt}
+use Rattle.core_admin.proofs.Stopping.{Stops, stopped}
 use Rattle.core_admin.proofs.Told.{tells}
 
 -- ---- the snapshot that is named
@@ -72,18 +81,18 @@ module _ (k : Kept) where
   abbrev asks_of : Option (List ℕ × Manifest) → Result Reply Refusal
   asks_of o = or_else (Unreadable path) o >>= λ read. Ok Done
 
-  readable : (o : Option (List ℕ × Manifest)) (rows : List FileRow) (name : List ℕ) → given rows ≡ rows_of o → asks_of o ≡ Err (Unreadable name) → ⊥
+  readable : (o : Option (List ℕ × Manifest)) (rows : List FileRow) (name : List ℕ) → rows_of o ≡ given rows → asks_of o ≡ Err (Unreadable name) → ⊥
   readable None rows name e u = cc
   readable (Some read) rows name e u = cc
 
-  unread : (o : Option (List ℕ × Manifest)) (r : Refusal) → Err r ≡ rows_of o → asks_of o ≡ Err (Unreadable path)
+  unread : (o : Option (List ℕ × Manifest)) (r : Refusal) → rows_of o ≡ Err r → asks_of o ≡ Err (Unreadable path)
   unread None r e = refl
   unread (Some read) r e = cc
 
 -- the rows by what was read
 pub read_rows : (m : Content) (k : Kept) (bytes : List ℕ) (listed : Manifest) (rows : List FileRow) → listing_at m (manifest_path k.key) ≡ Some (bytes, listed) → rows ≡ rows_in (bytes, listed) k
-    → given k rows ≡ rows_read m k
-read_rows m k bytes listed rows there is = ap (given k) is ∙ sym (ap (rows_of k) there)
+    → rows_read m k ≡ Ok rows
+read_rows m k bytes listed rows there is = ap (rows_of k) there ∙ sym (ap (given k) is)
 
 same_refusal : (r q : Refusal) → Some (Refused r) ≡ Some (Refused q) → r ≡ q
 same_refusal r q e = cc
@@ -100,46 +109,90 @@ same_err r q e = cc
 rows_apart : (rows : List FileRow) (name : List ℕ) → Some (Files rows) ≡ Some (Refused (Unreadable name)) → ⊥
 rows_apart rows name e = cc
 
-module _ {D : Type 0} (honest : D → Type 0) (content : D → Content) (disk : D) (text : List ℕ) (catalogue : List Listed) where
-  pub tells_refused : (r : Refusal) → named_kept text catalogue ≡ Err r → ((name : List ℕ) → r ≡ Unreadable name → ⊥) → TellsUnreadable honest content disk (asked_files text catalogue) 0 (Some (Refused r))
-  tells_refused r is other = tells_other honest content disk (asked_files text catalogue) 0 (Some (Refused r)) (λ name e. other name (same_refusal r (Unreadable name) e)) (ap asked_at is)
+module _ {D : Type 0} (d : Ghosts D) (disk : D) (text : List ℕ) (catalogue : List Listed) where
+  pub tells_refused : (r : Refusal) → named_kept text catalogue ≡ Err r → ((name : List ℕ) → r ≡ Unreadable name → ⊥) → TellsUnreadable d disk (asked_files text catalogue) 0 (Some (Refused r))
+  tells_refused r is other = tells_other d disk (asked_files text catalogue) 0 (Some (Refused r)) (λ name e. other name (same_refusal r (Unreadable name) e)) (ap asked_at is)
 
-  asks : (k : Kept) (a : Asked) → named_kept text catalogue ≡ Ok k → asked_files text catalogue ≡ Some a → part_read (content disk) a ≡ asks_of k (listing_at (content disk) (manifest_path k.key))
+  asks : (k : Kept) (a : Asked) → named_kept text catalogue ≡ Ok k → asked_files text catalogue ≡ Some a → part_read (d.content disk) a ≡ asks_of k (listing_at (d.content disk) (manifest_path k.key))
   asks k a is at = by_asked (asked_at (Ok k)) a (sym (ap asked_at is) ∙ at) refl
     where
-      by_asked : (o : Option Asked) (a : Asked) → o ≡ Some a → asked_at (Ok k) ≡ o → part_read (content disk) a ≡ asks_of k (listing_at (content disk) (manifest_path k.key))
-      by_asked o a e here = sym (ap (part_read (content disk)) (same_asked _ a (here ∙ e)))
+      by_asked : (o : Option Asked) (a : Asked) → o ≡ Some a → asked_at (Ok k) ≡ o → part_read (d.content disk) a ≡ asks_of k (listing_at (d.content disk) (manifest_path k.key))
+      by_asked o a e here = sym (ap (part_read (d.content disk)) (same_asked _ a (here ∙ e)))
 
-  pub tells_rows : (k : Kept) (rows : List FileRow) → named_kept text catalogue ≡ Ok k → (honest disk → Ok rows ≡ rows_read (content disk) k)
-      → TellsUnreadable honest content disk (asked_files text catalogue) 0 (Some (Files rows))
+  pub tells_rows : (k : Kept) (rows : List FileRow) → named_kept text catalogue ≡ Ok k → (d.honest disk → rows_read (d.content disk) k ≡ Ok rows)
+      → TellsUnreadable d disk (asked_files text catalogue) 0 (Some (Files rows))
   tells_rows k rows is read = record {
     named = λ name e. absurd (rows_apart rows name e);
     cause = λ name a e at h. absurd (rows_apart rows name e);
-    missing = λ name a zero at h g. absurd (readable k (listing_at (content disk) (manifest_path k.key)) rows name (read h) (sym (asks k a is at) ∙ g));
+    missing = λ name a zero at h g. absurd (readable k (listing_at (d.content disk) (manifest_path k.key)) rows name (read h) (sym (asks k a is at) ∙ g));
   }
 
-  pub tells_unread : (k : Kept) (r : Refusal) → named_kept text catalogue ≡ Ok k → r ≡ Unreadable (manifest_path k.key) → (honest disk → Err r ≡ rows_read (content disk) k)
-      → TellsUnreadable honest content disk (asked_files text catalogue) 0 (Some (Refused r))
+  tells_unread : (k : Kept) (r : Refusal) → named_kept text catalogue ≡ Ok k → r ≡ Unreadable (manifest_path k.key) → (d.honest disk → rows_read (d.content disk) k ≡ Err r)
+      → TellsUnreadable d disk (asked_files text catalogue) 0 (Some (Refused r))
   tells_unread k r is path_is read = record {
     named = λ name e. ap (option_map (λ a. a.path)) (ap asked_at is) ∙ ap (λ q. Some q) (same_name (manifest_path k.key) name (sym path_is ∙ same_refusal r (Unreadable name) e));
     cause = λ name a e at h. unread_at a at h ∙ ap (λ q. Err q) (sym path_is ∙ same_refusal r (Unreadable name) e);
     missing = λ name a zero at h g. ap (λ q. Some (Refused q)) (path_is ∙ same_err (Unreadable (manifest_path k.key)) (Unreadable name) (sym (unread_at a at h) ∙ g));
   }
     where
-      unread_at : (a : Asked) → asked_files text catalogue ≡ Some a → honest disk → part_read (content disk) a ≡ Err (Unreadable (manifest_path k.key))
-      unread_at a at h = asks k a is at ∙ unread k (listing_at (content disk) (manifest_path k.key)) r (read h)
+      unread_at : (a : Asked) → asked_files text catalogue ≡ Some a → d.honest disk → part_read (d.content disk) a ≡ Err (Unreadable (manifest_path k.key))
+      unread_at a at h = asks k a is at ∙ unread k (listing_at (d.content disk) (manifest_path k.key)) r (read h)
+
+  -- by how the reading stopped
+  unread_by : (k : Kept) (stop : Stop) → named_kept text catalogue ≡ Ok k → IfRefused (λ r. r ≡ Unreadable (manifest_path k.key)) stop → (d.honest disk → Gives (λ rows. rows) (Err stop) (rows_read (d.content disk) k))
+      → TellsUnreadable d disk (asked_files text catalogue) (kind_by (told (Err stop))) (Some (reply_by (told (Err stop))))
+  unread_by k (stops.Refused r) is path_is gives = tells_unread k r is path_is gives
+  unread_by k stops.NoMemory is path_is gives = tells_failed d disk (asked_files text catalogue) disks.NoMemory
+  unread_by k stops.DiskFailed is path_is gives = tells_failed d disk (asked_files text catalogue) disks.Failed
+
+  pub tells_stopped : (k : Kept) (stop : Stop) (result : Result Reply Stop) → Stops result stop → named_kept text catalogue ≡ Ok k → IfRefused (λ r. r ≡ Unreadable (manifest_path k.key)) stop
+      → (d.honest disk → Gives (λ rows. rows) (Err stop) (rows_read (d.content disk) k)) → TellsUnreadable d disk (asked_files text catalogue) (kind_by (told result)) (Some (reply_by (told result)))
+  tells_stopped k stop result stops is path_is gives =
+      stopped (λ r. TellsUnreadable d disk (asked_files text catalogue) (kind_by (told r)) (Some (reply_by (told r)))) result stop stops (unread_by k stop is path_is gives)
+
+-- ---- what is told as the reading stopped
+
+module _ (text : List ℕ) (catalogue : List Listed) (k : Kept) (is : named_kept text catalogue ≡ Ok k) where
+  told_by_stop : (m : Content) (stop : Stop) → Gives (λ rows. rows) (Err stop) (rows_read m k) → Gives (λ reply. reply) (Err stop) (files_told m text catalogue)
+  told_by_stop m (stops.Refused r) gives = told_rows m text catalogue k is ∙ ap as_rows gives
+  told_by_stop m stops.NoMemory gives = tt
+  told_by_stop m stops.DiskFailed gives = tt
+
+  pub told_stopped : (m : Content) (stop : Stop) (result : Result Reply Stop) → Stops result stop → Gives (λ rows. rows) (Err stop) (rows_read m k) → Gives (λ reply. reply) result (files_told m text catalogue)
+  told_stopped m stop result stops gives = stopped (λ r. Gives (λ reply. reply) r (files_told m text catalogue)) result stop stops (told_by_stop m stop gives)
+
+  answers_by_stop : (stop : Stop) → IfRefused (λ r. r ≡ Unreadable (manifest_path k.key)) stop → IfOk (told (Err stop)) (AnswersFiles (named_kept text catalogue))
+  answers_by_stop (stops.Refused r) path_is = subst (λ found. AnswersFiles found (Refused r)) (sym is) (subst (λ r. AnswersFiles (Ok k) (Refused r)) (sym path_is) refl)
+  answers_by_stop stops.NoMemory path_is = tt
+  answers_by_stop stops.DiskFailed path_is = tt
+
+  pub answers_stopped : (stop : Stop) (result : Result Reply Stop) → Stops result stop → IfRefused (λ r. r ≡ Unreadable (manifest_path k.key)) stop → IfOk (told result) (AnswersFiles (named_kept text catalogue))
+  answers_stopped stop result stops path_is = stopped (λ r. IfOk (told r) (AnswersFiles (named_kept text catalogue))) result stop stops (answers_by_stop stop path_is)
+
+-- ---- the refusal
+
+-- it is one of the act's
+pub refuses_unread : (k : Kept) (stop : Stop) → IfRefused (λ r. r ≡ Unreadable (manifest_path k.key)) stop → IfRefused (λ r. IsTrue (answers_files (Refused r))) stop
+refuses_unread k stop is = refused_as (λ r. r ≡ Unreadable (manifest_path k.key)) (λ r. IsTrue (answers_files (Refused r))) stop (λ r e. subst (λ q. IsTrue (answers_files (Refused q))) (sym e) refl) is
+
+-- and comes by a call of the disk
+pub called : (P : Type 0) (k : Kept) (stop : Stop) → IfRefused (λ r. r ≡ Unreadable (manifest_path k.key)) stop → IfRefused (λ r. is_uncalled r ≡ true → P) stop
+called P k stop is = refused_as (λ r. r ≡ Unreadable (manifest_path k.key)) (λ r. is_uncalled r ≡ true → P) stop (λ r e t. absurd (apart (sym (ap is_uncalled e) ∙ t))) is
+  where
+    apart : false ≡ true → ⊥
+    apart e = cc
 
 -- ---- the act
 
-module _ {D : Type 0} (honest : D → Type 0) (content : D → Content) (old new : Parts D) (s : Store) (lane moment : ℕ) (text : List ℕ) where
-  pub does_files : (k : Kept) (told : Result (List FileRow) Refusal) → Holds honest content old s → Holds honest content new s → named_kept text old.catalogue.items ≡ Ok k → BytesAt (content old.disk) (manifest_path k.key)
-      → told ≡ rows_read (content old.disk) k → Does honest content new s (answered s (outcome s lane moment (FilesOf text))) (Ok (reply_told (as_rows told)))
-  does_files k told h after is are read =
-      let step = files_read s lane moment text old.catalogue.items (h.shows).catalogue (content old.disk) k ((h.files).snapshots).each ((h.files).snapshots).files is are in
-      let outcome_is = step ∙ ap (λ (r : Result (List FileRow) Refusal). r >>= λ rows. tells s (Files rows)) (sym read) in
-      let does : Does honest content new s (s, reply_told (as_rows told)) (Ok (reply_told (as_rows told))) = (refl, after) in
-      subst (λ x. Does honest content new s x (Ok (reply_told (as_rows told)))) (sym (ap (answered s) outcome_is ∙ rows_same told)) does
-    where
-      rows_same : (r : Result (List FileRow) Refusal) → answered s (r >>= λ rows. tells s (Files rows)) ≡ (s, reply_told (as_rows r))
-      rows_same (Ok rows) = refl
-      rows_same (Err refusal) = refl
+module _ {D : Type 0} (d : Ghosts D) (old : Parts D) (s : Store) (lane moment : ℕ) (text : List ℕ) (k : Kept) (h : Holds d old s) (is : named_kept text old.catalogue.items ≡ Ok k) where
+  files_step : HasBytes (d.content old.disk) (manifest_path k.key) → outcome s lane moment (FilesOf text) ≡ (rows_read (d.content old.disk) k >>= λ rows. tells s (Files rows))
+  files_step are = files_read s lane moment text old.catalogue.items (h.shows).catalogue (d.content old.disk) k ((h.files).snapshots).each ((h.files).snapshots).files is are
+
+  pub files_stop : (stop : Stop) → IfTold {A = List FileRow} (Err stop) (HasBytes (d.content old.disk) (manifest_path k.key)) → Gives (λ rows. rows) (Err stop) (rows_read (d.content old.disk) k)
+      → IfRefused (λ refusal. outcome s lane moment (FilesOf text) ≡ Err refusal) stop
+  files_stop (stops.Refused r) are gives = files_step are ∙ ap (λ (r : Result (List FileRow) Refusal). r >>= λ rows. tells s (Files rows)) gives
+  files_stop stops.NoMemory are gives = tt
+  files_stop stops.DiskFailed are gives = tt
+
+  pub files_rows : (rows : List FileRow) → HasBytes (d.content old.disk) (manifest_path k.key) → rows_read (d.content old.disk) k ≡ Ok rows → outcome s lane moment (FilesOf text) ≡ Ok (s, Files rows)
+  files_rows rows are read = files_step are ∙ ap (λ (r : Result (List FileRow) Refusal). r >>= λ rows. tells s (Files rows)) read

@@ -4,17 +4,6 @@ use Rattle.std.specs.List.{All, cons_option, filter, filter_map}
 use Rattle.std.proofs.lemmas.List.{append-nil, take-append-drop, take_at, take_all, take-map, length-map, map-append}
 use Rattle.std.proofs.lemmas.List.Elements.{All-head, All-tail, filter-append, filter_more}
 
--- no more pass two tests than one
-pub length-filter_twice : {X : Type 0} (p q : X → Bool) (xs : List X) → length (filter p (filter q xs)) ≤ length (filter p xs)
-length-filter_twice p q [] = omega arith
-length-filter_twice p q (x ∷ xs) = by_tests (p x) refl (q x) (length-filter_twice p q xs)
-  where
-    by_tests : (a : Bool) → p x ≡ a → (b : Bool) → length (filter p (filter q xs)) ≤ length (filter p xs) → length (filter p (cond b (x ∷ filter q xs) (filter q xs))) ≤ length (cond a (x ∷ filter p xs) (filter p xs))
-    by_tests true e true le = let one = ap (λ c. length (cond c (x ∷ filter p (filter q xs)) (filter p (filter q xs)))) e in omega (arith, le, one)
-    by_tests true e false le = omega (arith, le)
-    by_tests false e true le = let one = ap (λ c. length (cond c (x ∷ filter p (filter q xs)) (filter p (filter q xs)))) e in omega (arith, le, one)
-    by_tests false e false le = le
-
 module _ {X Y : Type 0} (f : X → Y) (p : X → Bool) (xs : List X) where
   -- one more was looked at
   found_more : (i : ℕ) (x : X) (ys : List Y) → i < length xs → x ≡ get_or xs i x → ys ≡ map f (filter p (take i xs))

@@ -1,38 +1,51 @@
 -- What a FORGET answers, and what it leaves, by what was found.
-use Rattle.std.proofs.Common.{◌≡◌, ◌<◌, ◌^◌, ℕ, Bool, true, false, cond, get_or, map, List, [], ◌∷◌, Option, Some, Result, Ok, Err, refl, sym, ap, subst, ◌∙◌, arith}
+use Rattle.std.proofs.Common.{◌≡◌, ◌<◌, ◌^◌, ℕ, Bool, true, false, cond, map, List, [], ◌∷◌, Some, None, Result, Ok, Err, IsErrOf, IsErrAnd, inl, inr, refl, sym, ap, subst, ◌∙◌, arith}
 use Rattle.std.proofs.lemmas.Bool.{and_parts, and_from}
+use Rattle.std.specs.FinMap.{get, remove}
 use Rattle.std.specs.List.{filter, list_all}
+use Rattle.std.specs.Result.{result_ok}
+use Rattle.sha2.specs.Sha256.{sha256}
+use Rattle.disk_trait.specs.Disk.{Serves, Steps, Same, Now, After}
+use Rattle.disk_trait.specs.Effects.{SameContent}
 use Rattle.disk_trait.specs.Files.{Files}
-use Rattle.disk_trait.specs.Disk.{Steps, Same, Now, After}
+use Rattle.disk_trait.specs.Laws.{placed_same, placed_other, by_name}
+use Rattle.disk_trait.specs.declared.disk.Disk.{Ghosts}
 use Rattle.disk_trait.specs.declared.disk.DiskError.{DiskError}
-use Rattle.disk_trait.specs.declared.disk.DiskError.TheVariants.{NoMemory as DiskMemory, Failed as DiskFailed}
+use Rattle.disk_trait.specs.declared.disk.DiskError.TheVariants.{NoMemory}
 use Rattle.store_types.specs.declared.names.SnapshotKey.{SnapshotKey}
 use Rattle.store_types.specs.declared.refusal.Refusal.{Refusal}
-use Rattle.store_types.specs.declared.refusal.Refusal.TheVariants.{SnapshotBusy, NoMemory, DiskFault}
+use Rattle.store_types.specs.declared.refusal.Refusal.TheVariants.{SnapshotBusy}
 use Rattle.store_types.specs.Chain.Refusing.{◌>>=◌}
+use Rattle.store_types.specs.Names.{IsKey, key_of}
 use Rattle.lock_book.specs.Locks.{Locks}
+use Rattle.store_files.specs.Folder.{chunk_name, file_path, manifest_path}
 use Rattle.wire_commands.specs.HasText.{ReplyHasText}
 use Rattle.wire_commands.specs.RefusalText.{refusal_text}
 use Rattle.wire_commands.specs.ReplyText.{reply_text}
 use Rattle.wire_commands.specs.declared.command.Command.TheVariants.{Forget}
 use Rattle.wire_commands.specs.declared.reply.Reply.{Reply}
 use Rattle.wire_commands.specs.declared.reply.Reply.TheVariants.{Done, Refused}
-use Rattle.store_model.specs.Store.{Store}
-use Rattle.store_model.specs.Stands.{manifest_path}
-use Rattle.store_model.specs.Steps.{answered, outcome}
-use Rattle.store_model.specs.Uploads.{file_path}
 use Rattle.snapshot_files.specs.Forgotten.{Forgets, ForgetsFirm, without}
-use Rattle.core_state.specs.Holds.{Holds, Does}
+use Rattle.store_history.specs.declared.act.Act.{Act}
+use Rattle.store_history.specs.declared.act.Act.TheVariants.{Plain}
+use Rattle.core_state.specs.Catalogue.{without_listed, without_named}
+use Rattle.core_state.specs.Changes.{Change, IsFirm, LeavesChange, MayLeave, after, forgets, forgotten, names_beside}
+use Rattle.core_state.specs.Commands.{ActDoes, ActLeaves, change_at}
+use Rattle.core_state.specs.Found.{kept_named}
 use Rattle.core_state.specs.Replies.{reply_told}
-use Rattle.core_state.specs.Settles.{reply_by}
+use Rattle.core_state.specs.Stops.{stop_of}
+use Rattle.core_state.specs.Unchanged.{SameKept}
+use Rattle.core_state.specs.Wanted.{session_at}
+use Rattle.core_state.specs.declared.entering.Place.{Place}
 use Rattle.core_state.specs.declared.kept.Kept.{Kept}
 use Rattle.core_state.specs.declared.kept.Listed.{Listed}
 use Rattle.core_state.specs.declared.kept.Session.{Session}
 use Rattle.core_state.specs.declared.parts.Parts.{Parts}
-use Rattle.core_state.proofs.Acting.{does_refused}
-use Rattle.core_state.proofs.Sessions.{at_lane}
-use Rattle.core_admin.specs.Forgotten.{to_forget, forget_told, names_beside, paths_beside, paths_gone, TakesOut, GoesFirst, GoesFirmly}
-use Rattle.core_admin.proofs.TakenOut.{refused, gone_none, goes_none}
+use Rattle.core_state.specs.declared.stop.Stop.{Stop}
+use Rattle.core_state.proofs.Commanding.{writes_does, writes_leaves, failed_leaves}
+use Rattle.core_state.proofs.Texts.{done_has_text}
+use Rattle.core_admin.specs.Forgotten.{least_sharer, to_forget, forget_told}
+use Rattle.core_admin.proofs.TakenOut.{forget_step, kept_key, named_is}
 
 pub snapshot_busy_has_text : (lane : ℕ) → lane < 2 ^ 32 → ReplyHasText (Refused (SnapshotBusy lane))
 unfolding reply_text refusal_text
@@ -51,86 +64,75 @@ list_all-filter p q (x ∷ xs) h = let both = and_parts (p x) (list_all p xs) h 
 abbrev done_of : Result SnapshotKey Refusal → Result Reply Refusal
 done_of told = told >>= λ key. Ok Done
 
-module _ (text : List ℕ) (x found : Session) (catalogue : List Listed) (locks : Locks) (same : x ≡ found) where
-  pub told_refused : (r : Refusal) → to_forget text found catalogue locks ≡ Err r → Refused r ≡ reply_told (forget_told text x catalogue locks)
-  told_refused r is = sym (ap (λ y. reply_told (done_of (to_forget text y catalogue locks))) same ∙ ap (λ t. reply_told (done_of t)) is)
+module _ (text : List ℕ) (x : Session) (catalogue : List Listed) (locks : Locks) where
+  pub forget_refused : (r : Refusal) → to_forget text x catalogue locks ≡ Err r → forget_told text x catalogue locks ≡ Err r
+  forget_refused r is = ap done_of is
 
-  pub told_done : (key : SnapshotKey) → to_forget text found catalogue locks ≡ Ok key → Done ≡ reply_told (forget_told text x catalogue locks)
-  told_done key is = sym (ap (λ y. reply_told (done_of (to_forget text y catalogue locks))) same ∙ ap (λ t. reply_told (done_of t)) is)
+  pub told_refused : (r : Refusal) → to_forget text x catalogue locks ≡ Err r → Refused r ≡ reply_told (forget_told text x catalogue locks)
+  told_refused r is = sym (ap (λ t. reply_told (done_of t)) is)
 
--- a refusal is the plain store's
-pub does_refuse : {D : Type 0} (honest : D → Type 0) (content : D → Files) (old new : Parts D) (s : Store) (lane moment : ℕ) (text : List ℕ) (found : Session) (r : Refusal)
-    → new.disk ≡ old.disk → new.catalogue.items ≡ old.catalogue.items → new.sessions.items ≡ old.sessions.items → new.locks ≡ old.locks
-    → lane < 64 → found ≡ get_or old.sessions.items lane found → to_forget text found old.catalogue.items old.locks ≡ Err r → Holds honest content old s
-    → Does honest content new s (answered s (outcome s lane moment (Forget text))) (Ok (Refused r))
-does_refuse honest content old new s lane moment text found r d c l k lt is told h =
-    does_refused honest content old new s (outcome s lane moment (Forget text)) r d c l k
-    (refused s lane moment text old.catalogue.items old.locks (h.shows).catalogue (h.shows).locks found r
-    (at_lane old.sessions.items s lane found (h.shows).sessions ((h.shows).sound).lanes lt is) told) h
-
--- ---- what a refusal leaves
-
-not_done : (r : Refusal) → Some (Refused r) ≡ Some Done → ⊥
-not_done r e = cc
-
-memory_apart : NoMemory ≡ DiskFault → ⊥
-memory_apart e = cc
-
-module _ {D : Type 0} (honest : D → Type 0) (content : D → Files) (calls : D → ℕ) (images : D → ℕ → Files → Type 0) (old new : D) (k : Option Kept) where
-  pub takes_none : (r : Refusal) → (honest old → content new ≡ content old) → TakesOut honest content old new k (Some (Refused r))
-  takes_none r same other h = same h ∙ sym (ap (λ paths. without paths (content old)) (gone_none k r))
-
-  pub firm_none : (r : Refusal) → GoesFirmly content calls images old new k (Some (Refused r))
-  firm_none r e = absurd (not_done r e)
-
-  -- want of memory has changed nothing, and of a fault nothing is said
-  takes_by : (e : DiskError) → (e ≡ DiskMemory → honest old → content new ≡ content old) → TakesOut honest content old new k (Some (reply_by (Err e)))
-  takes_by DiskMemory same = takes_none NoMemory (same refl)
-  takes_by DiskFailed same = λ other h. absurd (other refl)
-
-  firm_by : (e : DiskError) → GoesFirmly content calls images old new k (Some (reply_by (Err e)))
-  firm_by DiskMemory = firm_none NoMemory
-  firm_by DiskFailed = firm_none DiskFault
-
-  pub takes_failed : (e : DiskError) (result : Result Reply DiskError) → result ≡ Err e → (e ≡ DiskMemory → honest old → content new ≡ content old) → TakesOut honest content old new k (Some (reply_by result))
-  takes_failed e result is same = subst (λ r. TakesOut honest content old new k (Some (reply_by r))) (sym is) (takes_by e same)
-
-  pub firm_failed : (e : DiskError) (result : Result Reply DiskError) → result ≡ Err e → GoesFirmly content calls images old new k (Some (reply_by result))
-  firm_failed e result is = subst (λ r. GoesFirmly content calls images old new k (Some (reply_by r))) (sym is) (firm_by e)
-
-  -- before the first call
-  pub goes_wanting : (result : Result Reply DiskError) → result ≡ Err DiskMemory → Steps calls images old new Same → GoesFirst calls images old new k (Some (reply_by result))
-  goes_wanting result is same = subst (λ r. GoesFirst calls images old new k (Some (reply_by r))) (sym is) (goes_none calls images old new k NoMemory memory_apart same)
+  pub told_done : (key : SnapshotKey) → to_forget text x catalogue locks ≡ Ok key → Done ≡ reply_told (forget_told text x catalogue locks)
+  told_done key is = sym (ap (λ t. reply_told (done_of t)) is)
 
 -- ---- its files
 
-module _ {D : Type 0} (content : D → Files) (calls : D → ℕ) (images : D → ℕ → Files → Type 0) (old new : D) (key : SnapshotKey) (k : Kept) (names : List (List ℕ)) (key_is : k.key ≡ key) (names_are : names ≡ names_beside k.files) where
-  -- the manifest goes first
-  pub goes : Steps calls images old new (Forgets (manifest_path key) (map (file_path key) names)) → Steps calls images old new (Forgets (manifest_path k.key) (paths_beside k))
-  goes first =
-      subst (λ (q : SnapshotKey). Steps calls images old new (Forgets (manifest_path q) (map (file_path q) (names_beside k.files)))) (sym key_is)
-      (subst (λ (ns : List (List ℕ)). Steps calls images old new (Forgets (manifest_path key) (map (file_path key) ns))) names_are first)
+-- what is there was there before
+stood_before : (names : List (List ℕ)) (m : Files) (q v : List ℕ) → get (without names m) q ≡ Some v → get m q ≡ Some v
+stood_before [] m q v e = e
+stood_before (name ∷ names) m q v e =
+    let later : get (remove m name) q ≡ Some v = stood_before names (remove m name) q v e in
+    by_name q name (get m q ≡ Some v)
+    (λ same. absurd (none_some v (sym (ap (get (remove m name)) same ∙ placed_same m name None) ∙ later)))
+    (λ other. sym (placed_other m name None q other) ∙ later)
+  where
+    none_some : (v : List ℕ) → None ≡ Some v → ⊥
+    none_some v e = cc
 
-  pub goes_done : (o : Option Kept) → o ≡ Some k → Steps calls images old new (Forgets (manifest_path key) (map (file_path key) names)) → GoesFirst calls images old new o (Some Done)
-  goes_done o is first = subst (λ o. GoesFirst calls images old new o (Some Done)) (sym is) (goes first)
+never : false ≡ true → ⊥
+never e = cc
 
-  goes_by : (o : Option Kept) (e : DiskError) → o ≡ Some k → Steps calls images old new (Forgets (manifest_path key) (map (file_path key) names))
-      → (e ≡ DiskMemory → Steps calls images old new Same) → GoesFirst calls images old new o (Some (reply_by (Err e)))
-  goes_by o DiskMemory is first same = subst (λ o. GoesFirst calls images old new o (Some (Refused NoMemory))) (sym is) (same refl)
-  goes_by o DiskFailed is first same = subst (λ o. GoesFirst calls images old new o (Some (Refused DiskFault))) (sym is) (goes first)
+module _ {D : Type 0} (d : Ghosts D) (old new : Parts D) (at : Place) (text : List ℕ) (key : SnapshotKey) (k : Kept) (names : List (List ℕ))
+    (named : key_of text ≡ Some key) (there : kept_named key old.catalogue.items ≡ Some k) (names_are : names ≡ names_beside k.files) where
+  abbrev paths : List (List ℕ)
+  paths = map (file_path key) names
 
-  pub goes_failed : (o : Option Kept) (e : DiskError) (result : Result Reply DiskError) → o ≡ Some k → result ≡ Err e → Steps calls images old new (Forgets (manifest_path key) (map (file_path key) names))
-      → (e ≡ DiskMemory → Steps calls images old new Same) → GoesFirst calls images old new o (Some (reply_by result))
-  goes_failed o e result there is first same = subst (λ r. GoesFirst calls images old new o (Some (reply_by r))) (sym is) (goes_by o e there first same)
+  abbrev act : Act
+  act = Plain (Forget text)
 
-  pub firm_done : (o : Option Kept) → o ≡ Some k → Now calls images new (After calls images old (ForgetsFirm (content old) (manifest_path key) (map (file_path key) names))) → GoesFirmly content calls images old new o (Some Done)
-  firm_done o is firm = subst (λ o. GoesFirmly content calls images old new o (Some Done)) (sym is) (λ e.
-      subst (λ (q : SnapshotKey). Now calls images new (After calls images old (ForgetsFirm (content old) (manifest_path q) (map (file_path q) (names_beside k.files))))) (sym key_is)
-      (subst (λ (ns : List (List ℕ)). Now calls images new (After calls images old (ForgetsFirm (content old) (manifest_path key) (map (file_path key) ns)))) names_are firm))
+  change_is : change_at old at.lane act ≡ forgets (manifest_path key) paths
+  change_is =
+      ap (λ r. forgotten (result_ok r)) (named_is text old.catalogue.items key k named there)
+      ∙ ap (λ (q : SnapshotKey). forgets (manifest_path q) (map (file_path q) (names_beside k.files))) (kept_key old.catalogue.items key k there)
+      ∙ ap (λ (ns : List (List ℕ)). forgets (manifest_path key) (map (file_path key) ns)) (sym names_are)
 
-  pub takes_done : (honest : D → Type 0) (o : Option Kept) → o ≡ Some k → (honest old → content new ≡ without (manifest_path key ∷ map (file_path key) names) (content old)) → TakesOut honest content old new o (Some Done)
-  takes_done honest o is gone = λ other h.
-      gone h
-      ∙ ap (λ (ns : List (List ℕ)). without (manifest_path key ∷ map (file_path key) ns) (content old)) names_are
-      ∙ ap (λ (q : SnapshotKey). without (manifest_path q ∷ map (file_path q) (names_beside k.files)) (content old)) (sym key_is)
-      ∙ sym (ap (λ o. without (paths_gone o (Some Done)) (content old)) is)
+  goes : Steps d.calls d.images old.disk new.disk (Forgets (manifest_path key) paths) → LeavesChange d old.disk new.disk (change_at old at.lane act)
+  goes first = inr (subst (λ (change : Change). Steps d.calls d.images old.disk new.disk (MayLeave change (d.content old.disk))) (sym change_is) first)
+
+  -- done: just its files are gone, its manifest first and for good
+  pub done_leaves : new.catalogue.items ≡ without_listed key old.catalogue.items → new.sessions.items ≡ old.sessions.items → new.locks ≡ old.locks
+      → (d.honest old.disk → d.content new.disk ≡ without (manifest_path key ∷ paths) (d.content old.disk))
+      → Steps d.calls d.images old.disk new.disk (Forgets (manifest_path key) paths)
+      → Now d.calls d.images new.disk (After d.calls d.images old.disk (ForgetsFirm (d.content old.disk) (manifest_path key) paths))
+      → ActLeaves d old new at act (Ok Done)
+  done_leaves c l locks gone first firm =
+      writes_leaves d old new at act Done tt refl (λ h. gone h ∙ sym (ap (λ (change : Change). after change (d.content old.disk)) change_is)) (goes first)
+      (subst (λ (change : Change). IsFirm d old.disk new.disk change) (sym change_is) firm) (c ∙ sym (ap (λ o. without_named o old.catalogue.items) named)) (λ _. (l, locks))
+      (λ s h p held. inl (stood_before (manifest_path key ∷ paths) (d.content old.disk) (chunk_name (sha256 p)) _ (sym (ap (λ m. get m (chunk_name (sha256 p))) (gone h.honest)) ∙ held)))
+      (λ e. absurd (never e))
+
+  pub done_does : (failed : Type 0) → Serves d.honest d.faults old.disk new.disk failed → at.lane < 64 → to_forget text (session_at old at.lane) old.catalogue.items old.locks ≡ Ok key
+      → least_sharer old.locks key ≡ None → IsKey key → (d.honest old.disk → d.content new.disk ≡ without (manifest_path key ∷ paths) (d.content old.disk))
+      → new.catalogue.items ≡ without_listed key old.catalogue.items → new.sessions.items ≡ old.sessions.items → new.locks ≡ old.locks
+      → ActDoes d old new at act (Ok Done)
+  done_does failed serves lt told free is gone c l locks =
+      writes_does d old new at act Done failed serves done_has_text refl tt
+      (λ _ s h. forget_step d old new s at.lane at.moment text key k h lt told there free is
+      (λ honest. gone honest ∙ ap (λ (ns : List (List ℕ)). without (manifest_path key ∷ map (file_path key) ns) (d.content old.disk)) names_are) c l locks)
+
+  -- its files were not removed: want of memory comes before the first call that changes the disk
+  pub undone_leaves : {A : Type 0} (removed : Result A DiskError) (e : DiskError) (result : Result Reply Stop) → IsErrAnd result (λ x. x ≡ stop_of e) → removed ≡ Err e → SameKept old new
+      → Steps d.calls d.images old.disk new.disk (Forgets (manifest_path key) paths)
+      → (IsErrOf removed NoMemory → SameContent d old.disk new.disk) → (IsErrOf removed NoMemory → Steps d.calls d.images old.disk new.disk Same)
+      → ActLeaves d old new at act result
+  undone_leaves removed e result stops was kept first same unmoved =
+      failed_leaves d old new at act removed e result stops was same (λ short. inr (unmoved short)) (goes first) kept refl (λ _ closing. never closing)

@@ -1,10 +1,10 @@
 pub mod Filtering
-pub mod Removals
-pub mod Leaving
 pub mod RowTexts
 pub mod FactLemmas
 pub mod FactRows
+pub mod Stopping
 pub mod Told
+pub mod ListLemmas
 pub mod Freeing
 pub mod Remaining
 pub mod TakenOut
@@ -13,4 +13,3 @@ pub mod ListingRead
 pub mod FilesRead
 pub mod FilesTelling
 pub mod ActLemmas
-pub mod ActEffects

@@ -11,8 +11,8 @@ use Rattle.store_types.proofs.OrderLaws.{same_keys}
 use Rattle.store_files.specs.Archive.{Snapshot}
 use Rattle.store_model.specs.Store as model
 use Rattle.store_model.specs.Store.{Store, session, snapshot_named, snapshot_holder, holds_snapshot, without_snapshot, in_group}
-use Rattle.store_model.specs.Uploads.{file_path}
-use Rattle.store_model.specs.Stands.{chunk_name, group_limit}
+use Rattle.store_files.specs.Folder.{file_path}
+use Rattle.store_model.specs.Stands.{group_limit}
 use Rattle.store_model.proofs.Paths.{chunk_apart}
 use Rattle.restore_reader.specs.Shown as readers
 use Rattle.core_state.specs.declared.kept.Kept.{Kept}
@@ -24,11 +24,11 @@ use Rattle.core_state.specs.Shown.{shown_snapshot, shown_session}
 use Rattle.core_state.specs.Holds.{IsOlder, IsSound, IsWriter, Shows, IsOnDisk}
 use Rattle.core_state.proofs.Finding.{found_in, found_passes}
 use Rattle.core_state.proofs.OnDisk.{fresh, off_other, uploads_off, IsOff}
-use Rattle.core_writer.specs.Closed.{without_listed}
-use Rattle.core_admin.proofs.Filtering.{length-filter_twice, filter_map_to}
+use Rattle.core_state.specs.Catalogue.{without_listed}
+use Rattle.core_admin.proofs.Filtering.{filter_map_to}
 use Rattle.core_admin.proofs.Freeing.{not_held}
-use Rattle.core_admin.proofs.Leaving.{Takes, ArePlain, stands_without}
-use Rattle.core_admin.proofs.Removals.{rise-without, groups-without, All-without, named-without}
+use Rattle.snapshot_files.proofs.Leaving.{Takes, ArePlain, stands_without}
+use Rattle.snapshot_files.proofs.Removals.{length-filter_twice, rise-without, groups-without, All-without, named-without}
 
 -- the store without it
 abbrev pub forgot : Store → SnapshotKey → Store

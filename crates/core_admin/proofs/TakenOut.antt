@@ -1,16 +1,15 @@
 -- FORGET is the store's.
-use Rattle.std.proofs.Common.{◌≡◌, ◌↔◌, ⊎_elim, ℕ, true, not, map, List, [], ◌∷◌, Option, Some, None, Result, Ok, Err, refl, sym, ap, subst, ◌∙◌, arith}
+use Rattle.disk_trait.specs.declared.disk.Disk.{Ghosts}
+use Rattle.std.proofs.Common.{◌≡◌, ◌<◌, ⊎_elim, ℕ, true, not, map, List, [], ◌∷◌, Option, Some, None, Result, Ok, Err, refl, sym, ap, ◌∙◌, arith}
 use Rattle.std.proofs.lemmas.List.Elements.{All-cons, All-map, All-filter}
 use Rattle.std.specs.FinMap.{get}
 use Rattle.std.specs.List.{All, Contains, filter}
 use Rattle.std.specs.Option.{option_map}
-use Rattle.std.specs.Result.{result_ok}
 use Rattle.std.specs.Str.{bytes_eq}
 use Rattle.disk_trait.specs.Files.{Files}
-use Rattle.disk_trait.specs.Disk.{Steps, Same}
 use Rattle.store_types.specs.declared.names.SnapshotKey.{SnapshotKey}
 use Rattle.store_types.specs.declared.refusal.Refusal.{Refusal}
-use Rattle.store_types.specs.declared.refusal.Refusal.TheVariants.{WrongState, BadName, NoSnapshot, SnapshotBusy, DiskFault}
+use Rattle.store_types.specs.declared.refusal.Refusal.TheVariants.{BadName, NoSnapshot, SnapshotBusy}
 use Rattle.store_types.specs.Chain.Refusing.{◌>>=◌, or_else, if_none}
 use Rattle.store_types.specs.FileNames.{manifest_name}
 use Rattle.store_types.specs.Names.{IsKey, key_of, same_key}
@@ -19,13 +18,14 @@ use Rattle.store_types.proofs.OrderLaws.{same_keys}
 use Rattle.lock_book.specs.Locks.{Locks}
 use Rattle.store_files.specs.Archive.{Snapshot}
 use Rattle.wire_commands.specs.declared.command.Command.TheVariants.{Forget}
-use Rattle.wire_commands.specs.declared.reply.Reply.TheVariants.{Done, Refused}
+use Rattle.wire_commands.specs.declared.reply.Reply.TheVariants.{Done}
 use Rattle.store_model.specs.AdminSteps.{forget, want_free}
 use Rattle.store_model.specs.Store as model
 use Rattle.store_model.specs.Store.{Store, Outcome, session, snapshot_named, snapshot_holder}
-use Rattle.store_model.specs.Steps.{answered, outcome}
-use Rattle.store_model.specs.Stands.{IsSnapshot, manifest_path}
-use Rattle.store_model.specs.Uploads.{file_path}
+use Rattle.store_model.specs.Steps.{outcome}
+use Rattle.store_model.specs.Stands.{IsSnapshot}
+use Rattle.store_files.specs.Folder.{manifest_path}
+use Rattle.store_files.specs.Folder.{file_path}
 use Rattle.store_model.proofs.Insertions.{Contains-here, Contains-later, Contains-cases}
 use Rattle.store_model.proofs.Paths.{manifest_plain}
 use Rattle.store_model.proofs.StandsLemmas.{file_plain}
@@ -34,31 +34,25 @@ use Rattle.snapshot_files.proofs.Losing.{without_these, without_others}
 use Rattle.core_state.specs.declared.kept.Kept.{Kept}
 use Rattle.core_state.specs.declared.kept.Listed.{Listed}
 use Rattle.core_state.specs.declared.kept.Session.{Session}
-use Rattle.core_state.specs.declared.kept.Session.TheVariants.{Idle, Writer, Reader}
 use Rattle.core_state.specs.declared.kept.StoredFile.{StoredFile}
 use Rattle.core_state.specs.declared.parts.Parts.{Parts}
 use Rattle.core_state.specs.Found.{kept_named}
-use Rattle.core_state.specs.Holds.{Holds, Does}
+use Rattle.core_state.specs.Holds.{Holds, IsOnDisk, Shows}
 use Rattle.core_state.specs.Locked.{Locked}
 use Rattle.core_state.specs.Shown.{shown_file, shown_files, shown_snapshot, shown_session}
-use Rattle.core_state.specs.States.{state_of}
 use Rattle.core_state.proofs.Finding.{found_in, found_passes, mapped}
 use Rattle.core_state.proofs.Found.{kept_is}
-use Rattle.core_writer.specs.Closed.{without_listed}
-use Rattle.core_writer.specs.Opened.{want_idle}
-use Rattle.core_admin.specs.FilesTold.{named_kept}
-use Rattle.core_admin.specs.Forgotten.{least_sharer, to_forget, names_beside, paths_gone, GoesFirst}
+use Rattle.core_state.specs.Catalogue.{without_listed}
+use Rattle.core_state.specs.Wanted.{session_at, want_idle}
+use Rattle.core_state.specs.Found.{named_kept}
+use Rattle.core_admin.specs.Forgotten.{least_sharer, to_forget}
+use Rattle.core_state.specs.Changes.{names_beside}
 use Rattle.core_admin.proofs.Freeing.{holder_is}
-use Rattle.core_admin.proofs.Leaving.{Takes, ArePlain}
+use Rattle.snapshot_files.proofs.Leaving.{Takes, ArePlain}
 use Rattle.core_admin.proofs.Remaining.{forgot, shows_without, disk_without}
-use Rattle.core_admin.proofs.Told.{idle_is}
+use Rattle.core_admin.proofs.Told.{idle_is, session_shown}
 
 -- ---- what is tested
-
-wants_idle : (x : Session) → (x ≡ Idle → ⊥) → want_idle x ≡ Err (WrongState (state_of x))
-wants_idle Idle ne = absurd (ne refl)
-wants_idle (Writer w) ne = refl
-wants_idle (Reader r) ne = refl
 
 module _ (text : List ℕ) (catalogue : List Listed) (locks : Locks) where
   abbrev freed : SnapshotKey → Option ℕ → Result SnapshotKey Refusal
@@ -77,23 +71,23 @@ module _ (text : List ℕ) (catalogue : List Listed) (locks : Locks) where
   unfolding to_forget
   forget_asks x = refl
 
-  pub busy : (x : Session) → (x ≡ Idle → ⊥) → to_forget text x catalogue locks ≡ Err (WrongState (state_of x))
-  busy x ne = forget_asks x ∙ ap asked (wants_idle x ne)
+  pub busy : (x : Session) (r : Refusal) → want_idle x ≡ Err r → to_forget text x catalogue locks ≡ Err r
+  busy x r is = forget_asks x ∙ ap asked is
 
-  idle : (x : Session) → x ≡ Idle → to_forget text x catalogue locks ≡ named (key_of text)
-  idle x is = forget_asks x ∙ ap (λ y. asked (want_idle y)) is
+  idle : (x : Session) → want_idle x ≡ Ok tt → to_forget text x catalogue locks ≡ named (key_of text)
+  idle x is = forget_asks x ∙ ap asked is
 
-  pub bad : (x : Session) → x ≡ Idle → key_of text ≡ None → to_forget text x catalogue locks ≡ Err BadName
+  pub bad : (x : Session) → want_idle x ≡ Ok tt → key_of text ≡ None → to_forget text x catalogue locks ≡ Err BadName
   bad x is none = idle x is ∙ ap named none
 
-  pub missing : (x : Session) (key : SnapshotKey) → x ≡ Idle → key_of text ≡ Some key → kept_named key catalogue ≡ None → to_forget text x catalogue locks ≡ Err NoSnapshot
+  pub missing : (x : Session) (key : SnapshotKey) → want_idle x ≡ Ok tt → key_of text ≡ Some key → kept_named key catalogue ≡ None → to_forget text x catalogue locks ≡ Err NoSnapshot
   missing x key is some none = idle x is ∙ ap named some ∙ ap (found key) none
 
-  pub held : (x : Session) (key : SnapshotKey) (k : Kept) (lane : ℕ) → x ≡ Idle → key_of text ≡ Some key → kept_named key catalogue ≡ Some k → least_sharer locks key ≡ Some lane
+  pub held : (x : Session) (key : SnapshotKey) (k : Kept) (lane : ℕ) → want_idle x ≡ Ok tt → key_of text ≡ Some key → kept_named key catalogue ≡ Some k → least_sharer locks key ≡ Some lane
       → to_forget text x catalogue locks ≡ Err (SnapshotBusy lane)
   held x key k lane is some there holds = idle x is ∙ ap named some ∙ ap (found key) there ∙ ap (freed key) holds
 
-  pub free : (x : Session) (key : SnapshotKey) (k : Kept) → x ≡ Idle → key_of text ≡ Some key → kept_named key catalogue ≡ Some k → least_sharer locks key ≡ None
+  pub free : (x : Session) (key : SnapshotKey) (k : Kept) → want_idle x ≡ Ok tt → key_of text ≡ Some key → kept_named key catalogue ≡ Some k → least_sharer locks key ≡ None
       → to_forget text x catalogue locks ≡ Ok key
   free x key k is some there none = idle x is ∙ ap named some ∙ ap (found key) there ∙ ap (freed key) none
 
@@ -179,38 +173,29 @@ module _ (m n : Files) (key : SnapshotKey) (x : Snapshot) (is : IsSnapshot x) (g
 
 -- ---- the act
 
-module _ {D : Type 0} (honest : D → Type 0) (content : D → Files) (old new : Parts D) (s : Store) (lane moment : ℕ) (text : List ℕ) (x : Session) (key : SnapshotKey) (k : Kept) where
-  pub does_forget : Holds honest content old s → x ≡ shown_session s.snapshots (session s lane) → to_forget text x old.catalogue.items old.locks ≡ Ok key
-      → kept_named key old.catalogue.items ≡ Some k → least_sharer old.locks key ≡ None → IsKey key → (honest old.disk ↔ honest new.disk)
-      → (honest old.disk → content new.disk ≡ without (manifest_path key ∷ map (file_path key) (names_beside k.files)) (content old.disk))
+module _ {D : Type 0} (old : Parts D) (s : Store) (lane moment : ℕ) (text : List ℕ) where
+  pub forget_refuses : (r : Refusal) → Shows old s → lane < 64 → to_forget text (session_at old lane) old.catalogue.items old.locks ≡ Err r → outcome s lane moment (Forget text) ≡ Err r
+  forget_refuses r shows lt told =
+      refused s lane moment text old.catalogue.items old.locks shows.catalogue shows.locks (session_at old lane) r (session_shown old s lane shows lt) told
+
+module _ {D : Type 0} (d : Ghosts D) (old new : Parts D) (s : Store) (lane moment : ℕ) (text : List ℕ) where
+  pub forget_step : (key : SnapshotKey) (k : Kept) → Holds d old s → lane < 64 → to_forget text (session_at old lane) old.catalogue.items old.locks ≡ Ok key
+      → kept_named key old.catalogue.items ≡ Some k → least_sharer old.locks key ≡ None → IsKey key
+      → (d.honest old.disk → d.content new.disk ≡ without (manifest_path key ∷ map (file_path key) (names_beside k.files)) (d.content old.disk))
       → new.catalogue.items ≡ without_listed key old.catalogue.items → new.sessions.items ≡ old.sessions.items → new.locks ≡ old.locks
-      → Does honest content new s (answered s (outcome s lane moment (Forget text))) (Ok Done)
-  does_forget h is told there none named kept gone c l locks =
+      → (after : Store) × (outcome s lane moment (Forget text) ≡ Ok (after, Done)) × Shows new after × IsOnDisk (d.content new.disk) after
+  forget_step key k h lt told there none named gone c l locks =
       let shown = (h.shows).catalogue in
       let sound = (h.shows).sound in
+      let is = session_shown old s lane h.shows lt in
       let is_none = no_holder s lane moment text old.catalogue.items old.locks shown (h.shows).locks key none in
       let y = mapped shown_snapshot (snapshot_named key s.snapshots) k (sym (kept_is old.catalogue.items s.snapshots key shown) ∙ there) in
       let whole : IsSnapshot y.0 = found_in IsSnapshot (λ (z : Snapshot). same_key z.key key) s.snapshots y.0 sound.each y.1 in
-      let files : content new.disk ≡ without (manifest_path key ∷ map (file_path key) (names_beside (shown_files (y.0).key (y.0).files))) (content old.disk)
-      = gone h.honest ∙ ap (λ (k : Kept). without (manifest_path key ∷ map (file_path key) (names_beside k.files)) (content old.disk)) y.2 in
-      let holds : Holds honest content new (forgot s key) = record {
-        honest = kept.0 h.honest;
-        shows = shows_without old new s key is_none c l locks h.shows;
-        files =
-            disk_without (content old.disk) (content new.disk) s key y.0 (names_of (content old.disk) (content new.disk) key y.0 whole files) y.1 named
-            (are_plain (content old.disk) (content new.disk) key y.0 whole files) (takes (content old.disk) (content new.disk) key y.0 whole files) sound h.files;
-      } in
-      let done_so : Does honest content new s (forgot s key, Done) (Ok Done) = (refl, holds) in
-      subst (λ o. Does honest content new s (answered s o) (Ok Done)) (sym (done s lane moment text old.catalogue.items old.locks shown (h.shows).locks x key is told)) done_so
-
--- ---- what is left where nothing was taken out
-
-pub gone_none : (k : Option Kept) (r : Refusal) → paths_gone k (Some (Refused r)) ≡ []
-gone_none None r = refl
-gone_none (Some k) r = refl
-
-pub goes_none : {D : Type 0} (calls : D → ℕ) (images : D → ℕ → Files → Type 0) (old new : D) (k : Option Kept) (r : Refusal) → (r ≡ DiskFault → ⊥) → Steps calls images old new Same
-    → GoesFirst calls images old new k (Some (Refused r))
-goes_none calls images old new None r other same = same
-goes_none calls images old new (Some k) DiskFault other same = absurd (other refl)
-goes_none calls images old new (Some k) _ other same = same
+      let files : d.content new.disk ≡ without (manifest_path key ∷ map (file_path key) (names_beside (shown_files (y.0).key (y.0).files))) (d.content old.disk)
+      = gone h.honest ∙ ap (λ (k : Kept). without (manifest_path key ∷ map (file_path key) (names_beside k.files)) (d.content old.disk)) y.2 in (
+        forgot s key,
+        done s lane moment text old.catalogue.items old.locks shown (h.shows).locks (session_at old lane) key is told,
+        shows_without old new s key is_none c l locks h.shows,
+        disk_without (d.content old.disk) (d.content new.disk) s key y.0 (names_of (d.content old.disk) (d.content new.disk) key y.0 whole files) y.1 named
+            (are_plain (d.content old.disk) (d.content new.disk) key y.0 whole files) (takes (d.content old.disk) (d.content new.disk) key y.0 whole files) sound h.files,
+      )

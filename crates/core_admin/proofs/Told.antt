@@ -7,7 +7,7 @@ use Rattle.store_types.specs.declared.names.Keep.{Keep}
 use Rattle.store_types.specs.declared.names.GroupKey.{GroupKey}
 use Rattle.store_types.specs.declared.names.SnapshotKey.{SnapshotKey}
 use Rattle.store_types.specs.declared.refusal.Refusal.{Refusal}
-use Rattle.store_types.specs.declared.refusal.Refusal.TheVariants.{BadName, TooMany, WrongState}
+use Rattle.store_types.specs.declared.refusal.Refusal.TheVariants.{BadName, TooMany}
 use Rattle.store_types.specs.Chain.Refusing.{◌>>=◌, unless, or_else}
 use Rattle.store_types.specs.Names.{key_text, group_of}
 use Rattle.store_files.specs.Archive.{Snapshot}
@@ -17,19 +17,17 @@ use Rattle.wire_commands.specs.declared.reply.Reply.TheVariants.{Listing, Keys}
 use Rattle.store_model.specs.AdminSteps.{list_limit, want_after, is_after, list_row, listed, list, group_texts, group, counts_fit, prune_group}
 use Rattle.store_model.specs.Store as model
 use Rattle.store_model.specs.Store.{Store, Outcome, session, in_group}
-use Rattle.store_model.specs.Steps.{answered, outcome}
+use Rattle.store_model.specs.Steps.{outcome}
 use Rattle.store_model.specs.Stands.{IsSnapshot, group_limit}
 use Rattle.core_state.specs.declared.kept.Kept.{Kept}
 use Rattle.core_state.specs.declared.kept.Listed.{Listed}
 use Rattle.core_state.specs.declared.kept.Session.{Session}
-use Rattle.core_state.specs.declared.kept.Session.TheVariants.{Idle, Writer, Reader}
+use Rattle.core_state.specs.declared.kept.Session.TheVariants.{Idle}
 use Rattle.core_state.specs.declared.parts.Parts.{Parts}
 use Rattle.core_state.specs.Holds.{Shows}
-use Rattle.core_state.specs.Replies.{reply_told}
 use Rattle.core_state.specs.Shown.{shown_file, shown_snapshot, shown_session}
-use Rattle.core_state.specs.States.{state_of}
+use Rattle.core_state.specs.Wanted.{session_at, want_idle}
 use Rattle.core_state.proofs.Sessions.{at_lane}
-use Rattle.core_writer.specs.Opened.{want_idle}
 use Rattle.core_admin.specs.Listings.{row_of, is_behind, rows_behind, list_told, is_in, texts_in, group_told, prune_told}
 use Rattle.core_admin.proofs.Filtering.{found_map, map_agree, map_twice}
 
@@ -39,10 +37,6 @@ tells s reply = Ok (s, reply)
 
 abbrev gives : Reply → Result Reply Refusal
 gives reply = Ok reply
-
-pub told_same : (s : Store) (told : Result Reply Refusal) → answered s (told >>= tells s) ≡ (s, reply_told told)
-told_same s (Ok reply) = refl
-told_same s (Err refusal) = refl
 
 -- what an idle lane is asked
 pub idle_is : (ss : List Snapshot) (x : model.Session) → want_idle (shown_session ss x) ≡ model.want_idle x
@@ -151,40 +145,62 @@ module _ (text : List ℕ) (keep : Keep) (catalogue : List Listed) where
   unfolding prune_told
   told_by x = refl
 
-  pub prune_busy : (x : Session) → (x ≡ Idle → ⊥) → prune_told text keep x catalogue ≡ Err (WrongState (state_of x))
-  prune_busy Idle not = absurd (not refl)
-  prune_busy (Writer w) not = told_by (Writer w)
-  prune_busy (Reader r) not = told_by (Reader r)
+  pub prune_busy : (x : Session) (r : Refusal) → want_idle x ≡ Err r → prune_told text keep x catalogue ≡ Err r
+  prune_busy x r busy = told_by x ∙ ap (λ i. prune_by i (group_of text) (counts_fit keep)) busy
 
-  pub prune_unnamed : (x : Session) → x ≡ Idle → group_of text ≡ None → prune_told text keep x catalogue ≡ Err BadName
-  prune_unnamed x idle none = told_by x ∙ ap (λ y. prune_by (want_idle y) (group_of text) (counts_fit keep)) idle ∙ ap (λ o. prune_by (Ok tt) o (counts_fit keep)) none
+  idle_by : (x : Session) → want_idle x ≡ Ok tt → prune_told text keep x catalogue ≡ prune_by (Ok tt) (group_of text) (counts_fit keep)
+  idle_by x idle = told_by x ∙ ap (λ i. prune_by i (group_of text) (counts_fit keep)) idle
 
-  pub prune_many : (x : Session) (g : GroupKey) → x ≡ Idle → group_of text ≡ Some g → counts_fit keep ≡ false → prune_told text keep x catalogue ≡ Err (TooMany 1000)
-  prune_many x g idle some fit =
-      told_by x ∙ ap (λ y. prune_by (want_idle y) (group_of text) (counts_fit keep)) idle ∙ ap (λ o. prune_by (Ok tt) o (counts_fit keep)) some ∙ ap (prune_by (Ok tt) (Some g)) fit
+  pub prune_unnamed : (x : Session) → want_idle x ≡ Ok tt → group_of text ≡ None → prune_told text keep x catalogue ≡ Err BadName
+  prune_unnamed x idle none = idle_by x idle ∙ ap (λ o. prune_by (Ok tt) o (counts_fit keep)) none
 
-  pub prune_keys : (x : Session) (g : GroupKey) → x ≡ Idle → group_of text ≡ Some g → counts_fit keep ≡ true → prune_told text keep x catalogue ≡ Ok (Keys (texts_in g catalogue))
-  prune_keys x g idle some fit =
-      told_by x ∙ ap (λ y. prune_by (want_idle y) (group_of text) (counts_fit keep)) idle ∙ ap (λ o. prune_by (Ok tt) o (counts_fit keep)) some ∙ ap (prune_by (Ok tt) (Some g)) fit
+  pub prune_many : (x : Session) (g : GroupKey) → want_idle x ≡ Ok tt → group_of text ≡ Some g → counts_fit keep ≡ false → prune_told text keep x catalogue ≡ Err (TooMany 1000)
+  prune_many x g idle some fit = idle_by x idle ∙ ap (λ o. prune_by (Ok tt) o (counts_fit keep)) some ∙ ap (prune_by (Ok tt) (Some g)) fit
+
+  pub prune_keys : (x : Session) (g : GroupKey) → want_idle x ≡ Ok tt → group_of text ≡ Some g → counts_fit keep ≡ true → prune_told text keep x catalogue ≡ Ok (Keys (texts_in g catalogue))
+  prune_keys x g idle some fit = idle_by x idle ∙ ap (λ o. prune_by (Ok tt) o (counts_fit keep)) some ∙ ap (prune_by (Ok tt) (Some g)) fit
 
 -- ---- the acts
 
-module _ {D : Type 0} (parts : Parts D) (s : Store) (h : Shows parts s) (lane moment : ℕ) (text : List ℕ) (reply : Reply) where
+-- the lane's session shows the plain store's
+pub session_shown : {D : Type 0} (parts : Parts D) (s : Store) (lane : ℕ) → Shows parts s → lane < 64 → session_at parts lane ≡ shown_session s.snapshots (session s lane)
+session_shown parts s lane shows lt =
+    let items = parts.sessions.items in
+    let within : lane < length items = omega (arith, parts.lanes, parts.sessions.ok.0, lt) in
+    at_lane items s lane (get_or items lane Idle) shows.sessions (shows.sound).lanes lt (sym (get_or_default items lane (get_or items lane Idle) Idle within))
+
+-- what is told is what the plain store answers
+by_refusal : (s : Store) (step : Outcome) (told : Result Reply Refusal) (r : Refusal) → step ≡ (told >>= tells s) → told ≡ Err r → step ≡ Err r
+by_refusal s step told r is e = is ∙ ap (λ t. t >>= tells s) e
+
+by_reply : (s : Store) (step : Outcome) (told : Result Reply Refusal) (reply : Reply) → step ≡ (told >>= tells s) → told ≡ Ok reply → step ≡ Ok (s, reply)
+by_reply s step told reply is e = is ∙ ap (λ t. t >>= tells s) e
+
+module _ {D : Type 0} (parts : Parts D) (s : Store) (shows : Shows parts s) (lane moment : ℕ) (text : List ℕ) where
   abbrev found : List Listed
   found = parts.catalogue.items
 
-  by_told : (step : Outcome) (told : Result Reply Refusal) → step ≡ (told >>= tells s) → reply ≡ reply_told told → answered s step ≡ (s, reply)
-  by_told step told is e = ap (answered s) is ∙ told_same s told ∙ ap (λ (r : Reply). (s, r)) (sym e)
+  lists : outcome s lane moment (ListAll text) ≡ (list_told text found >>= tells s)
+  lists = list_is found s shows.catalogue lane moment text (has_few s (shows.sound).each)
 
-  pub list_answers : reply ≡ reply_told (list_told text found) → answered s (outcome s lane moment (ListAll text)) ≡ (s, reply)
-  list_answers e = by_told (outcome s lane moment (ListAll text)) (list_told text found) (list_is found s h.catalogue lane moment text (has_few s (h.sound).each)) e
+  pub list_refuses : (r : Refusal) → list_told text found ≡ Err r → outcome s lane moment (ListAll text) ≡ Err r
+  list_refuses r e = by_refusal s _ (list_told text found) r lists e
 
-  pub group_answers : reply ≡ reply_told (group_told text found) → answered s (outcome s lane moment (Group text)) ≡ (s, reply)
-  group_answers e = by_told (outcome s lane moment (Group text)) (group_told text found) (group_is found s h.catalogue lane moment text) e
+  pub list_answers : (reply : Reply) → list_told text found ≡ Ok reply → outcome s lane moment (ListAll text) ≡ Ok (s, reply)
+  list_answers reply e = by_reply s _ (list_told text found) reply lists e
 
-  pub prune_answers : lane < 64 → (keep : Keep) (dry : Bool) → reply ≡ reply_told (prune_told text keep (get_or parts.sessions.items lane Idle) found) → answered s (outcome s lane moment (Prune text keep dry)) ≡ (s, reply)
-  prune_answers lt keep dry e =
-      let x = get_or parts.sessions.items lane Idle in
-      let within : lane < length parts.sessions.items = omega (arith, ap length h.sessions, length-map s.sessions (shown_session s.snapshots), (h.sound).lanes, lt) in
-      let is = at_lane parts.sessions.items s lane x h.sessions (h.sound).lanes lt (get_or_default parts.sessions.items lane Idle x within) in
-      by_told (outcome s lane moment (Prune text keep dry)) (prune_told text keep x found) (prune_is found s h.catalogue lane moment text keep dry x is) e
+  pub group_refuses : (r : Refusal) → group_told text found ≡ Err r → outcome s lane moment (Group text) ≡ Err r
+  group_refuses r e = by_refusal s _ (group_told text found) r (group_is found s shows.catalogue lane moment text) e
+
+  pub group_answers : (reply : Reply) → group_told text found ≡ Ok reply → outcome s lane moment (Group text) ≡ Ok (s, reply)
+  group_answers reply e = by_reply s _ (group_told text found) reply (group_is found s shows.catalogue lane moment text) e
+
+  module _ (keep : Keep) (dry : Bool) (lt : lane < 64) where
+    prunes : outcome s lane moment (Prune text keep dry) ≡ (prune_told text keep (session_at parts lane) found >>= tells s)
+    prunes = prune_is found s shows.catalogue lane moment text keep dry (session_at parts lane) (session_shown parts s lane shows lt)
+
+    pub prune_refuses : (r : Refusal) → prune_told text keep (session_at parts lane) found ≡ Err r → outcome s lane moment (Prune text keep dry) ≡ Err r
+    prune_refuses r e = by_refusal s _ (prune_told text keep (session_at parts lane) found) r prunes e
+
+    pub prune_answers : (reply : Reply) → prune_told text keep (session_at parts lane) found ≡ Ok reply → outcome s lane moment (Prune text keep dry) ≡ Ok (s, reply)
+    prune_answers reply e = by_reply s _ (prune_told text keep (session_at parts lane) found) reply prunes e

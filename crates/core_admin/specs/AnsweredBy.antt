@@ -8,7 +8,8 @@ use Rattle.store_history.specs.declared.act.Act.TheVariants.{Plain, JobGroup}
 use Rattle.core_state.specs.Replies.{reply_told}
 use Rattle.core_state.specs.declared.kept.Listed.{Listed}
 use Rattle.core_state.specs.declared.kept.Session.{Session}
-use Rattle.core_admin.specs.FilesTold.{AnswersFiles, named_kept}
+use Rattle.core_admin.specs.FilesTold.{AnswersFiles}
+use Rattle.core_state.specs.Found.{named_kept}
 use Rattle.core_admin.specs.Forgotten.{forget_told}
 use Rattle.core_admin.specs.Listings.{list_told, group_told, prune_told}
 

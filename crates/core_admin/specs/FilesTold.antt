@@ -1,27 +1,25 @@
 -- FILES, by what the core keeps and what the disk holds.
 use Rattle.std.specs.Prelude.{◌≡◌, ◌<◌, ◌≤◌, ◌^◌, ℕ, List, map, length, take, Option, Some, None, Result, Ok, Err}
+use Rattle.std.specs.FinMap.{get}
+use Rattle.blob_codec.specs.Laws.{AreBytes}
 use Rattle.disk_trait.specs.Files.{Files as Content}
 use Rattle.store_types.specs.declared.refusal.Refusal.{Refusal}
-use Rattle.store_types.specs.declared.refusal.Refusal.TheVariants.{BadName, NoSnapshot, Unreadable}
+use Rattle.store_types.specs.declared.refusal.Refusal.TheVariants.{Unreadable}
 use Rattle.store_types.specs.Chain.Refusing.{◌>>=◌, or_else}
-use Rattle.store_types.specs.Names.{key_of}
 use Rattle.store_files.specs.Manifest.{Manifest}
 use Rattle.wire_commands.specs.declared.rows.FileRow.{FileRow}
 use Rattle.wire_commands.specs.declared.reply.Reply.{Reply}
 use Rattle.wire_commands.specs.declared.reply.Reply.TheVariants.{Files, Refused}
-use Rattle.store_model.specs.Stands.{manifest_path, file_limit}
+use Rattle.store_model.specs.Stands.{file_limit}
+use Rattle.store_files.specs.Folder.{manifest_path}
 use Rattle.core_state.specs.declared.kept.Kept.{Kept}
 use Rattle.core_state.specs.declared.kept.Listed.{Listed}
-use Rattle.core_state.specs.Found.{kept_named}
+use Rattle.core_state.specs.declared.stop.Stop.{Stop}
+use Rattle.core_state.specs.declared.stop.Stop.TheVariants as stops
+use Rattle.core_state.specs.Found.{named_kept}
 use Rattle.core_state.specs.Listing.{listing_at}
 use Rattle.core_state.specs.Unreadables.{Asked, as_listing}
 use Rattle.core_admin.specs.FileRows.{rows_by}
-
--- the finished snapshot that the text names
-unfoldable pub named_kept : List ℕ → List Listed → Result Kept Refusal
-named_kept text catalogue = do
-  key ← or_else BadName (key_of text)
-  or_else NoSnapshot (kept_named key catalogue)
 
 abbrev pub asked_at : Result Kept Refusal → Option Asked
 asked_at (Ok k) = Some (record { path = manifest_path k.key; way = as_listing })
@@ -44,6 +42,17 @@ files_told m text catalogue = do
   kept ← named_kept text catalogue
   rows ← rows_read m kept
   Ok (Files rows)
+
+-- what stands at the path, if anything, is bytes
+abbrev pub HasBytes : Content → List ℕ → Type 0
+HasBytes m path = (text : List ℕ) → get m path ≡ Some text → AreBytes text
+
+-- rows or a refusal are told
+abbrev pub IfTold : {A : Type 0} → Result A Stop → Type 0 → Type 0
+IfTold (Ok x) P = P
+IfTold (Err (stops.Refused refusal)) P = P
+IfTold (Err stops.NoMemory) P = Unit {0}
+IfTold (Err stops.DiskFailed) P = Unit {0}
 
 -- On any disk: rows, or that the manifest is unreadable, where there is such a snapshot; else the refusal.
 abbrev pub AnswersFiles : Result Kept Refusal → Reply → Type 0

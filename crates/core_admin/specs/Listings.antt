@@ -15,7 +15,9 @@ use Rattle.store_model.specs.Stands.{group_limit}
 use Rattle.core_state.specs.declared.kept.Kept.{Kept}
 use Rattle.core_state.specs.declared.kept.Listed.{Listed}
 use Rattle.core_state.specs.declared.kept.Session.{Session}
-use Rattle.core_writer.specs.Opened.{want_idle}
+use Rattle.core_state.specs.declared.stop.Stop.{Stop}
+use Rattle.core_state.specs.declared.stop.Stop.TheVariants.{Refused, NoMemory, DiskFailed}
+use Rattle.core_state.specs.Wanted.{want_idle}
 
 -- ---- LIST
 
@@ -38,6 +40,12 @@ IsShort snapshot = length snapshot ≤ 90
 -- a row of one that is whole
 abbrev pub IsListable : ListRow → Type 0
 IsListable r = IsShort r.snapshot × (r.damaged ≡ false) × (r.files < 256)
+
+-- the text names no snapshot, or memory is wanting
+abbrev pub IsNamesStop : Stop → Type 0
+IsNamesStop (Refused refusal) = refusal ≡ BadName
+IsNamesStop NoMemory = Unit {0}
+IsNamesStop DiskFailed = ⊥
 
 unfoldable pub list_told : List ℕ → List Listed → Result Reply Refusal
 list_told text catalogue = do

@@ -1,40 +1,40 @@
 //! FILES.
 
-ghost use Rattle.std.specs.Prelude.{◌≡◌, ◌<◌, ◌≤◌, ℕ, List, map, option_map, length, take, Some, IfOk, IfErr, IfSome, IsErrOf, IsTrue, MatchResult};
+ghost use Rattle.std.specs.Prelude.{◌≡◌, ◌≤◌, ℕ, List, map, option_map, length, Some, IfOk, IfErr, IfSome, IsErrOf};
 ghost use Rattle.std.specs.FinMap.{get};
 ghost use Rattle.std.specs.List.{All, find};
 ghost use Rattle.std.specs.Str.{bytes_eq};
-ghost use Rattle.disk_trait.specs.Disk.{Serves, Steps, Same};
+ghost use Rattle.disk_trait.specs.Effects.{OnlyReads};
 ghost use Rattle.blob_codec.specs.Laws.{AreBytes};
 ghost use Rattle.store_types.specs.Names.{IsKey};
-ghost use Rattle.manifest.specs.Views.{fact_view, manifest_view};
-ghost use Rattle.wire_commands.specs.HasText.{ReplyHasText};
-ghost use Rattle.wire_commands.specs.declared.command.Command.TheVariants as commands;
-ghost use Rattle.wire_commands.specs.declared.reply.Reply.TheVariants.{Refused};
 ghost use Rattle.store_types.specs.declared.refusal.Refusal.TheVariants.{Unreadable};
+ghost use Rattle.store_files.specs.Folder.{manifest_path};
+ghost use Rattle.manifest.specs.Views.{fact_view, manifest_view};
+ghost use Rattle.wire_commands.specs.declared.command.Command.TheVariants as commands;
 ghost use Rattle.store_model.specs.AdminSteps.{file_row};
-ghost use Rattle.store_model.specs.Stands.{manifest_path};
-ghost use Rattle.store_model.specs.Steps.{outcome};
-ghost use Rattle.core_state.specs.Holds.{Acts};
+ghost use Rattle.store_history.specs.declared.act.Act.TheVariants.{Plain};
+ghost use Rattle.core_state.specs.Commands.{ActDoes, ActLeaves};
 ghost use Rattle.core_state.specs.Listing.{listing_at, listing_in};
-ghost use Rattle.core_state.specs.Replies.{answers_files, reply_told};
 ghost use Rattle.core_state.specs.Settles.{kind_by, reply_by};
-ghost use Rattle.core_state.specs.Unchanged.{SameContent, SameKept, Unchanged};
+ghost use Rattle.core_state.specs.Stops.{Gives, IfRefused, StopHasText, told};
 ghost use Rattle.core_state.specs.Unreadables.{TellsUnreadable};
+ghost use Rattle.core_state.specs.Wanted.{session_at};
+ghost use Rattle.core_state.specs.declared.stop.Stop.TheVariants.{DiskFailed};
+ghost use Rattle.core_admin.specs.AdminActs.{asked_of_admin};
+ghost use Rattle.core_admin.specs.AnsweredBy.{AnswersBy};
 ghost use Rattle.core_admin.specs.FileRows.{fact_by, rows_by};
-ghost use Rattle.core_admin.specs.FilesTold.{AnswersFiles, IsFileRow, asked_files, files_told, named_kept, rows_read as rows_of_kept};
+ghost use Rattle.core_admin.specs.FilesTold.{HasBytes, IfTold, IsFileRow, files_told, rows_read as rows_of_kept};
 
-use core_state::{Kept, Parts, StoredFile, snapshot_named};
+use core_state::{Kept, Parts, Place, Stop, StoredFile, snapshot_named};
 use disk_trait::{Disk, DiskError};
 use manifest::{FileFact, Manifest};
 use sha2::{Digest, Sha256};
-use snapshot_files::{LISTED_LIMIT, manifest_path_of, read_manifest};
+use snapshot_files::{manifest_path_of, read_manifest};
 use std::alloc::{AllocError, Global};
-use store_types::{Bytes, Digest32, FileName, Refusal, Rows, SnapshotKey};
+use store_types::{
+    Bytes, Digest32, FILE_LIMIT, FileName, LISTED_LIMIT, Refusal, Rows, SnapshotKey,
+};
 use wire_commands::{FileRow, Reply};
-
-/// The most files that a snapshot has.
-const FILE_LIMIT: usize = 64;
 
 /// A manifest's file, and what it lists.
 #[derive(Drop)]
@@ -63,13 +63,10 @@ fn read_listing<D: Disk>(
     alloc: Global,
     path: &str,
 ) -> Result<Option<ManifestFile>, DiskError>
-    ensures serves { Serves D.honest D.faults disk.old disk.new (IsErrOf result DiskError.Failed) }
-    ensures calls { D.calls disk.old ≤ D.calls disk.new }
-    ensures same { SameContent D.honest D.content disk.old disk.new }
-    ensures crash { Steps D.calls D.images disk.old disk.new Same }
+    ensures reads { OnlyReads D.Disk disk.old disk.new (IsErrOf result DiskError.Failed) }
     ensures value { D.honest disk.old → IfOk result (λ read. option_map (λ r. (r.bytes.items, manifest_view r.listed)) read ≡ listing_at (D.content disk.old) path.now) }
     // what stands there is bytes
-    ensures bytes { D.honest disk.old → IfOk result (λ _. (text : List ℕ) → get (D.content disk.old) path.now ≡ Some text → AreBytes text) }
+    ensures bytes { D.honest disk.old → IfOk result (λ _. HasBytes (D.content disk.old) path.now) }
 {
     let Some(bytes) = disk.read(alloc, path)? else {
         return Ok(None);
@@ -142,35 +139,28 @@ fn rows_of(
     Ok(Rows::from_vec(rows))
 }
 
-/// What is told of the snapshot's files, as its manifest lists them, or that the manifest is unreadable.
-fn rows_read<D: Disk>(
-    disk: &mut D,
-    alloc: Global,
-    kept: &Kept,
-) -> Result<Result<Rows<FileRow>, Refusal>, DiskError>
+/// What is told of the snapshot's files, as its manifest lists them. It is refused where the manifest is unreadable.
+fn rows_read<D: Disk>(disk: &mut D, alloc: Global, kept: &Kept) -> Result<Rows<FileRow>, Stop>
     requires { IsKey kept.now.key }
-    ensures serves { Serves D.honest D.faults disk.old disk.new (IsErrOf result DiskError.Failed) }
-    ensures calls { D.calls disk.old ≤ D.calls disk.new }
-    ensures same { SameContent D.honest D.content disk.old disk.new }
-    ensures crash { Steps D.calls D.images disk.old disk.new Same }
-    ensures value { D.honest disk.old → IfOk result (λ told. told ≡ rows_of_kept (D.content disk.old) kept.now) }
-    ensures bytes { D.honest disk.old → IfOk result (λ _. (text : List ℕ) → get (D.content disk.old) (manifest_path kept.now.key) ≡ Some text → AreBytes text) }
+    ensures reads { OnlyReads D.Disk disk.old disk.new (IsErrOf result DiskFailed) }
+    ensures value { D.honest disk.old → Gives (λ rows. rows) result (rows_of_kept (D.content disk.old) kept.now) }
+    ensures bytes { D.honest disk.old → IfTold result (HasBytes (D.content disk.old) (manifest_path kept.now.key)) }
     // on any disk
-    ensures named { IfOk result (λ told. IfErr told (λ refusal. refusal ≡ Unreadable (manifest_path kept.now.key))) }
-    ensures refused { IfOk result (λ told. IfErr told (λ refusal. ReplyHasText (Refused refusal))) }
-    ensures few { IfOk result (λ told. IfOk told (λ rows. length rows ≤ 64)) }
-    ensures fit { IfOk result (λ told. IfOk told (λ rows. All IsFileRow rows)) }
+    ensures named { IfErr result (IfRefused (λ refusal. refusal ≡ Unreadable (manifest_path kept.now.key))) }
+    ensures text { IfErr result StopHasText }
+    ensures few { IfOk result (λ rows. length rows ≤ 64) }
+    ensures fit { IfOk result (λ rows. All IsFileRow rows) }
 {
     let path = manifest_path_of(alloc, &kept.key)?;
     let Some(read) = read_listing(disk, alloc, path.as_str())? else {
-        return Ok(Err(Refusal::Unreadable {
+        return Err(Stop::Refused(Refusal::Unreadable {
             name: path.into_bytes(),
         }));
     };
     let files = kept.files.as_slice();
     let files = &files[..files.len().min(FILE_LIMIT)];
     let rows = rows_of(alloc, files, &read.bytes, read.listed.files.as_slice())?;
-    Ok(Ok(rows))
+    Ok(rows)
 }
 
 /// The files of a snapshot, in byte order, as its manifest lists them; of the manifest itself its own size and checksum. It
@@ -181,32 +171,25 @@ fn rows_read<D: Disk>(
 pub fn files<D: Disk>(
     parts: &mut Parts<D>,
     alloc: Global,
+    _at: Place,
     snapshot: &[u8],
-) -> Result<Reply, DiskError>
-    ensures serves { Serves D.honest D.faults parts.old.disk parts.new.disk (IsErrOf result DiskError.Failed) }
-    ensures calls { D.calls parts.old.disk ≤ D.calls parts.new.disk }
-    ensures text { IfOk result ReplyHasText }
-    ensures answers { IfOk result (λ reply. IsTrue (answers_files reply)) }
-    ensures unchanged { Unchanged D.honest D.content parts.old parts.new (reply_by result) }
-    ensures kept { SameKept parts.old parts.new }
-    ensures content { SameContent D.honest D.content parts.old.disk parts.new.disk }
-    ensures crash { Steps D.calls D.images parts.old.disk parts.new.disk Same }
+) -> Result<Reply, Stop>
+    ensures does { ActDoes D.Disk parts.old parts.new _at (Plain (commands.Files snapshot.now)) result }
+    ensures leaves { ActLeaves D.Disk parts.old parts.new _at (Plain (commands.Files snapshot.now)) result }
     // on any disk: rows, or that the manifest is unreadable, exactly where there is such a snapshot
-    ensures named { IfOk result (AnswersFiles (named_kept snapshot.now parts.old.catalogue.items)) }
-    // on any honest disk: by what its manifest lists
-    ensures told { D.honest parts.old.disk → IfOk result (λ reply. reply ≡ reply_told (files_told (D.content parts.old.disk) snapshot.now parts.old.catalogue.items)) }
+    ensures by_kept { IfOk (told result) (AnswersBy (Plain (commands.Files snapshot.now)) (session_at parts.old _at.lane) parts.old.catalogue.items parts.old.locks) }
+    // any honest disk reads as before, and is told by what its manifest lists
+    ensures told { D.honest parts.old.disk → (D.content parts.new.disk ≡ D.content parts.old.disk)
+        × Gives (λ reply. reply) result (files_told (D.content parts.old.disk) snapshot.now parts.old.catalogue.items) }
     // it is unreadable exactly where it is, as far as the disk tells
-    ensures unreadable { TellsUnreadable D.honest D.content parts.old.disk (asked_files snapshot.now parts.old.catalogue.items) (kind_by result) (Some (reply_by result)) }
-    ensures act { (lane moment : ℕ) → Acts D.honest D.content parts.old parts.new (λ s. outcome s lane moment (commands.Files snapshot.now)) result }
+    ensures unreadable { TellsUnreadable D.Disk parts.old.disk (asked_of_admin (Plain (commands.Files snapshot.now)) parts.old.catalogue.items) (kind_by (told result)) (Some (reply_by (told result))) }
 {
     let Ok(key) = SnapshotKey::parse(alloc, snapshot)? else {
-        return Ok(Reply::Refused(Refusal::BadName));
+        return Err(Stop::Refused(Refusal::BadName));
     };
     let Some(kept) = snapshot_named(&parts.catalogue, &key) else {
-        return Ok(Reply::Refused(Refusal::NoSnapshot));
+        return Err(Stop::Refused(Refusal::NoSnapshot));
     };
-    match rows_read(&mut parts.disk, alloc, kept)? {
-        Ok(rows) => Ok(Reply::Files(rows)),
-        Err(refusal) => Ok(Reply::Refused(refusal)),
-    }
+    let rows = rows_read(&mut parts.disk, alloc, kept)?;
+    Ok(Reply::Files(rows))
 }

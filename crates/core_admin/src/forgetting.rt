@@ -1,23 +1,17 @@
 //! FORGET.
 
-ghost use Rattle.std.specs.Prelude.{◌≡◌, ◌<◌, ◌≤◌, ℕ, List, Some, IfOk, IsErrOf, IsTrue, slice_index_or};
-ghost use Rattle.std.specs.Result.{result_ok};
-ghost use Rattle.disk_trait.specs.Disk.{Serves};
-ghost use Rattle.wire_commands.specs.HasText.{ReplyHasText};
+ghost use Rattle.std.specs.Prelude.{◌≡◌, ◌<◌, IfOk};
 ghost use Rattle.wire_commands.specs.declared.command.Command.TheVariants as commands;
-ghost use Rattle.store_model.specs.Steps.{outcome};
-ghost use Rattle.core_state.specs.Holds.{Acts};
-ghost use Rattle.core_state.specs.Replies.{answers_forget, reply_told};
-ghost use Rattle.core_state.specs.Settles.{reply_by};
-ghost use Rattle.core_state.specs.Unchanged.{Unchanged};
-ghost use Rattle.core_state.specs.declared.kept.Session.TheVariants.{Idle};
-ghost use Rattle.core_writer.specs.Closed.{forgotten_by, without_listed};
-ghost use Rattle.core_admin.specs.FilesTold.{named_kept};
-ghost use Rattle.core_admin.specs.Forgotten.{GoesFirmly, GoesFirst, TakesOut, forget_told, names_beside as names_of_kept};
+ghost use Rattle.store_history.specs.declared.act.Act.TheVariants.{Plain};
+ghost use Rattle.core_state.specs.Catalogue.{without_listed};
+ghost use Rattle.core_state.specs.Changes.{names_beside as names_of_kept};
+ghost use Rattle.core_state.specs.Commands.{ActDoes, ActLeaves};
+ghost use Rattle.core_state.specs.Stops.{told};
+ghost use Rattle.core_state.specs.Wanted.{session_at};
+ghost use Rattle.core_admin.specs.AnsweredBy.{AnswersBy};
 
-use core_state::{Kept, Listed, Parts, Session, StoredFile, snapshot_named};
-use core_uploads::wrong_state;
-use disk_trait::{Disk, DiskError};
+use core_state::{Kept, Listed, Parts, Place, Stop, StoredFile, snapshot_named};
+use disk_trait::Disk;
 use lock_book::LaneHolds;
 use std::alloc::{AllocError, Global};
 use store_types::{FileName, Refusal, SnapshotKey};
@@ -51,40 +45,24 @@ fn take_out(catalogue: &mut Vec<Listed>, key: &SnapshotKey)
 pub fn forget<D: Disk>(
     parts: &mut Parts<D>,
     alloc: Global,
-    lane: u32,
+    at: Place,
     snapshot: &[u8],
-) -> Result<Reply, DiskError>
-    requires { lane < 64 }
-    ensures serves { Serves D.honest D.faults parts.old.disk parts.new.disk (IsErrOf result DiskError.Failed) }
-    ensures calls { D.calls parts.old.disk ≤ D.calls parts.new.disk }
-    ensures text { IfOk result ReplyHasText }
-    ensures answers { IfOk result (λ reply. IsTrue (answers_forget reply)) }
-    ensures unchanged { Unchanged D.honest D.content parts.old parts.new (reply_by result) }
-    ensures sessions { parts.new.sessions.items ≡ parts.old.sessions.items }
-    ensures locks { parts.new.locks ≡ parts.old.locks }
+) -> Result<Reply, Stop>
+    requires { at.lane < 64 }
+    ensures does { ActDoes D.Disk parts.old parts.new at (Plain (commands.Forget snapshot.now)) result }
+    ensures leaves { ActLeaves D.Disk parts.old parts.new at (Plain (commands.Forget snapshot.now)) result }
     // on any disk
-    ensures told { IfOk result (λ reply. reply ≡ reply_told (forget_told snapshot.now (slice_index_or parts.old.sessions.items lane Idle) parts.old.catalogue.items parts.old.locks)) }
-    // done, the catalogue is without the snapshot; else it is as before
-    ensures listed { parts.new.catalogue.items ≡ forgotten_by snapshot.now (Some (reply_by result)) parts.old.catalogue.items }
-    // done, just the snapshot's files are gone; else all is as it was, unless the disk failed
-    ensures taken { TakesOut D.honest D.content parts.old.disk parts.new.disk (result_ok (named_kept snapshot.now parts.old.catalogue.items)) (Some (reply_by result)) }
-    // a refusal, want of memory among these, leaves what a crash may leave as it was
-    ensures crash { GoesFirst D.calls D.images parts.old.disk parts.new.disk (result_ok (named_kept snapshot.now parts.old.catalogue.items)) (Some (reply_by result)) }
-    ensures firm { GoesFirmly D.content D.calls D.images parts.old.disk parts.new.disk (result_ok (named_kept snapshot.now parts.old.catalogue.items)) (Some (reply_by result)) }
-    ensures act { (moment : ℕ) → Acts D.honest D.content parts.old parts.new (λ s. outcome s lane moment (commands.Forget snapshot.now)) result }
+    ensures by_kept { IfOk (told result) (AnswersBy (Plain (commands.Forget snapshot.now)) (session_at parts.old at.lane) parts.old.catalogue.items parts.old.locks) }
 {
-    let session = &parts.sessions[lane as usize];
-    let Session::Idle = session else {
-        return Ok(Reply::Refused(wrong_state(session)));
-    };
+    parts.idle(at.lane)?;
     let Ok(key) = SnapshotKey::parse(alloc, snapshot)? else {
-        return Ok(Reply::Refused(Refusal::BadName));
+        return Err(Stop::Refused(Refusal::BadName));
     };
     let Some(kept) = snapshot_named(&parts.catalogue, &key) else {
-        return Ok(Reply::Refused(Refusal::NoSnapshot));
+        return Err(Stop::Refused(Refusal::NoSnapshot));
     };
     if let Err(LaneHolds { lane }) = parts.locks.free_for_removal(&key) {
-        return Ok(Reply::Refused(Refusal::SnapshotBusy { lane }));
+        return Err(Stop::Refused(Refusal::SnapshotBusy { lane }));
     }
     let names = names_beside(alloc, kept.files.as_slice())?;
     snapshot_files::forget(&mut parts.disk, alloc, &key, &names)?;

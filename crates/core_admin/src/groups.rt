@@ -1,29 +1,22 @@
 //! GROUP, and the first step of a PRUNE.
 
-ghost use Rattle.std.specs.Prelude.{◌≡◌, ◌<◌, ◌≤◌, ℕ, Bool, length, IfOk, IsTrue, slice_index_or};
+ghost use Rattle.std.specs.Prelude.{◌≡◌, ◌<◌, ◌≤◌, length, IfOk, IsTrue};
 ghost use Rattle.std.specs.List.{All, list_all};
-ghost use Rattle.wire_commands.specs.HasText.{ReplyHasText};
 ghost use Rattle.wire_commands.specs.declared.command.Command.TheVariants as commands;
 ghost use Rattle.store_model.specs.AdminSteps.{counts_fit as fit_counts};
-ghost use Rattle.store_model.specs.Store.{Store};
-ghost use Rattle.store_model.specs.Steps.{answered, outcome};
-ghost use Rattle.core_state.specs.Holds.{Shows};
+ghost use Rattle.store_history.specs.declared.act.Act.TheVariants.{JobGroup, Plain};
+ghost use Rattle.core_state.specs.Commands.{ActDoes, ActLeaves};
 ghost use Rattle.core_state.specs.Named.{is_named_snapshot};
-ghost use Rattle.core_state.specs.Replies.{answers_group, answers_prune, reply_told};
-ghost use Rattle.core_state.specs.declared.kept.Session.TheVariants.{Idle};
-ghost use Rattle.core_admin.specs.Listings.{IsShort, group_told, prune_told, texts_in as texts_of_kept};
+ghost use Rattle.core_state.specs.Stops.{told};
+ghost use Rattle.core_state.specs.Wanted.{session_at};
+ghost use Rattle.core_admin.specs.AnsweredBy.{AnswersBy};
+ghost use Rattle.core_admin.specs.Listings.{IsShort, texts_in as texts_of_kept};
 
-use core_state::{Listed, Parts, Session};
-use core_uploads::wrong_state;
+use core_state::{Listed, Parts, Place, Stop};
+use disk_trait::Disk;
 use std::alloc::{AllocError, Global};
-use store_types::{Bytes, GroupKey, Keep, Refusal, Rows};
+use store_types::{Bytes, COUNT_LIMIT, GROUP_LIMIT, GroupKey, Keep, Refusal, Rows};
 use wire_commands::Reply;
-
-/// So many snapshots of a group are told at once.
-const GROUP_LIMIT: usize = 4096;
-
-/// An option of a prune has this count at most.
-const COUNT_LIMIT: u16 = 1000;
 
 /// The texts of the group's oldest 4,096 snapshots, the oldest first.
 fn texts_in(
@@ -52,15 +45,19 @@ fn texts_in(
 /// The group's finished snapshots, the oldest first, 4,096 at most. It changes nothing and makes no disk call.
 ///
 /// It is refused where the text names no group.
-pub fn group<D>(parts: &Parts<D>, alloc: Global, name: &[u8]) -> Result<Reply, AllocError>
-    ensures text { IfOk result ReplyHasText }
-    ensures answers { IfOk result (λ reply. IsTrue (answers_group reply)) }
+pub fn group<D: Disk>(
+    parts: &Parts<D>,
+    alloc: Global,
+    _at: Place,
+    name: &[u8],
+) -> Result<Reply, Stop>
+    ensures does { ActDoes D.Disk parts.now parts.now _at (Plain (commands.Group name.now)) result }
+    ensures leaves { ActLeaves D.Disk parts.now parts.now _at (Plain (commands.Group name.now)) result }
     // on any disk
-    ensures told { IfOk result (λ reply. reply ≡ reply_told (group_told name.now parts.now.catalogue.items)) }
-    ensures act { IfOk result (λ reply. (s : Store) → Shows parts.now s → (lane moment : ℕ) → answered s (outcome s lane moment (commands.Group name.now)) ≡ (s, reply)) }
+    ensures by_kept { IfOk (told result) (AnswersBy (Plain (commands.Group name.now)) (session_at parts.now _at.lane) parts.now.catalogue.items parts.now.locks) }
 {
     let Ok(group) = GroupKey::parse(alloc, name)? else {
-        return Ok(Reply::Refused(Refusal::BadName));
+        return Err(Stop::Refused(Refusal::BadName));
     };
     let texts = texts_in(alloc, &parts.catalogue, &group)?;
     Ok(Reply::Keys(texts))
@@ -82,30 +79,27 @@ fn counts_fit(keep: &Keep) -> bool
 ///
 /// The refusals, in the order in which they are tested: the lane has a session; the text names no group; a count is above
 /// 1,000.
-pub fn prune_group<D>(
+pub fn prune_group<D: Disk>(
     parts: &Parts<D>,
     alloc: Global,
-    lane: u32,
+    at: Place,
     name: &[u8],
     keep: &Keep,
-) -> Result<Reply, AllocError>
-    requires { lane < 64 }
-    ensures text { IfOk result ReplyHasText }
-    ensures answers { IfOk result (λ reply. IsTrue (answers_prune reply)) }
+    _dry: bool,
+) -> Result<Reply, Stop>
+    requires { at.lane < 64 }
+    ensures does { ActDoes D.Disk parts.now parts.now at (JobGroup (commands.Prune name.now keep.now _dry)) result }
+    ensures leaves { ActLeaves D.Disk parts.now parts.now at (JobGroup (commands.Prune name.now keep.now _dry)) result }
     // on any disk
-    ensures told { IfOk result (λ reply. reply ≡ reply_told (prune_told name.now keep.now (slice_index_or parts.now.sessions.items lane Idle) parts.now.catalogue.items)) }
-    ensures act { IfOk result (λ reply. (s : Store) → Shows parts.now s → (moment : ℕ) (dry : Bool) → answered s (outcome s lane moment (commands.Prune name.now keep.now dry)) ≡ (s, reply)) }
+    ensures by_kept { IfOk (told result) (AnswersBy (JobGroup (commands.Prune name.now keep.now _dry)) (session_at parts.now at.lane) parts.now.catalogue.items parts.now.locks) }
 {
-    let session = &parts.sessions[lane as usize];
-    let Session::Idle = session else {
-        return Ok(Reply::Refused(wrong_state(session)));
-    };
+    parts.idle(at.lane)?;
     let Ok(group) = GroupKey::parse(alloc, name)? else {
-        return Ok(Reply::Refused(Refusal::BadName));
+        return Err(Stop::Refused(Refusal::BadName));
     };
     if !counts_fit(keep) {
         let limit = u32::from(COUNT_LIMIT);
-        return Ok(Reply::Refused(Refusal::TooMany { limit }));
+        return Err(Stop::Refused(Refusal::TooMany { limit }));
     }
     let texts = texts_in(alloc, &parts.catalogue, &group)?;
     Ok(Reply::Keys(texts))

@@ -3,39 +3,34 @@
 ghost use Rattle.std.specs.Prelude.{◌≡◌, ◌<◌, ◌≤◌, ℕ, length, option_map, IfOk, IfErr, IsTrue};
 ghost use Rattle.std.specs.List.{All, list_all};
 ghost use Rattle.store_types.specs.Names.{IsKey};
-ghost use Rattle.wire_commands.specs.HasText.{ReplyHasText};
 ghost use Rattle.wire_commands.specs.declared.command.Command.TheVariants as commands;
-ghost use Rattle.wire_commands.specs.declared.reply.Reply.TheVariants.{Refused};
 ghost use Rattle.store_model.specs.AdminSteps.{want_after};
-ghost use Rattle.store_model.specs.Store.{Store};
-ghost use Rattle.store_model.specs.Steps.{answered, outcome};
-ghost use Rattle.core_state.specs.Holds.{Shows};
+ghost use Rattle.store_history.specs.declared.act.Act.TheVariants.{Plain};
+ghost use Rattle.core_state.specs.Commands.{ActDoes, ActLeaves};
 ghost use Rattle.core_state.specs.Named.{is_named_snapshot};
-ghost use Rattle.core_state.specs.Replies.{answers_list, refuses_name, reply_told};
-ghost use Rattle.core_admin.specs.Listings.{IsListable, is_behind as stands_behind, list_told, row_of as row_of_kept, rows_behind as rows_of_kept};
+ghost use Rattle.core_state.specs.Stops.{Gives, told};
+ghost use Rattle.core_state.specs.Wanted.{session_at};
+ghost use Rattle.core_admin.specs.AnsweredBy.{AnswersBy};
+ghost use Rattle.core_admin.specs.Listings.{IsListable, IsNamesStop, is_behind as stands_behind, row_of as row_of_kept, rows_behind as rows_of_kept};
 
-use core_state::{Kept, Listed, Parts};
+use core_state::{Kept, Listed, Parts, Place, Stop};
+use disk_trait::Disk;
 use std::alloc::{AllocError, Global};
-use store_types::{Bytes, Refusal, Rows, SnapshotKey};
+use store_types::{Bytes, LIST_LIMIT, Refusal, Rows, SnapshotKey};
 use wire_commands::{ListRow, Reply};
 
-/// So many snapshots are listed at once.
-const LIST_LIMIT: usize = 1024;
-
 /// The snapshot that a text names, or none where the text is empty.
-#[tactic(auto, using(core_state::proofs::Texts::bad_name_has_text))]
-fn key_after(alloc: Global, text: &[u8]) -> Result<Result<Option<SnapshotKey>, Refusal>, AllocError>
-    ensures value { IfOk result (λ told. told ≡ want_after text.now) }
-    ensures text { IfOk result (λ told. IfErr told (λ refusal. ReplyHasText (Refused refusal))) }
-    ensures kind { IfOk result (λ told. IfErr told (λ refusal. IsTrue (refuses_name refusal))) }
+fn key_after(alloc: Global, text: &[u8]) -> Result<Option<SnapshotKey>, Stop>
+    ensures value { Gives (λ after. after) result (want_after text.now) }
+    ensures stop { IfErr result IsNamesStop }
 {
     if text.is_empty() {
-        return Ok(Ok(None));
+        return Ok(None);
     }
-    match SnapshotKey::parse(alloc, text)? {
-        Ok(key) => Ok(Ok(Some(key))),
-        Err(_) => Ok(Err(Refusal::BadName)),
-    }
+    let Ok(key) = SnapshotKey::parse(alloc, text)? else {
+        return Err(Stop::Refused(Refusal::BadName));
+    };
+    Ok(Some(key))
 }
 
 /// The snapshot stands behind this one, if any, in the order of snapshots.
@@ -57,6 +52,7 @@ fn row_of(alloc: Global, kept: &Kept) -> Result<ListRow, AllocError>
     let snapshot = Bytes::from_vec(kept.key.print(alloc)?.into_bytes());
     Ok(ListRow {
         snapshot,
+        // a run's catalogue has only what it finished; opening will tell damage by `snapshot_files::scan`
         damaged: false,
         files: kept.files.as_slice().len().min(255) as u8,
     })
@@ -89,17 +85,18 @@ fn rows_behind(
 /// no disk call.
 ///
 /// It is refused where the text is neither empty nor a snapshot's; the snapshot need not be there.
-pub fn list<D>(parts: &Parts<D>, alloc: Global, after: &[u8]) -> Result<Reply, AllocError>
-    ensures text { IfOk result ReplyHasText }
-    ensures answers { IfOk result (λ reply. IsTrue (answers_list reply)) }
+pub fn list<D: Disk>(
+    parts: &Parts<D>,
+    alloc: Global,
+    _at: Place,
+    after: &[u8],
+) -> Result<Reply, Stop>
+    ensures does { ActDoes D.Disk parts.now parts.now _at (Plain (commands.List after.now)) result }
+    ensures leaves { ActLeaves D.Disk parts.now parts.now _at (Plain (commands.List after.now)) result }
     // on any disk
-    ensures told { IfOk result (λ reply. reply ≡ reply_told (list_told after.now parts.now.catalogue.items)) }
-    ensures act { IfOk result (λ reply. (s : Store) → Shows parts.now s → (lane moment : ℕ) → answered s (outcome s lane moment (commands.List after.now)) ≡ (s, reply)) }
+    ensures by_kept { IfOk (told result) (AnswersBy (Plain (commands.List after.now)) (session_at parts.now _at.lane) parts.now.catalogue.items parts.now.locks) }
 {
-    let after = match key_after(alloc, after)? {
-        Ok(after) => after,
-        Err(refusal) => return Ok(Reply::Refused(refusal)),
-    };
+    let after = key_after(alloc, after)?;
     let rows = rows_behind(alloc, &parts.catalogue, after.as_ref())?;
     Ok(Reply::Listing(rows))
 }

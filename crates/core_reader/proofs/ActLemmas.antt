@@ -4,8 +4,6 @@ use Rattle.wire_commands.specs.declared.command.Command.TheVariants.{OpenWriter,
 use Rattle.store_history.specs.declared.act.Act.{Act}
 use Rattle.store_history.specs.declared.act.Act.TheVariants.{Plain, JobGroup, Blob, Chunk, Short, End}
 use Rattle.store_history.specs.Acts.{IsWellFormed, class_of, stepping}
-use Rattle.disk_trait.specs.Files.{Files}
-use Rattle.core_state.specs.Chunks.{IsSafe}
 use Rattle.core_reader.specs.ReaderActs.{IsReaders}
 
 pub readers_formed : (a : Act) → IsReaders a → IsWellFormed a
@@ -43,12 +41,3 @@ readers_step (Blob name checked) h = absurd h
 readers_step (Chunk digest checked) h = absurd h
 readers_step Short h = absurd h
 readers_step End h = absurd h
-
--- they put no chunk
-pub readers_safe : (m : Files) (a : Act) → IsReaders a → IsSafe m a
-readers_safe m (Plain c) h = tt
-readers_safe m (JobGroup command) h = tt
-readers_safe m (Blob name checked) h = tt
-readers_safe m (Chunk digest checked) h = absurd h
-readers_safe m Short h = tt
-readers_safe m End h = tt

@@ -1,5 +1,6 @@
 -- When a chunk is told to be damaged.
-use Rattle.std.proofs.Common.{◌≡◌, ℕ, List, [], ◌∷◌, ◌++◌, Option, Some, None, Result, Ok, Err, refl, sym, ap, subst, ◌∙◌, arith}
+use Rattle.disk_trait.specs.declared.disk.Disk.{Ghosts}
+use Rattle.std.proofs.Common.{◌≡◌, ℕ, List, [], ◌∷◌, ◌++◌, Option, Some, None, Result, Ok, Err, IsErrAnd, refl, sym, ap, subst, ◌∙◌, arith}
 use Rattle.std.specs.List.{Contains}
 use Rattle.port_traits.specs.Readings.{Readings}
 use Rattle.disk_trait.specs.Files.{Files}
@@ -11,7 +12,7 @@ use Rattle.store_types.specs.declared.refusal.Refusal.{Refusal}
 use Rattle.store_types.specs.declared.refusal.Refusal.TheVariants.{Damaged, NoMemory, DiskFault, Halted}
 use Rattle.store_types.specs.Chain.Refusing.{◌>>=◌}
 use Rattle.wire_commands.specs.declared.reply.Reply.{Reply}
-use Rattle.wire_commands.specs.declared.reply.Reply.TheVariants.{Refused}
+use Rattle.wire_commands.specs.declared.reply.Reply.TheVariants.{Data, Refused}
 use Rattle.store_history.specs.declared.act.Answer.{Answer}
 use Rattle.restore_reader.specs.declared.ranges.Part.{Part}
 use Rattle.restore_reader.specs.Cutting.{cut}
@@ -20,7 +21,10 @@ use Rattle.core_state.specs.declared.parts.Parts.{Parts}
 use Rattle.core_state.specs.declared.state.Core.{Core}
 use Rattle.core_state.specs.Begins.{Refuses, short as is_short, halted as is_halted, IsReady}
 use Rattle.core_state.specs.Settles.{Settles, kind_by, reply_by}
-use Rattle.core_reader.specs.Chunks.{or_damaged, chunk_at, parts_at, IsDamageAmong}
+use Rattle.core_state.specs.Stops.{Gives, IfRefused, told}
+use Rattle.core_state.specs.declared.stop.Stop.{Stop}
+use Rattle.core_state.specs.declared.stop.Stop.TheVariants as kinds
+use Rattle.core_reader.specs.Chunks.{or_damaged, chunk_at, parts_at, IsDamageAmong, StopsAmong}
 use Rattle.core_reader.specs.Damages.{digests_of, first_damage, TellsDamaged}
 
 -- ---- replies
@@ -92,29 +96,36 @@ parts_damage m (x ∷ xs) d found is = by_chunk (chunk_at m x.digest) refl (λ e
 nothing_first : {A : Type 0} (x : A) → None ≡ Some x → ⊥
 nothing_first x e = cc
 
-module _ {D : Type 0} (honest : D → Type 0) (content : D → Files) (disk : D) where
+-- an act that stopped
+by_stopped : {D : Type 0} (g : Ghosts D) (disk : D) (chunks : List Digest32) (stop : Stop) (result : Result Reply Stop) → IsErrAnd result (λ x. x ≡ stop)
+    → TellsDamaged g disk chunks (kind_by (told (Err stop))) (Some (reply_by (told (Err stop)))) → TellsDamaged g disk chunks (kind_by (told result)) (Some (reply_by (told result)))
+by_stopped g disk chunks stop (Ok reply) is tells = absurd is
+by_stopped g disk chunks stop (Err x) is tells =
+    subst (λ y. TellsDamaged g disk chunks (kind_by (told (Err y))) (Some (reply_by (told (Err y))))) (sym is) tells
+
+module _ {D : Type 0} (g : Ghosts D) (disk : D) where
   -- no chunk is needed
-  pub damages_none : (chunks : List Digest32) (kind : ℕ) (reply : Option Reply) → IsUndamaged reply → chunks ≡ [] → TellsDamaged honest content disk chunks kind reply
+  pub damages_none : (chunks : List Digest32) (kind : ℕ) (reply : Option Reply) → IsUndamaged reply → chunks ≡ [] → TellsDamaged g disk chunks kind reply
   damages_none chunks kind reply other none = record {
     named = λ d f e. absurd (other d f e);
     cause = λ d f e h. absurd (other d f e);
-    damaged = λ d f k h first. absurd (nothing_first (d, f) (sym (ap (first_damage (content disk)) none) ∙ first));
+    damaged = λ d f k h first. absurd (nothing_first (d, f) (sym (ap (first_damage (g.content disk)) none) ∙ first));
   }
 
   -- it was not done
-  pub damages_stopped : (chunks : List Digest32) (kind : ℕ) (reply : Option Reply) → IsUndamaged reply → (kind ≡ 0 → ⊥) → TellsDamaged honest content disk chunks kind reply
+  pub damages_stopped : (chunks : List Digest32) (kind : ℕ) (reply : Option Reply) → IsUndamaged reply → (kind ≡ 0 → ⊥) → TellsDamaged g disk chunks kind reply
   damages_stopped chunks kind reply other is = record {
     named = λ d f e. absurd (other d f e);
     cause = λ d f e h. absurd (other d f e);
     damaged = λ d f k h first. absurd (is k);
   }
 
-  pub damages_failed : (chunks : List Digest32) (e : DiskError) → TellsDamaged honest content disk chunks (kind_by (Err e)) (Some (reply_by (Err e)))
+  pub damages_failed : (chunks : List Digest32) (e : DiskError) → TellsDamaged g disk chunks (kind_by (Err e)) (Some (reply_by (Err e)))
   damages_failed chunks DiskMemory = damages_stopped chunks 2 (Some (Refused NoMemory)) memory_undamaged (λ k. omega (arith, k))
   damages_failed chunks DiskFailed = damages_stopped chunks 5 (Some (Refused DiskFault)) fault_undamaged (λ k. omega (arith, k))
 
   -- each is whole
-  pub damages_whole : (chunks : List Digest32) (reply : Reply) → IsUndamaged (Some reply) → (honest disk → first_damage (content disk) chunks ≡ None) → TellsDamaged honest content disk chunks 0 (Some reply)
+  pub damages_whole : (chunks : List Digest32) (reply : Reply) → IsUndamaged (Some reply) → (g.honest disk → first_damage (g.content disk) chunks ≡ None) → TellsDamaged g disk chunks 0 (Some reply)
   damages_whole chunks reply other whole = record {
     named = λ d f e. absurd (other d f e);
     cause = λ d f e h. absurd (other d f e);
@@ -123,7 +134,7 @@ module _ {D : Type 0} (honest : D → Type 0) (content : D → Files) (disk : D)
 
   -- one is damaged
   pub damages_told : (chunks : List Digest32) (refusal : Refusal) → IsDamageAmong chunks refusal
-      → (honest disk → (d : Digest32) (f : ChunkFault) → refusal ≡ Damaged d f → first_damage (content disk) chunks ≡ Some (d, f)) → TellsDamaged honest content disk chunks 0 (Some (Refused refusal))
+      → (g.honest disk → (d : Digest32) (f : ChunkFault) → refusal ≡ Damaged d f → first_damage (g.content disk) chunks ≡ Some (d, f)) → TellsDamaged g disk chunks 0 (Some (Refused refusal))
   damages_told chunks refusal among first = record {
     named = λ d f e. subst (Contains chunks) (digests d f e) among.1;
     cause = λ d f e h. first h d f (refused d f e);
@@ -145,23 +156,59 @@ module _ {D : Type 0} (honest : D → Type 0) (content : D → Files) (disk : D)
       damages : (d : Digest32) (f : ChunkFault) → ◌≡◌ {A = Option (Digest32 × ChunkFault)} (Some (among.0, (among.2).0)) (Some (d, f)) → Damaged among.0 (among.2).0 ≡ Damaged d f
       damages d f e = ap (λ (x : Digest32 × ChunkFault). Damaged x.0 x.1) (both (among.0, (among.2).0) (d, f) e)
 
+  -- stopped before its chunks are read
+  pub damages_unread : (chunks : List Digest32) (stop : Stop) (result : Result Reply Stop) → IsErrAnd result (λ x. x ≡ stop)
+      → IfRefused (λ refusal. (chunks ≡ []) × ((digest : Digest32) (found : ChunkFault) → refusal ≡ Damaged digest found → ⊥)) stop
+      → TellsDamaged g disk chunks (kind_by (told result)) (Some (reply_by (told result)))
+  damages_unread chunks stop result stops none = by_stopped g disk chunks stop result stops (by_stop stop none)
+    where
+      same : (r q : Refusal) → Some (Refused r) ≡ Some (Refused q) → r ≡ q
+      same r q e = cc
+
+      by_stop : (stop : Stop) → IfRefused (λ refusal. (chunks ≡ []) × ((digest : Digest32) (found : ChunkFault) → refusal ≡ Damaged digest found → ⊥)) stop
+          → TellsDamaged g disk chunks (kind_by (told (Err stop))) (Some (reply_by (told (Err stop))))
+      by_stop (kinds.Refused refusal) h = damages_none chunks 0 (Some (Refused refusal)) (λ d f e. h.1 d f (same refusal (Damaged d f) e)) h.0
+      by_stop kinds.NoMemory h = damages_failed chunks DiskMemory
+      by_stop kinds.DiskFailed h = damages_failed chunks DiskFailed
+
+  -- by what was read
+  pub damages_read : {A : Type 0} (show : A → List ℕ) (parts : List Part) (chunks : List Digest32) (stop : Stop) (result : Result Reply Stop) → IsErrAnd result (λ x. x ≡ stop)
+      → chunks ≡ digests_of parts → StopsAmong (digests_of parts) stop → (g.honest disk → Gives show (Err stop) (parts_at (g.content disk) parts))
+      → TellsDamaged g disk chunks (kind_by (told result)) (Some (reply_by (told result)))
+  damages_read show parts chunks stop result stops is among gives = by_stopped g disk chunks stop result stops (by_stop stop among gives)
+    where
+      by_stop : (stop : Stop) → StopsAmong (digests_of parts) stop → (g.honest disk → Gives show (Err stop) (parts_at (g.content disk) parts))
+          → TellsDamaged g disk chunks (kind_by (told (Err stop))) (Some (reply_by (told (Err stop))))
+      by_stop (kinds.Refused refusal) h gives =
+          subst (λ c. TellsDamaged g disk c 0 (Some (Refused refusal))) (sym is)
+          (damages_told (digests_of parts) refusal h.0 (λ honest d f e. parts_damage (g.content disk) parts d f (gives honest ∙ ap (λ x. Err x) e)))
+      by_stop kinds.NoMemory h gives = damages_failed chunks DiskMemory
+      by_stop kinds.DiskFailed h gives = damages_failed chunks DiskFailed
+
+  -- all that is needed was given
+  pub damages_given : (parts : List Part) (chunks : List Digest32) (bytes sent : List ℕ) → chunks ≡ digests_of parts → (g.honest disk → parts_at (g.content disk) parts ≡ Ok bytes)
+      → TellsDamaged g disk chunks 0 (Some (Data sent))
+  damages_given parts chunks bytes sent is gives =
+      subst (λ c. TellsDamaged g disk c 0 (Some (Data sent))) (sym is)
+      (damages_whole (digests_of parts) (Data sent) (λ d f e. cc) (λ honest. parts_whole (g.content disk) parts bytes (gives honest)))
+
 -- ---- acts
 
 -- an act that is refused before it is done
-pub damages_refused : {D E C : Type 0} (honest : D → Type 0) (content : D → Files) (calls_of : D → ℕ) (readings : C → Option Readings) (old new : Core D E C) (lane : ℕ) (disk : D) (chunks : List Digest32) (answer : Answer)
-    → Refuses calls_of readings old new lane answer → TellsDamaged honest content disk chunks (answer.entry).kind answer.reply
-damages_refused honest content calls_of readings old new lane disk chunks answer (is_short is) =
+pub damages_refused : {D E C : Type 0} (g : Ghosts D) (readings : C → Option Readings) (old new : Core D E C) (lane : ℕ) (disk : D) (chunks : List Digest32) (answer : Answer)
+    → Refuses g readings old new lane answer → TellsDamaged g disk chunks (answer.entry).kind answer.reply
+damages_refused g readings old new lane disk chunks answer (is_short is) =
     let kind : (answer.entry).kind ≡ 2 = ap (λ x. x.kind) (is.entered).entry in
-    damages_stopped honest content disk chunks _ answer.reply (λ d f e. memory_undamaged d f (sym (is.entered).reply_is ∙ e)) (λ k. absurd (omega (arith, k, kind)))
-damages_refused honest content calls_of readings old new lane disk chunks answer (is_halted is) =
+    damages_stopped g disk chunks _ answer.reply (λ d f e. memory_undamaged d f (sym (is.entered).reply_is ∙ e)) (λ k. absurd (omega (arith, k, kind)))
+damages_refused g readings old new lane disk chunks answer (is_halted is) =
     let kind : (answer.entry).kind ≡ 5 = ap (λ x. x.kind) (is.entered).entry in
-    damages_stopped honest content disk chunks _ answer.reply (λ d f e. halted_undamaged is.first d f (sym (is.entered).reply_is ∙ e)) (λ k. absurd (omega (arith, k, kind)))
+    damages_stopped g disk chunks _ answer.reply (λ d f e. halted_undamaged is.first d f (sym (is.entered).reply_is ∙ e)) (λ k. absurd (omega (arith, k, kind)))
 
 -- an act that was done, as its command tells
-pub damages_done : {D E C : Type 0} (honest : D → Type 0) (content : D → Files) (calls_of : D → ℕ) (readings : C → Option Readings) (old mid acted new : Core D E C) (lane moment : ℕ) (chunks : Parts D → List Digest32) (result : Result Reply DiskError) (answer : Answer)
-    → IsReady readings old mid lane moment → TellsDamaged honest content (mid.parts).disk (chunks mid.parts) (kind_by result) (Some (reply_by result)) → Settles calls_of acted new lane moment result answer
-    → TellsDamaged honest content (old.parts).disk (chunks old.parts) (answer.entry).kind answer.reply
-damages_done honest content calls_of readings old mid acted new lane moment chunks result answer ready tells e =
-    subst (λ r. TellsDamaged honest content (old.parts).disk (chunks old.parts) (answer.entry).kind r) (sym e.reply_is)
-    (subst (λ x. TellsDamaged honest content (old.parts).disk (chunks old.parts) x.kind (Some (reply_by result))) (sym e.entry)
-    (subst (λ p. TellsDamaged honest content p.disk (chunks p) (kind_by result) (Some (reply_by result))) (ready.begun).parts tells))
+pub damages_done : {D E C : Type 0} (d : Ghosts D) (readings : C → Option Readings) (old mid acted new : Core D E C) (lane moment : ℕ) (chunks : Parts D → List Digest32) (result : Result Reply DiskError) (answer : Answer)
+    → IsReady readings old mid lane moment → TellsDamaged d (mid.parts).disk (chunks mid.parts) (kind_by result) (Some (reply_by result)) → Settles d acted new lane moment result answer
+    → TellsDamaged d (old.parts).disk (chunks old.parts) (answer.entry).kind answer.reply
+damages_done d readings old mid acted new lane moment chunks result answer ready tells e =
+    subst (λ r. TellsDamaged d (old.parts).disk (chunks old.parts) (answer.entry).kind r) (sym e.reply_is)
+    (subst (λ x. TellsDamaged d (old.parts).disk (chunks old.parts) x.kind (Some (reply_by result))) (sym e.entry)
+    (subst (λ p. TellsDamaged d p.disk (chunks p) (kind_by result) (Some (reply_by result))) (ready.begun).parts tells))

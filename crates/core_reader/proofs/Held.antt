@@ -12,7 +12,8 @@ use Rattle.blob_codec.specs.Blob.{blob as blob_of}
 use Rattle.store_files.specs.Archive.{Content, archive, blob, File, Snapshot, digest_of, file_named, pieces_of, piece_with}
 use Rattle.store_model.specs.Store.{Reader, Store, snapshot_named}
 use Rattle.store_model.specs.ReaderSteps.{pieces_at, noted_pieces, reader_files}
-use Rattle.store_model.specs.Stands.{IsPiece, IsSnapshot, FitsContent, HoldsPieces, chunk_name}
+use Rattle.store_model.specs.Stands.{IsSnapshot, FitsContent, HoldsPieces}
+use Rattle.store_files.specs.Folder.{IsPiece, chunk_name}
 use Rattle.chunk_store.specs.Pieces.{IsHeld}
 use Rattle.core_state.specs.Holds.{IsOnDisk}
 use Rattle.core_state.proofs.Finding.{found_in, found_passes}

@@ -1,5 +1,5 @@
 -- Chunks and parts of them as they are read.
-use Rattle.std.proofs.Common.{◌≡◌, ◌<◌, ◌≤◌, ◌+◌, ℕ, zero, suc, List, [], ◌∷◌, ◌++◌, length, drop, get_or, Some, Result, Ok, Err, refl, sym, ap, ◌∙◌, append_assoc, append-nil, arith}
+use Rattle.std.proofs.Common.{◌≡◌, IsErrAnd, IsErrOf, IsTrue, subst, true, false, ◌<◌, ◌≤◌, ◌+◌, ℕ, zero, suc, List, [], ◌∷◌, ◌++◌, length, drop, get_or, Some, Result, Ok, Err, refl, sym, ap, ◌∙◌, append_assoc, append-nil, arith}
 use Rattle.std.specs.List.{All}
 use Rattle.std.specs.FinMap.{get}
 use Rattle.std.proofs.lemmas.List.Elements.{All-head, All-tail}
@@ -12,12 +12,17 @@ use Rattle.store_types.specs.declared.refusal.Refusal.{Refusal}
 use Rattle.store_types.specs.Chain.Refusing.{◌>>=◌}
 use Rattle.blob_codec.specs.Blob.{blob, data_of}
 use Rattle.store_files.specs.Archive.{digest_of}
-use Rattle.store_model.specs.Stands.{chunk_name}
+use Rattle.store_files.specs.Folder.{chunk_name}
 use Rattle.restore_reader.specs.declared.ranges.Part.{Part}
 use Rattle.restore_reader.specs.Cutting.{ArePartsOf, cut, joined, total_of}
 use Rattle.chunk_store.specs.Pieces.{IsHeld, by_data, piece_in, found_in, found_at}
 use Rattle.chunk_store.proofs.Blobs.{data_behind_header, data_is, checked_piece}
-use Rattle.core_reader.specs.Chunks.{or_damaged, chunk_at, parts_at}
+use Rattle.core_state.specs.Replies.{refuses_get, refuses_range}
+use Rattle.core_state.specs.Unchanged.{is_uncalled}
+use Rattle.core_state.specs.Stops.{Gives, IfRefused, StopHasText}
+use Rattle.core_state.specs.declared.stop.Stop.{Stop}
+use Rattle.core_state.specs.declared.stop.Stop.TheVariants.{Refused, NoMemory, DiskFailed}
+use Rattle.core_reader.specs.Chunks.{or_damaged, chunk_at, parts_at, IsDamageOf, StopsAmong, StopsAt}
 
 -- ---- pieces that stand there
 
@@ -98,6 +103,74 @@ pub part_damaged : (m : Files) (front : List ℕ) (xs rest : List Part) (x : Par
 part_damaged m front xs rest x refusal next at =
     ap (λ l. behind front (parts_at m l)) next
     ∙ ap (λ r. behind front (r >>= λ p. parts_at m rest >>= λ b. Ok (cut x p ++ b))) at
+
+-- what a chunk stops by stops all
+pub part_stopped : {A B : Type 0} (f : A → List ℕ) (g : B → List ℕ) (m : Files) (front : List ℕ) (all : Result (List ℕ) Refusal) (xs rest : List Part) (x : Part) (stop : Stop) → all ≡ behind front (parts_at m xs) → xs ≡ x ∷ rest
+    → Gives f (Err stop) (chunk_at m x.digest) → Gives g (Err stop) all
+part_stopped f g m front all xs rest x (Refused refusal) is next gives = is ∙ part_damaged m front xs rest x refusal next gives
+part_stopped f g m front all xs rest x NoMemory is next gives = tt
+part_stopped f g m front all xs rest x DiskFailed is next gives = tt
+
+pub chunk_then : (m n : Files) (digest : Digest32) (stop : Stop) → m ≡ n → Gives {A = List ℕ} (λ chunk. chunk) (Err stop) (chunk_at m digest) → Gives {A = List ℕ} (λ chunk. chunk) (Err stop) (chunk_at n digest)
+chunk_then m n digest stop same gives = subst (λ f. Gives {A = List ℕ} (λ chunk. chunk) (Err stop) (chunk_at f digest)) same gives
+
+pub short_only : {A : Type 0} (result : Result A Stop) → IsErrAnd result (λ x. x ≡ NoMemory) → IsErrOf result DiskFailed → ⊥
+short_only (Ok x) is failed = is
+short_only {A} (Err stop) is failed = apart (sym is ∙ same stop failed)
+  where
+    same : (stop : Stop) → ◌≡◌ {A = Result A Stop} (Err stop) (Err DiskFailed) → stop ≡ DiskFailed
+    same stop e = cc
+
+    apart : NoMemory ≡ DiskFailed → ⊥
+    apart e = cc
+
+-- where a chunk is to be had it stops by no refusal
+pub none_stopped : {A B : Type 0} (f : A → List ℕ) (g : B → List ℕ) (p all : List ℕ) (stop : Stop) → Gives f (Err stop) (Ok p) → Gives g (Err stop) (Ok all)
+none_stopped f g p all (Refused refusal) gives = absurd (refused_apart p refusal gives)
+  where
+    refused_apart : (p : List ℕ) (refusal : Refusal) → ◌≡◌ {A = Result (List ℕ) Refusal} (Ok p) (Err refusal) → ⊥
+    refused_apart p refusal e = cc
+none_stopped f g p all NoMemory gives = tt
+none_stopped f g p all DiskFailed gives = tt
+
+true_false : true ≡ false → ⊥
+true_false e = cc
+
+damage_called : (digest : Digest32) (refusal : Refusal) (P : Type 0) → IsDamageOf digest refusal → is_uncalled refusal ≡ true → P
+damage_called digest refusal P is uncalled = absurd (true_false (sym uncalled ∙ ap is_uncalled is.1))
+
+-- ---- what a read of a chunk stops by
+
+pub at_text : (digest : Digest32) (stop : Stop) → StopsAt digest stop → StopHasText stop
+at_text digest (Refused refusal) h = h.1
+at_text digest NoMemory h = tt
+at_text digest DiskFailed h = tt
+
+pub at_got : (digest : Digest32) (stop : Stop) → StopsAt digest stop → IfRefused (λ refusal. IsTrue (refuses_get refusal)) stop
+at_got digest (Refused refusal) h = ap refuses_get (h.0).1
+at_got digest NoMemory h = tt
+at_got digest DiskFailed h = tt
+
+-- it comes by a call of the disk
+pub at_called : (digest : Digest32) (stop : Stop) (P : Type 0) → StopsAt digest stop → IfRefused (λ refusal. is_uncalled refusal ≡ true → P) stop
+at_called digest (Refused refusal) P h = damage_called digest refusal P h.0
+at_called digest NoMemory P h = tt
+at_called digest DiskFailed P h = tt
+
+pub among_text : (digests : List Digest32) (stop : Stop) → StopsAmong digests stop → StopHasText stop
+among_text digests (Refused refusal) h = h.1
+among_text digests NoMemory h = tt
+among_text digests DiskFailed h = tt
+
+pub among_ranged : (digests : List Digest32) (stop : Stop) → StopsAmong digests stop → IfRefused (λ refusal. IsTrue (refuses_range refusal)) stop
+among_ranged digests (Refused refusal) h = ap refuses_range (((h.0).2).1)
+among_ranged digests NoMemory h = tt
+among_ranged digests DiskFailed h = tt
+
+pub among_called : (digests : List Digest32) (stop : Stop) (P : Type 0) → StopsAmong digests stop → IfRefused (λ refusal. is_uncalled refusal ≡ true → P) stop
+among_called digests (Refused refusal) P h = damage_called (h.0).0 refusal P ((h.0).2)
+among_called digests NoMemory P h = tt
+among_called digests DiskFailed P h = tt
 
 -- nothing more
 pub parts_done : (m : Files) (front : List ℕ) (xs : List Part) → xs ≡ [] → behind front (parts_at m xs) ≡ Ok front

@@ -13,8 +13,8 @@ use Rattle.store_model.specs.Stands.{names_content}
 use Rattle.restore_reader.specs.Session.{Reading}
 use Rattle.restore_reader.specs.Shown.{shown, shown_noted}
 use Rattle.restore_reader.specs.Steps.{is_downloaded}
-use Rattle.stored_files.specs.Indexes.{is_fixed_layout}
-use Rattle.stored_files.proofs.Archives.{layout_named}
+use Rattle.snapshot_files.specs.Indexes.{is_fixed_layout}
+use Rattle.snapshot_files.proofs.Archives.{layout_named}
 use Rattle.store_files.specs.DynamicIndex.{Ended}
 use Rattle.core_state.specs.Named.{is_named}
 use Rattle.core_state.specs.Unreadables.{whole_by}

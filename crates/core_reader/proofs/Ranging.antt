@@ -1,96 +1,123 @@
 -- RANGE is the store's.
-use Rattle.std.proofs.Common.{◌≡◌, ◌<◌, ◌≤◌, ◌+◌, ℕ, Bool, true, false, cond, ◌&&◌, nat_le, List, [], length, Option, Some, None, is_some, Result, Ok, Err, refl, sym, ap, ap₂, subst, ◌∙◌, arith}
+use Rattle.std.proofs.Common.{◌≡◌, ◌<◌, ◌≤◌, ℕ, true, false, List, [], drop, length, Option, Some, None, Bool, is_some, Result, Ok, Err, IfErr, IsErrAnd, IsErrOf, IsTrue, map, refl, sym, ap, subst, ◌∙◌, arith}
+use Rattle.std.specs.List.{All}
+use Rattle.std.proofs.lemmas.List.Elements.{All-drop}
+use Rattle.disk_trait.specs.Files.{Files}
+use Rattle.store_types.specs.Chain.Refusing.{◌>>=◌}
+use Rattle.store_types.specs.FileNames.{is_index_name}
+use Rattle.store_types.specs.declared.refusal.ChunkFault.{ChunkFault}
+use Rattle.store_types.specs.declared.names.Digest32.{Digest32}
+use Rattle.store_types.specs.declared.names.SnapshotKey.{SnapshotKey}
 use Rattle.store_types.specs.declared.refusal.Refusal.{Refusal}
 use Rattle.store_types.specs.declared.refusal.Refusal.TheVariants.{WrongState, BadName, NoFile, NotAllowed, TooMany, BadRange, Damaged}
-use Rattle.store_types.specs.Chain.Refusing.{◌>>=◌, unless, or_else}
-use Rattle.store_types.specs.FileNames.{is_index_name}
 use Rattle.store_files.specs.Archive.{File, file_named}
-use Rattle.disk_trait.specs.Files.{Files}
-use Rattle.core_state.specs.declared.parts.Parts.{Parts}
-use Rattle.core_state.specs.Holds.{Holds, Does}
-use Rattle.core_state.specs.Unchanged.{LeavesAll, Unchanged}
-use Rattle.core_state.proofs.Acting.{does_refused}
-use Rattle.wire_commands.specs.declared.reply.Reply.{Reply}
-use Rattle.wire_commands.specs.declared.reply.Reply.TheVariants.{Data, Refused}
+use Rattle.wire_frames.specs.Frames.{body_limit}
+use Rattle.wire_commands.specs.declared.reply.Reply.TheVariants.{Data}
 use Rattle.wire_commands.specs.declared.command.Command.TheVariants.{Range}
 use Rattle.store_model.specs.Store as model
-use Rattle.store_model.specs.Store.{Store, Outcome, none, writer, reader, session, want_reader}
-use Rattle.store_model.specs.ReaderSteps.{range, range_of, reader_files, want_range}
-use Rattle.store_model.specs.WriterSteps.{part_limit}
-use Rattle.store_model.specs.Steps.{outcome, answered}
-use Rattle.core_state.specs.declared.kept.Session.{Session}
-use Rattle.core_state.specs.declared.kept.Session.TheVariants.{Idle, Writer, Reader}
-use Rattle.core_state.specs.declared.kept.Listed.{Listed}
-use Rattle.core_state.specs.Found.{path_in}
-use Rattle.core_state.specs.Replies.{refuses_range}
-use Rattle.core_state.proofs.Texts.{not_allowed_has_text}
-use Rattle.wire_frames.specs.Frames.{body_limit}
-use Rattle.wire_commands.specs.HasText.{ReplyHasText}
-use Rattle.dynamic_index.specs.Pieces.{last_end}
+use Rattle.store_model.specs.Store.{Store, reader, session, want_reader}
+use Rattle.store_model.specs.ReaderSteps.{pieces_at, range, range_of, reader_files}
+use Rattle.store_model.specs.Steps.{outcome}
 use Rattle.restore_reader.specs.declared.ranges.Part.{Part}
-use Rattle.restore_reader.specs.Session.{Noted, Reading}
-use Rattle.restore_reader.specs.Plan.{parts_in}
-use Rattle.restore_reader.specs.Steps.{noted_as, range_plan}
-use Rattle.core_reader.specs.Asked.{refuses_plan}
-use Rattle.core_reader.specs.Damages.{range_needed, planned}
-use Rattle.core_reader.proofs.Damaging.{IsUndamaged}
-use Rattle.core_state.specs.Shown.{shown_session, shown_reader}
-use Rattle.core_state.specs.States.{state_of}
-use Rattle.core_reader.proofs.Getting.{IsNoReader}
+use Rattle.restore_reader.specs.Answers.{GivesBytes, RefusesRange}
+use Rattle.restore_reader.specs.Cutting.{ArePartsOf, joined}
+use Rattle.restore_reader.specs.Session.{Reading}
+use Rattle.restore_reader.specs.Steps.{range_plan}
+use Rattle.chunk_store.specs.Pieces.{IsHeld}
+use Rattle.core_state.specs.Found.{path_in}
+use Rattle.core_state.specs.Holds.{IsOnDisk}
+use Rattle.core_state.specs.Replies.{refuses_range}
+use Rattle.core_state.specs.Stops.{Gives, IfRefused, StopHasText}
+use Rattle.core_state.specs.Shown.{shown_reader, shown_snapshot}
+use Rattle.core_state.specs.Wanted.{reader_in}
+use Rattle.core_state.specs.declared.kept.Listed.{Listed}
+use Rattle.core_state.specs.declared.kept.Session.{Session}
+use Rattle.core_state.specs.declared.stop.Stop.{Stop}
+use Rattle.core_state.specs.declared.stop.Stop.TheVariants.{Refused, NoMemory, DiskFailed}
+use Rattle.core_state.proofs.Found.{is_there, not_there, there_named}
+use Rattle.core_state.proofs.Texts.{bad_range_has_text, not_allowed_has_text, too_many_has_text}
+use Rattle.core_reader.specs.Asked.{range_asked}
+use Rattle.core_reader.specs.Damages.{planned}
+use Rattle.core_reader.specs.Planned.{PlansBytes, PlansRange, StopsRange, refuses_plan}
+use Rattle.core_reader.proofs.Held.{reader_held}
 
-module _ (s : Store) (lane m : ℕ) (name : List ℕ) (offset len : ℕ) where
-  abbrev bytes_then : Result (List ℕ) Refusal → Outcome
-  bytes_then o = o >>= λ bytes. Ok (s, Data bytes)
+-- ---- the plain store's
 
-  abbrev file_then : model.Reader → Option File → Outcome
-  file_then r o = or_else NoFile o >>= λ _. bytes_then (range_of (reader_files s r) r name offset len)
+module _ (s : Store) (lane : ℕ) (name : List ℕ) (offset len : ℕ) where
+  pub range_is : (m : ℕ) → outcome s lane m (Range name offset len) ≡ range s lane name offset len
+  unfolding outcome
+  range_is m = refl
 
-  abbrev name_then : model.Reader → Bool → Outcome
-  name_then r good = unless BadName good >>= λ _. file_then r (file_named name (reader_files s r))
+  pub range_unread : (refusal : Refusal) → want_reader (session s lane) ≡ Err refusal → range s lane name offset len ≡ Err refusal
+  unfolding range
+  range_unread refusal no_reader = rw no_reader refl
 
-  abbrev session_then : model.Session → Outcome
-  session_then x = want_reader x >>= λ r. name_then r (is_index_name name)
+  pub range_bad : (r : model.Reader) → session s lane ≡ reader r → is_index_name name ≡ false → range s lane name offset len ≡ Err BadName
+  unfolding range
+  range_bad r at bad = rw (at, bad) refl
 
-  step_is : outcome s lane m (Range name offset len) ≡ session_then (session s lane)
-  unfolding outcome range
-  step_is = refl
-
-  busy : (x : model.Session) (f : Session) → f ≡ shown_session s.snapshots x → IsNoReader f → session_then x ≡ Err (WrongState (state_of f))
-  busy none f is ne = ap (λ g. Err (WrongState (state_of g))) (sym is)
-  busy (writer w) f is ne = ap (λ g. Err (WrongState (state_of g))) (sym is)
-  busy (reader r) f is ne = absurd (ne (shown_reader s.snapshots r) is)
-
-  pub range_busy : (f : Session) → f ≡ shown_session s.snapshots (session s lane) → IsNoReader f → outcome s lane m (Range name offset len) ≡ Err (WrongState (state_of f))
-  range_busy f is ne = step_is ∙ busy (session s lane) f is ne
-
-  reading_is : (r : model.Reader) → session s lane ≡ reader r → outcome s lane m (Range name offset len) ≡ name_then r (is_index_name name)
-  reading_is r at = step_is ∙ ap session_then at
-
-  pub range_bad : (r : model.Reader) → session s lane ≡ reader r → is_index_name name ≡ false → outcome s lane m (Range name offset len) ≡ Err BadName
-  range_bad r at bad = reading_is r at ∙ ap (name_then r) bad
-
-  named_is : (r : model.Reader) → session s lane ≡ reader r → is_index_name name ≡ true → outcome s lane m (Range name offset len) ≡ file_then r (file_named name (reader_files s r))
-  named_is r at good = reading_is r at ∙ ap (name_then r) good
-
-  pub range_missing : (r : model.Reader) → session s lane ≡ reader r → is_index_name name ≡ true → file_named name (reader_files s r) ≡ None → outcome s lane m (Range name offset len) ≡ Err NoFile
-  range_missing r at good missing = named_is r at good ∙ ap (file_then r) missing
+  pub range_missing : (r : model.Reader) → session s lane ≡ reader r → is_index_name name ≡ true → file_named name (reader_files s r) ≡ None → range s lane name offset len ≡ Err NoFile
+  unfolding range
+  range_missing r at good missing = rw (at, good, missing) refl
 
   pub range_told : (r : model.Reader) (f : File) (told : Result (List ℕ) Refusal) → session s lane ≡ reader r → is_index_name name ≡ true → file_named name (reader_files s r) ≡ Some f
-      → range_of (reader_files s r) r name offset len ≡ told → outcome s lane m (Range name offset len) ≡ bytes_then told
-  range_told r f told at good found is = named_is r at good ∙ ap (file_then r) found ∙ ap bytes_then is
+      → range_of (reader_files s r) r name offset len ≡ told → range s lane name offset len ≡ (told >>= λ bytes. Ok (s, Data bytes))
+  unfolding range
+  range_told r f told at good found is = rw (at, good, found, is) refl
+
+-- ---- what is kept
+
+module _ (file : List ℕ) (offset len : ℕ) (session : Session) (catalogue : List Listed) where
+  pub asked_unread : (refusal : Refusal) → reader_in session ≡ Err refusal → range_asked file offset len session catalogue ≡ Err refusal
+  unfolding range_asked
+  asked_unread refusal no_reader = rw no_reader refl
+
+  pub asked_bad : (r : Reading) → reader_in session ≡ Ok r → is_index_name file ≡ false → range_asked file offset len session catalogue ≡ Err BadName
+  unfolding range_asked
+  asked_bad r at bad = rw (at, bad) refl
+
+  pub asked_missing : (r : Reading) → reader_in session ≡ Ok r → is_index_name file ≡ true → path_in r.key file catalogue ≡ None → range_asked file offset len session catalogue ≡ Err NoFile
+  unfolding range_asked
+  asked_missing r at good missing = rw (at, good, missing) refl
+
+  pub asked_planned : (r : Reading) (path : List ℕ) → reader_in session ≡ Ok r → is_index_name file ≡ true → path_in r.key file catalogue ≡ Some path
+      → range_asked file offset len session catalogue ≡ range_plan r file offset len
+  unfolding range_asked
+  asked_planned r path at good found = rw (at, good, found) refl
+
+-- whether the snapshot has the file
+has_path : (key held : SnapshotKey) (file name : List ℕ) (catalogue kept : List Listed) (has : Bool) → has ≡ is_some (path_in held name kept) → held ≡ key → kept ≡ catalogue → name ≡ file → has ≡ is_some (path_in key file catalogue)
+has_path key held file name catalogue kept has is one two three =
+    is ∙ ap (λ (k : SnapshotKey). is_some (path_in k name kept)) one ∙ ap (λ l. is_some (path_in key name l)) two ∙ ap (λ n. is_some (path_in key n catalogue)) three
+
+pub no_path : (key held : SnapshotKey) (file : List ℕ) (catalogue kept : List Listed) (name : List ℕ) (has : Bool) → has ≡ is_some (path_in held name kept) → held ≡ key → kept ≡ catalogue → name ≡ file → has ≡ false
+    → path_in key file catalogue ≡ None
+no_path key held file catalogue kept name has is one two three lacks = nothing (path_in key file catalogue) (sym (has_path key held file name catalogue kept has is one two three) ∙ lacks)
+  where
+    nothing : (o : Option (List ℕ)) → is_some o ≡ false → o ≡ None
+    nothing None e = refl
+    nothing (Some x) e = cc
+
+pub path_there : (key held : SnapshotKey) (file : List ℕ) (catalogue kept : List Listed) (name : List ℕ) (has : Bool) → has ≡ is_some (path_in held name kept) → held ≡ key → kept ≡ catalogue → name ≡ file → has ≡ true
+    → (path : List ℕ) × (path_in key file catalogue ≡ Some path)
+path_there key held file catalogue kept name has is one two three holds = there (path_in key file catalogue) (sym (has_path key held file name catalogue kept has is one two three) ∙ holds)
+  where
+    there : (o : Option (List ℕ)) → is_some o ≡ true → (path : List ℕ) × (o ≡ Some path)
+    there None e = cc
+    there (Some x) e = (x, refl)
 
 -- ---- refusals before chunks are read
 
-plan_is : (refusal : Refusal) → refuses_plan refusal ≡ true → ((limit : ℕ) → refusal ≡ TooMany limit → ⊥) → ((size : ℕ) → refusal ≡ BadRange size → ⊥) → refusal ≡ NotAllowed
-plan_is NotAllowed h few within = refl
-plan_is (TooMany limit) h few within = absurd (few limit refl)
-plan_is (BadRange size) h few within = absurd (within size refl)
-plan_is _ h few within = cc
+pub plan_stops : (refusal : Refusal) → RefusesRange refusal → StopsRange (Refused refusal)
+plan_stops NotAllowed h = (not_allowed_has_text, refl)
+plan_stops (TooMany limit) h = (too_many_has_text limit h, refl)
+plan_stops (BadRange size) h = (bad_range_has_text size h, refl)
+plan_stops _ h = absurd h
 
-pub plan_has_text : (refusal : Refusal) → refuses_plan refusal ≡ true → ((limit : ℕ) → refusal ≡ TooMany limit → ⊥) → ((size : ℕ) → refusal ≡ BadRange size → ⊥) → ReplyHasText (Refused refusal)
-plan_has_text refusal h few within = subst (λ r. ReplyHasText (Refused r)) (sym (plan_is refusal h few within)) not_allowed_has_text
-
-pub plan_ranged : (refusal : Refusal) → refuses_plan refusal ≡ true → refuses_range refusal ≡ true
+plan_ranged : (refusal : Refusal) → refuses_plan refusal ≡ true → refuses_range refusal ≡ true
+plan_ranged (WrongState state) h = refl
+plan_ranged BadName h = refl
+plan_ranged NoFile h = refl
 plan_ranged NotAllowed h = refl
 plan_ranged (TooMany limit) h = refl
 plan_ranged (BadRange size) h = refl
@@ -99,73 +126,99 @@ plan_ranged _ h = cc
 true_false : true ≡ false → ⊥
 true_false e = cc
 
-refused_same : (r q : Refusal) → Some (Refused r) ≡ Some (Refused q) → r ≡ q
-refused_same r q e = cc
+-- it is none of a damaged chunk
+pub plan_whole : (refusal : Refusal) (digest : Digest32) (found : ChunkFault) → refuses_plan refusal ≡ true → refusal ≡ Damaged digest found → ⊥
+plan_whole refusal digest found h e = true_false (sym h ∙ ap refuses_plan e)
 
-pub plan_whole : (refusal : Refusal) → refuses_plan refusal ≡ true → IsUndamaged (Some (Refused refusal))
-plan_whole refusal h digest found e = true_false (sym h ∙ ap refuses_plan (refused_same refusal (Damaged digest found) e))
+pub planned_text : (stop : Stop) → StopsRange stop → StopHasText stop
+planned_text (Refused refusal) h = h.0
+planned_text NoMemory h = tt
+planned_text DiskFailed h = absurd h
 
-pub plan_refuses : (r : Reading) (name : List ℕ) (offset len : ℕ) (refusal : Refusal) → range_plan r name offset len ≡ Err refusal → refuses_plan refusal ≡ true
-unfolding range_plan
-plan_refuses r name offset len refusal is = by_noted (noted_as r name) is
+pub planned_answers : (stop : Stop) → StopsRange stop → IfRefused (λ refusal. IsTrue (refuses_range refusal)) stop
+planned_answers (Refused refusal) h = plan_ranged refusal h.1
+planned_answers NoMemory h = tt
+planned_answers DiskFailed h = absurd h
+
+pub planned_unfailed : {A : Type 0} (stop : Stop) → StopsRange stop → IsErrOf {T = A} (Err stop) DiskFailed → ⊥
+planned_unfailed (Refused refusal) h e = cc
+planned_unfailed NoMemory h e = cc
+planned_unfailed DiskFailed h e = h
+
+-- how it is planned, by a stop
+pub plans_refused : {A : Type 0} (show : A → List Part) (s : Store) (lane : ℕ) (file : List ℕ) (offset len : ℕ) (refusal : Refusal) (result : Result A Stop) → IsErrAnd result (λ x. x ≡ Refused refusal)
+    → range s lane file offset len ≡ Err refusal → PlansRange show s lane file offset len result
+plans_refused show s lane file offset len refusal (Ok plan) is says = absurd is
+plans_refused show s lane file offset len refusal (Err stop) is says = subst (λ x. PlansRange show s lane file offset len (Err x)) (sym is) says
+
+pub stops_by : {A : Type 0} (result : Result A Stop) (stop : Stop) → IsErrAnd result (λ x. x ≡ stop) → StopsRange stop → IfErr result StopsRange
+stops_by (Ok plan) stop is h = tt
+stops_by (Err x) stop is h = subst StopsRange (sym is) h
+
+-- where the lane's reader is this one
+module _ (s : Store) (lane : ℕ) (file : List ℕ) (offset len : ℕ) (catalogue : List Listed) (v : model.Reader) (r : Reading)
+    (shows : map (λ x. x.kept) catalogue ≡ map shown_snapshot s.snapshots) (at : session s lane ≡ reader v) (is : shown_reader s.snapshots v ≡ r) (good : is_index_name file ≡ true) where
+  pub plan_missing : path_in r.key file catalogue ≡ None → range s lane file offset len ≡ Err NoFile
+  plan_missing missing =
+      range_missing s lane file offset len v at good (not_there file catalogue s.snapshots v.key shows (ap (λ (x : Reading). path_in x.key file catalogue) is ∙ missing))
+
+  plan_told : (path : List ℕ) (told : Result (List ℕ) Refusal) → path_in r.key file catalogue ≡ Some path → range_of (reader_files s v) v file offset len ≡ told
+      → range s lane file offset len ≡ (told >>= λ bytes. Ok (s, Data bytes))
+  plan_told path told found says =
+      let there = is_there file catalogue s.snapshots v.key path shows (ap (λ (x : Reading). path_in x.key file catalogue) is ∙ found) in
+      range_told s lane file offset len v there.file told at good (there_named s.snapshots v.key file path there) says
+
+  pub plan_refused : (path : List ℕ) (refusal : Refusal) → path_in r.key file catalogue ≡ Some path → range_of (reader_files s v) v file offset len ≡ Err refusal → range s lane file offset len ≡ Err refusal
+  plan_refused path refusal found says = plan_told path (Err refusal) found says
+
+  pub plan_given : (path : List ℕ) (parts : List Part) → path_in r.key file catalogue ≡ Some path → GivesBytes parts (pieces_at (reader_files s v) file) (range_of (reader_files s v) v file offset len)
+      → PlansBytes s lane file offset len parts
+  plan_given path parts found gives = record {
+    reader = v;
+    bytes = gives.bytes;
+    given = plan_told path (Ok gives.bytes) found gives.stepped;
+    reads = gives.reads;
+  }
+
+-- no chunk is needed where it is not planned
+pub planned_needs : {A : Type 0} (show : A → List Part) (wanted : Result (List Part) Refusal) (stop : Stop) → Gives show (Err stop) wanted → StopsRange stop
+    → IfRefused (λ refusal. (planned wanted ≡ []) × ((digest : Digest32) (found : ChunkFault) → refusal ≡ Damaged digest found → ⊥)) stop
+planned_needs show wanted (Refused refusal) is h = (ap planned is, λ digest found e. plan_whole refusal digest found h.1 e)
+planned_needs show wanted NoMemory is h = tt
+planned_needs show wanted DiskFailed is h = absurd h
+
+pub planned_refuses : {A : Type 0} (show : A → List Part) (s : Store) (lane m : ℕ) (file : List ℕ) (offset len : ℕ) (stop : Stop) → PlansRange show s lane file offset len (Err stop)
+    → IfRefused (λ refusal. outcome s lane m (Range file offset len) ≡ Err refusal) stop
+planned_refuses show s lane m file offset len (Refused refusal) h = range_is s lane file offset len m ∙ h
+planned_refuses show s lane m file offset len NoMemory h = tt
+planned_refuses show s lane m file offset len DiskFailed h = tt
+
+-- ---- the bytes of the parts
+
+-- the pieces of which the parts are stand on the disk
+pub record StandsThere (m : Files) (s : Store) (lane moment : ℕ) (file : List ℕ) (offset len : ℕ) (parts : List Part) : Type 0 where
+  pub pieces : List (List ℕ)
+  pub are : ArePartsOf parts pieces
+  pub held : All (IsHeld m) pieces
+  pub given : outcome s lane moment (Range file offset len) ≡ Ok (s, Data (joined parts pieces))
+
+pub stands_there : (m : Files) (s : Store) (lane moment : ℕ) (file : List ℕ) (offset len : ℕ) (parts : List Part) → IsOnDisk m s → PlansBytes s lane file offset len parts → StandsThere m s lane moment file offset len parts
+stands_there m s lane moment file offset len parts on plans =
+    let reads = plans.reads in record {
+      pieces = drop reads.first _;
+      are = reads.each;
+      held = All-drop (IsHeld m) reads.first _ (reader_held m s plans.reader file on);
+      given = range_is s lane file offset len moment ∙ plans.given ∙ ap (λ b. Ok (s, Data b)) (sym reads.same);
+    }
+
+-- what was read is what the plain store gives
+pub same_data : (s : Store) (lane m : ℕ) (file : List ℕ) (offset len : ℕ) (all read bytes sent : List ℕ) → outcome s lane m (Range file offset len) ≡ Ok (s, Data all) → all ≡ read
+    → ◌≡◌ {A = Result (List ℕ) Refusal} (Ok read) (Ok bytes) → sent ≡ bytes → outcome s lane m (Range file offset len) ≡ Ok (s, Data sent)
+same_data s lane m file offset len all read bytes sent given same gives is = given ∙ ap (λ b. Ok (s, Data b)) (same ∙ oks read bytes gives ∙ sym is)
   where
-    errs : (a : Refusal) → ◌≡◌ {A = Result (List Part) Refusal} (Err a) (Err refusal) → a ≡ refusal
-    errs a e = cc
-
-    by_range : (few within : Bool) (x : Noted)
-        → ((unless (TooMany part_limit) few >>= λ _. unless (BadRange (last_end 0 x.entries)) within) >>= λ _. Ok (parts_in offset (offset + len) 0 x.entries)) ≡ Err refusal → refuses_plan refusal ≡ true
-    by_range true true x e = cc
-    by_range true false x e = ap refuses_plan (sym (errs (BadRange (last_end 0 x.entries)) e))
-    by_range false within x e = ap refuses_plan (sym (errs (TooMany part_limit) e))
-
-    by_noted : (o : Option Noted) → (or_else NotAllowed o >>= λ x. want_range (last_end 0 x.entries) offset len >>= λ _. Ok (parts_in offset (offset + len) 0 x.entries)) ≡ Err refusal → refuses_plan refusal ≡ true
-    by_noted None e = ap refuses_plan (sym (errs NotAllowed e))
-    by_noted (Some x) e = by_range (nat_le len part_limit) (nat_le (offset + len) (last_end 0 x.entries)) x e
-
--- ---- the chunks that are needed
-
-pub needed_other : (file : List ℕ) (offset len : ℕ) (session : Session) (catalogue : List Listed) → IsNoReader session → range_needed file offset len session catalogue ≡ []
-needed_other file offset len Idle catalogue other = refl
-needed_other file offset len (Writer w) catalogue other = refl
-needed_other file offset len (Reader r) catalogue other = absurd (other r refl)
-
-pub needed_by : (file : List ℕ) (offset len : ℕ) (session : Session) (catalogue : List Listed) (r : Reading) (good there : Bool) → session ≡ Reader r → is_index_name file ≡ good → is_some (path_in r.key file catalogue) ≡ there
-    → range_needed file offset len session catalogue ≡ cond (good && there) (planned (range_plan r file offset len)) []
-needed_by file offset len session catalogue r good there at named found =
-    ap (λ s. range_needed file offset len s catalogue) at
-    ∙ ap₂ (λ a b. cond (a && b) (planned (range_plan r file offset len)) []) named found
-
-pub needed_bad : (file : List ℕ) (offset len : ℕ) (session : Session) (catalogue : List Listed) (r : Reading) → session ≡ Reader r → is_index_name file ≡ false → range_needed file offset len session catalogue ≡ []
-needed_bad file offset len session catalogue r at bad = needed_by file offset len session catalogue r false _ at bad refl
-
-pub needed_missing : (file : List ℕ) (offset len : ℕ) (session : Session) (catalogue : List Listed) (r : Reading) → session ≡ Reader r → is_index_name file ≡ true → path_in r.key file catalogue ≡ None → range_needed file offset len session catalogue ≡ []
-needed_missing file offset len session catalogue r at good missing = needed_by file offset len session catalogue r true false at good (ap (λ (o : Option (List ℕ)). is_some o) missing)
-
-pub needed_planned : (file : List ℕ) (offset len : ℕ) (session : Session) (catalogue : List Listed) (r : Reading) (told : Result (List Part) Refusal) → session ≡ Reader r → is_index_name file ≡ true → is_some (path_in r.key file catalogue) ≡ true
-    → range_plan r file offset len ≡ told → range_needed file offset len session catalogue ≡ planned told
-needed_planned file offset len session catalogue r told at good found is = needed_by file offset len session catalogue r true true at good found ∙ ap planned is
-
--- ---- what is told
-
-pub name_whole : IsUndamaged (Some (Refused BadName))
-name_whole digest found e = cc
-
-pub file_whole : IsUndamaged (Some (Refused NoFile))
-file_whole digest found e = cc
-
-pub data_whole : (bytes : List ℕ) → IsUndamaged (Some (Data bytes))
-data_whole bytes digest found e = cc
+    oks : (a b : List ℕ) → ◌≡◌ {A = Result (List ℕ) Refusal} (Ok a) (Ok b) → a ≡ b
+    oks a b e = cc
 
 -- what fits a range fits a reply
 pub data_short : (bytes : List ℕ) (total len : ℕ) → length bytes ≤ total → total ≤ len → len ≤ 4_194_304 → length bytes < body_limit
 data_short bytes total len a b c = omega (arith, a, b, c)
-
--- ---- acts that are refused so
-
-pub does_refused_as : {D : Type 0} (honest : D → Type 0) (content : D → Files) (old new : Parts D) (s : Store) (o : Outcome) (refusal : Refusal) (reply : Reply) → reply ≡ Refused refusal
-    → new.disk ≡ old.disk → new.catalogue.items ≡ old.catalogue.items → new.sessions.items ≡ old.sessions.items → new.locks ≡ old.locks → o ≡ Err refusal → Holds honest content old s → Does honest content new s (answered s o) (Ok reply)
-does_refused_as honest content old new s o refusal reply is d c l k e h =
-    subst (λ x. Does honest content new s (answered s o) (Ok x)) (sym is) (does_refused honest content old new s o refusal d c l k e h)
-
-pub unchanged_as : {D : Type 0} (honest : D → Type 0) (content : D → Files) (old new : Parts D) (refusal : Refusal) (reply : Reply) → reply ≡ Refused refusal → LeavesAll honest content old new refusal → Unchanged honest content old new reply
-unchanged_as honest content old new refusal reply is leaves = subst (Unchanged honest content old new) (sym is) leaves

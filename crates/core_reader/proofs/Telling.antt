@@ -1,93 +1,189 @@
--- What a reader's commands answer.
-use Rattle.std.proofs.Common.{◌≡◌, ℕ, true, false, cond, List, Option, Some, None, Result, Ok, Err, refl, sym, ap, subst, ◌∙◌}
-use Rattle.std.specs.Option.{option_map}
+-- What a DOWNLOAD tells of the file that is asked for.
+use Rattle.disk_trait.specs.declared.disk.Disk.{Ghosts}
+use Rattle.std.proofs.Common.{◌≡◌, ℕ, true, false, Bool, List, Option, Some, None, Result, Ok, Err, IsErrAnd, IsErrOf, IsTrue, refl, sym, ap, subst, ◌∙◌}
+use Rattle.disk_trait.specs.Effects.{OnlyReads}
 use Rattle.disk_trait.specs.Files.{Files}
-use Rattle.store_types.specs.declared.names.Digest32.{Digest32}
-use Rattle.store_types.specs.declared.refusal.SessionState.{SessionState}
+use Rattle.disk_trait.specs.declared.disk.DiskError.TheVariants as disks
+use Rattle.store_types.specs.Chain.Refusing.{◌>>=◌}
 use Rattle.store_types.specs.declared.refusal.Refusal.{Refusal}
-use Rattle.store_types.specs.declared.refusal.Refusal.TheVariants.{WrongState, BadName, NoFile, BadRange, Unreadable}
-use Rattle.store_types.specs.FileNames.{is_file_name}
+use Rattle.store_types.specs.declared.refusal.Refusal.TheVariants.{BadRange, Unreadable}
 use Rattle.wire_commands.specs.declared.reply.Reply.{Reply}
-use Rattle.wire_commands.specs.declared.reply.Reply.TheVariants.{Part, Refused}
-use Rattle.restore_reader.specs.Session.{Reading}
-use Rattle.stored_files.specs.Parts.{IsPartOf, GivesText}
-use Rattle.wire_commands.specs.HasText.{ReplyHasText}
-use Rattle.core_state.proofs.Unchanging.{leaves_read}
-use Rattle.core_state.specs.declared.kept.Listed.{Listed}
-use Rattle.core_state.specs.declared.kept.Session.{Session}
-use Rattle.core_state.specs.declared.kept.Session.TheVariants.{Idle, Writer, Reader}
+use Rattle.wire_commands.specs.declared.reply.Reply.TheVariants as replies
+use Rattle.snapshot_files.specs.Indexes.{Indexed, index_at, shown_index}
+use Rattle.snapshot_files.specs.Parts.{IsPart, RefusesPart, part_at}
+use Rattle.snapshot_files.specs.Reads as reads
+use Rattle.snapshot_files.specs.declared.read_error.ReadError.{ReadError}
+use Rattle.snapshot_files.specs.declared.read_error.ReadError.TheVariants as errors
+use Rattle.wire_commands.specs.declared.command.Command.TheVariants.{Download}
+use Rattle.store_history.specs.declared.act.Act.{Act}
+use Rattle.store_history.specs.declared.act.Act.TheVariants.{Plain}
+use Rattle.core_state.proofs.Chunks.{adds_same}
+use Rattle.store_model.specs.Store.{Store}
+use Rattle.core_state.specs.Closing.{closes}
+use Rattle.core_state.specs.Commands.{ActDoes, ActLeaves, IsNoRefusal, is_quiet}
+use Rattle.core_state.specs.Holds.{Holds}
+use Rattle.core_state.specs.Wanted.{session_at}
+use Rattle.core_state.specs.declared.entering.Place.{Place}
 use Rattle.core_state.specs.declared.parts.Parts.{Parts}
-use Rattle.core_state.specs.Found.{path_in}
-use Rattle.core_state.specs.Replies.{answers_download, refuses_download, refuses_get, refuses_range, reply_told}
-use Rattle.core_state.specs.Unchanged.{is_uncalled, SameContent, SameKept, Unchanged}
-use Rattle.core_state.proofs.Unreadables.{refusal_called}
-use Rattle.core_reader.specs.Asked.{asked_at, downloaded}
-use Rattle.core_reader.specs.Chunks.{IsDamageOf}
+use Rattle.core_state.proofs.Commanding.{act_does, read_text, stopped_does, stopped_leaves, writes_leaves}
+use Rattle.core_state.specs.Replies.{answers_download, may_answer, refuses_download}
+use Rattle.core_state.specs.Settles.{kind_by, reply_by}
+use Rattle.core_state.specs.Stops.{IfRefused, stop_by_read, told}
+use Rattle.core_state.specs.Unreadables.{Asked, TellsUnreadable, part_read, read_by}
+use Rattle.core_state.specs.Unchanged.{SameKept, is_uncalled}
+use Rattle.core_state.specs.declared.stop.Stop.{Stop}
+use Rattle.core_state.specs.declared.stop.Stop.TheVariants.{Refused, NoMemory, DiskFailed}
+use Rattle.core_state.proofs.Unreadables.{refusal_called, tells_failed, tells_other, tells_read}
 
--- ---- parts of files
+-- ---- what a read stops by
 
-pub part_answers : (path : List ℕ) (reply : Reply) → IsPartOf path (Ok reply) → answers_download reply ≡ true
-part_answers path (Part total bytes) h = refl
-part_answers path _ h = absurd h
+-- it fails as the read did
+pub read_fails : {A B : Type 0} (read : Result A ReadError) (e : ReadError) → read ≡ Err e → IsErrOf {T = B} (Err (stop_by_read e)) DiskFailed → IsErrOf read errors.Failed
+read_fails read (errors.Refused refusal) was failed = cc
+read_fails read errors.NoMemory was failed = cc
+read_fails read errors.Failed was failed = was
 
-pub part_unchanged : {D : Type 0} (honest : D → Type 0) (content : D → Files) (old new : Parts D) (path : List ℕ) (reply : Reply) → IsPartOf path (Ok reply) → Unchanged honest content old new reply
-part_unchanged honest content old new path (Part total bytes) h = tt
-part_unchanged honest content old new path _ h = absurd h
+refuses_part : (path : List ℕ) (r : Refusal) → RefusesPart path r → refuses_download r ≡ true
+refuses_part path (BadRange size) h = refl
+refuses_part path (Unreadable name) h = refl
+refuses_part path _ h = absurd h
 
-pub refusal_answers : (path : List ℕ) (r : Refusal) → IsPartOf path (Err r) → refuses_download r ≡ true
-refusal_answers path (BadRange size) h = refl
-refusal_answers path (Unreadable found) h = refl
-refusal_answers path _ h = absurd h
+-- by what it gave
+pub read_stops : {A B : Type 0} (f : A → B) (wanted : Result B Refusal) (P : Refusal → Type 0) (e : ReadError) → reads.Gives f (Err e) wanted → ((r : Refusal) → wanted ≡ Err r → P r) → IfRefused P (stop_by_read e)
+read_stops f wanted P (errors.Refused refusal) gives so = so refusal gives
+read_stops f wanted P errors.NoMemory gives so = tt
+read_stops f wanted P errors.Failed gives so = tt
 
--- ---- what was asked for
+pub reads_as : {D : Type 0} (d : Ghosts D) (old new : D) (F G : Type 0) → (G → F) → OnlyReads d old new F → OnlyReads d old new G
+reads_as d old new F G why reads = record {
+  serves = record { kept = (reads.serves).kept; count = (reads.serves).count; cause = λ g. (reads.serves).cause (why g) };
+  crash = reads.crash;
+  same = reads.same;
+}
 
-pub asked_reader : (file : List ℕ) (offset : ℕ) (session : Session) (r : Reading) (catalogue : List Listed) (path : Option (List ℕ)) → session ≡ Reader r → is_file_name file ≡ true
-    → path_in r.key file catalogue ≡ path → downloaded file offset session catalogue ≡ option_map (asked_at r file offset) path
-asked_reader file offset session r catalogue path is good at =
-    ap (λ s. downloaded file offset s catalogue) is ∙ ap (λ b. cond b (option_map (asked_at r file offset) (path_in r.key file catalogue)) None) good ∙ ap (option_map (asked_at r file offset)) at
+pub short_unfailed : {F : Type 0} → IsErrOf {T = Reply} (Err NoMemory) DiskFailed → F
+short_unfailed e = cc
 
-pub asked_bad : (file : List ℕ) (offset : ℕ) (session : Session) (catalogue : List Listed) → is_file_name file ≡ false → downloaded file offset session catalogue ≡ None
-asked_bad file offset Idle catalogue bad = refl
-asked_bad file offset (Writer w) catalogue bad = refl
-asked_bad file offset (Reader r) catalogue bad = ap (λ b. cond b (option_map (asked_at r file offset) (path_in r.key file catalogue)) None) bad
+true_false : true ≡ false → ⊥
+true_false e = cc
 
-pub asked_other : (file : List ℕ) (offset : ℕ) (session : Session) (catalogue : List Listed) → ((r : Reading) → session ≡ Reader r → ⊥) → downloaded file offset session catalogue ≡ None
-asked_other file offset Idle catalogue other = refl
-asked_other file offset (Writer w) catalogue other = refl
-asked_other file offset (Reader r) catalogue other = absurd (other r refl)
+-- it comes by a call of the disk
+pub part_called : (path : List ℕ) (P : Type 0) (r : Refusal) → RefusesPart path r → is_uncalled r ≡ true → P
+part_called path P r kind uncalled = absurd (true_false (sym uncalled ∙ refusal_called path r kind))
 
-pub state_apart : (state : SessionState) (name : List ℕ) → Some (Refused (WrongState state)) ≡ Some (Refused (Unreadable name)) → ⊥
-state_apart state name e = cc
+pub read_called : (path : List ℕ) (P : Type 0) (e : ReadError) → reads.IfRefused (RefusesPart path) e → IfRefused (λ r. is_uncalled r ≡ true → P) (stop_by_read e)
+read_called path P (errors.Refused refusal) h = part_called path P refusal h
+read_called path P errors.NoMemory h = tt
+read_called path P errors.Failed h = tt
 
-pub name_apart : (name : List ℕ) → Some (Refused BadName) ≡ Some (Refused (Unreadable name)) → ⊥
-name_apart name e = cc
+pub read_answers : (path : List ℕ) (e : ReadError) → reads.IfRefused (RefusesPart path) e → IfRefused (λ r. IsTrue (refuses_download r)) (stop_by_read e)
+read_answers path (errors.Refused refusal) h = refuses_part path refusal h
+read_answers path errors.NoMemory h = tt
+read_answers path errors.Failed h = tt
 
-pub file_apart : (name : List ℕ) → Some (Refused NoFile) ≡ Some (Refused (Unreadable name)) → ⊥
-file_apart name e = cc
+pub read_at : (path q : List ℕ) (e : ReadError) → q ≡ path → reads.IfRefused (RefusesPart q) e → reads.IfRefused (RefusesPart path) e
+read_at path q e is h = subst (λ p. reads.IfRefused (RefusesPart p) e) is h
 
--- ---- damage
+pub part_answers : (reply : Reply) → IsPart reply → answers_download reply ≡ true
+part_answers (replies.Part total bytes) h = refl
+part_answers _ h = absurd h
 
-pub damage_called : (digest : Digest32) (r : Refusal) → IsDamageOf digest r → is_uncalled r ≡ false
-damage_called digest r is = ap is_uncalled is.1
+pub part_plain : (reply : Reply) → IsPart reply → IsNoRefusal reply
+part_plain (replies.Part total bytes) h = tt
+part_plain _ h = absurd h
 
-pub damage_got : (digest : Digest32) (r : Refusal) → IsDamageOf digest r → refuses_get r ≡ true
-damage_got digest r is = ap refuses_get is.1
+-- ---- the records of an act that stopped so
 
-pub damage_ranged : (digest : Digest32) (r : Refusal) → IsDamageOf digest r → refuses_range r ≡ true
-damage_ranged digest r is = ap refuses_range is.1
+module _ {A D : Type 0} (d : Ghosts D) (old new : Parts D) (at : Place) (act : Act) (read : Result A ReadError) (e : ReadError) (was : read ≡ Err e) (result : Result Reply Stop) where
+  pub stops_does : IsErrAnd result (λ x. x ≡ stop_by_read e) → OnlyReads d old.disk new.disk (IsErrOf read errors.Failed) → SameKept old new → reads.ErrorHasText e
+      → IfRefused (λ refusal. IsTrue (may_answer act (replies.Refused refusal))) (stop_by_read e)
+      → ((s : Store) → Holds d old s → IfRefused (λ refusal. act_does s at.lane at.moment act ≡ Err refusal) (stop_by_read e)) → ActDoes d old new at act result
+  stops_does stops reads kept text answers is =
+      let ended : Result Reply Stop = Err (stop_by_read e) in
+      stopped_does d old new at act ended (stop_by_read e) result stops refl (reads_as d old.disk new.disk _ _ (read_fails read e was) reads) kept (read_text e text) answers is
 
--- ---- what was read, as a reply
+  pub stops_leaves : (path : List ℕ) → IsErrAnd result (λ x. x ≡ stop_by_read e) → OnlyReads d old.disk new.disk (IsErrOf read errors.Failed) → SameKept old new → is_quiet act ≡ false → reads.IfRefused (RefusesPart path) e
+      → (closes act (session_at old at.lane) ≡ true → ⊥) → ActLeaves d old new at act result
+  stops_leaves path stops reads kept called kind goes_on =
+      stopped_leaves d old new at act (stop_by_read e) result _ stops reads kept called (read_called path _ e kind) goes_on
 
-pub told_answers : (path : List ℕ) (told : Result Reply Refusal) (reply : Reply) → reply ≡ reply_told told → IsPartOf path told → answers_download reply ≡ true
-told_answers path (Ok part) reply is h = ap answers_download is ∙ part_answers path part h
-told_answers path (Err r) reply is h = ap answers_download is ∙ refusal_answers path r h
+-- memory was wanting once the disk was read
+module _ {D : Type 0} (d : Ghosts D) (old new : Parts D) (at : Place) (act : Act) (F : Type 0) (result : Result Reply Stop) (stops : IsErrAnd result (λ x. x ≡ NoMemory)) where
+  pub short_does : OnlyReads d old.disk new.disk F → SameKept old new → ActDoes d old new at act result
+  short_does reads kept =
+      let ended : Result Reply Stop = Err NoMemory in
+      stopped_does d old new at act ended NoMemory result stops refl (reads_as d old.disk new.disk F _ short_unfailed reads) kept tt tt (λ s h. tt)
 
-pub told_unchanged : {D : Type 0} (honest : D → Type 0) (content : D → Files) (old new : Parts D) (path : List ℕ) (told : Result Reply Refusal) (reply : Reply) → reply ≡ reply_told told → IsPartOf path told
-    → SameContent honest content old.disk new.disk → SameKept old new → Unchanged honest content old new reply
-told_unchanged honest content old new path (Ok part) reply is h same kept = subst (Unchanged honest content old new) (sym is) (part_unchanged honest content old new path part h)
-told_unchanged honest content old new path (Err r) reply is h same kept =
-    subst (Unchanged honest content old new) (sym is) (leaves_read honest content old new r (refusal_called path r h) same kept)
+  pub short_leaves : OnlyReads d old.disk new.disk F → SameKept old new → is_quiet act ≡ false → (closes act (session_at old at.lane) ≡ true → ⊥) → ActLeaves d old new at act result
+  short_leaves reads kept called goes_on = stopped_leaves d old new at act NoMemory result F stops reads kept called tt goes_on
 
-pub told_has_text : (told : Result Reply Refusal) (reply : Reply) → reply ≡ reply_told told → GivesText told → ReplyHasText reply
-told_has_text (Ok part) reply is h = subst ReplyHasText (sym is) h
-told_has_text (Err r) reply is h = subst ReplyHasText (sym is) h
+-- done, where the lane's session alone has changed
+pub noted_leaves : {D : Type 0} (d : Ghosts D) (old new : Parts D) (at : Place) (file : List ℕ) (offset : ℕ) (reply : Reply) (F : Type 0) → IsNoRefusal reply → OnlyReads d old.disk new.disk F
+    → new.catalogue.items ≡ old.catalogue.items → ActLeaves d old new at (Plain (Download file offset)) (Ok reply)
+noted_leaves d old new at file offset reply F plain reads same =
+    writes_leaves d old new at (Plain (Download file offset)) reply plain refl reads.same reads.crash tt same (λ e. cc) (adds_same d old new (Plain (Download file offset)) (Ok reply) reads.same) (λ e. cc)
+
+-- ---- what is told
+
+module _ {D : Type 0} (d : Ghosts D) (disk : D) where
+  abbrev Tells : Option Asked → Result Reply Stop → Type 0
+  Tells asked result = TellsUnreadable d disk asked (kind_by (told result)) (Some (reply_by (told result)))
+
+  by_stopped : (asked : Option Asked) (stop : Stop) (result : Result Reply Stop) → IsErrAnd result (λ x. x ≡ stop) → Tells asked (Err stop) → Tells asked result
+  by_stopped asked stop (Ok reply) is tells = absurd is
+  by_stopped asked stop (Err x) is tells = subst (λ y. Tells asked (Err y)) (sym is) tells
+
+  -- stopped before it is read
+  pub tells_unread : (asked : Option Asked) (stop : Stop) (result : Result Reply Stop) → IsErrAnd result (λ x. x ≡ stop)
+      → IfRefused (λ refusal. (asked ≡ None) × ((name : List ℕ) → refusal ≡ Unreadable name → ⊥)) stop → Tells asked result
+  tells_unread asked stop result stops none = by_stopped asked stop result stops (by_stop stop none)
+    where
+      same : (r : Refusal) (name : List ℕ) → Some (replies.Refused r) ≡ Some (replies.Refused (Unreadable name)) → r ≡ Unreadable name
+      same r name e = cc
+
+      by_stop : (stop : Stop) → IfRefused (λ refusal. (asked ≡ None) × ((name : List ℕ) → refusal ≡ Unreadable name → ⊥)) stop → Tells asked (Err stop)
+      by_stop (Refused refusal) h = tells_other d disk asked 0 (Some (replies.Refused refusal)) (λ name e. h.1 name (same refusal name e)) h.0
+      by_stop NoMemory h = tells_failed d disk asked disks.NoMemory
+      by_stop DiskFailed h = tells_failed d disk asked disks.Failed
+
+  -- stopped by what was read
+  pub tells_stopped : {A B : Type 0} (f : A → Reply) (asked : Option Asked) (a : Asked) (read : Result B ReadError) (e : ReadError) → read ≡ Err e → (result : Result Reply Stop) → IsErrAnd result (λ x. x ≡ stop_by_read e) → asked ≡ Some a
+      → reads.IfRefused (RefusesPart a.path) e → (d.honest disk → reads.Gives f (Err e) (part_read (d.content disk) a)) → Tells asked result
+  tells_stopped f asked a read e was result stops is kind gives = by_stopped asked (stop_by_read e) result stops (by_error e kind gives)
+    where
+      by_error : (e : ReadError) → reads.IfRefused (RefusesPart a.path) e → (d.honest disk → reads.Gives f (Err e) (part_read (d.content disk) a)) → Tells asked (Err (stop_by_read e))
+      by_error (errors.Refused refusal) kind gives = tells_read d disk asked a (Err refusal) is kind (λ h. sym (gives h))
+      by_error errors.NoMemory kind gives = tells_failed d disk asked disks.NoMemory
+      by_error errors.Failed kind gives = tells_failed d disk asked disks.Failed
+
+  -- the part is given
+  pub tells_given : (asked : Option Asked) (a : Asked) (part : Reply) → asked ≡ Some a → IsPart part → (d.honest disk → part_read (d.content disk) a ≡ Ok part) → Tells asked (Ok part)
+  tells_given asked a part is kind gives = tells_read d disk asked a (Ok part) is kind (λ h. sym (gives h))
+
+-- ---- what is asked for, and what is read
+
+part_asked : (m : Files) (path q : List ℕ) (offset : ℕ) (whole : Option Bool) → q ≡ path → whole ≡ None → part_at m q offset ≡ read_by whole m path offset
+part_asked m path q offset whole is none = ap (λ p. part_at m p offset) is ∙ ap (λ w. read_by w m path offset) (sym none)
+
+index_asked : (m : Files) (path q : List ℕ) (offset : ℕ) (is_fixed : Bool) (whole : Option Bool) → q ≡ path → whole ≡ Some is_fixed
+    → (index_at m q is_fixed offset >>= λ x. Ok x.part) ≡ read_by whole m path offset
+index_asked m path q offset is_fixed whole is some = ap (λ p. read_by (Some is_fixed) m p offset) is ∙ ap (λ w. read_by w m path offset) (sym some)
+
+pub part_stop : (m : Files) (path q : List ℕ) (offset : ℕ) (whole : Option Bool) (e : ReadError) → q ≡ path → whole ≡ None → reads.Gives {A = Reply} (λ part. part) (Err e) (part_at m q offset)
+    → reads.Gives {A = Reply} (λ part. part) (Err e) (read_by whole m path offset)
+part_stop m path q offset whole e is none gives = subst (λ w. reads.Gives {A = Reply} (λ part. part) (Err e) w) (part_asked m path q offset whole is none) gives
+
+pub part_got : (m : Files) (path q : List ℕ) (offset : ℕ) (whole : Option Bool) (part : Reply) → q ≡ path → whole ≡ None → part_at m q offset ≡ Ok part → read_by whole m path offset ≡ Ok part
+part_got m path q offset whole part is none gives = sym (part_asked m path q offset whole is none) ∙ gives
+
+pub index_stop : (m : Files) (path q : List ℕ) (offset : ℕ) (is_fixed : Bool) (whole : Option Bool) (e : ReadError) → q ≡ path → whole ≡ Some is_fixed → reads.Gives shown_index (Err e) (index_at m q is_fixed offset)
+    → reads.Gives {A = Reply} (λ part. part) (Err e) (read_by whole m path offset)
+index_stop m path q offset is_fixed whole e is some gives = subst (λ w. reads.Gives {A = Reply} (λ part. part) (Err e) w) (index_asked m path q offset is_fixed whole is some) (index_part e _ gives)
+  where
+    index_part : (e : ReadError) (wanted : Result Indexed Refusal) → reads.Gives shown_index (Err e) wanted → reads.Gives {A = Reply} (λ part. part) (Err e) (wanted >>= λ x. Ok x.part)
+    index_part (errors.Refused refusal) wanted is = ap (λ (w : Result Indexed Refusal). w >>= λ x. Ok x.part) is
+    index_part errors.NoMemory wanted is = tt
+    index_part errors.Failed wanted is = tt
+
+pub index_got : (m : Files) (path q : List ℕ) (offset : ℕ) (is_fixed : Bool) (whole : Option Bool) (x : Indexed) → q ≡ path → whole ≡ Some is_fixed → index_at m q is_fixed offset ≡ Ok x → read_by whole m path offset ≡ Ok x.part
+index_got m path q offset is_fixed whole x is some gives = sym (index_asked m path q offset is_fixed whole is some) ∙ ap (λ (w : Result Indexed Refusal). w >>= λ x. Ok x.part) gives

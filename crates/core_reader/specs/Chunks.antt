@@ -9,7 +9,11 @@ use Rattle.store_types.specs.declared.refusal.Refusal.TheVariants.{Damaged}
 use Rattle.store_types.specs.Chain.Refusing.{◌>>=◌}
 use Rattle.restore_reader.specs.declared.ranges.Part.{Part}
 use Rattle.restore_reader.specs.Cutting.{cut}
+use Rattle.wire_commands.specs.declared.reply.Reply.TheVariants.{Refused}
+use Rattle.wire_commands.specs.HasText.{ReplyHasText}
 use Rattle.chunk_store.specs.Pieces.{found_at}
+use Rattle.core_state.specs.declared.stop.Stop.{Stop}
+use Rattle.core_state.specs.Stops.{IfRefused}
 
 abbrev pub or_damaged : Digest32 → Result (List ℕ) ChunkFault → Result (List ℕ) Refusal
 or_damaged digest (Ok piece) = Ok piece
@@ -34,3 +38,11 @@ IsDamageOf digest refusal = (found : ChunkFault) × (refusal ≡ Damaged digest 
 -- it tells of one of these
 abbrev pub IsDamageAmong : List Digest32 → Refusal → Type 0
 IsDamageAmong digests refusal = (digest : Digest32) × Contains digests digest × IsDamageOf digest refusal
+
+-- it stops by damage to the chunk with this digest, which has a spelling, or by no refusal
+abbrev pub StopsAt : Digest32 → Stop → Type 0
+StopsAt digest stop = IfRefused (λ refusal. IsDamageOf digest refusal × ReplyHasText (Refused refusal)) stop
+
+-- by damage to one of these
+abbrev pub StopsAmong : List Digest32 → Stop → Type 0
+StopsAmong digests stop = IfRefused (λ refusal. IsDamageAmong digests refusal × ReplyHasText (Refused refusal)) stop

@@ -1,24 +1,30 @@
 -- When a chunk is told to be damaged.
-use Rattle.std.specs.Prelude.{◌≡◌, ℕ, ◌&&◌, List, [], ◌∷◌, map, Option, None, Some, is_some, if◌then◌else◌, Result, Ok, Err}
+use Rattle.disk_trait.specs.declared.disk.Disk.{Ghosts}
+use Rattle.std.specs.Prelude.{◌≡◌, ℕ, List, [], ◌∷◌, map, Option, None, Some, if◌then◌else◌, Result, Ok, Err}
 use Rattle.std.specs.List.{Contains}
 use Rattle.disk_trait.specs.Files.{Files}
 use Rattle.store_types.specs.declared.names.Digest32.{Digest32}
 use Rattle.store_types.specs.declared.refusal.ChunkFault.{ChunkFault}
 use Rattle.store_types.specs.declared.refusal.Refusal.{Refusal}
 use Rattle.store_types.specs.declared.refusal.Refusal.TheVariants.{Damaged}
-use Rattle.store_types.specs.FileNames.{is_index_name}
 use Rattle.wire_commands.specs.declared.command.Command.TheVariants.{GetChunk, Range}
 use Rattle.wire_commands.specs.declared.reply.Reply.{Reply}
 use Rattle.wire_commands.specs.declared.reply.Reply.TheVariants.{Refused}
 use Rattle.store_history.specs.declared.act.Act.{Act}
 use Rattle.store_history.specs.declared.act.Act.TheVariants.{Plain}
 use Rattle.restore_reader.specs.declared.ranges.Part.{Part}
-use Rattle.restore_reader.specs.Steps.{is_allowed, range_plan}
+use Rattle.restore_reader.specs.Steps.{is_allowed}
 use Rattle.chunk_store.specs.Pieces.{found_at}
 use Rattle.core_state.specs.declared.kept.Listed.{Listed}
 use Rattle.core_state.specs.declared.kept.Session.{Session}
 use Rattle.core_state.specs.declared.kept.Session.TheVariants.{Reader}
-use Rattle.core_state.specs.Found.{path_in}
+use Rattle.core_state.specs.declared.entering.Place.{Place}
+use Rattle.core_state.specs.declared.parts.Parts.{Parts}
+use Rattle.core_state.specs.declared.stop.Stop.{Stop}
+use Rattle.core_state.specs.Settles.{kind_by, reply_by}
+use Rattle.core_state.specs.Stops.{told}
+use Rattle.core_state.specs.Wanted.{session_at}
+use Rattle.core_reader.specs.Asked.{range_asked}
 
 -- ---- the chunks that an answer needs, in order
 
@@ -34,15 +40,10 @@ abbrev pub chunk_needed : Digest32 → Session → List Digest32
 chunk_needed digest (Reader r) = if is_allowed r digest.0 then digest ∷ [] else []
 chunk_needed digest session = []
 
--- of a RANGE, where it is given
-abbrev pub range_needed : List ℕ → ℕ → ℕ → Session → List Listed → List Digest32
-range_needed file offset len (Reader r) catalogue =
-    if is_index_name file && is_some (path_in r.key file catalogue) then planned (range_plan r file offset len) else []
-range_needed file offset len session catalogue = []
-
+-- and of a RANGE, where it is given
 abbrev pub needed : Act → Session → List Listed → List Digest32
 needed (Plain (GetChunk digest)) session catalogue = chunk_needed digest session
-needed (Plain (Range file offset len)) session catalogue = range_needed file offset len session catalogue
+needed (Plain (Range file offset len)) session catalogue = planned (range_asked file offset len session catalogue)
 needed act session catalogue = []
 
 -- ---- what is told
@@ -54,7 +55,12 @@ first_damage files (d ∷ ds) = elim (found_at files d.0) [ Ok piece ↦ first_d
 
 -- A chunk that the answer needs is told to be damaged. On an honest disk, whatever it holds, that is so exactly where one is, of the
 -- first such, with what is found there: want of memory and faults of the disk, which have kinds of their own, apart.
-pub record TellsDamaged {D : Type 0} (honest : D → Type 0) (content : D → Files) (disk : D) (chunks : List Digest32) (kind : ℕ) (reply : Option Reply) : Type 0 where
+pub record TellsDamaged {D : Type 0} (d : Ghosts D) (disk : D) (chunks : List Digest32) (kind : ℕ) (reply : Option Reply) : Type 0 where
   pub named : (digest : Digest32) (found : ChunkFault) → reply ≡ Some (Refused (Damaged digest found)) → Contains chunks digest
-  pub cause : (digest : Digest32) (found : ChunkFault) → reply ≡ Some (Refused (Damaged digest found)) → honest disk → first_damage (content disk) chunks ≡ Some (digest, found)
-  pub damaged : (digest : Digest32) (found : ChunkFault) → kind ≡ 0 → honest disk → first_damage (content disk) chunks ≡ Some (digest, found) → reply ≡ Some (Refused (Damaged digest found))
+  pub cause : (digest : Digest32) (found : ChunkFault) → reply ≡ Some (Refused (Damaged digest found)) → d.honest disk → first_damage (d.content disk) chunks ≡ Some (digest, found)
+  pub damaged : (digest : Digest32) (found : ChunkFault) → kind ≡ 0 → d.honest disk → first_damage (d.content disk) chunks ≡ Some (digest, found) → reply ≡ Some (Refused (Damaged digest found))
+
+-- the same of an act, by how its command ended
+abbrev pub ActDamaged : {D : Type 0} → Ghosts D → Parts D → Place → Act → Result Reply Stop → Type 0
+ActDamaged d old at act result =
+    TellsDamaged d old.disk (needed act (session_at old at.lane) old.catalogue.items) (kind_by (told result)) (Some (reply_by (told result)))

@@ -2,3 +2,4 @@ pub mod ReaderActs
 pub mod Asked
 pub mod Chunks
 pub mod Damages
+pub mod Planned

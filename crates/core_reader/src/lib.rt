@@ -4,15 +4,15 @@
 mod act;
 mod chunks;
 mod closing;
-mod files;
+mod downloading;
 mod loading;
+mod lookups;
 mod opening;
-mod parts;
 mod ranges;
 
 pub use act::reader_act;
 pub use chunks::get_chunk;
 pub use closing::close_reader;
+pub use downloading::download;
 pub use opening::open_reader;
-pub use parts::download;
 pub use ranges::range;

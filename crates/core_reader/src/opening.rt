@@ -1,17 +1,12 @@
 //! OPEN_READER.
 
-ghost use Rattle.std.specs.Prelude.{◌≡◌, ◌<◌, ◌≤◌, ℕ, IfOk, IsErrOf, IsTrue};
-ghost use Rattle.disk_trait.specs.Disk.{Serves};
-ghost use Rattle.wire_commands.specs.HasText.{ReplyHasText};
-ghost use Rattle.wire_commands.specs.declared.command.Command.TheVariants as commands;
-ghost use Rattle.store_model.specs.Steps.{outcome};
-ghost use Rattle.core_state.specs.Holds.{Acts};
-ghost use Rattle.core_state.specs.Replies.{answers_reader};
-ghost use Rattle.core_state.specs.Settles.{reply_by};
-ghost use Rattle.core_state.specs.Unchanged.{SameContent, Unchanged};
+ghost use Rattle.std.specs.Prelude.{◌<◌};
+ghost use Rattle.wire_commands.specs.declared.command.Command.TheVariants.{OpenReader};
+ghost use Rattle.store_history.specs.declared.act.Act.TheVariants.{Plain};
+ghost use Rattle.core_state.specs.Commands.{ActDoes, ActLeaves};
 
-use core_state::{Parts, Session, snapshot_named};
-use disk_trait::{Disk, DiskError};
+use core_state::{Parts, Place, Session, Stop, snapshot_named};
+use disk_trait::Disk;
 use restore_reader::open_reader as reader_of;
 use std::alloc::Global;
 use store_types::{Refusal, SnapshotKey};
@@ -24,30 +19,21 @@ use wire_commands::Reply;
 pub fn open_reader<D: Disk>(
     parts: &mut Parts<D>,
     alloc: Global,
-    lane: u32,
+    at: Place,
     snapshot: &[u8],
-) -> Result<Reply, DiskError>
-    requires { lane < 64 }
-    ensures serves { Serves D.honest D.faults parts.old.disk parts.new.disk (IsErrOf result DiskError.Failed) }
-    ensures calls { D.calls parts.old.disk ≤ D.calls parts.new.disk }
-    ensures text { IfOk result ReplyHasText }
-    ensures answers { IfOk result (λ reply. IsTrue (answers_reader reply)) }
-    ensures unchanged { Unchanged D.honest D.content parts.old parts.new (reply_by result) }
-    ensures content { SameContent D.honest D.content parts.old.disk parts.new.disk }
-    ensures catalogue { parts.new.catalogue.items ≡ parts.old.catalogue.items }
-    ensures act { (moment : ℕ) → Acts D.honest D.content parts.old parts.new (λ s. outcome s lane moment (commands.OpenReader snapshot.now)) result }
+) -> Result<Reply, Stop>
+    requires { at.lane < 64 }
+    ensures does { ActDoes D.Disk parts.old parts.new at (Plain (OpenReader snapshot.now)) result }
+    ensures leaves { ActLeaves D.Disk parts.old parts.new at (Plain (OpenReader snapshot.now)) result }
 {
-    let session = &parts.sessions[lane as usize];
-    let Session::Idle = session else {
-        return Ok(Reply::Refused(Refusal::WrongState(session.state())));
-    };
+    parts.idle(at.lane)?;
     let Ok(key) = SnapshotKey::parse(alloc, snapshot)? else {
-        return Ok(Reply::Refused(Refusal::BadName));
+        return Err(Stop::Refused(Refusal::BadName));
     };
     if snapshot_named(&parts.catalogue, &key).is_none() {
-        return Ok(Reply::Refused(Refusal::NoSnapshot));
+        return Err(Stop::Refused(Refusal::NoSnapshot));
     }
-    parts.locks.shared_take(lane, &key)?;
-    parts.sessions[lane as usize] = Session::Reader(reader_of(alloc, key));
+    parts.locks.shared_take(at.lane, &key)?;
+    parts.sessions[at.lane as usize] = Session::Reader(reader_of(alloc, key));
     Ok(Reply::Done)
 }

@@ -1,24 +1,24 @@
 //! RANGE.
 
-ghost use Rattle.std.specs.Prelude.{◌≡◌, ◌<◌, ◌≤◌, ℕ, IfOk, IsErrOf, IsTrue, IfSome, is_some, Some, slice_index_or};
-ghost use Rattle.disk_trait.specs.Disk.{Serves};
+ghost use Rattle.std.specs.Prelude.{◌≡◌, ◌<◌, ◌≤◌, ℕ, IfOk, IfErr, IfSome, is_some};
 ghost use Rattle.store_types.specs.FileNames.{is_index_name};
-ghost use Rattle.wire_commands.specs.HasText.{ReplyHasText};
-ghost use Rattle.wire_commands.specs.declared.reply.Reply.TheVariants.{Refused};
-ghost use Rattle.wire_commands.specs.declared.command.Command.TheVariants as commands;
-ghost use Rattle.store_model.specs.Steps.{outcome};
-ghost use Rattle.core_state.specs.Holds.{Acts};
-ghost use Rattle.core_state.specs.Replies.{answers_range};
-ghost use Rattle.core_state.specs.Settles.{kind_by, reply_by};
-ghost use Rattle.core_state.specs.Unchanged.{SameContent, Unchanged};
-ghost use Rattle.core_state.specs.declared.kept.Session.TheVariants.{Idle};
-ghost use Rattle.core_reader.specs.Asked.{refuses_plan};
-ghost use Rattle.core_reader.specs.Damages.{TellsDamaged, range_needed};
+ghost use Rattle.wire_commands.specs.declared.command.Command.TheVariants.{Range};
+ghost use Rattle.store_history.specs.declared.act.Act.TheVariants.{Plain};
+ghost use Rattle.store_model.specs.Store.{Store};
+ghost use Rattle.restore_reader.specs.Cutting.{total_of};
+ghost use Rattle.core_state.specs.Commands.{ActDoes, ActLeaves};
+ghost use Rattle.core_state.specs.Holds.{Shows};
+ghost use Rattle.core_state.specs.Stops.{Gives};
+ghost use Rattle.core_state.specs.Wanted.{session_at};
+ghost use Rattle.core_reader.specs.Asked.{range_asked};
+ghost use Rattle.core_reader.specs.Damages.{ActDamaged};
+ghost use Rattle.core_reader.specs.Planned.{PlansRange, StopsRange};
 
-use crate::files::has_file;
 use crate::loading::read_parts;
-use core_state::{Parts, Session};
-use disk_trait::{Disk, DiskError};
+use crate::lookups::has_file;
+use core_state::{Parts, Place, Stop};
+use disk_trait::Disk;
+use restore_reader::Part;
 use std::alloc::{AllocError, Global};
 use store_types::{Bytes, FileName, Refusal};
 use wire_commands::Reply;
@@ -37,19 +37,30 @@ fn index_name(alloc: Global, text: &[u8]) -> Result<Option<FileName>, AllocError
     Ok(Some(name))
 }
 
-/// The reply to a range that is refused so, before its chunks are read.
-#[tactic(auto, using(core_state::proofs::Texts::too_many_has_text, core_state::proofs::Texts::bad_range_has_text))]
-fn refused_plan(refusal: Refusal) -> Reply
-    requires { IsTrue (refuses_plan refusal) }
-    ensures value { result ≡ Refused refusal }
-    ensures text { ReplyHasText result }
+/// The parts of chunks that make the range, by what is kept. The disk is not called.
+fn range_plan<D>(
+    parts: &Parts<D>,
+    alloc: Global,
+    lane: u32,
+    file: &[u8],
+    offset: u64,
+    length: u32,
+) -> Result<Vec<Part>, Stop>
+    requires { lane < 64 }
+    ensures value { Gives (λ plan. plan.items) result (range_asked file.now offset length (session_at parts.now lane) parts.now.catalogue.items) }
+    ensures plain { (s : Store) → Shows parts.now s → PlansRange (λ plan. plan.items) s lane file.now offset length result }
+    ensures total { IfOk result (λ plan. (total_of plan.items ≤ length) × (length ≤ 4_194_304)) }
+    ensures stops { IfErr result StopsRange }
 {
-    // each number by itself, since its type says that it fits its field
-    match refusal {
-        Refusal::TooMany { limit } => Reply::Refused(Refusal::TooMany { limit }),
-        Refusal::BadRange { size } => Reply::Refused(Refusal::BadRange { size }),
-        refusal => Reply::Refused(refusal),
+    let reader = parts.reader(lane)?;
+    let Some(name) = index_name(alloc, file)? else {
+        return Err(Stop::Refused(Refusal::BadName));
+    };
+    if !has_file(&parts.catalogue, reader.key(), &name) {
+        return Err(Stop::Refused(Refusal::NoFile));
     }
+    let plan = reader.range_plan(alloc, &name, offset, length)??;
+    Ok(plan)
 }
 
 /// So many bytes of an archive's content from an offset on. Beside the reply there is one chunk at a time in memory.
@@ -60,39 +71,18 @@ fn refused_plan(refusal: Refusal) -> Reply
 pub fn range<D: Disk>(
     parts: &mut Parts<D>,
     alloc: Global,
-    lane: u32,
+    at: Place,
     file: &[u8],
     offset: u64,
     length: u32,
-) -> Result<Reply, DiskError>
-    requires { lane < 64 }
-    ensures serves { Serves D.honest D.faults parts.old.disk parts.new.disk (IsErrOf result DiskError.Failed) }
-    ensures calls { D.calls parts.old.disk ≤ D.calls parts.new.disk }
-    ensures text { IfOk result ReplyHasText }
-    ensures answers { IfOk result (λ reply. IsTrue (answers_range reply)) }
-    ensures unchanged { Unchanged D.honest D.content parts.old parts.new (reply_by result) }
-    ensures content { SameContent D.honest D.content parts.old.disk parts.new.disk }
-    ensures catalogue { parts.new.catalogue.items ≡ parts.old.catalogue.items }
+) -> Result<Reply, Stop>
+    requires { at.lane < 64 }
+    ensures does { ActDoes D.Disk parts.old parts.new at (Plain (Range file.now offset length)) result }
+    ensures leaves { ActLeaves D.Disk parts.old parts.new at (Plain (Range file.now offset length)) result }
     // a chunk is damaged exactly where one of the range's has no piece with its digest, as far as the disk tells
-    ensures damaged { TellsDamaged D.honest D.content parts.old.disk (range_needed file.now offset length (slice_index_or parts.old.sessions.items lane Idle) parts.old.catalogue.items) (kind_by result) (Some (reply_by result)) }
-    ensures act { (moment : ℕ) → Acts D.honest D.content parts.old parts.new (λ s. outcome s lane moment (commands.Range file.now offset length)) result }
+    ensures damaged { ActDamaged D.Disk parts.old at (Plain (Range file.now offset length)) result }
 {
-    let lane = lane as usize;
-    let Session::Reader(reader) = &parts.sessions[lane] else {
-        return Ok(Reply::Refused(Refusal::WrongState(parts.sessions[lane].state())));
-    };
-    let Some(name) = index_name(alloc, file)? else {
-        return Ok(Reply::Refused(Refusal::BadName));
-    };
-    if !has_file(&parts.catalogue, reader.key(), &name) {
-        return Ok(Reply::Refused(Refusal::NoFile));
-    }
-    let plan = match reader.range_plan(alloc, &name, offset, length)? {
-        Ok(plan) => plan,
-        Err(refusal) => return Ok(refused_plan(refusal)),
-    };
-    match read_parts(&mut parts.disk, alloc, &plan, length)? {
-        Ok(bytes) => Ok(Reply::Data(Bytes::from_vec(bytes))),
-        Err(refusal) => Ok(Reply::Refused(refusal)),
-    }
+    let plan = range_plan(parts, alloc, at.lane, file, offset, length)?;
+    let bytes = read_parts(&mut parts.disk, alloc, &plan, length)?;
+    Ok(Reply::Data(Bytes::from_vec(bytes)))
 }

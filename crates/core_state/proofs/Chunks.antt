@@ -1,11 +1,12 @@
 -- Chunk files and the pieces of a history.
-use Rattle.std.proofs.Common.{◌≡◌, ◌⊎◌, inl, inr, ⊎_elim, ℕ, zero, suc, ◌+◌, ◌<◌, ◌≤◌, Bool, true, false, ◌&&◌, cond, if◌then◌else◌, List, [], ◌∷◌, ◌++◌, length, drop, get_or, append_assoc, Option, Some, None, Result, Ok, Err, refl, sym, ap, subst, ◌∙◌, arith, nat_le}
+use Rattle.disk_trait.specs.declared.disk.Disk.{Ghosts}
+use Rattle.std.proofs.Common.{◌≡◌, inl, ⊎_elim, ℕ, zero, suc, ◌<◌, ◌≤◌, Bool, true, false, cond, if◌then◌else◌, List, [], ◌∷◌, ◌++◌, length, drop, get_or, append_assoc, Option, Some, None, Result, Ok, Err, refl, sym, ap, subst, ◌∙◌, arith}
 use Rattle.std.specs.Int.{w32, to_be_bytes}
 use Rattle.std.specs.List.{All, Contains, filter_map, cons_option}
 use Rattle.std.specs.Ordering.{eq_by_cmp}
 use Rattle.std.specs.Str.{bytes_eq}
-use Rattle.std.specs.FinMap.{FinMap, get, find, entries, get-entries}
-use Rattle.std.proofs.lemmas.Bool.{and_from, le-leb, cases_lt}
+use Rattle.std.specs.FinMap.{get, find, entries, get-entries}
+use Rattle.std.proofs.lemmas.Bool.{and_from, le-leb}
 use Rattle.std.proofs.lemmas.List.Elements.{All-append, Contains-append_left, Contains-append_right, Contains-push}
 use Rattle.std.proofs.lemmas.Map.Text.{is_eq-slice_cmp}
 use Rattle.std.proofs.lemmas.Slice.Eq.{bytes_eq-Decides}
@@ -19,12 +20,12 @@ use Rattle.disk_trait.specs.Files.{Files}
 use Rattle.disk_trait.specs.declared.disk.DiskError.{DiskError}
 use Rattle.disk_trait.specs.declared.disk.DiskError.TheVariants.{NoMemory, Failed}
 use Rattle.wire_commands.specs.declared.reply.Reply.{Reply}
-use Rattle.store_model.specs.Stands.{chunk_name, IsDigest, HasWholeChunks}
+use Rattle.store_files.specs.Folder.{chunk_name, IsDigest, HasWholeChunks}
 use Rattle.store_model.specs.Clash.{NoClash, is_chunk, chunk_piece, chunk_pieces}
 use Rattle.store_history.specs.declared.act.Act.{Act}
 use Rattle.store_history.specs.declared.act.Act.TheVariants as acts
 use Rattle.store_history.specs.declared.act.Event.{Event}
-use Rattle.store_history.specs.Acts.{IsWellFormed, IsCheckedChunk}
+use Rattle.store_history.specs.Acts.{IsWellFormed}
 use Rattle.store_history.specs.History.{data_in, sent_by, sent}
 use Rattle.store_history.proofs.Checking.{checked_digest}
 use Rattle.store_history.proofs.Longer.{sent_more}
@@ -166,8 +167,8 @@ clear_safe m h e formed clear whole only = safe m (pieces_of h) e.act whole only
 -- ---- an act that puts no chunk
 
 -- an honest disk reads as before
-pub adds_same : {D : Type 0} (honest : D → Type 0) (content : D → Files) (old new : Parts D) (act : Act) (result : Result Reply DiskError)
-    → (honest old.disk → content new.disk ≡ content old.disk) → Adds honest content old new act result
-adds_same honest content old new act (Ok reply) same = λ s h p there. inl (subst (λ m. HasChunk m p) (same h.honest) there)
-adds_same honest content old new act (Err NoMemory) same = λ s h p there. inl (subst (λ m. HasChunk m p) (same h.honest) there)
-adds_same honest content old new act (Err Failed) same = λ s h. tt
+pub adds_same : {D : Type 0} (d : Ghosts D) (old new : Parts D) (act : Act) (result : Result Reply DiskError)
+    → (d.honest old.disk → d.content new.disk ≡ d.content old.disk) → Adds d old new act result
+adds_same d old new act (Ok reply) same = λ s h p there. inl (subst (λ m. HasChunk m p) (same h.honest) there)
+adds_same d old new act (Err NoMemory) same = λ s h p there. inl (subst (λ m. HasChunk m p) (same h.honest) there)
+adds_same d old new act (Err Failed) same = λ s h. tt

@@ -1,8 +1,8 @@
 -- An act is entered: the core stands for a history that is longer by one event.
+use Rattle.disk_trait.specs.declared.disk.Disk.{Ghosts}
 use Rattle.std.proofs.Common.{◌≡◌, ◌<◌, ◌≤◌, ℕ, Bool, true, false, ◌&&◌, ◌==◌, [], ◌∷◌, ◌++◌, length, Option, Some, None, IfSome, sym, ap, subst, ◌∙◌, arith}
 use Rattle.std.proofs.lemmas.List.{map-append, length-map}
 use Rattle.port_traits.specs.Readings.{Readings}
-use Rattle.disk_trait.specs.Files.{Files}
 use Rattle.store_types.specs.declared.order.Entry.{Entry}
 use Rattle.wire_commands.specs.declared.reply.Reply.{Reply}
 use Rattle.store_history.specs.declared.act.Act.{Act}
@@ -29,18 +29,18 @@ events_are h = let e = events_after h.remote (opened h.opening) h.events in omeg
 
 -- ---- one more event, whatever it is
 
-pub record Grows {D E C : Type 0} (is_honest : D → Type 0) (content : D → Files) (calls_of : D → ℕ) (readings : C → Option Readings) (old new : Core D E C) (h : History) (e : Event) : Type 0 where
+pub record Grows {D E C : Type 0} (d : Ghosts D) (readings : C → Option Readings) (old new : Core D E C) (h : History) (e : Event) : Type 0 where
   pub right : IsRight h.remote (world h) e
   pub entries : (new.journal).entries.items ≡ (old.journal).entries.items ++ entry e ∷ []
   pub calls : (new.journal).calls.items ≡ (old.journal).calls.items ++ e.calls ∷ []
   pub clock : ReadsClock readings old.clock new.clock old.last (moment e)
   pub last : new.last ≡ moment e
   pub fault : new.fault ≡ (after h.remote (world h) e).fault
-  pub reached : e.calls ≤ calls_of (new.parts).disk
-  pub honest : is_honest (new.parts).disk
+  pub reached : e.calls ≤ d.calls (new.parts).disk
+  pub honest : d.honest (new.parts).disk
   pub shows : Shows new.parts (after h.remote (world h) e).store
-  pub files : (after h.remote (world h) e).fault ≡ None → IsOnDisk (content (new.parts).disk) (after h.remote (world h) e).store
-  pub chunks : (after h.remote (world h) e).fault ≡ None → HoldsOnly (content (new.parts).disk) (pieces_of h ++ sent_by e.act)
+  pub files : (after h.remote (world h) e).fault ≡ None → IsOnDisk (d.content (new.parts).disk) (after h.remote (world h) e).store
+  pub chunks : (after h.remote (world h) e).fault ≡ None → HoldsOnly (d.content (new.parts).disk) (pieces_of h ++ sent_by e.act)
 
 pub time_more : {C : Type 0} (readings : C → Option Readings) (old new : C) (last : ℕ) (h : History) (e : Event)
     → last ≡ moment_after (h.opening).moment h.events → KeepsTime readings old h → ReadsClock readings old new last (moment e) → KeepsTime readings new (then_event h e)
@@ -56,11 +56,11 @@ time_more readings old new last h e is keeps reads = by_clock h.clock keeps
           rule.1 ∙ ap (λ r. Some r) (sym (readings_more c h.events e)),
         )
 
-pub grown : {D E C : Type 0} (is_honest : D → Type 0) (content : D → Files) (calls_of : D → ℕ) (readings : C → Option Readings) (old new : Core D E C) (h : History) (e : Event)
-    → StandsFor is_honest content calls_of readings old h → Grows is_honest content calls_of readings old new h e
-    → StandsFor is_honest content calls_of readings new (then_event h e)
+pub grown : {D E C : Type 0} (d : Ghosts D) (readings : C → Option Readings) (old new : Core D E C) (h : History) (e : Event)
+    → StandsFor d readings old h → Grows d readings old new h e
+    → StandsFor d readings new (then_event h e)
 unfolding after
-grown is_honest content calls_of readings old new h e s g = let more = sym (world_more h e) in record {
+grown d readings old new h e s g = let more = sym (world_more h e) in record {
   legal = legal_more h.remote (opened h.opening) h.events e s.legal g.right;
   entries = g.entries ∙ ap (λ xs. xs ++ entry e ∷ []) s.entries ∙ sym (entries_more h.events e);
   calls = g.calls ∙ ap (λ xs. xs ++ e.calls ∷ []) s.calls ∙ sym (map-append (λ v. v.calls) h.events (e ∷ []));
@@ -70,8 +70,8 @@ grown is_honest content calls_of readings old new h e s g = let more = sym (worl
   reached = let at = ap (λ w. w.calls) (world_more h e) in let r = g.reached in omega (arith, at, r);
   honest = g.honest;
   shows = subst (λ w. Shows new.parts w.store) more g.shows;
-  files = subst (λ w. w.fault ≡ None → IsOnDisk (content (new.parts).disk) w.store) more g.files;
-  chunks = λ none. subst (λ ps. HoldsOnly (content (new.parts).disk) ps) (sym (pieces_more h e)) (g.chunks (ap (λ w. w.fault) more ∙ none));
+  files = subst (λ w. w.fault ≡ None → IsOnDisk (d.content (new.parts).disk) w.store) more g.files;
+  chunks = λ none. subst (λ ps. HoldsOnly (d.content (new.parts).disk) ps) (sym (pieces_more h e)) (g.chunks (ap (λ w. w.fault) more ∙ none));
 }
 
 -- ---- by an entry
@@ -88,27 +88,27 @@ abbrev pub moves : History → ℕ → ℕ → Act → ℕ → World
 moves h k m act n = moved h.remote (world h) k m act (kind_of n)
 
 -- Between the act and its entry the core has the parts, and the fault, of the world after.
-pub record IsActed {D E C : Type 0} (is_honest : D → Type 0) (content : D → Files) (calls_of : D → ℕ) (readings : C → Option Readings) (old mid : Core D E C) (h : History) (k m : ℕ) (act : Act) (n : ℕ) : Type 0 where
+pub record IsActed {D E C : Type 0} (d : Ghosts D) (readings : C → Option Readings) (old mid : Core D E C) (h : History) (k m : ℕ) (act : Act) (n : ℕ) : Type 0 where
   pub clock : ReadsClock readings old.clock mid.clock old.last m
   pub entries : (mid.journal).entries.items ≡ (old.journal).entries.items
   pub calls : (mid.journal).calls.items ≡ (old.journal).calls.items
-  pub later : calls_of (old.parts).disk ≤ calls_of (mid.parts).disk
-  pub honest : is_honest (mid.parts).disk
+  pub later : d.calls (old.parts).disk ≤ d.calls (mid.parts).disk
+  pub honest : d.honest (mid.parts).disk
   pub fault : mid.fault ≡ (moves h k m act n).fault
   pub shows : Shows mid.parts (moves h k m act n).store
-  pub files : (moves h k m act n).fault ≡ None → IsOnDisk (content (mid.parts).disk) (moves h k m act n).store
-  pub chunks : (moves h k m act n).fault ≡ None → HoldsOnly (content (mid.parts).disk) (pieces_of h ++ sent_by act)
+  pub files : (moves h k m act n).fault ≡ None → IsOnDisk (d.content (mid.parts).disk) (moves h k m act n).store
+  pub chunks : (moves h k m act n).fault ≡ None → HoldsOnly (d.content (mid.parts).disk) (pieces_of h ++ sent_by act)
 
-pub entered_stands : {D E C : Type 0} (is_honest : D → Type 0) (content : D → Files) (calls_of : D → ℕ) (readings : C → Option Readings) (old mid new : Core D E C) (h : History)
+pub entered_stands : {D E C : Type 0} (d : Ghosts D) (readings : C → Option Readings) (old mid new : Core D E C) (h : History)
     (k m : ℕ) (act : Act) (n : ℕ) (reply : Option Reply) (answer : Answer)
-    → StandsFor is_honest content calls_of readings old h
+    → StandsFor d readings old h
     → k < 64 → IsWellFormed act → Right h.remote (world h) k m act reply (class_of act) (kind_of n)
-    → IsActed is_honest content calls_of readings old mid h k m act n → IsEntered calls_of mid new k m n reply answer
-    → StandsFor is_honest content calls_of readings new (then_event h (event_of act answer (calls_of (new.parts).disk)))
+    → IsActed d readings old mid h k m act n → IsEntered d mid new k m n reply answer
+    → StandsFor d readings new (then_event h (event_of act answer (d.calls (new.parts).disk)))
 unfolding after
-entered_stands is_honest content calls_of readings old mid new h k m act n reply answer s inside formed says a e =
+entered_stands d readings old mid new h k m act n reply answer s inside formed says a e =
     let R = h.remote in let w = world h in
-    let here : calls_of (new.parts).disk ≡ calls_of (mid.parts).disk = ap (λ p. calls_of p.disk) e.parts in
+    let here : d.calls (new.parts).disk ≡ d.calls (mid.parts).disk = ap (λ p. d.calls p.disk) e.parts in
     let at : (λ (x : Entry). x) answer.entry ≡ record { lane = k; moment = m; kind = n } = e.entry in
     let moment_is : (answer.entry).moment ≡ m = ap (λ x. x.moment) e.entry in
     let lane_is : (answer.entry).lane ≡ k = ap (λ x. x.lane) e.entry in
@@ -116,7 +116,7 @@ entered_stands is_honest content calls_of readings old mid new h k m act n reply
     let moved_is : moves h k m act n ≡ moved R w (answer.entry).lane (answer.entry).moment act (kind_of (answer.entry).kind) =
     sym (ap (λ (x : Entry). moved R w x.lane x.moment act (kind_of x.kind)) e.entry) in
     let last_is = (s.last) in
-    grown is_honest content calls_of readings old new h (event_of act answer (calls_of (new.parts).disk)) s (record {
+    grown d readings old new h (event_of act answer (d.calls (new.parts).disk)) s (record {
       right = record {
         says = subst (λ (x : Entry). Right R w x.lane x.moment act answer.reply (class_of act) (kind_of x.kind)) (sym e.entry)
             (subst (λ r. Right R w k m act r (class_of act) (kind_of n)) (sym e.reply_is) says);
@@ -129,17 +129,17 @@ entered_stands is_honest content calls_of readings old mid new h k m act n reply
         counted = let r = s.reached in let l = a.later in omega (arith, r, l, here);
       };
       entries = e.entries ∙ ap (λ xs. xs ++ answer.entry ∷ []) a.entries;
-      calls = e.calls ∙ ap (λ xs. xs ++ calls_of (mid.parts).disk ∷ []) a.calls ∙ ap (λ c. (old.journal).calls.items ++ c ∷ []) (sym here);
+      calls = e.calls ∙ ap (λ xs. xs ++ d.calls (mid.parts).disk ∷ []) a.calls ∙ ap (λ c. (old.journal).calls.items ++ c ∷ []) (sym here);
       clock = subst (λ x. ReadsClock readings old.clock new.clock old.last x) (sym moment_is) (subst (λ c. ReadsClock readings old.clock c old.last m) (sym e.clock) a.clock);
       last = e.last ∙ sym moment_is;
       fault = e.fault ∙ a.fault ∙ ap (λ x. x.fault) moved_is;
       reached = omega arith;
-      honest = subst (λ p. is_honest p.disk) (sym e.parts) a.honest;
+      honest = subst (λ p. d.honest p.disk) (sym e.parts) a.honest;
       shows = subst (λ x. Shows new.parts x.store) moved_is (subst (λ p. Shows p (moves h k m act n).store) (sym e.parts) a.shows);
-      files = subst (λ x. x.fault ≡ None → IsOnDisk (content (new.parts).disk) x.store) moved_is
-          (subst (λ p. (moves h k m act n).fault ≡ None → IsOnDisk (content p.disk) (moves h k m act n).store) (sym e.parts) a.files);
-      chunks = subst (λ x. x.fault ≡ None → HoldsOnly (content (new.parts).disk) (pieces_of h ++ sent_by act)) moved_is
-          (subst (λ p. (moves h k m act n).fault ≡ None → HoldsOnly (content p.disk) (pieces_of h ++ sent_by act)) (sym e.parts) a.chunks);
+      files = subst (λ x. x.fault ≡ None → IsOnDisk (d.content (new.parts).disk) x.store) moved_is
+          (subst (λ p. (moves h k m act n).fault ≡ None → IsOnDisk (d.content p.disk) (moves h k m act n).store) (sym e.parts) a.files);
+      chunks = subst (λ x. x.fault ≡ None → HoldsOnly (d.content (new.parts).disk) (pieces_of h ++ sent_by act)) moved_is
+          (subst (λ p. (moves h k m act n).fault ≡ None → HoldsOnly (d.content p.disk) (pieces_of h ++ sent_by act)) (sym e.parts) a.chunks);
     })
   where
     two : (x : ℕ) → (x == 2) ≡ true → x ≡ 2

@@ -10,7 +10,7 @@ use Rattle.store_types.specs.declared.names.SnapshotKey.{SnapshotKey}
 use Rattle.store_types.specs.Names.{same_key}
 use Rattle.store_files.specs.Archive.{File, Snapshot, file_named, file_text}
 use Rattle.store_model.specs.Store.{snapshot_named}
-use Rattle.store_model.specs.Uploads.{file_path}
+use Rattle.store_files.specs.Folder.{file_path}
 use Rattle.store_model.specs.Stands.{IsSnapshot, HoldsFiles, FitsContent, names_content}
 use Rattle.core_state.specs.declared.kept.Listed.{Listed}
 use Rattle.core_state.specs.declared.kept.Kept.{Kept}

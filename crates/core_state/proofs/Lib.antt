@@ -4,7 +4,6 @@ pub mod Opened
 pub mod Entered
 pub mod Answered
 pub mod Ended
-pub mod PathLengths
 pub mod NamedLemmas
 pub mod Reserves
 pub mod Sessions
@@ -21,3 +20,8 @@ pub mod Finding
 pub mod Found
 pub mod Unreadables
 pub mod Readers
+pub mod Commanding
+pub mod Applying
+pub mod Ending
+pub mod ForeignLemmas
+pub mod Reaching

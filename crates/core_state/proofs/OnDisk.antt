@@ -14,9 +14,10 @@ use Rattle.store_types.proofs.KeyTexts.{no_slash}
 use Rattle.blob_codec.specs.Blob.{blob}
 use Rattle.store_files.specs.Archive.{File, Snapshot, pieces_of}
 use Rattle.store_model.specs.Store.{Store, Writer, writer, session}
-use Rattle.store_model.specs.Uploads.{file_path}
+use Rattle.store_files.specs.Folder.{file_path}
 use Rattle.store_model.specs.WriterSteps.{snapshot_of}
-use Rattle.store_model.specs.Stands.{HoldsPieces, chunk_name}
+use Rattle.store_model.specs.Stands.{HoldsPieces}
+use Rattle.store_files.specs.Folder.{chunk_name}
 use Rattle.store_model.proofs.Paths.{same_path, content_plain}
 use Rattle.store_model.proofs.StandsLemmas.{Apart, apart_file}
 use Rattle.core_state.specs.Holds.{IsSound, IsWriter, HasUploads}

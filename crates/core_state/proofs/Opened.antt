@@ -1,9 +1,9 @@
 -- A core that was opened without snapshots.
+use Rattle.disk_trait.specs.declared.disk.Disk.{Ghosts}
 use Rattle.std.proofs.Common.{◌≡◌, ◌≤◌, inl, inr, ℕ, zero, suc, List, [], ◌∷◌, map, replicate, Option, Some, None, IfSome, refl, sym, ap, subst, ◌∙◌, arith}
 use Rattle.std.proofs.lemmas.Bool.{cases_lt}
 use Rattle.std.proofs.lemmas.List.{get_or-replicate, get_or_past, length-replicate}
 use Rattle.port_traits.specs.Readings.{Readings}
-use Rattle.disk_trait.specs.Files.{Files}
 use Rattle.lock_book.specs.Locks.{no_locks}
 use Rattle.store_files.specs.Archive.{Snapshot}
 use Rattle.store_model.specs.Store.{Writer, Reader, none, writer, reader, store_of, session, lane_count}
@@ -59,13 +59,13 @@ pub keeps_time : {C : Type 0} (readings : C → Option Readings) (clock : C) (o 
 keeps_time readings clock None is = tt
 keeps_time readings clock (Some c) is = (tt, is)
 
-pub opened_stands : {D E C : Type 0} (is_honest : D → Type 0) (content : D → Files) (calls_of : D → ℕ) (readings : C → Option Readings) (core : Core D E C) (R : Option (List Snapshot))
-    → is_honest (core.parts).disk → Stands (content (core.parts).disk) []
+pub opened_stands : {D E C : Type 0} (d : Ghosts D) (readings : C → Option Readings) (core : Core D E C) (R : Option (List Snapshot))
+    → d.honest (core.parts).disk → Stands (d.content (core.parts).disk) []
     → (core.journal).entries.items ≡ [] → (core.journal).calls.items ≡ [] → core.fault ≡ None → core.last ≡ 0
     → (core.parts).catalogue.items ≡ [] → (core.parts).sessions.items ≡ replicate 64 Idle → (core.parts).locks ≡ no_locks
-    → StandsFor is_honest content calls_of readings core (began (opening_at (content (core.parts).disk) (calls_of (core.parts).disk)) R (readings core.clock))
+    → StandsFor d readings core (began (opening_at (d.content (core.parts).disk) (d.calls (core.parts).disk)) R (readings core.clock))
 unfolding after_all
-opened_stands is_honest content calls_of readings core R honest stands entries calls fault last catalogue sessions locks = record {
+opened_stands d readings core R honest stands entries calls fault last catalogue sessions locks = record {
   legal = tt;
   entries = entries;
   calls = calls;
@@ -81,5 +81,5 @@ opened_stands is_honest content calls_of readings core R honest stands entries c
     sound = empty_is_sound;
   };
   files = λ _. record { snapshots = stands; writers = λ lane w e. absurd (no_writer lane w e) };
-  chunks = λ _. only_same (content (core.parts).disk) (chunk_pieces (content (core.parts).disk)) [] (opened_only (content (core.parts).disk) stands.chunks);
+  chunks = λ _. only_same (d.content (core.parts).disk) (chunk_pieces (d.content (core.parts).disk)) [] (opened_only (d.content (core.parts).disk) stands.chunks);
 }

@@ -1,4 +1,5 @@
 -- What the core keeps of a history after one act more, on any disk.
+use Rattle.disk_trait.specs.declared.disk.Disk.{Ghosts}
 use Rattle.std.proofs.Common.{◌≡◌, ◌≤◌, ◌+◌, inl, inr, ℕ, suc, List, [], ◌∷◌, ◌++◌, length, Option, Some, None, IfSome, Result, refl, sym, ap, subst, ◌∙◌, arith}
 use Rattle.std.proofs.lemmas.List.{map-append, length-map}
 use Rattle.port_traits.specs.Readings.{Readings}
@@ -18,13 +19,12 @@ use Rattle.store_history.specs.History as kinds
 use Rattle.store_history.specs.Legal.{moment_after}
 use Rattle.store_history.proofs.Longer.{moment_more, entries_more}
 use Rattle.core_state.specs.declared.state.Core.{Core}
-use Rattle.core_state.specs.History.{History, began, then_event, IsClear, event_of, StandsFor}
+use Rattle.core_state.specs.History.{History, began, then_event, event_of}
 use Rattle.core_state.specs.Opening.{opening_at}
-use Rattle.core_state.specs.Settles.{IsEntered, Settles, with_fault, fault_by, kind_by, reply_by}
+use Rattle.core_state.specs.Settles.{IsEntered, Settles, with_fault, fault_by, kind_by}
 use Rattle.core_state.specs.Begins.{ReadsClock, IsShort, Refuses, short, halted}
 use Rattle.core_state.specs.Answers.{IsAnswered, fault_after, HasCause, done, short as was_short, failed, halted as was_halted, EndHasCause, ended, end_failed}
-use Rattle.core_state.specs.Records.{IsTimely, FitsKind, FitsReply, IsKept, AreKept, fault_in, Records, with_remote, Reaches}
-use Rattle.core_state.proofs.Chunks.{clear_before}
+use Rattle.core_state.specs.Records.{IsTimely, FitsKind, FitsReply, IsKept, AreKept, fault_in, Records}
 use Rattle.core_state.proofs.Entered.{time_more}
 use Rattle.core_state.proofs.Opened.{keeps_time}
 
@@ -49,11 +49,11 @@ fault_more place fault (v ∷ h) e =
     let first = fault_after place (kind v) fault in
     fault_more (place + 1) first h e ∙ ap (λ n. fault_after n (kind e) (fault_in (place + 1) first h)) on
 
-pub records_more : {D E C : Type 0} (calls_of faults_of : D → ℕ) (readings : C → Option Readings) (old new : Core D E C) (lane : ℕ) (act : Act) (answer : Answer) (h : History)
-    → IsAnswered calls_of faults_of old new lane answer → IsTimely readings old new answer → FitsKind (class_of act) old.fault (answer.entry).kind
+pub records_more : {D E C : Type 0} (d : Ghosts D) (readings : C → Option Readings) (old new : Core D E C) (lane : ℕ) (act : Act) (answer : Answer) (h : History)
+    → IsAnswered d old new lane answer → IsTimely readings old new answer → FitsKind (class_of act) old.fault (answer.entry).kind
     → FitsReply old.fault act (kind_of (answer.entry).kind) answer.reply
-    → Records readings old h → Records readings new (then_event h (event_of act answer (calls_of (new.parts).disk)))
-records_more calls_of faults_of readings old new lane act answer h a t fits tells r = record {
+    → Records readings old h → Records readings new (then_event h (event_of act answer (d.calls (new.parts).disk)))
+records_more d readings old new lane act answer h a t fits tells r = record {
   kept = kept_more 0 None (h.opening).moment h.events e r.kept (record {
     kind_is = subst (λ o. FitsKind (class_of act) o (answer.entry).kind) r.fault fits;
     tells = subst (λ o. FitsReply o act (kind_of (answer.entry).kind) answer.reply) r.fault tells;
@@ -63,7 +63,7 @@ records_more calls_of faults_of readings old new lane act answer h a t fits tell
     in_time = (t.clock).in_time;
   });
   entries = a.entries ∙ ap (λ xs. xs ++ answer.entry ∷ []) r.entries ∙ sym (entries_more h.events e);
-  calls = a.calls ∙ ap (λ xs. xs ++ calls_of (new.parts).disk ∷ []) r.calls ∙ sym (map-append (λ v. v.calls) h.events (e ∷ []));
+  calls = a.calls ∙ ap (λ xs. xs ++ d.calls (new.parts).disk ∷ []) r.calls ∙ sym (map-append (λ v. v.calls) h.events (e ∷ []));
   fault = a.fault ∙ ap (λ n. fault_after n (answer.entry).kind old.fault) count ∙ ap (fault_after (0 + length h.events) (answer.entry).kind) r.fault
       ∙ sym (fault_more 0 None h.events e);
   last = t.last ∙ sym (moment_more (h.opening).moment h.events e);
@@ -71,44 +71,44 @@ records_more calls_of faults_of readings old new lane act answer h a t fits tell
 }
   where
     e : Event
-    e = event_of act answer (calls_of (new.parts).disk)
+    e = event_of act answer (d.calls (new.parts).disk)
 
     count : length (old.journal).entries.items ≡ 0 + length h.events
     count = let n = ap length r.entries in omega (arith, n, length-map h.events entry)
 
 -- ---- the moment
 
-pub entered_timely : {D E C : Type 0} (calls_of : D → ℕ) (readings : C → Option Readings) (old mid new : Core D E C) (lane m n : ℕ) (reply : Option Reply) (answer : Answer)
-    → ReadsClock readings old.clock mid.clock old.last m → IsEntered calls_of mid new lane m n reply answer → IsTimely readings old new answer
-entered_timely calls_of readings old mid new lane m n reply answer reads e =
+pub entered_timely : {D E C : Type 0} (d : Ghosts D) (readings : C → Option Readings) (old mid new : Core D E C) (lane m n : ℕ) (reply : Option Reply) (answer : Answer)
+    → ReadsClock readings old.clock mid.clock old.last m → IsEntered d mid new lane m n reply answer → IsTimely readings old new answer
+entered_timely d readings old mid new lane m n reply answer reads e =
     let is : (answer.entry).moment ≡ m = ap (λ x. x.moment) e.entry in record {
       clock = subst (λ x. ReadsClock readings old.clock new.clock old.last x) (sym is) (subst (λ c. ReadsClock readings old.clock c old.last m) (sym e.clock) reads);
       last = e.last ∙ sym is;
     }
 
-pub short_timely : {D E C : Type 0} (calls_of : D → ℕ) (readings : C → Option Readings) (old new : Core D E C) (lane : ℕ) (answer : Answer)
-    → IsShort calls_of readings old new lane answer → IsTimely readings old new answer
-short_timely calls_of readings old new lane answer is =
-    entered_timely calls_of readings old is.between new lane is.moment 2 _ answer (is.begun).clock is.entered
+pub short_timely : {D E C : Type 0} (d : Ghosts D) (readings : C → Option Readings) (old new : Core D E C) (lane : ℕ) (answer : Answer)
+    → IsShort d readings old new lane answer → IsTimely readings old new answer
+short_timely d readings old new lane answer is =
+    entered_timely d readings old is.between new lane is.moment 2 _ answer (is.begun).clock is.entered
 
-pub refused_timely : {D E C : Type 0} (calls_of : D → ℕ) (readings : C → Option Readings) (old new : Core D E C) (lane : ℕ) (answer : Answer)
-    → Refuses calls_of readings old new lane answer → IsTimely readings old new answer
-refused_timely calls_of readings old new lane answer (short is) = short_timely calls_of readings old new lane answer is
-refused_timely calls_of readings old new lane answer (halted is) =
-    entered_timely calls_of readings old is.between new lane is.moment 5 _ answer (is.begun).clock is.entered
+pub refused_timely : {D E C : Type 0} (d : Ghosts D) (readings : C → Option Readings) (old new : Core D E C) (lane : ℕ) (answer : Answer)
+    → Refuses d readings old new lane answer → IsTimely readings old new answer
+refused_timely d readings old new lane answer (short is) = short_timely d readings old new lane answer is
+refused_timely d readings old new lane answer (halted is) =
+    entered_timely d readings old is.between new lane is.moment 5 _ answer (is.begun).clock is.entered
 
-pub settled_timely : {D E C : Type 0} (calls_of : D → ℕ) (readings : C → Option Readings) (old acted new : Core D E C) (lane m : ℕ) (result : Result Reply DiskError) (answer : Answer)
-    → ReadsClock readings old.clock acted.clock old.last m → Settles calls_of acted new lane m result answer → IsTimely readings old new answer
-settled_timely calls_of readings old acted new lane m result answer reads e =
-    entered_timely calls_of readings old (with_fault acted (fault_by acted.fault (length (acted.journal).entries.items) result)) new lane m (kind_by result) _ answer reads e
+pub settled_timely : {D E C : Type 0} (d : Ghosts D) (readings : C → Option Readings) (old acted new : Core D E C) (lane m : ℕ) (result : Result Reply DiskError) (answer : Answer)
+    → ReadsClock readings old.clock acted.clock old.last m → Settles d acted new lane m result answer → IsTimely readings old new answer
+settled_timely d readings old acted new lane m result answer reads e =
+    entered_timely d readings old (with_fault acted (fault_by acted.fault (length (acted.journal).entries.items) result)) new lane m (kind_by result) _ answer reads e
 
 -- ---- the kind
 
-pub step_kind : {D E C : Type 0} (faults_of : D → ℕ) (old new : Core D E C) (act : Act) (answer : Answer)
-    → class_of act ≡ stepping → HasCause faults_of old new act answer → FitsKind (class_of act) old.fault (answer.entry).kind
-step_kind faults_of old new act answer step cause = subst (λ c. FitsKind c old.fault (answer.entry).kind) (sym step) (by_cause cause)
+pub step_kind : {D E C : Type 0} (d : Ghosts D) (old new : Core D E C) (act : Act) (answer : Answer)
+    → class_of act ≡ stepping → HasCause d old new act answer → FitsKind (class_of act) old.fault (answer.entry).kind
+step_kind d old new act answer step cause = subst (λ c. FitsKind c old.fault (answer.entry).kind) (sym step) (by_cause cause)
   where
-    by_cause : HasCause faults_of old new act answer → FitsKind stepping old.fault (answer.entry).kind
+    by_cause : HasCause d old new act answer → FitsKind stepping old.fault (answer.entry).kind
     by_cause (done before is reply told may) = inl (is, before)
     by_cause (was_short is told) = inr (inl is)
     by_cause (failed before is told first rose) = inr (inr is)
@@ -118,11 +118,11 @@ pub wanting_kind : {D E C : Type 0} (old : Core D E C) (act : Act) (answer : Ans
     → class_of act ≡ wanting → (answer.entry).kind ≡ 2 → FitsKind (class_of act) old.fault (answer.entry).kind
 wanting_kind old act answer want is = subst (λ c. FitsKind c old.fault (answer.entry).kind) (sym want) is
 
-pub end_kind : {D E C : Type 0} (faults_of : D → ℕ) (old new : Core D E C) (act : Act) (answer : Answer)
-    → class_of act ≡ ending → EndHasCause faults_of old new answer → FitsKind (class_of act) old.fault (answer.entry).kind
-end_kind faults_of old new act answer ends cause = subst (λ c. FitsKind c old.fault (answer.entry).kind) (sym ends) (by_cause cause)
+pub end_kind : {D E C : Type 0} (d : Ghosts D) (old new : Core D E C) (act : Act) (answer : Answer)
+    → class_of act ≡ ending → EndHasCause d old new answer → FitsKind (class_of act) old.fault (answer.entry).kind
+end_kind d old new act answer ends cause = subst (λ c. FitsKind c old.fault (answer.entry).kind) (sym ends) (by_cause cause)
   where
-    by_cause : EndHasCause faults_of old new answer → FitsKind ending old.fault (answer.entry).kind
+    by_cause : EndHasCause d old new answer → FitsKind ending old.fault (answer.entry).kind
     by_cause (ended is told) = inl is
     by_cause (end_failed before is told first rose) = inr (is, before)
 
@@ -132,34 +132,19 @@ fault_told : (fault now : Option ℕ) (act : Act) (n : ℕ) (r : Option Reply) �
 fault_told fault now act n r is same told =
     subst (λ k. FitsReply fault act (kind_of k) r) (sym is) (told ∙ ap (λ f. Some (Refused (fault_refusal f))) (sym same))
 
-pub tells_reply : {D E C : Type 0} (faults_of : D → ℕ) (old new : Core D E C) (act : Act) (answer : Answer)
-    → HasCause faults_of old new act answer → IfSome answer.reply ReplyHasText → FitsReply old.fault act (kind_of (answer.entry).kind) answer.reply
-tells_reply faults_of old new act answer (done before is reply told may) text =
+pub tells_reply : {D E C : Type 0} (d : Ghosts D) (old new : Core D E C) (act : Act) (answer : Answer)
+    → HasCause d old new act answer → IfSome answer.reply ReplyHasText → FitsReply old.fault act (kind_of (answer.entry).kind) answer.reply
+tells_reply d old new act answer (done before is reply told may) text =
     subst (λ k. FitsReply old.fault act (kind_of k) answer.reply) (sym is)
     (subst (λ r. FitsReply old.fault act kinds.step_kind r) (sym told) (may, subst (λ r. IfSome r ReplyHasText) told text))
-tells_reply faults_of old new act answer (was_short is told) text = subst (λ k. FitsReply old.fault act (kind_of k) answer.reply) (sym is) told
-tells_reply faults_of old new act answer (failed before is told first rose) text = fault_told old.fault None act (answer.entry).kind answer.reply is before told
-tells_reply faults_of old new act answer (was_halted place before is told) text = fault_told old.fault (Some place) act (answer.entry).kind answer.reply is before told
+tells_reply d old new act answer (was_short is told) text = subst (λ k. FitsReply old.fault act (kind_of k) answer.reply) (sym is) told
+tells_reply d old new act answer (failed before is told first rose) text = fault_told old.fault None act (answer.entry).kind answer.reply is before told
+tells_reply d old new act answer (was_halted place before is told) text = fault_told old.fault (Some place) act (answer.entry).kind answer.reply is before told
 
-pub end_tells_reply : {D E C : Type 0} (faults_of : D → ℕ) (old new : Core D E C) (act : Act) (answer : Answer)
-    → EndHasCause faults_of old new answer → FitsReply old.fault act (kind_of (answer.entry).kind) answer.reply
-end_tells_reply faults_of old new act answer (ended is told) = subst (λ k. FitsReply old.fault act (kind_of k) answer.reply) (sym is) told
-end_tells_reply faults_of old new act answer (end_failed before is told first rose) = fault_told old.fault None act (answer.entry).kind answer.reply is before told
-
--- ---- from a first core
-
-pub reaches_first : {D E C : Type 0} (is_honest : D → Type 0) (content : D → Files) (calls_of : D → ℕ) (readings : C → Option Readings) (core : Core D E C) (h : History)
-    → Records readings core h → Reaches is_honest content calls_of readings core h core h
-reaches_first is_honest content calls_of readings core h r = record { records = r; stands = λ R s _. s }
-
-pub reaches_more : {D E C : Type 0} (is_honest : D → Type 0) (content : D → Files) (calls_of : D → ℕ) (readings : C → Option Readings) (first : Core D E C) (began : History) (old new : Core D E C) (e : Event)
-    → ((h : History) → StandsFor is_honest content calls_of readings old h → IsClear (then_event h e) → StandsFor is_honest content calls_of readings new (then_event h e))
-    → ((h : History) → Records readings old h → Records readings new (then_event h e))
-    → (h : History) → Reaches is_honest content calls_of readings first began old h → Reaches is_honest content calls_of readings first began new (then_event h e)
-reaches_more is_honest content calls_of readings first began old new e stands records h x = record {
-  records = records h x.records;
-  stands = λ R s clear. stands (with_remote R h) (x.stands R s (clear_before h e clear)) clear;
-}
+pub end_tells_reply : {D E C : Type 0} (d : Ghosts D) (old new : Core D E C) (act : Act) (answer : Answer)
+    → EndHasCause d old new answer → FitsReply old.fault act (kind_of (answer.entry).kind) answer.reply
+end_tells_reply d old new act answer (ended is told) = subst (λ k. FitsReply old.fault act (kind_of k) answer.reply) (sym is) told
+end_tells_reply d old new act answer (end_failed before is told first rose) = fault_told old.fault None act (answer.entry).kind answer.reply is before told
 
 -- a core that was opened
 pub opened_records : {D E C : Type 0} (readings : C → Option Readings) (core : Core D E C) (m : Files) (calls : ℕ) (R : Option (List Snapshot))

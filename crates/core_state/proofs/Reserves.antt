@@ -1,6 +1,7 @@
 -- What acts leave of a lane's reserve.
+use Rattle.disk_trait.specs.declared.disk.Disk.{Ghosts}
 use Rattle.std.specs.Prelude.{slice_index_or}
-use Rattle.std.proofs.Common.{◌≡◌, ◌<◌, ◌≤◌, ◌+◌, ◌⊎◌, ℕ, Bool, true, false, ◌&&◌, ◌==◌, Option, Some, None, Result, Ok, Err, inl, inr, refl, sym, ap, subst, ◌∙◌, arith}
+use Rattle.std.proofs.Common.{◌≡◌, ◌<◌, ◌≤◌, ◌+◌, ℕ, Bool, true, false, ◌&&◌, ◌==◌, Option, Some, None, Result, Ok, Err, inl, inr, refl, sym, ap, subst, ◌∙◌, arith}
 use Rattle.port_traits.specs.Readings.{Readings}
 use Rattle.disk_trait.specs.declared.disk.DiskError.{DiskError}
 use Rattle.disk_trait.specs.declared.disk.DiskError.TheVariants.{NoMemory as DiskMemory, Failed as DiskFailed}
@@ -16,9 +17,10 @@ use Rattle.core_state.specs.declared.journal.Journal.{Journal}
 use Rattle.core_state.specs.declared.kept.Session.{Session}
 use Rattle.core_state.specs.declared.kept.Session.TheVariants.{Idle, Writer, Reader}
 use Rattle.core_state.specs.declared.state.Core.{Core}
-use Rattle.core_state.specs.Closing.{session_at, is_writer, is_reader, closes, closes_by, is_closing, end_entries, ends_by, HasClosed}
-use Rattle.core_state.specs.Entering.{OthersHold, FillsFirst, Enters, held_by}
-use Rattle.core_state.specs.Reserved.{CanEnd, Reserved, KeepsReserve, EndKeeps, Keeps}
+use Rattle.core_state.specs.Closing.{is_writer, is_reader, closes, closes_by, is_closing, end_entries, ends_by, HasClosed}
+use Rattle.core_state.specs.Wanted.{session_at}
+use Rattle.core_state.specs.Entering.{OthersHold, NoneLost, FillsFirst, StaysWhole, Enters, held_by}
+use Rattle.core_state.specs.Reserved.{CanEnd, HasRoom, Reserved, KeepsReserve, KeepsSpare, EndKeeps, Keeps}
 use Rattle.core_state.specs.Settles.{IsEntered, Settles, kind_by}
 use Rattle.core_state.specs.Begins.{IsShort, Refuses, short, halted, IsReady}
 use Rattle.core_state.proofs.Answering.{and_second}
@@ -42,14 +44,14 @@ ends_one (Some n) x = omega arith
 
 -- a whole reserve is what a lane must have
 pub whole_reserved : {D E C : Type 0} (core : Core D E C) (lane : ℕ) → 3 ≤ held_by core.journal lane → Reserved core lane
-whole_reserved core lane whole = let two = ends_two core.fault (session_at core lane) in omega (arith, two, whole)
+whole_reserved core lane whole = let two = ends_two core.fault (session_at core.parts lane) in omega (arith, two, whole)
 
 -- an entry is to be had
-pub reserved_room : {D E C : Type 0} (core : Core D E C) (lane : ℕ) → Reserved core lane → (0 < (core.journal).spare) ⊎ (0 < held_by core.journal lane)
+pub reserved_room : {D E C : Type 0} (core : Core D E C) (lane : ℕ) → Reserved core lane → HasRoom core lane
 reserved_room core lane reserved = inr (omega (arith, reserved))
 
-pub can_end_room : {D E C : Type 0} (core : Core D E C) (lane : ℕ) → CanEnd core lane → (0 < (core.journal).spare) ⊎ (0 < held_by core.journal lane)
-can_end_room core lane can = let one = ends_one core.fault (session_at core lane) in inr (omega (arith, can, one))
+pub can_end_room : {D E C : Type 0} (core : Core D E C) (lane : ℕ) → CanEnd core lane → HasRoom core lane
+can_end_room core lane can = let one = ends_one core.fault (session_at core.parts lane) in inr (omega (arith, can, one))
 
 ends_idle : (fault : Option ℕ) (x : Session) → x ≡ Idle → end_entries fault x ≡ 1
 ends_idle None x is = ap (end_entries None) is
@@ -108,9 +110,9 @@ closes_true None act x h = h
 closes_true (Some n) act x h = absurd (true_false (sym h))
 
 -- the clock was read, and the act ends the lane's session
-pub closing_before : {D E C : Type 0} (old mid : Core D E C) (lane : ℕ) (act : Act) → mid.parts ≡ old.parts → is_closing old lane act ≡ true → closes act (session_at mid lane) ≡ true
+pub closing_before : {D E C : Type 0} (old mid : Core D E C) (lane : ℕ) (act : Act) → mid.parts ≡ old.parts → is_closing old lane act ≡ true → closes act (session_at mid.parts lane) ≡ true
 closing_before old mid lane act same h =
-    ap (λ p. closes act (slice_index_or p.sessions.items lane Idle)) same ∙ closes_true old.fault act (session_at old lane) h
+    ap (λ p. closes act (slice_index_or p.sessions.items lane Idle)) same ∙ closes_true old.fault act (session_at old.parts lane) h
 
 pub closing_healthy : (fault : Option ℕ) (act : Act) (x : Session) → closes_by fault act x ≡ true → fault ≡ None
 closing_healthy None act x h = refl
@@ -118,7 +120,7 @@ closing_healthy (Some n) act x h = absurd (true_false (sym h))
 
 ends_same : {D E C : Type 0} (old new : Core D E C) (lane : ℕ) → new.parts ≡ old.parts → new.fault ≡ old.fault → ends_by new lane ≡ ends_by old lane
 ends_same old new lane parts fault =
-    ap (λ p. end_entries new.fault (slice_index_or p.sessions.items lane Idle)) parts ∙ ap (λ f. end_entries f (session_at old lane)) fault
+    ap (λ p. end_entries new.fault (slice_index_or p.sessions.items lane Idle)) parts ∙ ap (λ f. end_entries f (session_at old.parts lane)) fault
 
 -- ---- the entry
 
@@ -129,43 +131,51 @@ one_by old mid new lane false more e = let same = (e.uses).1 in omega (arith, mo
 others_by : (old mid new : Journal) (lane : ℕ) (b : Bool) → OthersHold old mid lane → Enters mid new lane b → OthersHold old new lane
 others_by old mid new lane b others e = λ other ne. e.others other ne ∙ others other ne
 
+spare_by : (old mid new : Journal) (lane : ℕ) (b : Bool) → NoneLost old mid lane → StaysWhole old mid lane → Enters mid new lane b → KeepsSpare old new lane
+spare_by old mid new lane true lost whole e three some = absurd (let none = (e.uses).0 in let same = whole three in omega (arith, none, same, lost, some))
+spare_by old mid new lane false lost whole e three some = let one = (e.uses).0 in let held = (e.uses).1 in let same = whole three in
+    (omega (arith, held, same, three), omega (arith, one, same, lost))
+
 -- a spare entry is used where there is one, and the reserve is whole
 by_spare : {D E C : Type 0} (old new : Core D E C) (mid : Journal) (lane : ℕ) (closing b c : Bool) (answer : Answer)
-    → held_by old.journal lane ≤ held_by mid lane → OthersHold old.journal mid lane → 3 ≤ held_by mid lane → 0 < mid.spare → answer.last ≡ b && c → Enters mid new.journal lane b
+    → held_by old.journal lane ≤ held_by mid lane → OthersHold old.journal mid lane → 3 ≤ held_by mid lane → 0 < mid.spare → KeepsSpare old.journal new.journal lane → answer.last ≡ b && c → Enters mid new.journal lane b
     → KeepsReserve old new lane closing answer
-by_spare old new mid lane closing true c answer more others whole spare is e = absurd (let z = (e.uses).0 in omega (arith, z, spare))
-by_spare old new mid lane closing false c answer more others whole spare is e = let same = (e.uses).1 in let two = ends_two new.fault (session_at new lane) in record {
+by_spare old new mid lane closing true c answer more others whole spare keeps is e = absurd (let z = (e.uses).0 in omega (arith, z, spare))
+by_spare old new mid lane closing false c answer more others whole spare keeps is e = let same = (e.uses).1 in let two = ends_two new.fault (session_at new.parts lane) in record {
   one = one_by old.journal mid new.journal lane false more e;
   kept = λ _ _. omega (arith, same, whole, two);
   left = λ _. omega (arith, same, whole, two);
   spent = (λ yes. absurd (true_false (sym yes ∙ is)), λ both. absurd (let less = both.1 in omega (arith, more, same, less)));
   filled = λ _ _. omega (arith, same, whole);
+  spare = keeps;
   others = others_by old.journal mid new.journal lane false others e;
 }
 
 -- want of memory: an entry of the reserve, of which nothing was put there before, is the last
 by_want : {D E C : Type 0} (old new : Core D E C) (mid : Journal) (lane : ℕ) (closing b : Bool) (answer : Answer)
     → held_by old.journal lane ≤ held_by mid lane → FillsFirst old.journal mid lane → OthersHold old.journal mid lane
-    → ends_by new lane ≡ ends_by old lane → (answer.entry).kind ≡ 2 → answer.last ≡ b → Enters mid new.journal lane b
+    → ends_by new lane ≡ ends_by old lane → KeepsSpare old.journal new.journal lane → (answer.entry).kind ≡ 2 → answer.last ≡ b → Enters mid new.journal lane b
     → KeepsReserve old new lane closing answer
-by_want old new mid lane closing true answer more filled others ends two is e = record {
+by_want old new mid lane closing true answer more filled others ends keeps two is e = record {
   one = one_by old.journal mid new.journal lane true more e;
   kept = λ no reserved. absurd (true_false (sym is ∙ no));
   left = λ reserved. let less = spends filled in omega (arith, ends, reserved, less);
   spent = (λ _. (two, spends filled), λ _. is);
   filled = λ _ other. absurd (other two);
+  spare = keeps;
   others = others_by old.journal mid new.journal lane true others e;
 }
   where
     spends : FillsFirst old.journal mid lane → held_by new.journal lane + 1 ≡ held_by old.journal lane
     spends (inl held) = (e.uses).1 ∙ held
     spends (inr spare) = absurd (let z = (e.uses).0 in omega (arith, z, spare))
-by_want old new mid lane closing false answer more filled others ends two is e = let same = (e.uses).1 in record {
+by_want old new mid lane closing false answer more filled others ends keeps two is e = let same = (e.uses).1 in record {
   one = one_by old.journal mid new.journal lane false more e;
   kept = λ _ reserved. omega (arith, more, same, ends, reserved);
   left = λ reserved. omega (arith, more, same, ends, reserved);
   spent = (λ yes. absurd (true_false (sym yes ∙ is)), λ both. absurd (let less = both.1 in omega (arith, more, same, less)));
   filled = λ _ other. absurd (other two);
+  spare = keeps;
   others = others_by old.journal mid new.journal lane false others e;
 }
 
@@ -173,90 +183,98 @@ and_two : (b : Bool) → b && (2 == 2) ≡ b
 and_two true = refl
 and_two false = refl
 
-pub short_keeps : {D E C : Type 0} (calls_of : D → ℕ) (readings : C → Option Readings) (old new : Core D E C) (lane : ℕ) (closing : Bool) (answer : Answer)
-    → IsShort calls_of readings old new lane answer → KeepsReserve old new lane closing answer
-short_keeps calls_of readings old new lane closing answer is = let b = is.begun in let e = is.entered in
+pub short_keeps : {D E C : Type 0} (d : Ghosts D) (readings : C → Option Readings) (old new : Core D E C) (lane : ℕ) (closing : Bool) (answer : Answer)
+    → IsShort d readings old new lane answer → KeepsReserve old new lane closing answer
+short_keeps d readings old new lane closing answer is = let b = is.begun in let e = is.entered in
     by_want old new (is.between).journal lane closing e.is_held answer b.more b.filled b.others
-    (ends_same old new lane (e.parts ∙ b.parts) (e.fault ∙ b.fault)) (ap (λ x. x.kind) e.entry) (e.last_held ∙ and_two e.is_held) e.room
+    (ends_same old new lane (e.parts ∙ b.parts) (e.fault ∙ b.fault)) (spare_by old.journal (is.between).journal new.journal lane e.is_held b.none_lost b.whole e.room) (ap (λ x. x.kind) e.entry) (e.last_held ∙ and_two e.is_held) e.room
 
-pub refused_keeps : {D E C : Type 0} (calls_of : D → ℕ) (readings : C → Option Readings) (old new : Core D E C) (lane : ℕ) (closing : Bool) (answer : Answer)
-    → Refuses calls_of readings old new lane answer → KeepsReserve old new lane closing answer
-refused_keeps calls_of readings old new lane closing answer (short is) = short_keeps calls_of readings old new lane closing answer is
-refused_keeps calls_of readings old new lane closing answer (halted is) = let b = is.begun in let e = is.entered in
-    by_spare old new (is.between).journal lane closing e.is_held (5 == 2) answer b.more b.others is.whole is.spare e.last_held e.room
+pub refused_keeps : {D E C : Type 0} (d : Ghosts D) (readings : C → Option Readings) (old new : Core D E C) (lane : ℕ) (closing : Bool) (answer : Answer)
+    → Refuses d readings old new lane answer → KeepsReserve old new lane closing answer
+refused_keeps d readings old new lane closing answer (short is) = short_keeps d readings old new lane closing answer is
+refused_keeps d readings old new lane closing answer (halted is) = let b = is.begun in let e = is.entered in
+    by_spare old new (is.between).journal lane closing e.is_held (5 == 2) answer b.more b.others is.whole is.spare
+    (spare_by old.journal (is.between).journal new.journal lane e.is_held b.none_lost b.whole e.room) e.last_held e.room
 
 -- an act that was done and ends no session
-filled_keeps : {D E C : Type 0} (calls_of : D → ℕ) (readings : C → Option Readings) (old mid acted new : Core D E C) (lane moment : ℕ) (closing : Bool) (result : Result Reply DiskError) (answer : Answer)
+filled_keeps : {D E C : Type 0} (d : Ghosts D) (readings : C → Option Readings) (old mid acted new : Core D E C) (lane moment : ℕ) (closing : Bool) (result : Result Reply DiskError) (answer : Answer)
     → IsReady readings old mid lane moment → acted.journal ≡ mid.journal → (3 ≤ held_by mid.journal lane) × (0 < (mid.journal).spare)
-    → Settles calls_of acted new lane moment result answer → KeepsReserve old new lane closing answer
-filled_keeps calls_of readings old mid acted new lane moment closing result answer ready same filled e =
-    by_spare old new mid.journal lane closing e.is_held (kind_by result == 2) answer (ready.begun).more (ready.begun).others filled.0 filled.1 e.last_held
-    (subst (λ j. Enters j new.journal lane e.is_held) same e.room)
+    → Settles d acted new lane moment result answer → KeepsReserve old new lane closing answer
+filled_keeps d readings old mid acted new lane moment closing result answer ready same filled e =
+    let b = ready.begun in let entered = subst (λ j. Enters j new.journal lane e.is_held) same e.room in
+    by_spare old new mid.journal lane closing e.is_held (kind_by result == 2) answer b.more b.others filled.0 filled.1
+    (spare_by old.journal mid.journal new.journal lane e.is_held b.none_lost b.whole entered) e.last_held entered
 
 -- what the lane's end may take after its session has ended
-closed_one : {D E C : Type 0} (calls_of : D → ℕ) (acted new : Core D E C) (lane moment : ℕ) (result : Result Reply DiskError) (answer : Answer)
-    → Settles calls_of acted new lane moment result answer → HasClosed acted.parts lane result → (ends_by new lane ≡ 1) × ((answer.entry).kind ≡ 2 → ⊥)
-closed_one calls_of acted new lane moment (Ok reply) answer e closed =
-    (ends_idle new.fault (session_at new lane) (ap (λ p. slice_index_or p.sessions.items lane Idle) e.parts ∙ closed), λ is. let zero = sym (ap (λ x. x.kind) e.entry) ∙ is in absurd (omega (arith, zero)))
-closed_one calls_of acted new lane moment (Err DiskMemory) answer e closed = absurd closed
-closed_one calls_of acted new lane moment (Err DiskFailed) answer e closed =
-    (ends_faulted new.fault _ (session_at new lane) e.fault, λ is. let five = sym (ap (λ x. x.kind) e.entry) ∙ is in absurd (omega (arith, five)))
+closed_one : {D E C : Type 0} (d : Ghosts D) (acted new : Core D E C) (lane moment : ℕ) (result : Result Reply DiskError) (answer : Answer)
+    → Settles d acted new lane moment result answer → HasClosed acted.parts lane result → (ends_by new lane ≡ 1) × ((answer.entry).kind ≡ 2 → ⊥)
+closed_one d acted new lane moment (Ok reply) answer e closed =
+    (ends_idle new.fault (session_at new.parts lane) (ap (λ p. slice_index_or p.sessions.items lane Idle) e.parts ∙ closed), λ is. let zero = sym (ap (λ x. x.kind) e.entry) ∙ is in absurd (omega (arith, zero)))
+closed_one d acted new lane moment (Err DiskMemory) answer e closed = absurd closed
+closed_one d acted new lane moment (Err DiskFailed) answer e closed =
+    (ends_faulted new.fault _ (session_at new.parts lane) e.fault, λ is. let five = sym (ap (λ x. x.kind) e.entry) ∙ is in absurd (omega (arith, five)))
 
 -- its entry may be one of the reserve, which isn't the last
 by_closing : {D E C : Type 0} (old new : Core D E C) (mid : Journal) (lane n : ℕ) (b : Bool) (answer : Answer)
     → held_by old.journal lane ≤ held_by mid lane → OthersHold old.journal mid lane → ends_by old lane ≡ 2 → ends_by new lane ≡ 1
-    → ((answer.entry).kind ≡ 2 → ⊥) → (answer.entry).kind ≡ n → answer.last ≡ b && (n == 2) → Enters mid new.journal lane b
+    → KeepsSpare old.journal new.journal lane → ((answer.entry).kind ≡ 2 → ⊥) → (answer.entry).kind ≡ n → answer.last ≡ b && (n == 2) → Enters mid new.journal lane b
     → KeepsReserve old new lane true answer
-by_closing old new mid lane n b answer more others before after other kind is e = let one = one_by old.journal mid new.journal lane b more e in record {
+by_closing old new mid lane n b answer more others before after keeps other kind is e = let one = one_by old.journal mid new.journal lane b more e in record {
   one = one;
   kept = λ _ reserved. omega (arith, one, before, after, reserved);
   left = λ reserved. omega (arith, one, before, after, reserved);
   spent = (λ yes. absurd (other (kind ∙ and_second b n (sym is ∙ yes))), λ both. absurd (other both.0));
   filled = λ not _. absurd (true_false not);
+  spare = keeps;
   others = others_by old.journal mid new.journal lane b others e;
 }
 
-pub done_keeps : {D E C : Type 0} (calls_of : D → ℕ) (readings : C → Option Readings) (old mid acted new : Core D E C) (lane moment : ℕ) (act : Act) (result : Result Reply DiskError) (answer : Answer)
+pub done_keeps : {D E C : Type 0} (d : Ghosts D) (readings : C → Option Readings) (old mid acted new : Core D E C) (lane moment : ℕ) (act : Act) (result : Result Reply DiskError) (answer : Answer)
     → IsReady readings old mid lane moment → acted.journal ≡ mid.journal
     → (is_closing old lane act ≡ false → (3 ≤ held_by mid.journal lane) × (0 < (mid.journal).spare))
     → (is_closing old lane act ≡ true → HasClosed acted.parts lane result)
-    → Settles calls_of acted new lane moment result answer
+    → Settles d acted new lane moment result answer
     → KeepsReserve old new lane (is_closing old lane act) answer
-done_keeps calls_of readings old mid acted new lane moment act result answer ready same filled closed e = by_test (is_closing old lane act) refl
+done_keeps d readings old mid acted new lane moment act result answer ready same filled closed e = by_test (is_closing old lane act) refl
   where
     by_test : (b : Bool) → is_closing old lane act ≡ b → KeepsReserve old new lane b answer
-    by_test false is = filled_keeps calls_of readings old mid acted new lane moment false result answer ready same (filled is) e
-    by_test true is = let one = closed_one calls_of acted new lane moment result answer e (closed is) in
-        by_closing old new mid.journal lane (kind_by result) e.is_held answer (ready.begun).more (ready.begun).others
-        (closing_two old.fault act (session_at old lane) is) one.0 one.1 (ap (λ x. x.kind) e.entry) e.last_held
-        (subst (λ j. Enters j new.journal lane e.is_held) same e.room)
+    by_test false is = filled_keeps d readings old mid acted new lane moment false result answer ready same (filled is) e
+    by_test true is =
+        let one = closed_one d acted new lane moment result answer e (closed is) in
+        let b = ready.begun in
+        let entered = subst (λ j. Enters j new.journal lane e.is_held) same e.room in
+        by_closing old new mid.journal lane (kind_by result) e.is_held answer b.more b.others
+        (closing_two old.fault act (session_at old.parts lane) is) one.0 (spare_by old.journal mid.journal new.journal lane e.is_held b.none_lost b.whole entered)
+        one.1 (ap (λ x. x.kind) e.entry) e.last_held entered
 
 -- an act that ends a session is never answered by want of memory
-pub closing_kind : {D E C : Type 0} (calls_of : D → ℕ) (acted new : Core D E C) (lane moment : ℕ) (result : Result Reply DiskError) (answer : Answer)
-    → HasClosed acted.parts lane result → Settles calls_of acted new lane moment result answer → (answer.entry).kind ≡ 2 → ⊥
-closing_kind calls_of acted new lane moment result answer closed e = (closed_one calls_of acted new lane moment result answer e closed).1
+pub closing_kind : {D E C : Type 0} (d : Ghosts D) (acted new : Core D E C) (lane moment : ℕ) (result : Result Reply DiskError) (answer : Answer)
+    → HasClosed acted.parts lane result → Settles d acted new lane moment result answer → (answer.entry).kind ≡ 2 → ⊥
+closing_kind d acted new lane moment result answer closed e = (closed_one d acted new lane moment result answer e closed).1
 
 -- ---- a lane's end
 
-pub ended_keeps : {D E C : Type 0} (calls_of : D → ℕ) (readings : C → Option Readings) (old mid acted new : Core D E C) (lane moment : ℕ) (answer : Answer)
-    → mid.journal ≡ old.journal → acted.journal ≡ mid.journal → IsEntered calls_of acted new lane moment 6 None answer → EndKeeps old new lane answer
-ended_keeps calls_of readings old mid acted new lane moment answer before same e = let entered = subst (λ j. Enters j new.journal lane e.is_held) (same ∙ before) e.room in record {
+pub ended_keeps : {D E C : Type 0} (d : Ghosts D) (readings : C → Option Readings) (old mid acted new : Core D E C) (lane moment : ℕ) (answer : Answer)
+    → mid.journal ≡ old.journal → acted.journal ≡ mid.journal → IsEntered d acted new lane moment 6 None answer → EndKeeps old new lane answer
+ended_keeps d readings old mid acted new lane moment answer before same e = let entered = subst (λ j. Enters j new.journal lane e.is_held) (same ∙ before) e.room in record {
   one = one_by old.journal old.journal new.journal lane e.is_held (omega arith) entered;
   left = λ _ five. absurd (let kind = sym (ap (λ x. x.kind) e.entry) ∙ five in omega (arith, kind));
   idle = λ _. ap (λ x. x.kind) e.entry;
+  spare = spare_by old.journal old.journal new.journal lane e.is_held (omega arith) (λ three. refl) entered;
   others = entered.others;
 }
 
-pub end_failed_keeps : {D E C : Type 0} (calls_of : D → ℕ) (readings : C → Option Readings) (old mid acted new : Core D E C) (lane moment : ℕ) (answer : Answer)
-    → old.fault ≡ None → (session_at old lane ≡ Idle → ⊥) → mid.journal ≡ old.journal → acted.journal ≡ mid.journal
-    → (first : ℕ) → acted.fault ≡ Some first → IsEntered calls_of acted new lane moment 5 (Some (Refused DiskFault)) answer → EndKeeps old new lane answer
-end_failed_keeps calls_of readings old mid acted new lane moment answer none busy before same first fault e =
+pub end_failed_keeps : {D E C : Type 0} (d : Ghosts D) (readings : C → Option Readings) (old mid acted new : Core D E C) (lane moment : ℕ) (answer : Answer)
+    → old.fault ≡ None → (session_at old.parts lane ≡ Idle → ⊥) → mid.journal ≡ old.journal → acted.journal ≡ mid.journal
+    → (first : ℕ) → acted.fault ≡ Some first → IsEntered d acted new lane moment 5 (Some (Refused DiskFault)) answer → EndKeeps old new lane answer
+end_failed_keeps d readings old mid acted new lane moment answer none busy before same first fault e =
     let entered = subst (λ j. Enters j new.journal lane e.is_held) (same ∙ before) e.room in
     let one = one_by old.journal old.journal new.journal lane e.is_held (omega arith) entered in
     record {
       one = one;
-      left = λ can _. let two = ends_busy old.fault (session_at old lane) none busy in let after = ends_faulted new.fault first (session_at new lane) (e.fault ∙ fault) in omega (arith, one, two, after, can);
+      left = λ can _. let two = ends_busy old.fault (session_at old.parts lane) none busy in let after = ends_faulted new.fault first (session_at new.parts lane) (e.fault ∙ fault) in omega (arith, one, two, after, can);
       idle = λ is. absurd (busy is);
+      spare = spare_by old.journal old.journal new.journal lane e.is_held (omega arith) (λ three. refl) entered;
       others = entered.others;
     }
 

@@ -1,10 +1,15 @@
 -- What the code finds at a lane, and what a changed session leaves.
-use Rattle.std.proofs.Common.{◌≡◌, ◌≢◌, ⊎_elim, ℕ, zero, suc, ◌<◌, length, get_or, set, map, List, [], ◌∷◌, refl, sym, ap, ◌∙◌, arith}
+use Rattle.std.proofs.Common.{◌≡◌, ◌≢◌, true, ⊎_elim, ℕ, zero, suc, ◌<◌, length, get_or, set, map, List, [], ◌∷◌, refl, sym, ap, ◌∙◌, arith}
 use Rattle.std.proofs.lemmas.Bool.{cases_eq}
 use Rattle.std.proofs.lemmas.List.{get_or-set_same, get_or-set_other, map-set, length-map, get_or_default}
 use Rattle.store_files.specs.Archive.{Snapshot}
 use Rattle.store_model.specs.Store as model
 use Rattle.store_model.specs.Store.{Store, session, with_session}
+use Rattle.wire_commands.specs.declared.command.Command.TheVariants.{Abort, CloseReader}
+use Rattle.store_history.specs.declared.act.Act.{Act}
+use Rattle.store_history.specs.declared.act.Act.TheVariants.{Plain}
+use Rattle.store_history.specs.Legal as plain
+use Rattle.core_state.specs.Closing.{closes}
 use Rattle.core_state.specs.declared.kept.Session.{Session}
 use Rattle.core_state.specs.declared.kept.Session.TheVariants.{Idle, Writer, Reader}
 use Rattle.core_state.specs.declared.kept.Writing.{Writing}
@@ -61,6 +66,15 @@ at_lane items s lane found shown lanes lt is =
     let ss = s.snapshots in
     let within : lane < length (map (shown_session ss) s.sessions) = omega (arith, length-map s.sessions (shown_session ss), lanes, lt) in
     is ∙ ap (λ x. get_or x lane found) shown ∙ get_or_default (map (shown_session ss) s.sessions) lane found Idle within ∙ at_map ss s.sessions lane
+
+-- an act that ends the session of the store ends the one that is kept of it
+shown_closes : (ss : List Snapshot) (act : Act) (x : model.Session) → plain.closes act x ≡ true → closes act (shown_session ss x) ≡ true
+shown_closes ss (Plain Abort) (model.writer w) e = refl
+shown_closes ss (Plain CloseReader) (model.reader r) e = refl
+shown_closes ss act x e = cc
+
+pub closes_found : (items : List Session) (s : Store) (lane : ℕ) (act : Act) → items ≡ map (shown_session s.snapshots) s.sessions → plain.closes act (session s lane) ≡ true → closes act (get_or items lane Idle) ≡ true
+closes_found items s lane act shown e = ap (λ x. closes act (get_or x lane Idle)) shown ∙ ap (closes act) (at_map s.snapshots s.sessions lane) ∙ shown_closes s.snapshots act (session s lane) e
 
 shows_writer : (ss : List Snapshot) (x : model.Session) (w : Writing) → shown_session ss x ≡ Writer w → (v : model.Writer) × (x ≡ model.writer v) × (shown_writer v ≡ w)
 shows_writer ss model.none w e = cc

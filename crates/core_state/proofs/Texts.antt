@@ -1,4 +1,5 @@
 -- Which replies have a spelling.
+use Rattle.disk_trait.specs.declared.disk.Disk.{Ghosts}
 use Rattle.std.proofs.Common.{◌≡◌, ◌<◌, ◌≤◌, ◌^◌, ℕ, suc, List, [], ◌∷◌, ◌++◌, length, Some, refl, ap, subst, arith, length-append}
 use Rattle.store_types.specs.declared.refusal.Refusal.TheVariants.{WrongState, BadName, GroupBusy, NotNewer, NoSnapshot, NoFile, Exists, BadBlob, WrongDigest, WrongSize, UnknownChunk, BadOffset, BadClose, OpenIndexes, BadManifest, ManifestMismatch, NotAllowed, TooMany, BadRange, Damaged, Unreadable, DiskFault, Halted, NoMemory}
 use Rattle.store_types.specs.declared.names.Digest32.{Digest32}
@@ -163,6 +164,6 @@ unfolding reply_text refusal_text
 no_memory_has_text = (tt, omega arith)
 
 -- an entry's reply is another text for the same reply
-pub entered_as : {D E C : Type 0} (calls_of : D → ℕ) (old new : Core D E C) (lane moment kind : ℕ) (r s : Reply) (answer : Answer)
-    → r ≡ s → IsEntered calls_of old new lane moment kind (Some r) answer → IsEntered calls_of old new lane moment kind (Some s) answer
-entered_as calls_of old new lane moment kind r s answer is e = subst (λ x. IsEntered calls_of old new lane moment kind (Some x) answer) is e
+pub entered_as : {D E C : Type 0} (d : Ghosts D) (old new : Core D E C) (lane moment kind : ℕ) (r s : Reply) (answer : Answer)
+    → r ≡ s → IsEntered d old new lane moment kind (Some r) answer → IsEntered d old new lane moment kind (Some s) answer
+entered_as d old new lane moment kind r s answer is e = subst (λ x. IsEntered d old new lane moment kind (Some x) answer) is e

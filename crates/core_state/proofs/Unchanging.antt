@@ -1,7 +1,7 @@
 -- A refused act leaves all as it was.
+use Rattle.disk_trait.specs.declared.disk.Disk.{Ghosts}
 use Rattle.std.proofs.Common.{◌≡◌, ℕ, true, false, Option, Some, None, Result, Err, IfSome, refl, sym, ap, subst, ◌∙◌}
 use Rattle.port_traits.specs.Readings.{Readings}
-use Rattle.disk_trait.specs.Files.{Files}
 use Rattle.disk_trait.specs.declared.disk.DiskError.{DiskError}
 use Rattle.disk_trait.specs.declared.disk.DiskError.TheVariants.{NoMemory as DiskMemory, Failed as DiskFailed}
 use Rattle.store_types.specs.declared.refusal.Refusal.{Refusal}
@@ -18,12 +18,12 @@ use Rattle.core_state.specs.Unchanged.{SameKept, SameContent, LeavesAll, Unchang
 false_true : false ≡ true → ⊥
 false_true e = cc
 
-module _ {D : Type 0} (honest : D → Type 0) (content : D → Files) where
+module _ {D : Type 0} (g : Ghosts D) where
   -- nothing has changed
-  pub leaves_same : (old new : Parts D) (r : Refusal) → new.disk ≡ old.disk → SameKept old new → LeavesAll honest content old new r
-  leaves_same old new r d kept = record { kept = kept; uncalled = λ _. d; disk = λ _ _. ap content d }
+  pub leaves_same : (old new : Parts D) (r : Refusal) → new.disk ≡ old.disk → SameKept old new → LeavesAll g old new r
+  leaves_same old new r d kept = record { kept = kept; uncalled = λ _. d; disk = λ _ _. ap g.content d }
 
-  pub same_unchanged : (old new : Parts D) (reply : Reply) → new ≡ old → Unchanged honest content old new reply
+  pub same_unchanged : (old new : Parts D) (reply : Reply) → new ≡ old → Unchanged g old new reply
   same_unchanged old new Done is = tt
   same_unchanged old new (Base snapshot) is = tt
   same_unchanged old new (Part total bytes) is = tt
@@ -36,48 +36,48 @@ module _ {D : Type 0} (honest : D → Type 0) (content : D → Files) where
   same_unchanged old new (Refused r) is = leaves_same old new r (ap (λ p. p.disk) is) (record { catalogue = ap (λ p. p.catalogue.items) is; sessions = ap (λ p. p.sessions.items) is; locks = ap (λ p. p.locks) is })
 
   -- the disk was read alone
-  pub leaves_read : (old new : Parts D) (r : Refusal) → is_uncalled r ≡ false → SameContent honest content old.disk new.disk → SameKept old new → LeavesAll honest content old new r
+  pub leaves_read : (old new : Parts D) (r : Refusal) → is_uncalled r ≡ false → SameContent g old.disk new.disk → SameKept old new → LeavesAll g old new r
   leaves_read old new r called same kept = record { kept = kept; uncalled = λ t. absurd (false_true (sym called ∙ t)); disk = λ _. same }
 
   -- want of memory, or a fault of the disk
-  pub not_done : (old new : Parts D) (e : DiskError) → SameKept old new → (e ≡ DiskMemory → SameContent honest content old.disk new.disk) → Unchanged honest content old new (reply_by (Err e))
+  pub not_done : (old new : Parts D) (e : DiskError) → SameKept old new → (e ≡ DiskMemory → SameContent g old.disk new.disk) → Unchanged g old new (reply_by (Err e))
   not_done old new DiskMemory kept same = record { kept = kept; uncalled = λ t. absurd (false_true t); disk = λ _. same refl }
   not_done old new DiskFailed kept same = record { kept = kept; uncalled = λ t. absurd (false_true t); disk = λ other. absurd (other refl) }
 
 -- ---- acts
 
-pub short_unchanged : {D E C : Type 0} (honest : D → Type 0) (content : D → Files) (calls_of : D → ℕ) (readings : C → Option Readings) (old new : Core D E C) (lane : ℕ) (answer : Answer)
-    → IsShort calls_of readings old new lane answer → IfSome answer.reply (Unchanged honest content old.parts new.parts)
-short_unchanged honest content calls_of readings old new lane answer is =
-    subst (λ r. IfSome r (Unchanged honest content old.parts new.parts)) (sym (is.entered).reply_is)
-    (same_unchanged honest content old.parts new.parts (Refused NoMemory) ((is.entered).parts ∙ (is.begun).parts))
+pub short_unchanged : {D E C : Type 0} (d : Ghosts D) (readings : C → Option Readings) (old new : Core D E C) (lane : ℕ) (answer : Answer)
+    → IsShort d readings old new lane answer → IfSome answer.reply (Unchanged d old.parts new.parts)
+short_unchanged d readings old new lane answer is =
+    subst (λ r. IfSome r (Unchanged d old.parts new.parts)) (sym (is.entered).reply_is)
+    (same_unchanged d old.parts new.parts (Refused NoMemory) ((is.entered).parts ∙ (is.begun).parts))
 
-pub refused_unchanged : {D E C : Type 0} (honest : D → Type 0) (content : D → Files) (calls_of : D → ℕ) (readings : C → Option Readings) (old new : Core D E C) (lane : ℕ) (answer : Answer)
-    → Refuses calls_of readings old new lane answer → IfSome answer.reply (Unchanged honest content old.parts new.parts)
-refused_unchanged honest content calls_of readings old new lane answer (short is) = short_unchanged honest content calls_of readings old new lane answer is
-refused_unchanged honest content calls_of readings old new lane answer (halted is) =
-    subst (λ r. IfSome r (Unchanged honest content old.parts new.parts)) (sym (is.entered).reply_is)
-    (same_unchanged honest content old.parts new.parts (Refused (Halted is.first)) ((is.entered).parts ∙ (is.begun).parts))
+pub refused_unchanged : {D E C : Type 0} (d : Ghosts D) (readings : C → Option Readings) (old new : Core D E C) (lane : ℕ) (answer : Answer)
+    → Refuses d readings old new lane answer → IfSome answer.reply (Unchanged d old.parts new.parts)
+refused_unchanged d readings old new lane answer (short is) = short_unchanged d readings old new lane answer is
+refused_unchanged d readings old new lane answer (halted is) =
+    subst (λ r. IfSome r (Unchanged d old.parts new.parts)) (sym (is.entered).reply_is)
+    (same_unchanged d old.parts new.parts (Refused (Halted is.first)) ((is.entered).parts ∙ (is.begun).parts))
 
 -- nothing has changed before or since
-pub unchanged_between : {D : Type 0} (honest : D → Type 0) (content : D → Files) (old mid acted new : Parts D) (r : Reply) (reply : Option Reply)
-    → mid ≡ old → new ≡ acted → reply ≡ Some r → Unchanged honest content mid acted r → IfSome reply (Unchanged honest content old new)
-unchanged_between honest content old mid acted new r reply before since is unchanged =
-    subst (λ x. IfSome x (Unchanged honest content old new)) (sym is)
-    (subst (λ p. Unchanged honest content old p r) (sym since) (subst (λ p. Unchanged honest content p acted r) before unchanged))
+pub unchanged_between : {D : Type 0} (d : Ghosts D) (old mid acted new : Parts D) (r : Reply) (reply : Option Reply)
+    → mid ≡ old → new ≡ acted → reply ≡ Some r → Unchanged d mid acted r → IfSome reply (Unchanged d old new)
+unchanged_between d old mid acted new r reply before since is unchanged =
+    subst (λ x. IfSome x (Unchanged d old new)) (sym is)
+    (subst (λ p. Unchanged d old p r) (sym since) (subst (λ p. Unchanged d p acted r) before unchanged))
 
-pub done_unchanged : {D E C : Type 0} (honest : D → Type 0) (content : D → Files) (calls_of : D → ℕ) (readings : C → Option Readings) (old mid acted new : Core D E C) (lane moment : ℕ) (result : Result Reply DiskError) (answer : Answer)
-    → IsReady readings old mid lane moment → Unchanged honest content mid.parts acted.parts (reply_by result) → Settles calls_of acted new lane moment result answer
-    → IfSome answer.reply (Unchanged honest content old.parts new.parts)
-done_unchanged honest content calls_of readings old mid acted new lane moment result answer ready unchanged e =
-    unchanged_between honest content old.parts mid.parts acted.parts new.parts (reply_by result) answer.reply (ready.begun).parts e.parts e.reply_is unchanged
+pub done_unchanged : {D E C : Type 0} (d : Ghosts D) (readings : C → Option Readings) (old mid acted new : Core D E C) (lane moment : ℕ) (result : Result Reply DiskError) (answer : Answer)
+    → IsReady readings old mid lane moment → Unchanged d mid.parts acted.parts (reply_by result) → Settles d acted new lane moment result answer
+    → IfSome answer.reply (Unchanged d old.parts new.parts)
+done_unchanged d readings old mid acted new lane moment result answer ready unchanged e =
+    unchanged_between d old.parts mid.parts acted.parts new.parts (reply_by result) answer.reply (ready.begun).parts e.parts e.reply_is unchanged
 
-pub refused_parts : {D E C : Type 0} (calls_of : D → ℕ) (readings : C → Option Readings) (old new : Core D E C) (lane : ℕ) (answer : Answer)
-    → Refuses calls_of readings old new lane answer → new.parts ≡ old.parts
-refused_parts calls_of readings old new lane answer (short is) = (is.entered).parts ∙ (is.begun).parts
-refused_parts calls_of readings old new lane answer (halted is) = (is.entered).parts ∙ (is.begun).parts
+pub refused_parts : {D E C : Type 0} (d : Ghosts D) (readings : C → Option Readings) (old new : Core D E C) (lane : ℕ) (answer : Answer)
+    → Refuses d readings old new lane answer → new.parts ≡ old.parts
+refused_parts d readings old new lane answer (short is) = (is.entered).parts ∙ (is.begun).parts
+refused_parts d readings old new lane answer (halted is) = (is.entered).parts ∙ (is.begun).parts
 
 -- ---- a lane's end that was done
 
-pub untold_unchanged : {D : Type 0} (honest : D → Type 0) (content : D → Files) (old new : Parts D) (reply : Option Reply) → reply ≡ None → IfSome reply (Unchanged honest content old new)
-untold_unchanged honest content old new reply is = subst (λ r. IfSome r (Unchanged honest content old new)) (sym is) tt
+pub untold_unchanged : {D : Type 0} (d : Ghosts D) (old new : Parts D) (reply : Option Reply) → reply ≡ None → IfSome reply (Unchanged d old new)
+untold_unchanged d old new reply is = subst (λ r. IfSome r (Unchanged d old new)) (sym is) tt

@@ -1,9 +1,8 @@
 -- When a file is told to be unreadable.
-use Rattle.std.proofs.Common.{◌≡◌, ℕ, true, false, cond, List, length, nat_le, Bool, Option, Some, None, Result, Ok, Err, refl, sym, ap, subst, ◌∙◌, arith}
-use Rattle.std.specs.FinMap.{get}
+use Rattle.disk_trait.specs.declared.disk.Disk.{Ghosts}
+use Rattle.std.proofs.Common.{◌≡◌, ℕ, true, false, List, Option, Some, None, Result, Ok, Err, refl, sym, ap, subst, ◌∙◌, arith}
 use Rattle.std.specs.Option.{option_map}
 use Rattle.port_traits.specs.Readings.{Readings}
-use Rattle.disk_trait.specs.Files.{Files}
 use Rattle.disk_trait.specs.declared.disk.DiskError.{DiskError}
 use Rattle.disk_trait.specs.declared.disk.DiskError.TheVariants.{NoMemory as DiskMemory, Failed as DiskFailed}
 use Rattle.store_types.specs.declared.refusal.Refusal.{Refusal}
@@ -12,7 +11,7 @@ use Rattle.wire_commands.specs.declared.reply.Reply.{Reply}
 use Rattle.wire_commands.specs.declared.reply.Reply.TheVariants.{Part, Refused}
 use Rattle.store_history.specs.declared.act.Act.{Act}
 use Rattle.store_history.specs.declared.act.Answer.{Answer}
-use Rattle.stored_files.specs.Parts.{part_from, IsPartOf}
+use Rattle.snapshot_files.specs.Parts.{IsPartOf}
 use Rattle.core_state.specs.declared.parts.Parts.{Parts}
 use Rattle.core_state.specs.declared.state.Core.{Core}
 use Rattle.core_state.specs.Answers.{HasCause, done, short, failed, halted, EndHasCause, ended, end_failed}
@@ -74,10 +73,10 @@ part_readable path name reply h e = let p = part_is path reply h in no p.0 p.1 (
     no : (total : ℕ) (bytes : List ℕ) → Some (Part total bytes) ≡ Some (Refused (Unreadable name)) → ⊥
     no total bytes e = cc
 
-module _ {D : Type 0} (honest : D → Type 0) (content : D → Files) (disk : D) where
+module _ {D : Type 0} (d : Ghosts D) (disk : D) where
   -- it is told of no file, and none was asked for
   pub tells_other : (asked : Option Asked) (kind : ℕ) (reply : Option Reply) → ((name : List ℕ) → reply ≡ Some (Refused (Unreadable name)) → ⊥) → asked ≡ None
-      → TellsUnreadable honest content disk asked kind reply
+      → TellsUnreadable d disk asked kind reply
   tells_other asked kind reply other is = record {
     named = λ name e. absurd (other name e);
     cause = λ name a e at h. absurd (other name e);
@@ -86,25 +85,25 @@ module _ {D : Type 0} (honest : D → Type 0) (content : D → Files) (disk : D)
 
   -- it was not done
   pub tells_stopped : (asked : Option Asked) (kind : ℕ) (reply : Option Reply) → ((name : List ℕ) → reply ≡ Some (Refused (Unreadable name)) → ⊥) → (kind ≡ 0 → ⊥)
-      → TellsUnreadable honest content disk asked kind reply
+      → TellsUnreadable d disk asked kind reply
   tells_stopped asked kind reply other is = record {
     named = λ name e. absurd (other name e);
     cause = λ name a e at h. absurd (other name e);
     missing = λ name a k at h g. absurd (is k);
   }
 
-  pub tells_failed : (asked : Option Asked) (e : DiskError) → TellsUnreadable honest content disk asked (kind_by (Err e)) (Some (reply_by (Err e)))
+  pub tells_failed : (asked : Option Asked) (e : DiskError) → TellsUnreadable d disk asked (kind_by (Err e)) (Some (reply_by (Err e)))
   tells_failed asked DiskMemory = tells_stopped asked 2 (Some (Refused NoMemory)) (λ name e. apart_memory name e) (λ k. omega (arith, k))
   tells_failed asked DiskFailed = tells_stopped asked 5 (Some (Refused DiskFault)) (λ name e. apart_fault name e) (λ k. omega (arith, k))
 
   -- the file was read
   pub tells_read : (asked : Option Asked) (a : Asked) (part : Result Reply Refusal) → asked ≡ Some a → IsPartOf a.path part
-      → (honest disk → part ≡ part_read (content disk) a)
-      → TellsUnreadable honest content disk asked 0 (Some (reply_of_part part))
+      → (d.honest disk → part ≡ part_read (d.content disk) a)
+      → TellsUnreadable d disk asked 0 (Some (reply_of_part part))
   tells_read asked a (Ok reply) is kind read = record {
     named = λ name e. absurd (part_readable a.path name reply kind e);
     cause = λ name b e at h. absurd (part_readable a.path name reply kind e);
-    missing = λ name b k at h g. absurd (apart reply name (read h ∙ ap (part_read (content disk)) (same a b (sym is ∙ at)) ∙ g));
+    missing = λ name b k at h g. absurd (apart reply name (read h ∙ ap (part_read (d.content disk)) (same a b (sym is ∙ at)) ∙ g));
   }
     where
       same : (x y : Asked) → Some x ≡ Some y → x ≡ y
@@ -114,8 +113,8 @@ module _ {D : Type 0} (honest : D → Type 0) (content : D → Files) (disk : D)
       apart reply name e = cc
   tells_read asked a (Err r) is kind read = record {
     named = λ name e. ap (option_map (λ x. x.path)) is ∙ ap (λ q. Some q) (sym ((refusal_is a.path r kind).1 name (refused r name e)));
-    cause = λ name b e at h. ap (part_read (content disk)) (same b a (sym at ∙ is)) ∙ sym (read h) ∙ errs r name (refused r name e);
-    missing = λ name b k at h g. ap (λ x. Some (reply_of_part x)) (read h ∙ ap (part_read (content disk)) (same a b (sym is ∙ at)) ∙ g);
+    cause = λ name b e at h. ap (part_read (d.content disk)) (same b a (sym at ∙ is)) ∙ sym (read h) ∙ errs r name (refused r name e);
+    missing = λ name b k at h g. ap (λ x. Some (reply_of_part x)) (read h ∙ ap (part_read (d.content disk)) (same a b (sym is ∙ at)) ∙ g);
   }
     where
       same : (x y : Asked) → Some x ≡ Some y → x ≡ y
@@ -136,42 +135,42 @@ true_false : true ≡ false → ⊥
 true_false e = cc
 
 -- an act that asks for no file
-pub tells_no_file : {D E C : Type 0} (honest : D → Type 0) (content : D → Files) (faults_of : D → ℕ) (old new : Core D E C) (disk : D) (asked : Option Asked) (act : Act) (answer : Answer)
-    → HasCause faults_of old new act answer → asked ≡ None → ((name : List ℕ) → may_answer act (Refused (Unreadable name)) ≡ false)
-    → TellsUnreadable honest content disk asked (answer.entry).kind answer.reply
-tells_no_file honest content faults_of old new disk asked act answer (done before kind reply is may) none never =
-    tells_other honest content disk asked _ answer.reply
+pub tells_no_file : {D E C : Type 0} (d : Ghosts D) (old new : Core D E C) (disk : D) (asked : Option Asked) (act : Act) (answer : Answer)
+    → HasCause d old new act answer → asked ≡ None → ((name : List ℕ) → may_answer act (Refused (Unreadable name)) ≡ false)
+    → TellsUnreadable d disk asked (answer.entry).kind answer.reply
+tells_no_file d old new disk asked act answer (done before kind reply is may) none never =
+    tells_other d disk asked _ answer.reply
     (λ name e. true_false (sym may ∙ ap (may_answer act) (same_reply reply (Refused (Unreadable name)) (sym is ∙ e)) ∙ never name)) none
-tells_no_file honest content faults_of old new disk asked act answer (short kind is) none never =
-    tells_other honest content disk asked _ answer.reply (λ name e. apart_memory name (sym is ∙ e)) none
-tells_no_file honest content faults_of old new disk asked act answer (failed before kind is fault risen) none never =
-    tells_other honest content disk asked _ answer.reply (λ name e. apart_fault name (sym is ∙ e)) none
-tells_no_file honest content faults_of old new disk asked act answer (halted place fault kind is) none never =
-    tells_other honest content disk asked _ answer.reply (λ name e. apart_halted place name (sym is ∙ e)) none
+tells_no_file d old new disk asked act answer (short kind is) none never =
+    tells_other d disk asked _ answer.reply (λ name e. apart_memory name (sym is ∙ e)) none
+tells_no_file d old new disk asked act answer (failed before kind is fault risen) none never =
+    tells_other d disk asked _ answer.reply (λ name e. apart_fault name (sym is ∙ e)) none
+tells_no_file d old new disk asked act answer (halted place fault kind is) none never =
+    tells_other d disk asked _ answer.reply (λ name e. apart_halted place name (sym is ∙ e)) none
 
-pub tells_end : {D E C : Type 0} (honest : D → Type 0) (content : D → Files) (faults_of : D → ℕ) (old new : Core D E C) (disk : D) (asked : Option Asked) (answer : Answer)
-    → EndHasCause faults_of old new answer → asked ≡ None
-    → TellsUnreadable honest content disk asked (answer.entry).kind answer.reply
-tells_end honest content faults_of old new disk asked answer (ended kind is) none =
-    tells_other honest content disk asked _ answer.reply (λ name e. apart_none name (sym is ∙ e)) none
-tells_end honest content faults_of old new disk asked answer (end_failed before kind is fault risen) none =
-    tells_other honest content disk asked _ answer.reply (λ name e. apart_fault name (sym is ∙ e)) none
+pub tells_end : {D E C : Type 0} (d : Ghosts D) (old new : Core D E C) (disk : D) (asked : Option Asked) (answer : Answer)
+    → EndHasCause d old new answer → asked ≡ None
+    → TellsUnreadable d disk asked (answer.entry).kind answer.reply
+tells_end d old new disk asked answer (ended kind is) none =
+    tells_other d disk asked _ answer.reply (λ name e. apart_none name (sym is ∙ e)) none
+tells_end d old new disk asked answer (end_failed before kind is fault risen) none =
+    tells_other d disk asked _ answer.reply (λ name e. apart_fault name (sym is ∙ e)) none
 
 -- an act that is refused before it is done
-pub tells_refused : {D E C : Type 0} (honest : D → Type 0) (content : D → Files) (calls_of : D → ℕ) (readings : C → Option Readings) (old new : Core D E C) (lane : ℕ) (disk : D) (asked : Option Asked) (answer : Answer)
-    → Refuses calls_of readings old new lane answer → TellsUnreadable honest content disk asked (answer.entry).kind answer.reply
-tells_refused honest content calls_of readings old new lane disk asked answer (is_short is) =
+pub tells_refused : {D E C : Type 0} (d : Ghosts D) (readings : C → Option Readings) (old new : Core D E C) (lane : ℕ) (disk : D) (asked : Option Asked) (answer : Answer)
+    → Refuses d readings old new lane answer → TellsUnreadable d disk asked (answer.entry).kind answer.reply
+tells_refused d readings old new lane disk asked answer (is_short is) =
     let kind : (answer.entry).kind ≡ 2 = ap (λ x. x.kind) (is.entered).entry in
-    tells_stopped honest content disk asked _ answer.reply (λ name e. apart_memory name (sym (is.entered).reply_is ∙ e)) (λ k. absurd (omega (arith, k, kind)))
-tells_refused honest content calls_of readings old new lane disk asked answer (is_halted is) =
+    tells_stopped d disk asked _ answer.reply (λ name e. apart_memory name (sym (is.entered).reply_is ∙ e)) (λ k. absurd (omega (arith, k, kind)))
+tells_refused d readings old new lane disk asked answer (is_halted is) =
     let kind : (answer.entry).kind ≡ 5 = ap (λ x. x.kind) (is.entered).entry in
-    tells_stopped honest content disk asked _ answer.reply (λ name e. apart_halted is.first name (sym (is.entered).reply_is ∙ e)) (λ k. absurd (omega (arith, k, kind)))
+    tells_stopped d disk asked _ answer.reply (λ name e. apart_halted is.first name (sym (is.entered).reply_is ∙ e)) (λ k. absurd (omega (arith, k, kind)))
 
 -- an act that was done, as its command tells
-pub tells_done : {D E C : Type 0} (honest : D → Type 0) (content : D → Files) (calls_of : D → ℕ) (readings : C → Option Readings) (old mid acted new : Core D E C) (lane moment : ℕ) (asked : Parts D → Option Asked) (result : Result Reply DiskError) (answer : Answer)
-    → IsReady readings old mid lane moment → TellsUnreadable honest content (mid.parts).disk (asked mid.parts) (kind_by result) (Some (reply_by result)) → Settles calls_of acted new lane moment result answer
-    → TellsUnreadable honest content (old.parts).disk (asked old.parts) (answer.entry).kind answer.reply
-tells_done honest content calls_of readings old mid acted new lane moment asked result answer ready tells e =
-    subst (λ r. TellsUnreadable honest content (old.parts).disk (asked old.parts) (answer.entry).kind r) (sym e.reply_is)
-    (subst (λ x. TellsUnreadable honest content (old.parts).disk (asked old.parts) x.kind (Some (reply_by result))) (sym e.entry)
-    (subst (λ p. TellsUnreadable honest content p.disk (asked p) (kind_by result) (Some (reply_by result))) (ready.begun).parts tells))
+pub tells_done : {D E C : Type 0} (d : Ghosts D) (readings : C → Option Readings) (old mid acted new : Core D E C) (lane moment : ℕ) (asked : Parts D → Option Asked) (result : Result Reply DiskError) (answer : Answer)
+    → IsReady readings old mid lane moment → TellsUnreadable d (mid.parts).disk (asked mid.parts) (kind_by result) (Some (reply_by result)) → Settles d acted new lane moment result answer
+    → TellsUnreadable d (old.parts).disk (asked old.parts) (answer.entry).kind answer.reply
+tells_done d readings old mid acted new lane moment asked result answer ready tells e =
+    subst (λ r. TellsUnreadable d (old.parts).disk (asked old.parts) (answer.entry).kind r) (sym e.reply_is)
+    (subst (λ x. TellsUnreadable d (old.parts).disk (asked old.parts) x.kind (Some (reply_by result))) (sym e.entry)
+    (subst (λ p. TellsUnreadable d p.disk (asked p) (kind_by result) (Some (reply_by result))) (ready.begun).parts tells))

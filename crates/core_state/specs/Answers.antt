@@ -1,4 +1,5 @@
 -- What an act's answer is on any disk, and what stands in the order and in the counts after it.
+use Rattle.disk_trait.specs.declared.disk.Disk.{Ghosts}
 use Rattle.std.specs.Prelude.{◌≡◌, ◌≤◌, ℕ, true, ◌==◌, ◌⊎◌, [], ◌∷◌, ◌++◌, length, if◌then◌else◌, Option, Some, None, IfSome, IsSome, IsTrue}
 use Rattle.disk_trait.specs.Disk.{Rose}
 use Rattle.store_types.specs.declared.refusal.Refusal.TheVariants.{NoMemory, DiskFault, Halted}
@@ -8,7 +9,7 @@ use Rattle.wire_commands.specs.HasText.{ReplyHasText}
 use Rattle.store_model.specs.Weave.{first_fault}
 use Rattle.store_history.specs.declared.act.Act.{Act}
 use Rattle.store_history.specs.declared.act.Answer.{Answer}
-use Rattle.store_history.specs.Acts.{Class, ending, class_of}
+use Rattle.store_history.specs.Acts.{Class, wanting, ending, class_of}
 use Rattle.core_state.specs.declared.state.Core.{Core}
 use Rattle.core_state.specs.Replies.{may_answer}
 
@@ -18,42 +19,43 @@ fault_after place kind before = if kind == 5 then first_fault place before else 
 
 -- One entry more is in the order, with the disk's count of calls beside it. The reply has a spelling. The disk is said to have
 -- failed only where its count of faults rose in this act, or where it had failed before.
-pub record IsAnswered {D E C : Type 0} (calls_of faults_of : D → ℕ) (old new : Core D E C) (lane : ℕ) (answer : Answer) : Type 0 where
+pub record IsAnswered {D E C : Type 0} (d : Ghosts D) (old new : Core D E C) (lane : ℕ) (answer : Answer) : Type 0 where
   pub lane_is : (answer.entry).lane ≡ lane
   pub place : answer.place ≡ length (old.journal).entries.items
   pub entries : (new.journal).entries.items ≡ (old.journal).entries.items ++ answer.entry ∷ []
-  pub calls : (new.journal).calls.items ≡ (old.journal).calls.items ++ calls_of (new.parts).disk ∷ []
+  pub calls : (new.journal).calls.items ≡ (old.journal).calls.items ++ d.calls (new.parts).disk ∷ []
   pub text : IfSome answer.reply ReplyHasText
   pub last : answer.last ≡ true → (answer.entry).kind ≡ 2
   pub fault : new.fault ≡ fault_after (length (old.journal).entries.items) (answer.entry).kind old.fault
-  pub count : faults_of (old.parts).disk ≤ faults_of (new.parts).disk
-  pub cause : (answer.entry).kind ≡ 5 → old.fault ≡ None → Rose (faults_of (old.parts).disk) (faults_of (new.parts).disk)
+  pub count : d.faults (old.parts).disk ≤ d.faults (new.parts).disk
+  pub cause : (answer.entry).kind ≡ 5 → old.fault ≡ None → Rose (d.faults (old.parts).disk) (d.faults (new.parts).disk)
 
 -- Why an act that is no lane's end was answered so, on any disk: each answer has one of four causes.
-pub data HasCause {D E C : Type 0} (faults_of : D → ℕ) (old new : Core D E C) (act : Act) (answer : Answer) : Type 0 where
+pub data HasCause {D E C : Type 0} (d : Ghosts D) (old new : Core D E C) (act : Act) (answer : Answer) : Type 0 where
   -- the disk hasn't failed so far: by the tests of the command
-  done : old.fault ≡ None → (answer.entry).kind ≡ 0 → (reply : Reply) → answer.reply ≡ Some reply → IsTrue (may_answer act reply) → HasCause faults_of old new act answer
+  done : old.fault ≡ None → (answer.entry).kind ≡ 0 → (reply : Reply) → answer.reply ≡ Some reply → IsTrue (may_answer act reply) → HasCause d old new act answer
   -- want of memory
-  short : (answer.entry).kind ≡ 2 → answer.reply ≡ Some (Refused NoMemory) → HasCause faults_of old new act answer
+  short : (answer.entry).kind ≡ 2 → answer.reply ≡ Some (Refused NoMemory) → HasCause d old new act answer
   -- the disk failed in this act, which is kept as the first fault
   failed : old.fault ≡ None → (answer.entry).kind ≡ 5 → answer.reply ≡ Some (Refused DiskFault)
-      → new.fault ≡ Some answer.place → Rose (faults_of (old.parts).disk) (faults_of (new.parts).disk) → HasCause faults_of old new act answer
+      → new.fault ≡ Some answer.place → Rose (d.faults (old.parts).disk) (d.faults (new.parts).disk) → HasCause d old new act answer
   -- the disk failed before, in the act whose entry stands at this place
-  halted : (place : ℕ) → old.fault ≡ Some place → (answer.entry).kind ≡ 5 → answer.reply ≡ Some (Refused (Halted place)) → HasCause faults_of old new act answer
+  halted : (place : ℕ) → old.fault ≡ Some place → (answer.entry).kind ≡ 5 → answer.reply ≡ Some (Refused (Halted place)) → HasCause d old new act answer
 
 -- A lane's end is refused exactly where the disk fails in it, which is kept as the first fault. After a fault it is done.
-pub data EndHasCause {D E C : Type 0} (faults_of : D → ℕ) (old new : Core D E C) (answer : Answer) : Type 0 where
-  ended : (answer.entry).kind ≡ 6 → answer.reply ≡ None → EndHasCause faults_of old new answer
+pub data EndHasCause {D E C : Type 0} (d : Ghosts D) (old new : Core D E C) (answer : Answer) : Type 0 where
+  ended : (answer.entry).kind ≡ 6 → answer.reply ≡ None → EndHasCause d old new answer
   end_failed : old.fault ≡ None → (answer.entry).kind ≡ 5 → answer.reply ≡ Some (Refused DiskFault)
-      → new.fault ≡ Some answer.place → Rose (faults_of (old.parts).disk) (faults_of (new.parts).disk) → EndHasCause faults_of old new answer
+      → new.fault ≡ Some answer.place → Rose (d.faults (old.parts).disk) (d.faults (new.parts).disk) → EndHasCause d old new answer
 
-abbrev pub ClassHasCause : {D E C : Type 0} → Class → (D → ℕ) → Core D E C → Core D E C → Act → Answer → Type 0
-ClassHasCause ending faults_of old new act answer = EndHasCause faults_of old new answer
-ClassHasCause _ faults_of old new act answer = HasCause faults_of old new act answer
+abbrev pub ClassHasCause : {D E C : Type 0} → Ghosts D → Class → Core D E C → Core D E C → Act → Answer → Type 0
+ClassHasCause d ending old new act answer = EndHasCause d old new answer
+ClassHasCause d wanting old new act answer = ((answer.entry).kind ≡ 2) × (answer.reply ≡ Some (Refused NoMemory))
+ClassHasCause d _ old new act answer = HasCause d old new act answer
 
 -- why any act was answered so
-abbrev pub IsCaused : {D E C : Type 0} → (D → ℕ) → Core D E C → Core D E C → Act → Answer → Type 0
-IsCaused faults_of old new act answer = ClassHasCause (class_of act) faults_of old new act answer
+abbrev pub IsCaused : {D E C : Type 0} → Ghosts D → Core D E C → Core D E C → Act → Answer → Type 0
+IsCaused d old new act answer = ClassHasCause d (class_of act) old new act answer
 
 -- a lane's end is not told, but where the disk failed
 abbrev pub EndIsTold : Answer → Type 0

@@ -1,4 +1,5 @@
 -- Chunk files and pieces: when an act may put a chunk, and which pieces chunk files may have.
+use Rattle.disk_trait.specs.declared.disk.Disk.{Ghosts}
 use Rattle.std.specs.Prelude.{◌≡◌, ◌⊎◌, ℕ, List, Some, Result, Ok, Err}
 use Rattle.std.specs.List.{Contains}
 use Rattle.std.specs.FinMap.{get}
@@ -11,7 +12,7 @@ use Rattle.disk_trait.specs.declared.disk.DiskError.{DiskError}
 use Rattle.disk_trait.specs.declared.disk.DiskError.TheVariants.{NoMemory, Failed}
 use Rattle.wire_commands.specs.declared.reply.Reply.{Reply}
 use Rattle.store_model.specs.Store.{Store}
-use Rattle.store_model.specs.Stands.{chunk_name}
+use Rattle.store_files.specs.Folder.{chunk_name}
 use Rattle.store_history.specs.declared.act.Act.{Act}
 use Rattle.store_history.specs.declared.act.Act.TheVariants.{Chunk}
 use Rattle.store_history.specs.History.{data_in, sent_by}
@@ -51,6 +52,6 @@ AddsUnless m n act (Err NoMemory) = AddsChunks m n act
 AddsUnless m n act (Err Failed) = Unit {0}
 
 -- for every store that the parts stood for
-abbrev pub Adds : {D : Type 0} → (D → Type 0) → (D → Files) → Parts D → Parts D → Act → Result Reply DiskError → Type 0
-Adds honest content old new act result =
-    (s : Store) → Holds honest content old s → AddsUnless (content old.disk) (content new.disk) act result
+abbrev pub Adds : {D : Type 0} → Ghosts D → Parts D → Parts D → Act → Result Reply DiskError → Type 0
+Adds d old new act result =
+    (s : Store) → Holds d old s → AddsUnless (d.content old.disk) (d.content new.disk) act result

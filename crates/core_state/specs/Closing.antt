@@ -8,11 +8,9 @@ use Rattle.store_history.specs.declared.act.Act.{Act}
 use Rattle.store_history.specs.declared.act.Act.TheVariants.{Plain}
 use Rattle.core_state.specs.declared.parts.Parts.{Parts}
 use Rattle.core_state.specs.declared.state.Core.{Core}
+use Rattle.core_state.specs.Wanted.{session_at}
 use Rattle.core_state.specs.declared.kept.Session.{Session}
 use Rattle.core_state.specs.declared.kept.Session.TheVariants.{Idle, Writer, Reader}
-
-abbrev pub session_at : {D E C : Type 0} → Core D E C → ℕ → Session
-session_at core lane = slice_index_or (core.parts).sessions.items lane Idle
 
 abbrev pub is_writer : Session → Bool
 is_writer Idle = false
@@ -36,7 +34,7 @@ closes_by None act session = closes act session
 closes_by (Some first) act session = false
 
 abbrev pub is_closing : {D E C : Type 0} → Core D E C → ℕ → Act → Bool
-is_closing core lane act = closes_by core.fault act (session_at core lane)
+is_closing core lane act = closes_by core.fault act (session_at core.parts lane)
 
 -- The end of a lane with a session may meet a fault of the disk, and then comes again. So may the act that ends the session, after
 -- which the lane's end meets none.
@@ -47,7 +45,7 @@ end_entries None (Reader r) = 2
 end_entries (Some first) session = 1
 
 abbrev pub ends_by : {D E C : Type 0} → Core D E C → ℕ → ℕ
-ends_by core lane = end_entries core.fault (session_at core lane)
+ends_by core lane = end_entries core.fault (session_at core.parts lane)
 
 -- What an act that ends the lane's session leaves: no session, or a fault of the disk.
 abbrev pub HasClosed : {D : Type 0} → Parts D → ℕ → Result Reply DiskError → Type 0

@@ -26,6 +26,10 @@ NoneLost old new lane = old.spare + held_by old lane ≤ new.spare + held_by new
 abbrev pub FillsFirst : Journal → Journal → ℕ → Type 0
 FillsFirst old new lane = (held_by new lane ≡ held_by old lane) ⊎ (0 < new.spare)
 
+-- a reserve that is whole stays as it is
+abbrev pub StaysWhole : Journal → Journal → ℕ → Type 0
+StaysWhole old new lane = 3 ≤ held_by old lane → held_by new lane ≡ held_by old lane
+
 -- the lane's reserve is whole, and there is a spare entry
 pub record Fills (old new : Journal) (lane : ℕ) : Type 0 where
   pub whole : 3 ≤ held_by new lane

@@ -1,7 +1,7 @@
 -- When the core stands for a history.
+use Rattle.disk_trait.specs.declared.disk.Disk.{Ghosts}
 use Rattle.std.specs.Prelude.{◌≡◌, ◌≤◌, ℕ, List, [], ◌∷◌, ◌++◌, map, Option, Some, None, IfSome}
 use Rattle.port_traits.specs.Readings.{Readings}
-use Rattle.disk_trait.specs.Files.{Files}
 use Rattle.store_files.specs.Archive.{Snapshot}
 use Rattle.store_history.specs.declared.act.Act.{Act}
 use Rattle.store_history.specs.declared.act.Answer.{Answer}
@@ -52,15 +52,15 @@ KeepsTime readings clock h =
 -- The core stands for the history. Order and calls are the history's; catalogue, sessions and locks are
 -- those of the plain store that it gives; on the disk are this store's files, until the disk failed, and no chunk file but of a piece
 -- that was there at opening or was sent.
-pub record StandsFor {D E C : Type 0} (is_honest : D → Type 0) (content : D → Files) (calls_of : D → ℕ) (readings : C → Option Readings) (core : Core D E C) (h : History) : Type 0 where
+pub record StandsFor {D E C : Type 0} (d : Ghosts D) (readings : C → Option Readings) (core : Core D E C) (h : History) : Type 0 where
   pub legal : IsLegal h.remote (opened h.opening) h.events
   pub entries : (core.journal).entries.items ≡ entries h.events
   pub calls : (core.journal).calls.items ≡ map (λ e. e.calls) h.events
   pub fault : core.fault ≡ (world h).fault
   pub last : core.last ≡ (world h).moment
   pub time : KeepsTime readings core.clock h
-  pub reached : (world h).calls ≤ calls_of (core.parts).disk
-  pub honest : is_honest (core.parts).disk
+  pub reached : (world h).calls ≤ d.calls (core.parts).disk
+  pub honest : d.honest (core.parts).disk
   pub shows : Shows core.parts (world h).store
-  pub files : (world h).fault ≡ None → IsOnDisk (content (core.parts).disk) (world h).store
-  pub chunks : (world h).fault ≡ None → HoldsOnly (content (core.parts).disk) (pieces_of h)
+  pub files : (world h).fault ≡ None → IsOnDisk (d.content (core.parts).disk) (world h).store
+  pub chunks : (world h).fault ≡ None → HoldsOnly (d.content (core.parts).disk) (pieces_of h)

@@ -1,4 +1,5 @@
 -- When the core's parts stand for a plain store, and what an act on them does.
+use Rattle.disk_trait.specs.declared.disk.Disk.{Ghosts}
 use Rattle.std.specs.Prelude.{◌≡◌, ◌<◌, ◌≤◌, ℕ, ◌+◌, Bool, true, false, not, ◌&&◌, List, [], ◌∷◌, map, length, Some, IsTrue, IsSome, Result, MatchResult, FitsSigned}
 use Rattle.std.specs.Int.{w64}
 use Rattle.std.specs.List.{All, AllByRecursion, Contains, list_any}
@@ -17,9 +18,10 @@ use Rattle.disk_trait.specs.declared.disk.DiskError.{DiskError}
 use Rattle.disk_trait.specs.declared.disk.DiskError.TheVariants.{NoMemory, Failed as DiskFailed}
 use Rattle.disk_trait.specs.declared.disk.Failed.{Failed}
 use Rattle.store_model.specs.Store.{Store, Begun, Writer, Reader, writer, reader, session, in_group, snapshot_named, Outcome, ended}
-use Rattle.store_model.specs.Uploads.{file_path}
+use Rattle.store_files.specs.Folder.{file_path}
 use Rattle.store_model.specs.Steps.{answered}
-use Rattle.store_model.specs.Stands.{StandsFor, IsPiece, IsSnapshot, names_content, names_rise, keys_rise, FitsContent, chunk_name, file_limit, group_limit}
+use Rattle.store_model.specs.Stands.{StandsFor, IsSnapshot, names_content, names_rise, keys_rise, FitsContent, file_limit, group_limit}
+use Rattle.store_files.specs.Folder.{IsPiece, chunk_name}
 use Rattle.backup_session.specs.Shown.{IsOpen}
 use Rattle.core_state.specs.declared.parts.Parts.{Parts}
 use Rattle.core_state.specs.Shown.{shown_snapshot, shown_session}
@@ -106,30 +108,30 @@ pub record IsOnDisk (m : Files) (s : Store) : Type 0 where
   pub writers : (lane : ℕ) (w : Writer) → session s lane ≡ writer w → HasUploads m w
 
 -- The disk is honest, and the parts stand for the store.
-pub record Holds {D : Type 0} (is_honest : D → Type 0) (content : D → Files) (parts : Parts D) (s : Store) : Type 0 where
-  pub honest : is_honest parts.disk
+pub record Holds {D : Type 0} (d : Ghosts D) (parts : Parts D) (s : Store) : Type 0 where
+  pub honest : d.honest parts.disk
   pub shows : Shows parts s
-  pub files : IsOnDisk (content parts.disk) s
+  pub files : IsOnDisk (d.content parts.disk) s
 
 -- ---- acts
 
 -- Want of memory has changed nothing. After a fault of the disk catalogue, sessions and locks are as before.
-abbrev pub Refuses : {D : Type 0} → (D → Type 0) → (D → Files) → Parts D → Store → DiskError → Type 0
-Refuses honest content parts s NoMemory = Holds honest content parts s
-Refuses honest content parts s DiskFailed = honest parts.disk × Shows parts s
+abbrev pub Refuses : {D : Type 0} → Ghosts D → Parts D → Store → DiskError → Type 0
+Refuses d parts s NoMemory = Holds d parts s
+Refuses d parts s DiskFailed = d.honest parts.disk × Shows parts s
 
 -- The parts stand for the store after, and the reply is its; or the act was refused by memory or disk.
-abbrev pub Does : {D : Type 0} → (D → Type 0) → (D → Files) → Parts D → Store → Store × Reply → Result Reply DiskError → Type 0
-Does honest content new s after result =
-    MatchResult result (λ reply. (reply ≡ after.1) × Holds honest content new after.0) (λ e. Refuses honest content new s e)
+abbrev pub Does : {D : Type 0} → Ghosts D → Parts D → Store → Store × Reply → Result Reply DiskError → Type 0
+Does d new s after result =
+    MatchResult result (λ reply. (reply ≡ after.1) × Holds d new after.0) (λ e. Refuses d new s e)
 
 -- for every store that the parts stood for
-abbrev pub Acts : {D : Type 0} → (D → Type 0) → (D → Files) → Parts D → Parts D → (Store → Outcome) → Result Reply DiskError → Type 0
-Acts honest content old new outcome_of result =
-    (s : Store) → Holds honest content old s → Does honest content new s (answered s (outcome_of s)) result
+abbrev pub Acts : {D : Type 0} → Ghosts D → Parts D → Parts D → (Store → Outcome) → Result Reply DiskError → Type 0
+Acts d old new outcome_of result =
+    (s : Store) → Holds d old s → Does d new s (answered s (outcome_of s)) result
 
 -- a lane's end, which takes no memory: its session has ended, or the disk failed
-abbrev pub Ends : {D : Type 0} → (D → Type 0) → (D → Files) → Parts D → Parts D → ℕ → Result (Unit {0}) Failed → Type 0
-Ends honest content old new lane result =
-    (s : Store) → Holds honest content old s →
-    MatchResult result (λ _. Holds honest content new (ended s lane)) (λ _. Refuses honest content new s DiskFailed)
+abbrev pub Ends : {D : Type 0} → Ghosts D → Parts D → Parts D → ℕ → Result (Unit {0}) Failed → Type 0
+Ends d old new lane result =
+    (s : Store) → Holds d old s →
+    MatchResult result (λ _. Holds d new (ended s lane)) (λ _. Refuses d new s DiskFailed)

@@ -16,5 +16,13 @@ pub mod Closing
 pub mod Reserved
 pub mod Records
 pub mod Found
+pub mod Foreign
+pub mod Catalogue
+pub mod Changes
 pub mod Listing
 pub mod Unreadables
+pub mod Stops
+pub mod Wanted
+pub mod Commands
+pub mod Applies
+pub mod Lending

@@ -1,5 +1,5 @@
 -- What a manifest on the disk lists.
-use Rattle.std.specs.Prelude.{ℕ, List, length, nat_le, Option, Some, None}
+use Rattle.std.specs.Prelude.{ℕ, List, length, nat_le, Option, Some}
 use Rattle.std.specs.FinMap.{get}
 use Rattle.disk_trait.specs.Files.{Files}
 use Rattle.store_types.specs.Chain.Reading.{◌>>=◌, only_if}

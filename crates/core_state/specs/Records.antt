@@ -1,7 +1,7 @@
 -- What the core keeps of a history, on any disk.
-use Rattle.std.specs.Prelude.{◌≡◌, ◌≤◌, ◌<◌, ◌+◌, ◌⊎◌, ℕ, true, List, [], ◌∷◌, map, Option, Some, None, IsTrue}
+use Rattle.disk_trait.specs.declared.disk.Disk.{Ghosts}
+use Rattle.std.specs.Prelude.{◌≡◌, ◌≤◌, ◌+◌, ◌⊎◌, ℕ, true, List, [], ◌∷◌, map, Option, Some, None, IsTrue}
 use Rattle.port_traits.specs.Readings.{Readings}
-use Rattle.disk_trait.specs.Files.{Files}
 use Rattle.store_types.specs.Times.{last_moment}
 use Rattle.store_types.specs.declared.refusal.Refusal.TheVariants.{NoMemory}
 use Rattle.wire_commands.specs.declared.reply.Reply.{Reply}
@@ -18,6 +18,7 @@ use Rattle.store_history.specs.Legal.{moment_after}
 use Rattle.core_state.specs.declared.state.Core.{Core}
 use Rattle.core_state.specs.Answers.{fault_after}
 use Rattle.core_state.specs.Begins.{ReadsClock}
+use Rattle.core_state.specs.Foreign.{KeepsForeign}
 use Rattle.core_state.specs.History.{History, KeepsTime, IsClear, StandsFor}
 use Rattle.core_state.specs.Replies.{may_answer}
 
@@ -78,8 +79,11 @@ abbrev pub with_remote : Option (List Snapshot) → History → History
 with_remote remote h = record h { remote = remote }
 
 -- From a first core and its history the core came to this history: it records it, and stands for it where the first core stood
--- for its own and no two pieces of the history have one digest.
-pub record Reaches {D E C : Type 0} (is_honest : D → Type 0) (content : D → Files) (calls_of : D → ℕ) (readings : C → Option Readings) (first : Core D E C) (began : History) (core : Core D E C) (h : History) : Type 0 where
+-- for its own and no two pieces of the history have one digest. What stood at names that are none of the store's stands there still,
+-- where the disk has not failed.
+pub record Reaches {D E C : Type 0} (d : Ghosts D) (readings : C → Option Readings) (first : Core D E C) (began : History) (core : Core D E C) (h : History) : Type 0 where
   pub records : Records readings core h
-  pub stands : (R : Option (List Snapshot)) → StandsFor is_honest content calls_of readings first (with_remote R began) → IsClear h
-      → StandsFor is_honest content calls_of readings core (with_remote R h)
+  pub stands : (R : Option (List Snapshot)) → StandsFor d readings first (with_remote R began) → IsClear h
+      → StandsFor d readings core (with_remote R h)
+  pub foreign : (R : Option (List Snapshot)) → StandsFor d readings first (with_remote R began) → IsClear h → core.fault ≡ None
+      → KeepsForeign d (first.parts).disk (core.parts).disk

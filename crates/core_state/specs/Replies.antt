@@ -244,6 +244,11 @@ answers_prune (Keys snapshots) = nat_le (length snapshots) group_limit
 answers_prune (Refused refusal) = refuses_prune refusal
 answers_prune _ = false
 
+-- a lane's end, whose reply is not told
+abbrev pub answers_end : Reply → Bool
+answers_end Done = true
+answers_end _ = false
+
 abbrev pub command_answers : Command → Reply → Bool
 command_answers (commands.OpenWriter snapshot) reply = answers_writer reply
 command_answers (commands.Previous file offset) reply = answers_previous reply
@@ -274,6 +279,7 @@ may_answer (acts.Plain command) reply = command_answers command reply
 may_answer (acts.JobGroup command) reply = job_answers command reply
 may_answer (acts.Blob name checked) reply = answers_blob reply
 may_answer (acts.Chunk digest checked) reply = answers_chunk reply
+may_answer acts.End reply = answers_end reply
 may_answer _ reply = false
 
 -- what a command gives, or its refusal, as a reply

@@ -1,4 +1,5 @@
 -- What an act's entry leaves.
+use Rattle.disk_trait.specs.declared.disk.Disk.{Ghosts}
 use Rattle.std.specs.Prelude.{◌≡◌, ℕ, Bool, ◌&&◌, ◌==◌, [], ◌∷◌, ◌++◌, length, Option, Some, Result, Ok, Err}
 use Rattle.store_types.specs.declared.refusal.Refusal.TheVariants as refusals
 use Rattle.wire_commands.specs.declared.reply.Reply.{Reply}
@@ -10,14 +11,14 @@ use Rattle.core_state.specs.declared.state.Core.{Core}
 use Rattle.core_state.specs.Entering.{Enters}
 
 -- an entry and its answer, where an entry was to be had without memory
-pub record IsEntered {D E C : Type 0} (calls_of : D → ℕ) (old new : Core D E C) (lane moment kind : ℕ) (reply : Option Reply) (answer : Answer) : Type 0 where
+pub record IsEntered {D E C : Type 0} (d : Ghosts D) (old new : Core D E C) (lane moment kind : ℕ) (reply : Option Reply) (answer : Answer) : Type 0 where
   pub parts : new.parts ≡ old.parts
   pub remote : new.remote ≡ old.remote
   pub clock : new.clock ≡ old.clock
   pub fault : new.fault ≡ old.fault
   pub last : new.last ≡ moment
   pub entries : (new.journal).entries.items ≡ (old.journal).entries.items ++ answer.entry ∷ []
-  pub calls : (new.journal).calls.items ≡ (old.journal).calls.items ++ calls_of (old.parts).disk ∷ []
+  pub calls : (new.journal).calls.items ≡ (old.journal).calls.items ++ d.calls (old.parts).disk ∷ []
   pub entry : answer.entry ≡ record { lane = lane; moment = moment; kind = kind }
   pub reply_is : answer.reply ≡ reply
   pub place : answer.place ≡ length (old.journal).entries.items
@@ -45,6 +46,6 @@ abbrev pub with_fault : {D E C : Type 0} → Core D E C → Option ℕ → Core 
 with_fault core fault = record core { fault = fault }
 
 -- An act that was done is entered by its outcome.
-abbrev pub Settles : {D E C : Type 0} → (D → ℕ) → Core D E C → Core D E C → ℕ → ℕ → Result Reply DiskError → Answer → Type 0
-Settles calls_of old new lane moment outcome answer =
-    IsEntered calls_of (with_fault old (fault_by old.fault (length (old.journal).entries.items) outcome)) new lane moment (kind_by outcome) (Some (reply_by outcome)) answer
+abbrev pub Settles : {D E C : Type 0} → Ghosts D → Core D E C → Core D E C → ℕ → ℕ → Result Reply DiskError → Answer → Type 0
+Settles d old new lane moment outcome answer =
+    IsEntered d (with_fault old (fault_by old.fault (length (old.journal).entries.items) outcome)) new lane moment (kind_by outcome) (Some (reply_by outcome)) answer

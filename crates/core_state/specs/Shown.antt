@@ -1,9 +1,11 @@
 -- What the core keeps of the plain store.
-use Rattle.std.specs.Prelude.{List, [], map, None, Some}
+use Rattle.std.specs.Prelude.{ℕ, List, [], map, Option, None, Some, if◌then◌else◌}
+use Rattle.std.specs.Str.{bytes_eq}
+use Rattle.store_types.specs.FileNames.{manifest_name}
 use Rattle.store_types.specs.declared.names.SnapshotKey.{SnapshotKey}
 use Rattle.store_files.specs.Archive.{File, Snapshot}
 use Rattle.store_model.specs.Store as model
-use Rattle.store_model.specs.Uploads.{file_path}
+use Rattle.store_files.specs.Folder.{file_path}
 use Rattle.backup_session.specs.Session.{settled}
 use Rattle.backup_session.specs.Shown.{shown}
 use Rattle.restore_reader.specs.Session.{Reading}
@@ -13,6 +15,10 @@ use Rattle.core_state.specs.declared.kept.Kept.{Kept}
 use Rattle.core_state.specs.declared.kept.Writing.{Writing}
 use Rattle.core_state.specs.declared.kept.Session.{Session}
 use Rattle.core_state.specs.declared.kept.Session.TheVariants.{Idle, Writer, Reader}
+
+-- where the file stands on the disk while its snapshot is not finished: the manifest is not put before
+abbrev pub put_at : StoredFile → Option (List ℕ)
+put_at f = if bytes_eq f.name manifest_name then None else Some f.path
 
 abbrev pub shown_file : SnapshotKey → File → StoredFile
 shown_file key f = record { name = f.name; path = file_path key f.name }

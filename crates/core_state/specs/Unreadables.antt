@@ -1,4 +1,5 @@
 -- When a file of a snapshot is told to be unreadable.
+use Rattle.disk_trait.specs.declared.disk.Disk.{Ghosts}
 use Rattle.std.specs.Prelude.{◌≡◌, ℕ, Bool, true, false, List, Option, None, Some, option_map, if◌then◌else◌, Result, Ok, Err}
 use Rattle.std.specs.FinMap.{get}
 use Rattle.disk_trait.specs.Files.{Files}
@@ -8,8 +9,8 @@ use Rattle.store_types.specs.declared.refusal.Refusal.{Refusal}
 use Rattle.store_types.specs.declared.refusal.Refusal.TheVariants.{Unreadable}
 use Rattle.wire_commands.specs.declared.reply.Reply.{Reply}
 use Rattle.wire_commands.specs.declared.reply.Reply.TheVariants.{Done, Refused}
-use Rattle.stored_files.specs.Parts.{part_from}
-use Rattle.stored_files.specs.Indexes.{index_at}
+use Rattle.snapshot_files.specs.Parts.{part_from}
+use Rattle.snapshot_files.specs.Indexes.{index_at}
 use Rattle.core_state.specs.Listing.{listing_at}
 
 -- how a file is read that an act asks for
@@ -43,7 +44,7 @@ part_read m a = read_so a.way m a.path
 
 -- The file that was asked for is told to be unreadable, by its name in the datastore folder. On an honest disk, whatever it holds,
 -- that is so exactly where it is: want of memory and faults of the disk, which have kinds of their own, apart.
-pub record TellsUnreadable {D : Type 0} (honest : D → Type 0) (content : D → Files) (disk : D) (asked : Option Asked) (kind : ℕ) (reply : Option Reply) : Type 0 where
+pub record TellsUnreadable {D : Type 0} (d : Ghosts D) (disk : D) (asked : Option Asked) (kind : ℕ) (reply : Option Reply) : Type 0 where
   pub named : (name : List ℕ) → reply ≡ Some (Refused (Unreadable name)) → option_map (λ a. a.path) asked ≡ Some name
-  pub cause : (name : List ℕ) (a : Asked) → reply ≡ Some (Refused (Unreadable name)) → asked ≡ Some a → honest disk → part_read (content disk) a ≡ Err (Unreadable name)
-  pub missing : (name : List ℕ) (a : Asked) → kind ≡ 0 → asked ≡ Some a → honest disk → part_read (content disk) a ≡ Err (Unreadable name) → reply ≡ Some (Refused (Unreadable name))
+  pub cause : (name : List ℕ) (a : Asked) → reply ≡ Some (Refused (Unreadable name)) → asked ≡ Some a → d.honest disk → part_read (d.content disk) a ≡ Err (Unreadable name)
+  pub missing : (name : List ℕ) (a : Asked) → kind ≡ 0 → asked ≡ Some a → d.honest disk → part_read (d.content disk) a ≡ Err (Unreadable name) → reply ≡ Some (Refused (Unreadable name))

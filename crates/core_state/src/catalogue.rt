@@ -4,7 +4,7 @@ ghost use Rattle.std.specs.Prelude.{◌≡◌, option_map};
 ghost use Rattle.core_state.specs.Found.{kept_named, path_named as path_among};
 
 use crate::kept::{Kept, Listed, StoredFile};
-use crate::path::Path;
+use snapshot_files::FilePath;
 use store_types::{FileName, SnapshotKey};
 
 /// The finished snapshot with this key.
@@ -16,7 +16,7 @@ pub fn snapshot_named<'a>(catalogue: &'a [Listed], key: &SnapshotKey) -> Option<
 }
 
 /// Where the file of that name stands.
-pub fn path_named<'a>(files: &'a [StoredFile], name: &FileName) -> Option<&'a Path>
+pub fn path_named<'a>(files: &'a [StoredFile], name: &FileName) -> Option<&'a FilePath>
     ensures { option_map (λ p. p.now) result ≡ path_among name.now files.now }
 {
     let found = files.iter().find(|file| file.name == *name);

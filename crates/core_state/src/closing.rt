@@ -1,11 +1,13 @@
 //! Acts that end a session, and the entries of the order that are to be had without memory.
 
-ghost use Rattle.std.specs.Prelude.{◌≡◌, ◌<◌, ◌+◌, ◌⊎◌, ◌↔◌, IsTrue, OnOk, OnErr, slice_index, slice_set};
+ghost use Rattle.std.specs.Prelude.{◌≡◌, ◌<◌, ◌+◌, ◌↔◌, IsTrue, OnOk, OnErr, slice_set};
 ghost use Rattle.lock_book.specs.Locks.{Releases};
 ghost use Rattle.store_model.specs.Store.{Store, ended};
 ghost use Rattle.core_state.specs.Closing as closing;
 ghost use Rattle.core_state.specs.Entering.{SameEntries};
 ghost use Rattle.core_state.specs.Holds.{Shows};
+ghost use Rattle.core_state.specs.Reserved.{HasRoom};
+ghost use Rattle.core_state.specs.Wanted.{session_at};
 ghost use Rattle.core_state.specs.declared.kept.Session.TheVariants.{Idle};
 
 use crate::kept::Session;
@@ -33,6 +35,7 @@ pub fn end_session<D>(parts: &mut Parts<D>, lane: u32)
     ensures disk { parts.new.disk ≡ parts.old.disk }
     ensures catalogue { parts.new.catalogue.items ≡ parts.old.catalogue.items }
     ensures sessions { parts.new.sessions.items ≡ slice_set parts.old.sessions.items lane Idle }
+    ensures ended { session_at parts.new lane ≡ Idle }
     ensures locks { Releases parts.old.locks parts.new.locks lane }
     ensures shows { (s : Store) → Shows parts.old s → Shows parts.new (ended s lane) }
 {
@@ -56,7 +59,7 @@ impl<D, E, C> Core<D, E, C> {
     /// for more than another.
     pub fn room(&self, lane: u32, _act: &Act) -> bool
         requires { lane < 64 }
-        ensures { IsTrue result ↔ (0 < self.now.journal.spare ⊎ 0 < slice_index self.now.journal.held lane) }
+        ensures { IsTrue result ↔ HasRoom self.now lane }
     {
         self.journal.room(lane as usize)
     }

@@ -1,30 +1,39 @@
 //! How an act is begun, and how its entry is made.
 
-ghost use Rattle.std.specs.Prelude.{◌≡◌, ℕ, ◌≤◌, ◌<◌, ◌+◌, ◌⊎◌, true, false, min, max, length, slice_index, Some, Option};
+ghost use Rattle.std.specs.Prelude.{◌≡◌, ◌≤◌, ◌<◌, true, false, min, max, Option};
 ghost use Rattle.store_types.specs.Times.{last_moment};
 ghost use Rattle.store_types.specs.declared.refusal.Refusal.TheVariants.{Halted};
 ghost use Rattle.wire_commands.specs.declared.reply.Reply.TheVariants.{Refused};
 ghost use Rattle.wire_commands.specs.HasText.{ReplyHasText};
-ghost use Rattle.core_state.specs.Begins.{Begins, BegunHasText, IsBegun, IsFilled, IsNotShort, IsShort};
+ghost use Rattle.core_state.specs.Begins.{AdmittedHasText, Begins, IsFilled, IsNext, IsNotShort, IsShort};
 ghost use Rattle.core_state.specs.Closing.{is_closing};
+ghost use Rattle.core_state.specs.Reserved.{HasRoom};
 ghost use Rattle.core_state.specs.Settles.{IsEntered, Settles};
+ghost use Rattle.core_state.specs.Stops.{told};
 
 use crate::state::Core;
-use disk_trait::{Disk, DiskError};
+use crate::stop::Stop;
+use disk_trait::Disk;
 use port_traits::Clock;
 use std::alloc::Global;
 use store_history::{Act, Answer};
-use store_types::{Entry, Refusal};
+use store_types::{COMMAND_KIND, Entry, FAULT_KIND, LAST_MOMENT, MEMORY_KIND, Refusal};
 use wire_commands::Reply;
 
-/// 9999-12-31T23:59:59Z, in seconds since 1970.
-const LAST_MOMENT: u64 = 253_402_300_799;
+/// Where an act stands in the order: its lane, its moment, and the number of its entry.
+#[derive(Clone, Copy, Debug)]
+pub struct Place {
+    pub lane: u32,
+    /// In seconds since 1970.
+    pub moment: u64,
+    pub number: u64,
+}
 
 /// What comes before an act.
 #[derive(Debug, Drop)]
-pub enum Begun {
-    /// It may be done, at this moment.
-    At(u64),
+pub enum Admitted {
+    /// It may be done, at this place.
+    At(Place),
     /// It is answered without being done: memory is wanting, or the disk failed before.
     Answered(Answer),
 }
@@ -36,29 +45,32 @@ fn moment_by(reading: u64, last: u64) -> u64
     reading.max(last).min(LAST_MOMENT)
 }
 
-/// Enters an act of the lane, with what it is answered.
+/// Enters an act, with what it is answered.
 pub fn enter<D: Disk, E, C>(
     core: &mut Core<D, E, C>,
-    lane: u32,
-    moment: u64,
+    at: Place,
     kind: u8,
     reply: Option<Reply>,
 ) -> Answer
-    requires lane { lane < 64 }
-    requires in_time { moment ≤ last_moment }
-    requires room { 0 < core.old.journal.spare ⊎ 0 < slice_index core.old.journal.held lane }
-    ensures { IsEntered D.calls core.old core.new lane moment kind reply result }
+    requires lane { at.lane < 64 }
+    requires in_time { at.moment ≤ last_moment }
+    requires room { HasRoom core.old at.lane }
+    ensures { IsEntered D.Disk core.old core.new at.lane at.moment kind reply result }
 {
     let place = core.journal.entries.len() as u64;
-    let entry = Entry { lane, moment, kind };
+    let entry = Entry {
+        lane: at.lane,
+        moment: at.moment,
+        kind,
+    };
     let calls = core.parts.disk.calls();
-    let is_held = core.journal.enter(lane as usize, entry, calls);
-    core.last = moment;
+    let is_held = core.journal.enter(at.lane as usize, entry, calls);
+    core.last = at.moment;
     Answer {
         reply,
         entry,
         place,
-        last: is_held && kind == 2,
+        last: is_held && kind == MEMORY_KIND,
     }
 }
 
@@ -71,6 +83,18 @@ fn halted(place: u64) -> Reply
     Reply::Refused(Refusal::Halted { place })
 }
 
+/// The place of the lane's next act. The clock is read for it. A lane's end is begun by this alone, since it takes no
+/// memory and is never refused.
+pub fn next_place<D, E, C: Clock>(core: &mut Core<D, E, C>, lane: u32) -> Place
+    ensures { IsNext C.readings core.old core.new lane result }
+{
+    Place {
+        lane,
+        moment: moment_by(core.clock.now(), core.last),
+        number: core.journal.entries.len() as u64,
+    }
+}
+
 /// Reads the clock, fills up the lane's reserve, and refuses the act where memory is wanting or the disk failed before. An
 /// act that ends a session fills up nothing: it takes no memory, and its entry may be one of the reserve.
 pub fn begin<D: Disk, E, C: Clock>(
@@ -78,85 +102,66 @@ pub fn begin<D: Disk, E, C: Clock>(
     alloc: Global,
     lane: u32,
     act: &Act,
-) -> Begun
+) -> Admitted
     requires lane { lane < 64 }
-    requires room { 0 < core.old.journal.spare ⊎ 0 < slice_index core.old.journal.held lane }
-    ensures begun { Begins D.calls C.readings core.old core.new lane result }
-    ensures text { BegunHasText result }
-    ensures filled { is_closing core.old lane act.now ≡ false → IsFilled core.new.journal lane result }
+    requires room { HasRoom core.old lane }
+    ensures begun { Begins D.Disk C.readings core.old core.new lane result }
+    ensures text { AdmittedHasText result }
+    ensures filled { is_closing core.old lane act.now ≡ false
+        → IsFilled core.new.journal lane result }
     ensures memory { is_closing core.old lane act.now ≡ true → IsNotShort result }
 {
-    let moment = moment_by(core.clock.now(), core.last);
+    let at = next_place(core, lane);
     if core.is_closing(lane, act) {
-        return Begun::At(moment);
+        return Admitted::At(at);
     }
     if core.journal.fill(lane as usize).is_err() {
         let reply = Reply::Refused(Refusal::NoMemory);
-        return Begun::Answered(enter(core, lane, moment, 2, Some(reply)));
+        return Admitted::Answered(enter(core, at, MEMORY_KIND, Some(reply)));
     }
     match core.fault {
-        None => Begun::At(moment),
-        Some(place) => { Begun::Answered(enter(core, lane, moment, 5, Some(halted(place)))) }
+        None => Admitted::At(at),
+        Some(place) => { Admitted::Answered(enter(core, at, FAULT_KIND, Some(halted(place)))) }
     }
-}
-
-/// Reads the clock for a lane's end, which takes no memory and is never refused.
-pub fn begin_end<D: Disk, E, C: Clock>(core: &mut Core<D, E, C>) -> u64
-    ensures begun { (lane : ℕ) → IsBegun C.readings core.old core.new lane result }
-    ensures room { core.new.journal ≡ core.old.journal }
-{
-    moment_by(core.clock.now(), core.last)
 }
 
 /// Answers want of memory that was met outside the core.
 pub fn short<D: Disk, E, C: Clock>(core: &mut Core<D, E, C>, alloc: Global, lane: u32) -> Answer
     requires lane { lane < 64 }
-    requires room { 0 < core.old.journal.spare ⊎ 0 < slice_index core.old.journal.held lane }
-    ensures { IsShort D.calls C.readings core.old core.new lane result }
+    requires room { HasRoom core.old lane }
+    ensures { IsShort D.Disk C.readings core.old core.new lane result }
 {
-    let moment = moment_by(core.clock.now(), core.last);
+    let at = next_place(core, lane);
     let _ = core.journal.fill(lane as usize);
-    enter(
-        core,
-        lane,
-        moment,
-        2,
-        Some(Reply::Refused(Refusal::NoMemory)),
-    )
+    let reply = Reply::Refused(Refusal::NoMemory);
+    enter(core, at, MEMORY_KIND, Some(reply))
 }
 
-/// Enters an act that was done, by its outcome.
+/// Enters an act by how its command ended: a refusal is a reply.
 pub fn settle<D: Disk, E, C>(
     core: &mut Core<D, E, C>,
-    lane: u32,
-    moment: u64,
-    outcome: Result<Reply, DiskError>,
+    at: Place,
+    ended: Result<Reply, Stop>,
 ) -> Answer
-    requires lane { lane < 64 }
-    requires in_time { moment ≤ last_moment }
-    requires room { 0 < core.old.journal.spare ⊎ 0 < slice_index core.old.journal.held lane }
-    ensures { Settles D.calls core.old core.new lane moment outcome result }
+    requires lane { at.lane < 64 }
+    requires in_time { at.moment ≤ last_moment }
+    requires room { HasRoom core.old at.lane }
+    ensures { Settles D.Disk core.old core.new at.lane at.moment (told ended) result }
 {
-    match outcome {
-        Ok(reply) => enter(core, lane, moment, 0, Some(reply)),
-        Err(DiskError::NoMemory) => {
-            enter(
-                core,
-                lane,
-                moment,
-                2,
-                Some(Reply::Refused(Refusal::NoMemory)),
-            )
+    match ended {
+        Ok(reply) => enter(core, at, COMMAND_KIND, Some(reply)),
+        Err(Stop::Refused(refusal)) => {
+            let reply = Reply::Refused(refusal);
+            enter(core, at, COMMAND_KIND, Some(reply))
         }
-        Err(DiskError::Failed) => {
+        Err(Stop::NoMemory) => {
+            let reply = Reply::Refused(Refusal::NoMemory);
+            enter(core, at, MEMORY_KIND, Some(reply))
+        }
+        Err(Stop::DiskFailed) => {
             core.fault = Some(core.journal.entries.len() as u64);
-            enter(
-                core,
-                lane,
-                moment,
-                5,
-                Some(Reply::Refused(Refusal::DiskFault)),
-            )
+            let reply = Reply::Refused(Refusal::DiskFault);
+            enter(core, at, FAULT_KIND, Some(reply))
         }
     }
 }

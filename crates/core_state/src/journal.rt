@@ -3,10 +3,7 @@
 ghost use Rattle.std.specs.Prelude.{◌≡◌, ◌≤◌, ◌<◌, ◌+◌, ◌⊎◌, ◌↔◌, ◌++◌, ◌∷◌, [], sum, IsTrue, IfOk, OnOk, OnErr, slice_index, vec_len, vec_capacity};
 
 use std::alloc::{AllocError, Global};
-use store_types::Entry;
-
-/// How many lanes there are.
-pub const LANES: usize = 64;
+use store_types::{Entry, LANES};
 
 /// How many entries a lane has in reserve from opening: one for a want of memory, one for the closing of its session,
 /// and one for its end.
@@ -28,7 +25,7 @@ pub struct Journal {
 }
 
 impl Journal {
-    ghost use Rattle.core_state.specs.Entering.{Fills, Enters, SameEntries, OthersHold, NoneLost, FillsFirst, AllHeld, held_by};
+    ghost use Rattle.core_state.specs.Entering.{Fills, Enters, SameEntries, OthersHold, NoneLost, FillsFirst, StaysWhole, AllHeld, held_by};
 
     /// An empty order, with the reserve of every lane.
     pub fn new(alloc: Global) -> Result<Journal, AllocError>
@@ -78,6 +75,7 @@ impl Journal {
         ensures spare { OnErr result (self.new.spare ≡ self.old.spare) }
         ensures more { held_by self.old lane ≤ held_by self.new lane }
         ensures none_lost { NoneLost self.old self.new lane }
+        ensures whole { StaysWhole self.old self.new lane }
         ensures others { OthersHold self.old self.new lane }
         // what the lane holds is as before, or a spare entry is there
         ensures filled { FillsFirst self.old self.new lane }

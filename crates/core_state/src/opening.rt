@@ -6,12 +6,12 @@ ghost use Rattle.lock_book.specs.Locks.{no_locks};
 ghost use Rattle.store_files.specs.Archive.{Snapshot};
 ghost use Rattle.store_model.specs.Stands.{StandsFor as Stands};
 ghost use Rattle.core_state.specs.Entering.{AllHeld};
-ghost use Rattle.core_state.specs.History.{StandsFor, began};
-ghost use Rattle.core_state.specs.Opening.{opening_at};
+ghost use Rattle.core_state.specs.History.{StandsFor};
+ghost use Rattle.core_state.specs.Opening.{began_on};
 ghost use Rattle.core_state.specs.Records.{Records};
 ghost use Rattle.core_state.specs.declared.kept.Session.TheVariants.{Idle};
 
-use crate::journal::{Journal, LANES};
+use crate::journal::Journal;
 use crate::kept::Session;
 use crate::parts::Parts;
 use crate::state::{Core, CoreParts};
@@ -19,6 +19,7 @@ use disk_trait::Disk;
 use lock_book::LockBook;
 use port_traits::Clock;
 use std::alloc::{AllocError, Global};
+use store_types::LANES;
 use thiserror::Error;
 
 /// Why a datastore was not opened.
@@ -52,7 +53,10 @@ fn idle_sessions(alloc: Global) -> Result<Vec<Session>, AllocError>
 
 /// What memory an opening takes.
 fn state_of(alloc: Global) -> Result<(Journal, Vec<Session>), AllocError>
-    ensures { IfOk result (λ x. (x.0.entries.items ≡ []) × (x.0.calls.items ≡ []) × AllHeld x.0 × (x.1.items ≡ replicate 64 Idle)) }
+    ensures entries { IfOk result (λ x. x.0.entries.items ≡ []) }
+    ensures calls { IfOk result (λ x. x.0.calls.items ≡ []) }
+    ensures held { IfOk result (λ x. AllHeld x.0) }
+    ensures sessions { IfOk result (λ x. x.1.items ≡ replicate 64 Idle) }
 {
     let journal = Journal::new(alloc)?;
     let sessions = idle_sessions(alloc)?;
@@ -67,10 +71,11 @@ pub fn open_on<D: Disk, E, C: Clock>(
     clock: C,
 ) -> Result<Core<D, E, C>, NotOpened<D, E, C>>
     // it stands for a history without events, where the disk stands for no snapshots
-    ensures opened { IfOk result (λ core. (R : Option (List Snapshot)) → D.honest disk → Stands (D.content disk) []
-        → StandsFor D.honest D.content D.calls C.readings core (began (opening_at (D.content disk) (D.calls disk)) R (C.readings clock))) }
+    ensures opened { IfOk result (λ core. (R : Option (List Snapshot)) → D.honest disk
+        → Stands (D.content disk) [] → StandsFor D.Disk C.readings core (began_on D.Disk C.readings disk clock R)) }
     // on any disk it keeps a history without events
-    ensures records { IfOk result (λ core. (R : Option (List Snapshot)) → Records C.readings core (began (opening_at (D.content disk) (D.calls disk)) R (C.readings clock))) }
+    ensures records { IfOk result (λ core. (R : Option (List Snapshot))
+        → Records C.readings core (began_on D.Disk C.readings disk clock R)) }
     ensures reserve { IfOk result (λ core. AllHeld core.journal) }
     // whatever the disk is, nothing has happened yet
     ensures fault { IfOk result (λ core. core.fault ≡ None) }
@@ -84,7 +89,8 @@ pub fn open_on<D: Disk, E, C: Clock>(
     ensures disk { IfOk result (λ core. core.parts.disk ≡ disk) }
     ensures remote { IfOk result (λ core. core.remote ≡ remote) }
     ensures clock { IfOk result (λ core. core.clock ≡ clock) }
-    ensures not_opened { IfErr result (λ e. (e.cause ≡ OpenFault.NoMemory) × (e.disk ≡ disk) × (e.remote ≡ remote) × (e.clock ≡ clock)) }
+    ensures not_opened { IfErr result (λ e. (e.cause ≡ OpenFault.NoMemory) × (e.disk ≡ disk)
+        × (e.remote ≡ remote) × (e.clock ≡ clock)) }
 {
     match state_of(alloc) {
         Ok((journal, sessions)) => Ok(Core {

@@ -5,7 +5,7 @@ ghost use Rattle.std.specs.Prelude.{◌<◌, IfOk, IfSome};
 ghost use Rattle.wire_commands.specs.HasText.{ReplyHasText};
 
 use crate::asserts::same_at;
-use crate::fixtures::{NOTHING, opened_parts, upload, upload_manifest};
+use crate::fixtures::{NOTHING, at, opened_parts, told, upload, upload_manifest};
 use core_admin::{files, forget, group, list, prune_group};
 use core_reader::{close_reader, download, get_chunk, open_reader, range};
 use core_state::Parts;
@@ -129,28 +129,36 @@ pub(crate) fn make(
     requires { lane < 64 }
     ensures { IfOk result ReplyHasText }
 {
+    let at = at(lane);
     match call {
-        Call::OpenWriter(snapshot) => Ok(open_writer(parts, alloc, lane, 1000, snapshot)?),
-        Call::NewDynamic(name) => Ok(new_dynamic(parts, alloc, lane, 1000, name)?),
-        Call::CloseIndex => Ok(close_index(parts, alloc, lane, 0, 0, 0, &NOTHING)?),
+        Call::OpenWriter(snapshot) => told(open_writer(parts, alloc, at, snapshot)),
+        Call::NewDynamic(name) => told(new_dynamic(parts, alloc, at, name)),
+        Call::CloseIndex => told(close_index(parts, alloc, at, 0, 0, 0, &NOTHING)),
         Call::Blob(name, text) => upload(parts, alloc, lane, name, text),
         Call::Manifest(json) => upload_manifest(parts, alloc, lane, json),
-        Call::Finish => Ok(finish(parts, alloc, lane, 1)?),
-        Call::Abort => Ok(abort(parts, lane)?),
+        Call::Finish => told(finish(parts, alloc, at)),
+        Call::Abort => told(abort(parts, at)),
         Call::End => {
-            end(parts, lane)?;
+            end(parts, at)?;
             Ok(done_or_absent(true))
         }
-        Call::OpenReader(snapshot) => Ok(open_reader(parts, alloc, lane, snapshot)?),
-        Call::Download(name, offset) => Ok(download(parts, alloc, lane, name, offset)?),
-        Call::GetChunk(digest) => Ok(get_chunk(parts, alloc, lane, &digest)?),
-        Call::Range(name, offset, len) => Ok(range(parts, alloc, lane, name, offset, len)?),
-        Call::CloseReader => Ok(close_reader(parts, lane)?),
-        Call::List(after) => Ok(list(parts, alloc, after)?),
-        Call::Files(snapshot) => Ok(files(parts, alloc, snapshot)?),
-        Call::Forget(snapshot) => Ok(forget(parts, alloc, lane, snapshot)?),
-        Call::Group(name) => Ok(group(parts, alloc, name)?),
-        Call::Prune(name, yearly) => Ok(prune_group(parts, alloc, lane, name, &keep(yearly))?),
+        Call::OpenReader(snapshot) => told(open_reader(parts, alloc, at, snapshot)),
+        Call::Download(name, offset) => told(download(parts, alloc, at, name, offset)),
+        Call::GetChunk(digest) => told(get_chunk(parts, alloc, at, &digest)),
+        Call::Range(name, offset, len) => told(range(parts, alloc, at, name, offset, len)),
+        Call::CloseReader => told(close_reader(parts, at)),
+        Call::List(after) => told(list(parts, alloc, at, after)),
+        Call::Files(snapshot) => told(files(parts, alloc, at, snapshot)),
+        Call::Forget(snapshot) => told(forget(parts, alloc, at, snapshot)),
+        Call::Group(name) => told(group(parts, alloc, at, name)),
+        Call::Prune(name, yearly) => told(prune_group(
+            parts,
+            alloc,
+            at,
+            name,
+            &keep(yearly),
+            false,
+        )),
         Call::Put(path, bytes) => put(&mut parts.disk, alloc, path, bytes),
         Call::Remove(path) => Ok(done_or_absent(parts.disk.remove(path)?)),
         Call::Stands(path) => Ok(done_or_absent(parts.disk.size(path)?.is_some())),

@@ -5,13 +5,13 @@ use crate::asserts::same;
 use crate::calls::{
     DONE, FIRST_BASE, IN_NONE, IN_READER, IN_WRITER, NO_BASE, NO_SNAPSHOT, NONE_THERE, frame,
 };
-use crate::fixtures::{FIRST, MANIFEST, MemoryCore, SECOND, checked, opened};
+use crate::fixtures::{FIRST, MANIFEST, MemoryCore, SECOND, at, checked, opened};
 use core_state::{Act, enter};
 use shared_store::apply;
 use std::alloc::{AllocError, Global};
 use std::process::Abort;
 use std::test::Fail;
-use store_types::{Bytes, Keep, SnapshotKey};
+use store_types::{Bytes, Keep, MEMORY_KIND, SnapshotKey};
 use wire_commands::Command;
 
 /// An act of a lane, as a table has it.
@@ -247,7 +247,7 @@ fn sessions_are_closed_by_the_reserve(rt: HostRuntime) -> Result<(), Fail> {
 /// A want of memory on lane 3 that takes an entry of the lane's reserve, since none is spare.
 fn use_reserve(rt: &impl Abort, core: &mut MemoryCore) {
     assert!(rt; core.journal.room(3));
-    same(rt, enter(core, 3, 1000, 2, None).last, true);
+    same(rt, enter(core, at(3), MEMORY_KIND, None).last, true);
 }
 
 /// How many entries and counts of calls the order has memory for.

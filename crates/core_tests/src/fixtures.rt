@@ -1,11 +1,12 @@
 //! Cores over disks in memory, snapshots, and bytes that several tests use. Digests and checksums were made elsewhere.
 
-ghost use Rattle.std.specs.Prelude.{◌<◌, IfOk};
+ghost use Rattle.std.specs.Prelude.{◌≡◌, ◌<◌, IfOk};
 ghost use Rattle.wire_commands.specs.HasText.{ReplyHasText};
 ghost use Rattle.store_history.specs.Acts.{IsChecked};
+ghost use Rattle.core_state.specs.Stops.{told as told_by};
 
 use blob_codec::{decode, encode};
-use core_state::{Core, Parts, open_on};
+use core_state::{Core, Parts, Place, Stop, open_on};
 use core_uploads::blob;
 use disk_trait::MemoryDisk;
 use port_traits::SetClock;
@@ -67,6 +68,30 @@ pub(crate) fn opened_parts(alloc: Global) -> Result<Parts<MemoryDisk>, Fail> {
     Ok(opened(alloc, &[], 0)?.parts)
 }
 
+/// Where an act of the lane stands in the order.
+pub(crate) fn at(lane: u32) -> Place
+    ensures { result ≡ record { lane = lane; moment = 1000; number = 1 } }
+{
+    Place {
+        lane,
+        moment: 1000,
+        number: 1,
+    }
+}
+
+/// The reply to a command that ended so: a refusal is one.
+pub(crate) fn told(ended: Result<Reply, Stop>) -> Result<Reply, Fail>
+    requires { IfOk (told_by ended) ReplyHasText }
+    ensures { IfOk result ReplyHasText }
+{
+    match ended {
+        Ok(reply) => Ok(reply),
+        Err(Stop::Refused(refusal)) => Ok(Reply::Refused(refusal)),
+        Err(Stop::NoMemory) => Err("out of memory".into()),
+        Err(Stop::DiskFailed) => Err("the disk failed".into()),
+    }
+}
+
 /// The check of an upload.
 pub(crate) fn checked(text: Bytes) -> Result<Bytes, Refusal>
     ensures { IsChecked result }
@@ -88,7 +113,7 @@ pub(crate) fn upload(
     ensures { IfOk result ReplyHasText }
 {
     let text = Bytes::from_slice(alloc, text)?;
-    Ok(blob(parts, alloc, lane, name, checked(text))?)
+    told(blob(parts, alloc, at(lane), name, checked(text)))
 }
 
 /// The manifest of these bytes is uploaded.

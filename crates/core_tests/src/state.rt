@@ -2,11 +2,11 @@ ghost use Rattle.std.specs.Prelude.{◌<◌};
 
 use crate::asserts::same;
 use crate::fixtures::{MemoryCore, opened};
-use core_state::{Act, Answer, Begun, Journal, begin, begin_end, enter, settle, short};
+use core_state::{Act, Admitted, Answer, Journal, Place, begin, enter, next_place, settle, short};
 use std::alloc::{AllocError, Global};
 use std::process::Abort;
 use std::test::Fail;
-use store_types::{Entry, Refusal};
+use store_types::{END_KIND, Entry, Refusal};
 use wire_commands::Reply;
 
 /// Lane, moment and kind of the entry, and its place.
@@ -27,18 +27,18 @@ fn act(core: &mut MemoryCore, alloc: Global) -> Result<Answer, Fail> {
     if !core.journal.room(7) {
         return Err("no room".into());
     }
-    let Begun::At(moment) = begin(core, alloc, 7, &Act::Short) else {
-        return Err("not begun".into());
+    let Admitted::At(at) = begin(core, alloc, 7, &Act::Short) else {
+        return Err("not admitted".into());
     };
-    Ok(settle(core, 7, moment, Ok(Reply::Done)))
+    Ok(settle(core, at, Ok(Reply::Done)))
 }
 
 fn end(core: &mut MemoryCore) -> Result<Answer, Fail> {
-    let moment = begin_end(core);
+    let at = next_place(core, 7);
     if !core.journal.room(7) {
         return Err("no room".into());
     }
-    Ok(enter(core, 7, moment, 6, None))
+    Ok(enter(core, at, END_KIND, None))
 }
 
 /// Acts on one lane, by a clock that goes back.
@@ -116,7 +116,12 @@ fn make_spare(core: &mut MemoryCore) -> Result<(), AllocError> {
 /// Enters want of memory, or another act, and compares whether it is the last.
 fn try_last(rt: &impl Abort, core: &mut MemoryCore, kind: u8, expected: bool) {
     assert!(rt; core.journal.room(7));
-    let answer = enter(core, 7, 0, kind, None);
+    let at = Place {
+        lane: 7,
+        moment: 0,
+        number: 0,
+    };
+    let answer = enter(core, at, kind, None);
     same(rt, answer.last, expected);
 }
 

@@ -1,5 +1,5 @@
 -- What a session answers to APPEND, and what it keeps.
-use Rattle.std.proofs.Common.{◌≡◌, ℕ, ◌+◌, Bool, true, false, length, Option, Some, None, List, [], ◌∷◌, Result, Ok, Err, nat_le, refl, sym, ap, subst, ◌∙◌}
+use Rattle.std.proofs.Common.{◌≡◌, ℕ, ◌+◌, Bool, true, false, length, Option, Some, None, List, [], ◌∷◌, Result, Ok, Err, IfErr, IsErrAnd, nat_le, refl, sym, ap, subst, ◌∙◌}
 use Rattle.std.specs.Prelude.{◌==◌}
 use Rattle.store_types.specs.declared.names.Digest32.{Digest32}
 use Rattle.store_types.specs.declared.refusal.Refusal.{Refusal}
@@ -13,10 +13,13 @@ use Rattle.backup_session.specs.Session.{Open, Writing, Session, settled}
 use Rattle.backup_session.specs.Answers.{Tells}
 use Rattle.backup_session.specs.Indexes.{layout_of, count_of, end_of}
 use Rattle.backup_session.specs.Steps as rows
-use Rattle.wire_commands.specs.HasText.{ReplyHasText}
+use Rattle.wire_commands.specs.HasText.{FitsRefusal, ReplyHasText}
 use Rattle.wire_commands.specs.declared.reply.Reply.TheVariants.{Refused}
 use Rattle.core_state.specs.Replies.{refuses_append}
-use Rattle.core_state.proofs.Texts.{wrong_state_has_text, no_file_has_text}
+use Rattle.core_state.specs.Stops.{StopHasText}
+use Rattle.core_state.specs.declared.stop.Stop.{Stop}
+use Rattle.core_state.specs.declared.stop.Stop.TheVariants as stops
+use Rattle.core_state.proofs.Texts.{bad_offset_has_text, no_file_has_text, too_many_has_text, unknown_chunk_has_text, wrong_size_has_text, wrong_state_has_text}
 
 -- ---- the pieces that are named
 
@@ -72,7 +75,7 @@ module _ (w : Writing) (number : ℕ) (entries : List (Digest32 × ℕ)) where
       by_room true false e = let is : TooMany entry_limit ≡ r = cc in ap refuses_append (sym is)
       by_room true true e = pieces_refused (rows.known_in w.pool) (λ k. k.1) (layout_of b.index) r 0 (end_of b.index) entries e
 
-  append_refuses : (r : Refusal) → rows.append w number entries ≡ Err r → refuses_append r ≡ true
+  pub append_refuses : (r : Refusal) → rows.append w number entries ≡ Err r → refuses_append r ≡ true
   unfolding rows.append
   append_refuses r is = by_begun (rows.begun_at number w) is
     where
@@ -84,7 +87,7 @@ module _ (w : Writing) (number : ℕ) (entries : List (Digest32 × ℕ)) where
   left_same x y e = let pairs : ◌≡◌ {A = Writing × Unit {0}} (x, tt) (y, tt) = cc in ap (λ p. p.0) (sym pairs)
 
   -- its snapshot stays
-  append_key : (after : Writing) → rows.append w number entries ≡ Ok (after, tt) → after.key ≡ w.key
+  pub append_key : (after : Writing) → rows.append w number entries ≡ Ok (after, tt) → after.key ≡ w.key
   unfolding rows.append
   append_key after is = by_begun (rows.begun_at number w) is
     where
@@ -96,28 +99,20 @@ module _ (w : Writing) (number : ℕ) (entries : List (Digest32 × ℕ)) where
       by_begun None e = cc
       by_begun (Some b) e = by_pieces (rows.pieces_for w.pool b.index entries) e
 
--- ---- what the call tells
+-- ---- their spelling
 
-module _ (old new : Session) (number : ℕ) (entries : List (Digest32 × ℕ)) (told : Result (Unit {0}) Refusal) (tells : Tells (λ u. u) settled old new (rows.append old.writer number entries) told) where
-  pub told_refusal : (r : Refusal) → told ≡ Err r → refuses_append r ≡ true
-  told_refusal r is =
-      let refused = subst (λ t. Tells (λ u. u) settled old new (rows.append old.writer number entries) t) is tells in
-      append_refuses old.writer number entries r refused.0
+refused_text : (r : Refusal) → refuses_append r ≡ true → FitsRefusal r → ReplyHasText (Refused r)
+refused_text (WrongState state) is fits = wrong_state_has_text state
+refused_text NoFile is fits = no_file_has_text
+refused_text (TooMany limit) is fits = too_many_has_text limit fits
+refused_text (UnknownChunk place) is fits = unknown_chunk_has_text place fits
+refused_text (BadOffset place expected) is fits = bad_offset_has_text place expected fits.0 fits.1
+refused_text (WrongSize place found) is fits = wrong_size_has_text place found fits.0 fits.1
+refused_text _ is fits = cc
 
-  pub told_key : (u : Unit {0}) → told ≡ Ok u → (new.writer).key ≡ (old.writer).key
-  told_key u is =
-      let done = subst (λ t. Tells (λ u. u) settled old new (rows.append old.writer number entries) t) is tells in
-      ap (λ (x : Session). (x.writer).key) done.left ∙ append_key old.writer number entries done.after done.stepped
-
--- ---- the reply to a refusal
-
--- one without a number
-pub plain_has_text : (r : Refusal) → refuses_append r ≡ true → ((limit : ℕ) → r ≡ TooMany limit → ⊥) → ((place : ℕ) → r ≡ UnknownChunk place → ⊥)
-    → ((place expected : ℕ) → r ≡ BadOffset place expected → ⊥) → ((place size : ℕ) → r ≡ WrongSize place size → ⊥) → ReplyHasText (Refused r)
-plain_has_text (WrongState state) is many unknown offset size = wrong_state_has_text state
-plain_has_text NoFile is many unknown offset size = no_file_has_text
-plain_has_text (TooMany limit) is many unknown offset size = absurd (many limit refl)
-plain_has_text (UnknownChunk place) is many unknown offset size = absurd (unknown place refl)
-plain_has_text (BadOffset place expected) is many unknown offset size = absurd (offset place expected refl)
-plain_has_text (WrongSize place found) is many unknown offset size = absurd (size place found refl)
-plain_has_text _ is many unknown offset size = cc
+pub stop_text : (old new : Session) (number : ℕ) (entries : List (Digest32 × ℕ)) (told : Result (Unit {0}) Refusal) (r : Refusal) (result : Result (Unit {0}) Stop) → told ≡ Err r
+    → Tells (λ u. u) settled old new (rows.append old.writer number entries) told → FitsRefusal r → IsErrAnd result (λ x. x ≡ stops.Refused r) → IfErr result StopHasText
+stop_text old new number entries told r (Ok u) was tells fits is = absurd is
+stop_text old new number entries told r (Err x) was tells fits is =
+    let refuses : (rows.append old.writer number entries ≡ Err r) × (new ≡ old) = subst (Tells (λ u. u) settled old new (rows.append old.writer number entries)) was tells in
+    subst StopHasText (sym is) (refused_text r (append_refuses old.writer number entries r refuses.0) fits)

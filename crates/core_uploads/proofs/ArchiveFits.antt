@@ -14,7 +14,8 @@ use Rattle.store_files.specs.Cells.{entry_limit}
 use Rattle.store_files.specs.Archive.{Layout, dynamic, fixed, Archive, content_of, ends_from}
 use Rattle.store_files.specs.DynamicIndex.{steps_fit}
 use Rattle.store_model.specs.Archives.{want_size}
-use Rattle.store_model.specs.Stands.{FitsLayout, IsPiece}
+use Rattle.store_model.specs.Stands.{FitsLayout}
+use Rattle.store_files.specs.Folder.{IsPiece}
 use Rattle.store_model.specs.Store.{Begun}
 use Rattle.backup_session.specs.Shown.{HasSizes, fits_from}
 use Rattle.core_state.specs.Holds.{IsBegun, reserved_len}

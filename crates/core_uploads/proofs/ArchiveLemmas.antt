@@ -1,4 +1,5 @@
 -- NEW_DYNAMIC and NEW_FIXED are the store's: a writer's open archives, and what goes on with them.
+use Rattle.disk_trait.specs.declared.disk.Disk.{Ghosts}
 use Rattle.std.proofs.Common.{◌≡◌, ℕ, zero, suc, ◌*◌, ◌<◌, ◌≤◌, Bool, true, false, not, ◌||◌, nat_le, length, get_or, set, None, take, pos, slice_index, List, [], ◌∷◌, ◌++◌, Result, Ok, Err, refl, sym, ap, ap₂, subst, ◌∙◌, arith}
 use Rattle.std.proofs.lemmas.Bool.{or_parts, and_parts, and_from, leb-true}
 use Rattle.std.proofs.lemmas.List.{length-append, length-replicate, length-set, length-take-le}
@@ -15,7 +16,7 @@ use Rattle.uuid.specs.declared.Variant.TheVariants.{RFC4122}
 use Rattle.disk_trait.specs.Files.{Files}
 use Rattle.store_types.specs.declared.names.SnapshotKey.{SnapshotKey}
 use Rattle.store_types.specs.declared.refusal.Refusal.{Refusal}
-use Rattle.store_types.specs.declared.refusal.Refusal.TheVariants.{WrongState, BadName, WrongSize, TooMany}
+use Rattle.store_types.specs.declared.refusal.Refusal.TheVariants.{BadName, WrongSize, TooMany}
 use Rattle.store_types.specs.Chain.Refusing.{◌>>=◌, unless}
 use Rattle.store_types.specs.FileNames.{is_index_name, is_fixed_name, is_dynamic_name}
 use Rattle.store_types.specs.Names.{same_group, group_of_key}
@@ -26,51 +27,49 @@ use Rattle.wire_commands.specs.declared.reply.Reply.{Reply}
 use Rattle.wire_commands.specs.declared.reply.Reply.TheVariants.{Number}
 use Rattle.store_model.specs.Store as model
 use Rattle.store_model.specs.Store.{Begun, Store, Outcome, Writer, writer, session, with_session}
-use Rattle.store_model.specs.Uploads.{file_path, want_room}
+use Rattle.store_model.specs.Uploads.{want_room}
+use Rattle.store_files.specs.Folder.{file_path}
 use Rattle.store_model.specs.Archives.{uuid_of, new_archive, want_number, free_number}
 use Rattle.store_model.specs.ArchiveSteps as steps
 use Rattle.store_model.specs.WriterCalls as calls
-use Rattle.store_model.specs.WriterSteps.{goes_on}
-use Rattle.store_model.specs.Steps.{outcome, answered}
+use Rattle.store_model.specs.WriterSteps as writing
+use Rattle.store_model.specs.Steps.{outcome}
 use Rattle.store_model.specs.Stands.{names_content}
 use Rattle.backup_session.specs.Shown.{HasSizes}
 use Rattle.core_state.specs.declared.kept.Session.{Session}
 use Rattle.core_state.specs.declared.kept.Session.TheVariants as kept
 use Rattle.core_state.specs.declared.kept.Writing.{Writing}
 use Rattle.core_state.specs.declared.parts.Parts.{Parts}
-use Rattle.core_state.specs.Shown.{shown_session, shown_writer}
-use Rattle.core_state.specs.States.{state_of}
-use Rattle.core_state.specs.Holds.{IsBegun, reserved_len, has_named, names_differ, IsWriter, IsOnDisk, HasUploads, Holds, Does}
+use Rattle.core_state.specs.Holds.{IsBegun, reserved_len, has_named, names_differ, IsWriter, IsOnDisk, HasUploads, Holds, Shows}
 use Rattle.core_state.specs.Named.{is_named}
 use Rattle.core_state.proofs.NamedLemmas.{list_all-at, writer_named}
 use Rattle.core_state.proofs.LockLemmas.{locked_writes_on}
 use Rattle.core_state.proofs.Soundness.{IsAlone, sound_writer, disk_writer, shows_changed}
 use Rattle.core_uploads.specs.declared.archives.NewIndex.{NewIndex}
 use Rattle.core_uploads.specs.declared.archives.NewIndex.TheVariants.{Dynamic, Fixed}
+use Rattle.core_uploads.specs.Stepped.{GoesOn}
 use Rattle.core_uploads.specs.NewIndexes.{layout_of, new_command, new_plain}
 use Rattle.core_uploads.proofs.BlobStep.{has_room}
 use Rattle.core_uploads.proofs.FixedPieces.{size_fits}
-use Rattle.core_uploads.proofs.Wanting.{no_writer}
 
 -- ---- the lane's writer goes on as another of its snapshot
 
-module _ {D : Type 0} (honest : D → Type 0) (content : D → Files) where
-  pub does_go_on : (old new : Parts D) (s : Store) (lane : ℕ) (w v : Writer) (y : Session) (o : Outcome) (reply : Reply)
-      → lane < 64 → session s lane ≡ writer w → v.key ≡ w.key → v.base ≡ w.base → IsWriter s.snapshots v → HasUploads (content old.disk) v
-      → new.disk ≡ old.disk → new.catalogue.items ≡ old.catalogue.items → new.sessions.items ≡ set old.sessions.items lane y → new.locks ≡ old.locks → y ≡ kept.Writer (shown_writer v)
-      → o ≡ Ok (with_session s lane (writer v), reply) → Holds honest content old s → Does honest content new s (answered s o) (Ok reply)
-  does_go_on old new s lane w v y o reply lt at key base is_writer uploads d c l k y_is step h =
+module _ {D : Type 0} (g : Ghosts D) where
+  pub goes_on : (old new : Parts D) (s : Store) (lane : ℕ) (y : Session) (o : Outcome) (reply : Reply)
+      → lane < 64 → new.disk ≡ old.disk → new.catalogue.items ≡ old.catalogue.items → new.sessions.items ≡ set old.sessions.items lane y → new.locks ≡ old.locks
+      → GoesOn s lane y o reply → Holds g old s → (after : Store) × (o ≡ Ok (after, reply)) × Shows new after × IsOnDisk (g.content old.disk) after
+  goes_on old new s lane y o reply lt d c l k on h =
       let sound = (h.shows).sound in
+      let w = on.before in
+      let v = on.after in
       let within : lane < length s.sessions = omega (arith, sound.lanes, lt) in
       let alone : IsAlone s lane v = λ i x ne is same.
-      ne (sound.apart i lane x w is at (subst (λ (k : SnapshotKey). IsTrue (same_group (group_of_key x.key) (group_of_key k))) key same)) in
-      let holds : Holds honest content new (with_session s lane (writer v)) = record {
-        honest = subst honest (sym d) h.honest;
-        shows = shows_changed old new s lane (writer v) y c l y_is (locked_writes_on old.locks new.locks s lane w v within k at key base (h.shows).locks) (sound_writer s lane v lt is_writer alone sound) h.shows;
-        files = subst (λ m. IsOnDisk m (with_session s lane (writer v))) (sym (ap content d)) (disk_writer (content old.disk) s lane v within uploads h.files);
-      } in
-      let done : Does honest content new s (with_session s lane (writer v), reply) (Ok reply) = (refl, holds) in
-      subst (λ o. Does honest content new s (answered s o) (Ok reply)) (sym step) done
+      ne (sound.apart i lane x w is on.at (subst (λ (k : SnapshotKey). IsTrue (same_group (group_of_key x.key) (group_of_key k))) on.key same)) in (
+        with_session s lane (writer v),
+        on.step,
+        shows_changed old new s lane (writer v) y c l on.shown (locked_writes_on old.locks new.locks s lane w v within k on.at on.key on.base (h.shows).locks) (sound_writer s lane v lt on.is_writer alone sound) h.shows,
+        disk_writer (g.content old.disk) s lane v within (on.uploads (g.content old.disk) (h.files.writers lane w on.at)) h.files,
+      )
 
 -- no file of the lane's writer is pending
 pub settled_at : (items : List Session) (lane : ℕ) (found : Session) (w : Writing) → list_all is_named items ≡ true → lane < length items → found ≡ get_or items lane found → found ≡ kept.Writer w → (w.session).pending ≡ None
@@ -80,7 +79,7 @@ settled_at items lane found w named within at is =
 -- ---- NEW_DYNAMIC and NEW_FIXED, step by step
 
 abbrev new_step : Store → ℕ → (Writer → Result (Writer × ℕ) Refusal) → Result Writer Refusal → Outcome
-new_step s lane call wanted = wanted >>= λ w. call w >>= λ begun. goes_on s lane begun.0 (Number begun.1)
+new_step s lane call wanted = wanted >>= λ w. call w >>= λ begun. writing.goes_on s lane begun.0 (Number begun.1)
 
 step_by : (s : Store) (lane moment : ℕ) (name : List ℕ) (kind : NewIndex) → outcome s lane moment (new_command kind name) ≡ new_step s lane (λ w. new_plain kind w name moment) (model.want_writer (session s lane))
 unfolding outcome steps.new_dynamic steps.new_fixed
@@ -91,19 +90,19 @@ module _ (s : Store) (lane moment : ℕ) (kind : NewIndex) (name : List ℕ) whe
   step_is : outcome s lane moment (new_command kind name) ≡ new_step s lane (λ w. new_plain kind w name moment) (model.want_writer (session s lane))
   step_is = step_by s lane moment name kind
 
-  pub not_writing : (found : Session) → found ≡ shown_session s.snapshots (session s lane) → ((w : Writing) → found ≡ kept.Writer w → ⊥) → outcome s lane moment (new_command kind name) ≡ Err (WrongState (state_of found))
-  not_writing found is other = step_is ∙ ap (new_step s lane (λ w. new_plain kind w name moment)) (no_writer s.snapshots (session s lane) found is other)
+  pub not_writing : (r : Refusal) → model.want_writer (session s lane) ≡ Err r → outcome s lane moment (new_command kind name) ≡ Err r
+  not_writing r none = step_is ∙ ap (new_step s lane (λ w. new_plain kind w name moment)) none
 
-  writing_is : (w : Writer) → session s lane ≡ writer w → outcome s lane moment (new_command kind name) ≡ (new_plain kind w name moment >>= λ begun. goes_on s lane begun.0 (Number begun.1))
+  writing_is : (w : Writer) → session s lane ≡ writer w → outcome s lane moment (new_command kind name) ≡ (new_plain kind w name moment >>= λ begun. writing.goes_on s lane begun.0 (Number begun.1))
   writing_is w at = step_is ∙ ap (λ x. new_step s lane (λ w. new_plain kind w name moment) (model.want_writer x)) at
 
   pub refused : (w : Writer) (r : Refusal) → session s lane ≡ writer w → new_plain kind w name moment ≡ Err r → outcome s lane moment (new_command kind name) ≡ Err r
-  refused w r at is = writing_is w at ∙ ap (λ x. x >>= λ begun. goes_on s lane begun.0 (Number begun.1)) is
+  refused w r at is = writing_is w at ∙ ap (λ x. x >>= λ begun. writing.goes_on s lane begun.0 (Number begun.1)) is
 
   pub begins : (w v : Writer) (n : ℕ) → session s lane ≡ writer w → new_plain kind w name moment ≡ Ok (v, n)
       → outcome s lane moment (new_command kind name) ≡ Ok (with_session s lane (writer v), Number n)
-  unfolding goes_on
-  begins w v n at is = writing_is w at ∙ ap (λ x. x >>= λ begun. goes_on s lane begun.0 (Number begun.1)) is
+  unfolding writing.goes_on
+  begins w v n at is = writing_is w at ∙ ap (λ x. x >>= λ begun. writing.goes_on s lane begun.0 (Number begun.1)) is
 
 -- the name of no index
 pub bad_name : (kind : NewIndex) (w : Writer) (name : List ℕ) (moment : ℕ) → is_index_name name ≡ false → new_plain kind w name moment ≡ Err BadName

@@ -1,20 +1,20 @@
 -- NEW_DYNAMIC and NEW_FIXED in a session: the refusals of the session's call, and the writer with one more open archive.
-use Rattle.std.proofs.Common.{◌≡◌, ℕ, ◌≤◌, Bool, true, false, List, [], ◌∷◌, None, pos, Result, Ok, Err, refl, sym, ap, ap₂, subst, ◌∙◌, arith}
+use Rattle.std.proofs.Common.{◌≡◌, ℕ, ◌<◌, ◌≤◌, ◌^◌, Bool, true, false, List, [], ◌∷◌, None, pos, Result, Ok, Err, IfErr, IsErrOf, IsErrAnd, MatchResult, refl, sym, ap, ap₂, subst, ◌∙◌, arith}
 use Rattle.std.proofs.lemmas.Bool.{or_parts}
 use Rattle.std.specs.Int.{w64}
 use Rattle.std.specs.List.{AllByRecursion}
 use Rattle.std.specs.Prelude.{FitsSigned}
 use Rattle.store_types.specs.declared.refusal.Refusal.{Refusal}
-use Rattle.store_types.specs.declared.refusal.Refusal.TheVariants.{WrongState, BadName, Exists, TooMany, WrongSize}
-use Rattle.store_types.specs.declared.refusal.SessionState.{SessionState}
+use Rattle.store_types.specs.declared.refusal.Refusal.TheVariants.{BadName, Exists, TooMany, WrongSize}
 use Rattle.store_types.specs.Chain.Refusing.{◌>>=◌, unless}
 use Rattle.store_types.specs.FileNames.{is_file_name, is_index_name, is_blob_name}
 use Rattle.store_files.specs.Cells.{entry_limit}
 use Rattle.store_types.specs.Names.{IsKey}
 use Rattle.store_types.specs.Times.{last_moment}
+use Rattle.wire_commands.specs.declared.reply.Reply.{Reply}
 use Rattle.wire_commands.specs.declared.reply.Reply.TheVariants.{Number, Refused}
 use Rattle.wire_commands.specs.HasText.{ReplyHasText}
-use Rattle.store_model.specs.Store.{Begun, Store, Writer, session}
+use Rattle.store_model.specs.Store.{Begun, Store, Outcome, Writer}
 use Rattle.store_model.specs.Steps.{outcome}
 use Rattle.backup_session.specs.Answers.{Does, LeavesShown, Tells, TellsPlainly}
 use Rattle.backup_session.specs.Session as sessions
@@ -24,18 +24,23 @@ use Rattle.backup_session.specs.Steps as rows
 use Rattle.core_state.specs.declared.kept.Session.{Session}
 use Rattle.core_state.specs.declared.kept.Session.TheVariants as kept
 use Rattle.core_state.specs.declared.kept.Writing.{Writing}
-use Rattle.core_state.specs.Shown.{shown_session, shown_writer, shown_files}
-use Rattle.core_state.specs.Holds.{IsBegun, IsWriter, IsSound}
+use Rattle.core_state.specs.Shown.{shown_writer, shown_files}
+use Rattle.core_state.specs.Holds.{IsBegun, IsWriter}
 use Rattle.core_state.specs.Named.{is_named}
 use Rattle.core_state.specs.Replies.{refuses_index, refuses_fixed}
+use Rattle.core_state.specs.Stops.{StopHasText}
+use Rattle.core_state.specs.declared.stop.Stop.{Stop}
+use Rattle.core_state.specs.declared.stop.Stop.TheVariants as stops
+use Rattle.core_state.specs.declared.stop.Stop.TheVariants.{DiskFailed}
 use Rattle.core_state.proofs.NamedLemmas.{writer_named, writer_stays_named}
 use Rattle.core_state.proofs.Sessions.{writer_found}
-use Rattle.core_state.proofs.Texts.{wrong_state_has_text, bad_name_has_text, exists_has_text}
+use Rattle.core_state.proofs.Texts.{bad_name_has_text, exists_has_text, number_has_text, too_many_has_text, wrong_size_has_text}
 use Rattle.core_uploads.specs.declared.archives.NewIndex.{NewIndex}
 use Rattle.core_uploads.specs.declared.archives.NewIndex.TheVariants.{Dynamic, Fixed}
 use Rattle.core_uploads.specs.NewIndexes.{answers_new, new_command, new_plain, new_rows}
-use Rattle.core_uploads.specs.Stepped.{GoesOn}
-use Rattle.core_uploads.proofs.ArchiveLemmas.{refused, begins, IsNew, is_new, uuid_length, is_writer_begun, has_uploads_begun}
+use Rattle.core_uploads.specs.Names.{IsNoName}
+use Rattle.core_uploads.specs.Stepped.{StepsQuietly, answer_of}
+use Rattle.core_uploads.proofs.ArchiveLemmas.{bad_name, refused, begins, IsNew, is_new, uuid_length, is_writer_begun, has_uploads_begun}
 
 -- a moment of the order fits an index's field
 pub moment_fits : (moment : ℕ) → moment ≤ last_moment → FitsSigned w64 (pos moment)
@@ -50,74 +55,83 @@ abbrev pub refuses_new : NewIndex → Refusal → Bool
 refuses_new Dynamic r = refuses_index r
 refuses_new (Fixed size cut) r = refuses_fixed r
 
-pub answers_refused : (kind : NewIndex) (r : Refusal) → refuses_new kind r ≡ true → answers_new kind (Refused r) ≡ true
+answers_refused : (kind : NewIndex) (r : Refusal) → refuses_new kind r ≡ true → answers_new kind (Refused r) ≡ true
 answers_refused Dynamic r h = h
 answers_refused (Fixed size cut) r h = h
 
-pub answers_number : (kind : NewIndex) (n : ℕ) → answers_new kind (Number n) ≡ true
+answers_number : (kind : NewIndex) (n : ℕ) → answers_new kind (Number n) ≡ true
 answers_number Dynamic n = refl
 answers_number (Fixed size cut) n = refl
 
-pub answers_state : (kind : NewIndex) (state : SessionState) → answers_new kind (Refused (WrongState state)) ≡ true
-answers_state Dynamic state = refl
-answers_state (Fixed size cut) state = refl
-
-pub answers_name : (kind : NewIndex) → answers_new kind (Refused BadName) ≡ true
+answers_name : (kind : NewIndex) → answers_new kind (Refused BadName) ≡ true
 answers_name Dynamic = refl
 answers_name (Fixed size cut) = refl
+
+-- each refusal of the session's call has this
+abbrev Each : (Refusal → Type 0) → NewIndex → Type 0
+Each Q Dynamic = Q BadName × Q Exists × Q (TooMany 64) × Q (TooMany 16)
+Each Q (Fixed size cut) = Q BadName × Q Exists × Q (TooMany 64) × Q (TooMany 16) × Q (WrongSize 0 cut) × Q (TooMany entry_limit)
 
 err_same : {A : Type 0} (x y : Refusal) → ◌≡◌ {A = Result A Refusal} (Err x) (Err y) → x ≡ y
 err_same x y e = cc
 
-refused_by : (refuses : Refusal → Bool) {A : Type 0} (x r : Refusal) → refuses x ≡ true → ◌≡◌ {A = Result A Refusal} (Err x) (Err r) → refuses r ≡ true
-refused_by refuses {A} x r is e = ap refuses (sym (err_same {A = A} x r e)) ∙ is
+refused_by : (Q : Refusal → Type 0) {A : Type 0} (x r : Refusal) → Q x → ◌≡◌ {A = Result A Refusal} (Err x) (Err r) → Q r
+refused_by Q {A} x r is e = subst Q (err_same {A = A} x r e) is
 
-dynamic_by : {A : Type 0} (a b c d : Bool) (made : A) (r : Refusal)
-    → (((unless BadName a >>= λ _. (unless Exists b >>= λ _. unless (TooMany 64) c) >>= λ _. unless (TooMany 16) d)) >>= λ _. Ok made) ≡ Err r → refuses_index r ≡ true
-dynamic_by {A = A} false b c d made r is = refused_by refuses_index {A = A} BadName r refl is
-dynamic_by {A = A} true false c d made r is = refused_by refuses_index {A = A} Exists r refl is
-dynamic_by {A = A} true true false d made r is = refused_by refuses_index {A = A} (TooMany 64) r refl is
-dynamic_by {A = A} true true true false made r is = refused_by refuses_index {A = A} (TooMany 16) r refl is
-dynamic_by {A = A} true true true true made r is = cc
+dynamic_by : (Q : Refusal → Type 0) → Each Q Dynamic → {A : Type 0} (a b c d : Bool) (made : A) (r : Refusal)
+    → (((unless BadName a >>= λ _. (unless Exists b >>= λ _. unless (TooMany 64) c) >>= λ _. unless (TooMany 16) d)) >>= λ _. Ok made) ≡ Err r → Q r
+dynamic_by Q each {A = A} false b c d made r is = refused_by Q {A = A} BadName r each.0 is
+dynamic_by Q each {A = A} true false c d made r is = refused_by Q {A = A} Exists r each.1 is
+dynamic_by Q each {A = A} true true false d made r is = refused_by Q {A = A} (TooMany 64) r each.2 is
+dynamic_by Q each {A = A} true true true false made r is = refused_by Q {A = A} (TooMany 16) r each.3 is
+dynamic_by Q each {A = A} true true true true made r is = cc
 
-fixed_by : {A : Type 0} (a b c d f g : Bool) (cut : ℕ) (made : A) (r : Refusal)
-    → ((unless BadName a >>= λ _. (unless Exists b >>= λ _. unless (TooMany 64) c) >>= λ _. unless (TooMany 16) d >>= λ _. unless (WrongSize 0 cut) f >>= λ _. unless (TooMany entry_limit) g) >>= λ _. Ok made) ≡ Err r → refuses_fixed r ≡ true
-fixed_by {A = A} false b c d f g cut made r is = refused_by refuses_fixed {A = A} BadName r refl is
-fixed_by {A = A} true false c d f g cut made r is = refused_by refuses_fixed {A = A} Exists r refl is
-fixed_by {A = A} true true false d f g cut made r is = refused_by refuses_fixed {A = A} (TooMany 64) r refl is
-fixed_by {A = A} true true true false f g cut made r is = refused_by refuses_fixed {A = A} (TooMany 16) r refl is
-fixed_by {A = A} true true true true false g cut made r is = refused_by refuses_fixed {A = A} (WrongSize 0 cut) r refl is
-fixed_by {A = A} true true true true true false cut made r is = refused_by refuses_fixed {A = A} (TooMany entry_limit) r refl is
-fixed_by {A = A} true true true true true true cut made r is = cc
+fixed_by : (Q : Refusal → Type 0) (size cut : ℕ) → Each Q (Fixed size cut) → {A : Type 0} (a b c d f g : Bool) (made : A) (r : Refusal)
+    → ((unless BadName a >>= λ _. (unless Exists b >>= λ _. unless (TooMany 64) c) >>= λ _. unless (TooMany 16) d >>= λ _. unless (WrongSize 0 cut) f >>= λ _. unless (TooMany entry_limit) g) >>= λ _. Ok made) ≡ Err r → Q r
+fixed_by Q size cut each {A = A} false b c d f g made r is = refused_by Q {A = A} BadName r each.0 is
+fixed_by Q size cut each {A = A} true false c d f g made r is = refused_by Q {A = A} Exists r each.1 is
+fixed_by Q size cut each {A = A} true true false d f g made r is = refused_by Q {A = A} (TooMany 64) r each.2 is
+fixed_by Q size cut each {A = A} true true true false f g made r is = refused_by Q {A = A} (TooMany 16) r each.3 is
+fixed_by Q size cut each {A = A} true true true true false g made r is = refused_by Q {A = A} (WrongSize 0 cut) r each.4 is
+fixed_by Q size cut each {A = A} true true true true true false made r is = refused_by Q {A = A} (TooMany entry_limit) r each.5 is
+fixed_by Q size cut each {A = A} true true true true true true made r is = cc
 
-pub index_refusal : (kind : NewIndex) (w : sessions.Writing) (name : List ℕ) (moment : ℕ) (r : Refusal) → new_rows kind w name moment ≡ Err r → refuses_new kind r ≡ true
+index_by : (Q : Refusal → Type 0) (kind : NewIndex) (w : sessions.Writing) (name : List ℕ) (moment : ℕ) (r : Refusal) → Each Q kind → new_rows kind w name moment ≡ Err r → Q r
 unfolding rows.new_dynamic rows.new_fixed
-index_refusal Dynamic w name moment r is = dynamic_by _ _ _ _ _ r is
-index_refusal (Fixed size cut) w name moment r is = fixed_by _ _ _ _ _ _ cut _ r is
+index_by Q Dynamic w name moment r each is = dynamic_by Q each _ _ _ _ _ r is
+index_by Q (Fixed size cut) w name moment r each is = fixed_by Q size cut each _ _ _ _ _ _ _ r is
 
-pub refuses_any : (kind : NewIndex) (r : Refusal) → refuses_new kind r ≡ true → refuses_fixed r ≡ true
-refuses_any (Fixed size cut) r h = h
-refuses_any Dynamic r h = more r h
+index_refusal : (kind : NewIndex) (w : sessions.Writing) (name : List ℕ) (moment : ℕ) (r : Refusal) → new_rows kind w name moment ≡ Err r → refuses_new kind r ≡ true
+index_refusal kind w name moment r is = index_by (λ x. refuses_new kind x ≡ true) kind w name moment r (each kind) is
   where
-    more : (r : Refusal) → refuses_index r ≡ true → refuses_fixed r ≡ true
-    more (WrongState state) h = refl
-    more BadName h = refl
-    more Exists h = refl
-    more (TooMany limit) h = refl
-    more _ h = cc
+    each : (kind : NewIndex) → Each (λ x. refuses_new kind x ≡ true) kind
+    each Dynamic = (refl, refl, refl, refl)
+    each (Fixed size cut) = (refl, refl, refl, refl, refl, refl)
 
--- the reply to a refusal without a number
-pub plain_has_text : (r : Refusal) → refuses_fixed r ≡ true → ((limit : ℕ) → r ≡ TooMany limit → ⊥) → ((place size : ℕ) → r ≡ WrongSize place size → ⊥) → ReplyHasText (Refused r)
-plain_has_text (WrongState state) is many size = wrong_state_has_text state
-plain_has_text BadName is many size = bad_name_has_text
-plain_has_text Exists is many size = exists_has_text
-plain_has_text (TooMany limit) is many size = absurd (many limit refl)
-plain_has_text (WrongSize place found) is many size = absurd (size place found refl)
-plain_has_text _ is many size = cc
+-- the length of pieces fits its field
+abbrev pub FitsCut : NewIndex → Type 0
+FitsCut Dynamic = Unit {0}
+FitsCut (Fixed size cut) = cut < 2 ^ 64
 
--- a refusal is the step's, and leaves the session
-pub told_refused : (old new : sessions.Session) (step : Result (sessions.Writing × ℕ) Refusal) (told : Result ℕ Refusal) (r : Refusal) → Tells (λ n. n) settled old new step told → told ≡ Err r → (step ≡ Err r) × (new ≡ old)
-told_refused old new step told r h is = subst (Tells (λ n. n) settled old new step) is h
+HasText : Refusal → Type 0
+HasText r = ReplyHasText (Refused r)
+
+pub index_text : (kind : NewIndex) (w : sessions.Writing) (name : List ℕ) (moment : ℕ) (r : Refusal) → FitsCut kind → new_rows kind w name moment ≡ Err r → ReplyHasText (Refused r)
+unfolding HasText
+index_text kind w name moment r fits is = index_by HasText kind w name moment r (each kind fits) is
+  where
+    each : (kind : NewIndex) → FitsCut kind → Each HasText kind
+    each Dynamic fits = (bad_name_has_text, exists_has_text, too_many_has_text 64 (omega arith), too_many_has_text 16 (omega arith))
+    each (Fixed size cut) fits =
+        (bad_name_has_text, exists_has_text, too_many_has_text 64 (omega arith), too_many_has_text 16 (omega arith), wrong_size_has_text 0 cut (omega arith) fits, too_many_has_text entry_limit (omega arith))
+
+-- so has the stop that it becomes
+pub stop_text : (kind : NewIndex) (old new : sessions.Session) (name : List ℕ) (moment : ℕ) (told : Result ℕ Refusal) (r : Refusal) (result : Result ℕ Stop) → FitsCut kind → told ≡ Err r
+    → Tells (λ n. n) settled old new (new_rows kind old.writer name moment) told → IsErrAnd result (λ x. x ≡ stops.Refused r) → IfErr result StopHasText
+stop_text kind old new name moment told r (Ok n) fits was tells is = absurd is
+stop_text kind old new name moment told r (Err x) fits was tells is =
+    let refuses : (new_rows kind old.writer name moment ≡ Err r) × (new ≡ old) = subst (Tells (λ n. n) settled old new (new_rows kind old.writer name moment)) was tells in
+    subst StopHasText (sym is) (index_text kind old.writer name moment r fits refuses.0)
 
 -- ---- the session stays named
 
@@ -158,29 +172,98 @@ kept_begun w u v new after is key files left shows =
     let same : w.files ≡ shown_files v.key v.files = sym (ap (λ x. x.files) is) ∙ ap₂ (λ k fs. shown_files k fs) (sym key) (sym files) in
     ap₂ (λ a b. kept.Writer (record { session = a; files = b })) (left ∙ ap settled shows) same
 
-module _ (s : Store) (lane moment : ℕ) (kind : NewIndex) (name : List ℕ) (found : Session) (w : Writing) (new : sessions.Session) (told : Result ℕ Refusal) (sound : IsSound s) (at : found ≡ shown_session s.snapshots (session s lane)) (is : found ≡ kept.Writer w)
-    (plain : (v : Writer) → Shows (w.session).writer v → TellsPlainly (λ n. n) settled new (new_plain kind v name moment) told) where
-  pub step_refused : (r : Refusal) → told ≡ Err r → outcome s lane moment (new_command kind name) ≡ Err r
-  step_refused r told_is =
-      let f = writer_found s lane found w at is in
-      refused s lane moment kind name f.0 r f.1 (subst (TellsPlainly (λ n. n) settled new (new_plain kind f.0 name moment)) told_is (plain f.0 (shows_writer s w f.0 f.2 (sound.writers lane f.0 f.1))))
+-- ---- the session
 
-  pub step_begins : (n : ℕ) → moment ≤ last_moment → told ≡ Ok n → GoesOn s lane (kept.Writer (record w { session = new })) (outcome s lane moment (new_command kind name)) (Number n)
-  step_begins n in_time told_is =
-      let f = writer_found s lane found w at is in
-      let is_writer = sound.writers lane f.0 f.1 in
-      let t : LeavesShown settled new (new_plain kind f.0 name moment) n =
-      subst (TellsPlainly (λ n. n) settled new (new_plain kind f.0 name moment)) told_is (plain f.0 (shows_writer s w f.0 f.2 is_writer)) in
-      let begun : IsNew kind name moment f.0 t.plain = is_new kind name moment n f.0 t.plain t.stepped in
-      let key : (t.plain).key ≡ (f.0).key = ap (λ x. x.key) begun.same in
-      record {
-        before = f.0;
-        after = t.plain;
-        at = f.1;
-        step = begins s lane moment kind name f.0 t.plain n f.1 t.stepped;
-        shown = kept_begun w f.0 t.plain new t.after f.2 key (ap (λ x. x.files) begun.same) t.left (t.shows).same;
-        key = key;
-        base = ap (λ x. x.base) begun.same;
-        is_writer = is_writer_begun s kind f.0 t.plain name moment (uuid_length (f.0).key name) (moment_fits moment in_time) begun is_writer;
-        uploads = λ m. has_uploads_begun m kind f.0 t.plain name moment begun;
-      }
+module _ (moment : ℕ) (kind : NewIndex) (name : List ℕ) (found : Session) (w : Writing) (named : is_named found ≡ true) (is : found ≡ kept.Writer w) where
+  abbrev step_at : Store → ℕ → Outcome
+  step_at s lane = outcome s lane moment (new_command kind name)
+
+  abbrev Quietly : Session → Result Reply Stop → Type 0
+  Quietly new result = StepsQuietly found new step_at (answers_new kind) result
+
+  stops_at : (new : Session) (result : Result Reply Stop) (stop : Stop) → IsErrAnd result (λ x. x ≡ stop) → Quietly new (Err stop) → Quietly new result
+  stops_at new (Ok reply) stop ended p = absurd ended
+  stops_at new (Err x) stop ended p = subst (λ y. Quietly new (Err y)) (sym ended) p
+
+  -- the text is no file's name, or memory is wanting
+  pub begin_unnamed : (stop : Stop) (result : Result Reply Stop) → IsErrAnd result (λ x. x ≡ stop) → IsNoName name stop → Quietly (kept.Writer w) result
+  begin_unnamed stop result stopped bad = stops_at (kept.Writer w) result stop stopped (by_stop stop bad)
+    where
+      by_stop : (stop : Stop) → IsNoName name stop → Quietly (kept.Writer w) (Err stop)
+      by_stop (stops.Refused r) bad =
+          subst (λ x. Quietly (kept.Writer w) (Err (stops.Refused x))) (sym bad.0) (record {
+            text = bad_name_has_text;
+            answers = answers_name kind;
+            plain = tt;
+            named = sym (ap is_named is) ∙ named;
+            same = sym is;
+            step = λ s lane sound at. let f = writer_found s lane found w at is in refused s lane moment kind name f.0 BadName f.1 (bad_name kind f.0 name moment (not_index name bad.1));
+          })
+      by_stop stops.NoMemory bad = record { text = tt; answers = tt; plain = tt; named = sym (ap is_named is) ∙ named; same = sym is; step = tt }
+      by_stop stops.DiskFailed bad = absurd bad
+
+  module _ (new : sessions.Session) (result : Result ℕ Stop) (called : List ℕ) (called_is : called ≡ name)
+      (does_so : Does (λ n. n) settled w.session new (answer_of result) (new_rows kind (w.session).writer called moment)) (none : new.pending ≡ None)
+      (plain_so : (v : Writer) → Shows (w.session).writer v → MatchResult (answer_of result) (TellsPlainly (λ n. n) settled new (new_plain kind v called moment)) (λ _. Unit {0})) where
+    does : Does (λ n. n) settled w.session new (answer_of result) (new_rows kind (w.session).writer name moment)
+    does = subst (λ x. Does (λ n. n) settled w.session new (answer_of result) (new_rows kind (w.session).writer x moment)) called_is does_so
+
+    plain : (v : Writer) → Shows (w.session).writer v → MatchResult (answer_of result) (TellsPlainly (λ n. n) settled new (new_plain kind v name moment)) (λ _. Unit {0})
+    plain v shows = subst (λ x. MatchResult (answer_of result) (TellsPlainly (λ n. n) settled new (new_plain kind v x moment)) (λ _. Unit {0})) called_is (plain_so v shows)
+
+    abbrev left : Session
+    left = kept.Writer (record w { session = new })
+
+    left_named : is_named left ≡ true
+    left_named = named_begun kind found w new name moment (answer_of result) named is does none
+
+    pub begin_stopped : (stop : Stop) (ended : Result Reply Stop) → IsErrAnd ended (λ x. x ≡ stop) → result ≡ Err stop → StopHasText stop → (IsErrOf result DiskFailed → ⊥) → Quietly left ended
+    begin_stopped stop ended stopped was text uncalled = stops_at left ended stop stopped (by_stop stop was text)
+      where
+        by_stop : (stop : Stop) → result ≡ Err stop → StopHasText stop → Quietly left (Err stop)
+        by_stop (stops.Refused r) was text =
+            let refuses : (new_rows kind (w.session).writer name moment ≡ Err r) × (new ≡ w.session) =
+            subst (λ x. Does (λ n. n) settled w.session new (answer_of x) (new_rows kind (w.session).writer name moment)) was does in
+            record {
+              text = text;
+              answers = answers_refused kind r (index_refusal kind (w.session).writer name moment r refuses.0);
+              plain = tt;
+              named = left_named;
+              same = ap (λ x. let y : Writing = record w { session = x } in kept.Writer y) refuses.1 ∙ sym is;
+              step = λ s lane sound at.
+                  let f = writer_found s lane found w at is in
+                  refused s lane moment kind name f.0 r f.1
+                  (subst (λ x. MatchResult (answer_of x) (TellsPlainly (λ n. n) settled new (new_plain kind f.0 name moment)) (λ _. Unit {0})) was
+                  (plain f.0 (shows_writer s w f.0 f.2 (sound.writers lane f.0 f.1))));
+            }
+        by_stop stops.NoMemory was text =
+            let same : new ≡ w.session = subst (λ x. Does (λ n. n) settled w.session new (answer_of x) (new_rows kind (w.session).writer name moment)) was does in
+            record { text = tt; answers = tt; plain = tt; named = left_named; same = ap (λ x. let y : Writing = record w { session = x } in kept.Writer y) same ∙ sym is; step = tt }
+        by_stop stops.DiskFailed was text = absurd (uncalled was)
+
+    pub begin_done : (n : ℕ) → n < 256 → moment ≤ last_moment → result ≡ Ok n → Quietly left (Ok (Number n))
+    begin_done n fits in_time was = record {
+      text = number_has_text n fits;
+      answers = answers_number kind n;
+      plain = tt;
+      named = left_named;
+      same = tt;
+      step = λ s lane sound at.
+          let f = writer_found s lane found w at is in
+          let is_writer = sound.writers lane f.0 f.1 in
+          let t : LeavesShown settled new (new_plain kind f.0 name moment) n =
+          subst (λ x. MatchResult (answer_of x) (TellsPlainly (λ k. k) settled new (new_plain kind f.0 name moment)) (λ _. Unit {0})) was (plain f.0 (shows_writer s w f.0 f.2 is_writer)) in
+          let begun : IsNew kind name moment f.0 t.plain = is_new kind name moment n f.0 t.plain t.stepped in
+          let key : (t.plain).key ≡ (f.0).key = ap (λ x. x.key) begun.same in
+          record {
+            before = f.0;
+            after = t.plain;
+            at = f.1;
+            step = begins s lane moment kind name f.0 t.plain n f.1 t.stepped;
+            shown = kept_begun w f.0 t.plain new t.after f.2 key (ap (λ x. x.files) begun.same) t.left (t.shows).same;
+            key = key;
+            base = ap (λ x. x.base) begun.same;
+            is_writer = is_writer_begun s kind f.0 t.plain name moment (uuid_length (f.0).key name) (moment_fits moment in_time) begun is_writer;
+            uploads = λ m. has_uploads_begun m kind f.0 t.plain name moment begun;
+          };
+    }

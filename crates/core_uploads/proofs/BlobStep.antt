@@ -5,7 +5,7 @@ use Rattle.std.specs.List.{list_any}
 use Rattle.std.specs.Prelude.{nat_lt}
 use Rattle.std.specs.Str.{bytes_eq}
 use Rattle.store_types.specs.declared.refusal.Refusal.{Refusal}
-use Rattle.store_types.specs.declared.refusal.Refusal.TheVariants.{WrongState, BadName, Exists, TooMany}
+use Rattle.store_types.specs.declared.refusal.Refusal.TheVariants.{BadName, Exists, TooMany}
 use Rattle.store_types.specs.Chain.Refusing.{◌>>=◌, unless}
 use Rattle.store_types.specs.FileNames.{is_file_name, is_index_name, is_blob_name}
 use Rattle.store_files.specs.Archive.{blob}
@@ -16,11 +16,6 @@ use Rattle.store_model.specs.Uploads.{want_room}
 use Rattle.store_model.specs.WriterSteps.{checked_blob, with_file, goes_on}
 use Rattle.store_model.specs.WriterCalls as calls
 use Rattle.backup_session.specs.Answers.{takes_blob}
-use Rattle.core_state.specs.declared.kept.Session.{Session}
-use Rattle.core_state.specs.declared.kept.Session.TheVariants as kept
-use Rattle.core_state.specs.declared.kept.Writing.{Writing}
-use Rattle.core_state.specs.Shown.{shown_session, shown_writer}
-use Rattle.core_state.specs.States.{state_of}
 
 -- ---- what the tests gave
 
@@ -64,15 +59,9 @@ taken name contents w after is = taken_by name contents w after _ _ refl refl is
 -- ---- the step
 
 module _ (s : Store) (lane : ℕ) (name : List ℕ) (checked : Result (List ℕ) Refusal) where
-  not_writing_by : (x : model.Session) → session s lane ≡ x → ((w : Writing) → shown_session s.snapshots x ≡ kept.Writer w → ⊥) → checked_blob s lane name checked ≡ Err (WrongState (state_of (shown_session s.snapshots x)))
+  pub not_writing : (r : Refusal) → model.want_writer (session s lane) ≡ Err r → checked_blob s lane name checked ≡ Err r
   unfolding checked_blob
-  not_writing_by model.none at other = rw at refl
-  not_writing_by (model.writer w) at other = absurd (other (shown_writer w) refl)
-  not_writing_by (model.reader r) at other = rw at refl
-
-  pub not_writing : (found : Session) → found ≡ shown_session s.snapshots (session s lane) → ((w : Writing) → found ≡ kept.Writer w → ⊥) → checked_blob s lane name checked ≡ Err (WrongState (state_of found))
-  not_writing found is other =
-      not_writing_by (session s lane) refl (λ w e. other w (is ∙ e)) ∙ ap (λ x. Err (WrongState (state_of x))) (sym is)
+  not_writing r none = rw none refl
 
   pub bad_name : (w : Writer) → session s lane ≡ writer w → is_file_name name ≡ false → checked_blob s lane name checked ≡ Err BadName
   unfolding checked_blob

@@ -1,4 +1,5 @@
 -- CHUNK is refused, and done, as the store does it.
+use Rattle.disk_trait.specs.declared.disk.Disk.{Ghosts}
 use Rattle.std.proofs.Common.{◌≡◌, ◌↔◌, ◌⊎◌, inl, inr, ℕ, ◌<◌, ◌≤◌, Bool, true, false, cond, List, [], ◌∷◌, length, get_or, set, map, Option, Some, None, Result, Ok, Err, IsOk, IsSome, is_some, refl, sym, ap, subst, ◌∙◌, arith, nat_lt}
 use Rattle.std.specs.Option.{option_map}
 use Rattle.std.specs.List.{Contains}
@@ -9,10 +10,10 @@ use Rattle.std.proofs.lemmas.List.Elements.{All-nil, All-cons, All-append, All-c
 use Rattle.std.proofs.lemmas.Slice.Eq.{bytes_eq-Decides}
 use Rattle.sha2.specs.Sha256.{sha256}
 use Rattle.disk_trait.specs.Files.{Files}
-use Rattle.disk_trait.specs.Laws.{by_name, placed_same}
+use Rattle.disk_trait.specs.Laws.{by_name}
 use Rattle.store_types.specs.declared.names.Digest32.{Digest32}
 use Rattle.store_types.specs.declared.refusal.Refusal.{Refusal}
-use Rattle.store_types.specs.declared.refusal.Refusal.TheVariants.{BadBlob as BadBlobOf, WrongState, WrongSize, WrongDigest}
+use Rattle.store_types.specs.declared.refusal.Refusal.TheVariants.{BadBlob as BadBlobOf, WrongSize, WrongDigest}
 use Rattle.store_types.specs.declared.refusal.BadBlob.{BadBlob}
 use Rattle.store_types.specs.Chain.Refusing.{◌>>=◌, unless}
 use Rattle.store_types.specs.FileNames.{manifest_name}
@@ -24,7 +25,8 @@ use Rattle.store_files.specs.Archive.{Snapshot, digest_of, piece_with}
 use Rattle.wire_commands.specs.declared.reply.Reply.TheVariants.{Done}
 use Rattle.store_model.specs.Store as model
 use Rattle.store_model.specs.Store.{Begun, Store, Writer, writer, session, with_session}
-use Rattle.store_model.specs.Stands.{StandsFor, IsPiece, IsDigest, chunk_name}
+use Rattle.store_model.specs.Stands.{StandsFor}
+use Rattle.store_files.specs.Folder.{IsPiece, IsDigest, chunk_name}
 use Rattle.store_model.specs.WriterSteps.{goes_on, want_data}
 use Rattle.store_model.specs.WriterCalls as calls
 use Rattle.store_model.specs.ArchiveSteps.{check_chunk, checked_chunk}
@@ -34,18 +36,16 @@ use Rattle.store_history.specs.History.{sent_by}
 use Rattle.store_history.proofs.Checking.{checked_digest}
 use Rattle.chunk_store.specs.Pieces.{IsChunk, with_chunk}
 use Rattle.chunk_store.proofs.Blobs.{same_data}
-use Rattle.chunk_store.proofs.Maps.{with_absent, with_present, with_other, with_file, whole_with}
+use Rattle.file_install.proofs.InstallLaws.{installed_name}
+use Rattle.chunk_store.proofs.Maps.{with_absent, with_present, with_other_chunk, with_kept, with_file, whole_with}
 use Rattle.backup_session.specs.Session.{length_at}
 use Rattle.backup_session.specs.Shown.{known_of, pool_of}
 use Rattle.backup_session.proofs.Pools.{known_in-pool}
-use Rattle.core_state.specs.declared.kept.Session.{Session}
 use Rattle.core_state.specs.declared.kept.Session.TheVariants as kept
-use Rattle.core_state.specs.declared.kept.Writing.{Writing}
 use Rattle.core_state.specs.declared.parts.Parts.{Parts}
 use Rattle.core_state.specs.Chunks.{HasChunk, MayStand, AddsChunks}
 use Rattle.core_state.specs.Holds.{Holds, IsSound, IsWriter, IsOnDisk, HasUploads}
-use Rattle.core_state.specs.Shown.{shown_session, shown_writer}
-use Rattle.core_state.specs.States.{state_of}
+use Rattle.core_state.specs.Shown.{shown_writer}
 use Rattle.core_state.proofs.Chunks.{is_digest}
 use Rattle.core_state.proofs.Sessions.{changed, writers_same}
 use Rattle.core_state.proofs.LockLemmas.{locked_writes_on}
@@ -117,15 +117,9 @@ chunk_of digest bytes p h = (p, h.piece, h.text, h.digest_is)
 -- ---- the step
 
 module _ (s : Store) (lane : ℕ) (checked : Result (List ℕ) Refusal) where
-  not_writing_by : (x : model.Session) → session s lane ≡ x → ((w : Writing) → shown_session s.snapshots x ≡ kept.Writer w → ⊥) → checked_chunk s lane checked ≡ Err (WrongState (state_of (shown_session s.snapshots x)))
+  pub not_writing : (r : Refusal) → model.want_writer (session s lane) ≡ Err r → checked_chunk s lane checked ≡ Err r
   unfolding checked_chunk
-  not_writing_by model.none at other = rw at refl
-  not_writing_by (model.writer w) at other = absurd (other (shown_writer w) refl)
-  not_writing_by (model.reader r) at other = rw at refl
-
-  pub not_writing : (found : Session) → found ≡ shown_session s.snapshots (session s lane) → ((w : Writing) → found ≡ kept.Writer w → ⊥) → checked_chunk s lane checked ≡ Err (WrongState (state_of found))
-  not_writing found is other =
-      not_writing_by (session s lane) refl (λ w e. other w (is ∙ e)) ∙ ap (λ x. Err (WrongState (state_of x))) (sym is)
+  not_writing r none = rw none refl
 
   pub unchecked : (w : Writer) (r : Refusal) → session s lane ≡ writer w → checked ≡ Err r → checked_chunk s lane checked ≡ Err r
   unfolding checked_chunk
@@ -155,20 +149,12 @@ module _ (m : Files) (digest : Digest32) (bytes p : List ℕ) (is : IsSent diges
   named : IsDigest digest.0
   named = subst IsDigest is.digest_is (is_digest p)
 
-  -- what is there stays
-  stays : (q x : List ℕ) → get m q ≡ Some x → get (with_chunk digest.0 bytes m) q ≡ Some x
-  stays q x at = by_case (get m (chunk_name digest.0)) refl
-    where
-      by_case : (o : Option (List ℕ)) → get m (chunk_name digest.0) ≡ o → get (with_chunk digest.0 bytes m) q ≡ Some x
-      by_case None e = with_other m digest.0 bytes q (λ same. no_some x (sym e ∙ ap (get m) (sym same) ∙ at)) ∙ at
-      by_case (Some found) e = ap (λ f. get f q) (with_present m digest.0 bytes found e) ∙ at
-
   there : MayStand m digest (Ok p) → HasChunk (with_chunk digest.0 bytes m) p
   there may = ap (λ d. get (with_chunk digest.0 bytes m) (chunk_name d)) is.digest_is ∙ by_case (get m (chunk_name digest.0)) refl
     where
       by_case : (o : Option (List ℕ)) → get m (chunk_name digest.0) ≡ o → get (with_chunk digest.0 bytes m) (chunk_name digest.0) ≡ Some (blob p)
       by_case None e =
-          ap (λ f. get f (chunk_name digest.0)) (with_absent m digest.0 bytes e) ∙ placed_same m (chunk_name digest.0) (Some bytes) ∙ ap (λ b. Some b) is.text
+          ap (λ f. get f (chunk_name digest.0)) (with_absent m digest.0 bytes e) ∙ installed_name m (chunk_name digest.0) bytes ∙ ap (λ b. Some b) is.text
       by_case (Some found) e =
           ap (λ f. get f (chunk_name digest.0)) (with_present m digest.0 bytes found e) ∙ e ∙ ap (λ b. Some b) (may found e)
 
@@ -180,14 +166,14 @@ module _ (m : Files) (digest : Digest32) (bytes p : List ℕ) (is : IsSent diges
     manifests = λ key is_key. subst (λ o. IsSome o ↔ Contains (map (λ x. x.key) snapshots) key) (sym (with_file m digest.0 bytes key manifest_name)) (s.manifests key is_key);
     files = λ i d lt. λ j f lt2.
         let x = get_or snapshots i d in with_file m digest.0 bytes x.key (get_or x.files j f).name ∙ s.files i d lt j f lt2;
-    pieces = λ i d lt. λ j q lt2. stays _ _ (s.pieces i d lt j q lt2);
+    pieces = λ i d lt. λ j q lt2. with_kept m digest.0 bytes _ _ (s.pieces i d lt j q lt2);
     chunks = whole_with m digest.0 named bytes (chunk_of digest bytes p is) s.chunks;
   }
 
   uploads : (v : Writer) → HasUploads m v → HasUploads (with_chunk digest.0 bytes m) v
   uploads v h = record {
     files = λ i d lt other. with_file m digest.0 bytes v.key (get_or v.files i d).name ∙ h.files i d lt other;
-    pool = λ i d lt. stays _ _ (h.pool i d lt);
+    pool = λ i d lt. with_kept m digest.0 bytes _ _ (h.pool i d lt);
   }
 
   uploads_more : (w : Writer) → MayStand m digest (Ok p) → HasUploads m w → HasUploads (with_chunk digest.0 bytes m) (calls.chunk w p)
@@ -209,14 +195,14 @@ module _ (m : Files) (digest : Digest32) (bytes p : List ℕ) (is : IsSent diges
   -- no other chunk is put
   pub adds : AddsChunks m (with_chunk digest.0 bytes m) (Chunk digest (Ok bytes))
   adds q at = by_name (chunk_name (sha256 q)) (chunk_name digest.0) (HasChunk m q ⊎ Contains (sent_by (Chunk digest (Ok bytes))) q)
-      (λ e. by_case e (get m (chunk_name digest.0)) refl) (λ ne. inl (sym (with_other m digest.0 bytes (chunk_name (sha256 q)) ne) ∙ at))
+      (λ e. by_case e (get m (chunk_name digest.0)) refl) (λ ne. inl (sym (with_other_chunk m digest.0 bytes (sha256 q) ne) ∙ at))
     where
       sent_is : p ∷ [] ≡ sent_by (Chunk digest (Ok bytes))
       sent_is = ap (λ (r : Result (List ℕ) Refusal). elim r [ Ok piece ↦ piece ∷ [] | Err refusal ↦ [] ]) (sym is.data_is)
 
       by_case : chunk_name (sha256 q) ≡ chunk_name digest.0 → (o : Option (List ℕ)) → get m (chunk_name digest.0) ≡ o → HasChunk m q ⊎ Contains (sent_by (Chunk digest (Ok bytes))) q
       by_case e None none =
-          let put : Some bytes ≡ Some (blob q) = sym (placed_same m (chunk_name digest.0) (Some bytes)) ∙ ap (λ f. get f (chunk_name digest.0)) (sym (with_absent m digest.0 bytes none))
+          let put : Some bytes ≡ Some (blob q) = sym (installed_name m (chunk_name digest.0) bytes) ∙ ap (λ f. get f (chunk_name digest.0)) (sym (with_absent m digest.0 bytes none))
           ∙ ap (get (with_chunk digest.0 bytes m)) (sym e) ∙ at in
           let same : p ≡ q = same_data p q (sym is.text ∙ some_same bytes (blob q) put) in
           inr (subst (λ ps. Contains ps q) sent_is (0, omega arith, same))
@@ -245,11 +231,11 @@ known_there m w digest known h =
 
 -- ---- the act
 
-module _ {D : Type 0} (honest : D → Type 0) (content : D → Files) where
+module _ {D : Type 0} (d : Ghosts D) where
   pub holds_chunk : (old new : Parts D) (s : Store) (lane : ℕ) (w : Writer) (digest : Digest32) (bytes p : List ℕ) → lane < 64 → session s lane ≡ writer w → IsSent digest bytes p
-      → (honest old.disk ↔ honest new.disk) → (honest old.disk → content new.disk ≡ with_chunk digest.0 bytes (content old.disk)) → new.catalogue.items ≡ old.catalogue.items
-      → new.sessions.items ≡ set old.sessions.items lane (kept.Writer (shown_writer (calls.chunk w p))) → new.locks ≡ old.locks → MayStand (content old.disk) digest (Ok p)
-      → Holds honest content old s → Holds honest content new (with_session s lane (writer (calls.chunk w p)))
+      → (d.honest old.disk ↔ d.honest new.disk) → (d.honest old.disk → d.content new.disk ≡ with_chunk digest.0 bytes (d.content old.disk)) → new.catalogue.items ≡ old.catalogue.items
+      → new.sessions.items ≡ set old.sessions.items lane (kept.Writer (shown_writer (calls.chunk w p))) → new.locks ≡ old.locks → MayStand (d.content old.disk) digest (Ok p)
+      → Holds d old s → Holds d new (with_session s lane (writer (calls.chunk w p)))
   holds_chunk old new s lane w digest bytes p lt at is serves now c l k may h =
       let within : lane < length s.sessions = omega (arith, (h.shows).sound.lanes, lt) in
       let alone : IsAlone s lane (calls.chunk w p) = λ i v ne was same. ne ((h.shows).sound.apart i lane v w was at same) in
@@ -259,10 +245,10 @@ module _ {D : Type 0} (honest : D → Type 0) (content : D → Files) where
         shows = shows_changed old new s lane (writer (calls.chunk w p)) (kept.Writer (shown_writer (calls.chunk w p))) c l refl
             (locked_writes_on old.locks new.locks s lane w (calls.chunk w p) within k at refl refl (h.shows).locks) sound h.shows;
         files = subst (λ f. IsOnDisk f (with_session s lane (writer (calls.chunk w p)))) (sym (now h.honest))
-            (on_disk (content old.disk) digest bytes p is s lane w lt (h.shows).sound at may h.files);
+            (on_disk (d.content old.disk) digest bytes p is s lane w lt (h.shows).sound at may h.files);
       }
 
--- ---- the reply to a refused upload
+-- ---- a refused upload
 
 -- an empty piece
 pub empty_refused : (digest : Digest32) (r : Refusal) → IsCheckedChunk digest (Err r) → ((cause : BadBlob) → r ≡ BadBlobOf cause → ⊥) → ((found : Digest32) → r ≡ WrongDigest found → ⊥) → r ≡ WrongSize 0 0

@@ -1,8 +1,10 @@
 -- CHUNK is the store's, by what the core keeps: a chunk is noted and put, or known already, or nothing changes.
-use Rattle.std.proofs.Common.{◌≡◌, ◌↔◌, ℕ, ◌+◌, ◌-◌, ◌<◌, ◌≤◌, Bool, true, if◌then◌else◌, List, [], ◌∷◌, length, get_or, set, Some, Result, Ok, Err, OnOk, OnErr, is_some, refl, sym, ap, subst, ◌∙◌, arith, Fits, w8}
+use Rattle.disk_trait.specs.declared.disk.Disk.{Ghosts}
+use Rattle.std.proofs.Common.{◌≡◌, ◌↔◌, ℕ, ◌+◌, ◌-◌, ◌<◌, ◌≤◌, Bool, true, false, if◌then◌else◌, List, [], ◌∷◌, length, get_or, set, Option, Some, None, Result, Ok, Err, OnOk, OnErr, is_some, refl, sym, ap, subst, ◌∙◌, arith, Fits, w8}
 use Rattle.std.specs.FinMap.{get, put}
 use Rattle.std.proofs.lemmas.Bool.{and_parts, and_from}
-use Rattle.std.proofs.lemmas.List.{set-get_or, get_or_default}
+use Rattle.std.proofs.lemmas.List.{get_or_default}
+use Rattle.std.specs.List.{list_all}
 use Rattle.std.proofs.lemmas.List.Elements.{All-nil, All-cons, All-append, All-from_get_or}
 use Rattle.sha2.specs.Sha256.{sha256}
 use Rattle.disk_trait.specs.Files.{Files}
@@ -14,15 +16,14 @@ use Rattle.blob_codec.specs.Blob.{blob}
 use Rattle.blob_codec.specs.Laws.{AreBytes}
 use Rattle.wire_commands.specs.declared.reply.Reply.TheVariants.{Done}
 use Rattle.store_model.specs.Store.{Store, Writer, writer, session, with_session}
-use Rattle.store_model.specs.Steps.{answered}
-use Rattle.store_model.specs.Stands.{chunk_name}
+use Rattle.store_files.specs.Folder.{chunk_name}
 use Rattle.store_model.specs.WriterCalls as calls
 use Rattle.store_model.specs.ArchiveSteps.{checked_chunk}
 use Rattle.store_history.specs.declared.act.Act.TheVariants.{Chunk}
 use Rattle.store_history.specs.Acts.{IsCheckedChunk}
 use Rattle.store_history.specs.History.{data_in}
 use Rattle.chunk_store.specs.Pieces.{IsChunk, with_chunk}
-use Rattle.backup_session.specs.Session.{Pool, length_at, with_length, settled}
+use Rattle.backup_session.specs.Session.{Pool, IsPool, length_at, with_length, settled}
 use Rattle.backup_session.specs.Shown.{shown, pool_of}
 use Rattle.backup_session.proofs.Pools.{pool_of-more}
 use Rattle.core_state.specs.declared.kept.Session.{Session}
@@ -30,11 +31,19 @@ use Rattle.core_state.specs.declared.kept.Session.TheVariants as kept
 use Rattle.core_state.specs.declared.kept.Writing.{Writing}
 use Rattle.core_state.specs.declared.parts.Parts.{Parts}
 use Rattle.core_state.specs.Chunks.{HasChunk, MayStand, AddsChunks}
-use Rattle.core_state.specs.Holds.{HasUploads, Holds, Does}
+use Rattle.core_state.specs.Holds.{HasUploads, Holds, IsOnDisk, Shows}
+use Rattle.core_state.specs.Changes.{change_of, chunk_put, stays, stores}
+use Rattle.core_state.specs.Wanted.{session_at, want_writer}
+use Rattle.core_state.specs.declared.kept.Listed.{Listed}
+use Rattle.core_state.specs.declared.kept.Session.TheVariants.{Idle}
+use Rattle.core_state.proofs.Commanding.{is_writing}
+use Rattle.core_state.proofs.LockLemmas.{locked_writes_on}
+use Rattle.core_state.proofs.Soundness.{IsAlone, disk_writer, shows_changed, sound_writer}
 use Rattle.core_state.specs.Named.{has_text, is_named}
 use Rattle.core_state.specs.Shown.{shown_writer, shown_files}
-use Rattle.core_uploads.specs.Noted.{noted, with_noted}
-use Rattle.core_uploads.proofs.ArchiveLemmas.{does_go_on}
+use Rattle.core_uploads.specs.Noted.{MayNote, noted, with_noted}
+use Rattle.core_uploads.proofs.ArchiveLemmas.{settled_at}
+use Rattle.core_uploads.proofs.KeepLemmas.{found_stays, found_writer}
 use Rattle.core_uploads.proofs.ChunkLemmas.{IsRead, IsSent, read, sent, chunk_of, is_writer_more, done, adds, known_there, holds_chunk}
 
 -- ---- how long a piece is
@@ -68,14 +77,6 @@ is_sent digest bytes fits h =
     chunk_of digest bytes p (sent digest bytes p are h is)
 
 -- ---- the session
-
--- setting back what was found changes nothing
-set_back : (items : List Session) (lane : ℕ) (found : Session) → found ≡ get_or items lane found → set items lane found ≡ items
-set_back items lane found is = ap (set items lane) is ∙ set-get_or items lane found
-
--- what is found twice is the same
-pub found_again : (items : List Session) (lane : ℕ) (found again : Session) → lane < length items → found ≡ get_or items lane found → again ≡ get_or items lane again → again ≡ found
-found_again items lane found again within at at2 = at2 ∙ get_or_default items lane again found within ∙ sym at
 
 named_noted : (digest : List ℕ) (len : ℕ) (x : Session) → is_named x ≡ true → is_named (with_noted digest len x) ≡ true
 named_noted digest len kept.Idle h = h
@@ -128,14 +129,39 @@ uploads_known m v digest p is known may h =
     let there : HasChunk m p = ap (λ d. get m (chunk_name d)) is ∙ at ∙ ap (λ t. Some t) (may (blob q) at) in
     record { files = h.files; pool = All-append (HasChunk m) v.pool (p ∷ []) h.pool (All-cons (HasChunk m) p [] there (All-nil (HasChunk m))) }
 
-module _ {D : Type 0} (honest : D → Type 0) (content : D → Files) where
+-- what the session has to have for its writer to note it
+pub may_note : (digest : List ℕ) (items : List Session) (lane : ℕ) (found : Session) (w : Writing) (known : Bool) → list_all is_named items ≡ true → lane < length items → found ≡ get_or items lane found → want_writer (get_or items lane Idle) ≡ Ok w
+    → known ≡ is_some (length_at ((w.session).writer).pool digest) → known ≡ false → IsPool ((w.session).writer).pool → MayNote digest found
+may_note digest items lane found w known named lt at wants value unknown pool =
+    let is = found_writer items lane found w lt at wants in
+    subst (MayNote digest) (sym is) (record {
+      settled = settled_at items lane found w named lt at is;
+      pool = pool;
+      unknown = none_is (length_at ((w.session).writer).pool digest) (sym value ∙ unknown);
+    })
+  where
+    none_is : (o : Option ℕ) → is_some o ≡ false → o ≡ None
+    none_is None e = refl
+    none_is (Some n) e = cc
+
+-- the change of an act that puts a chunk, or of one that knows it
+pub chunk_change : (x : Session) (w : Writing) (digest : Digest32) (checked : Result (List ℕ) Refusal) (bytes : List ℕ) (known : Bool) (catalogue : List Listed) → x ≡ kept.Writer w → checked ≡ Ok bytes
+    → known ≡ is_some (length_at ((w.session).writer).pool digest.0) → change_of (Chunk digest checked) x catalogue ≡ (if known then stays else stores (chunk_name digest.0) bytes)
+chunk_change x w digest checked bytes known catalogue is was value =
+    ap (λ y. change_of (Chunk digest checked) y catalogue) is ∙ ap (λ k. chunk_put digest k w) was ∙ ap (λ b. if b then stays else stores (chunk_name digest.0) bytes) (sym value)
+
+module _ {D : Type 0} (g : Ghosts D) where
+  -- what the plain store has afterwards
+  abbrev Reaches : Parts D → Store → ℕ → Result (List ℕ) Refusal → Type 0
+  Reaches new s lane checked = (after : Store) × (checked_chunk s lane (data_in checked) ≡ Ok (after, Done)) × Shows new after × IsOnDisk (g.content new.disk) after
+
   -- a chunk that was noted and put
-  pub does_taken : (old new : Parts D) (s : Store) (lane : ℕ) (v : Writer) (w : Writing) (x y : Session) (digest : Digest32) (checked : Result (List ℕ) Refusal) (bytes : List ℕ)
+  pub takes : (old new : Parts D) (s : Store) (lane : ℕ) (v : Writer) (w : Writing) (x y : Session) (digest : Digest32) (checked : Result (List ℕ) Refusal) (bytes : List ℕ)
       → lane < 64 → session s lane ≡ writer v → shown_writer v ≡ w → x ≡ kept.Writer w → y ≡ with_noted digest.0 (length bytes - 12) x → AreBytes bytes → checked ≡ Ok bytes → IsCheckedChunk digest checked
-      → (honest old.disk ↔ honest new.disk) → (honest old.disk → content new.disk ≡ with_chunk digest.0 bytes (content old.disk)) → new.catalogue.items ≡ old.catalogue.items
-      → new.sessions.items ≡ set old.sessions.items lane y → new.locks ≡ old.locks → MayStand (content old.disk) digest (data_in checked)
-      → Holds honest content old s → Does honest content new s (answered s (checked_chunk s lane (data_in checked))) (Ok Done)
-  does_taken old new s lane v w x y digest checked bytes lt at shows x_is y_is are was h serves now c l k may holds =
+      → (g.honest old.disk ↔ g.honest new.disk) → (g.honest old.disk → g.content new.disk ≡ with_chunk digest.0 bytes (g.content old.disk)) → new.catalogue.items ≡ old.catalogue.items
+      → new.sessions.items ≡ set old.sessions.items lane y → new.locks ≡ old.locks → MayStand (g.content old.disk) digest (data_in checked)
+      → Holds g old s → Reaches new s lane checked
+  takes old new s lane v w x y digest checked bytes lt at shows x_is y_is are was h serves now c l k may holds =
       let ok : IsCheckedChunk digest (Ok bytes) = subst (IsCheckedChunk digest) was h in
       let (p, read_is) = read digest bytes ok in
       let is = sent digest bytes p are ok read_is in
@@ -143,31 +169,41 @@ module _ {D : Type 0} (honest : D → Type 0) (content : D → Files) where
       y_is ∙ ap (with_noted digest.0 (length bytes - 12)) (x_is ∙ ap (λ u. kept.Writer u) (sym shows))
       ∙ ap (λ n. kept.Writer (noted (shown_writer v) digest.0 n)) (piece_size digest bytes p is)
       ∙ ap (λ d. kept.Writer (noted (shown_writer v) d (length p))) (sym is.digest_is) ∙ ap (λ u. kept.Writer u) (shown_noted v p) in
-      let after = holds_chunk honest content old new s lane v digest bytes p lt at is serves now c (l ∙ ap (set old.sessions.items lane) kept_is) k (may_put (content old.disk) digest checked bytes p read_is was may) holds in
-      let does : Does honest content new s (with_session s lane (writer (calls.chunk v p)), Done) (Ok Done) = (refl, after) in
-      subst (λ o. Does honest content new s (answered s o) (Ok Done)) (sym (step_done s lane v digest checked bytes p at read_is was)) does
+      let after = holds_chunk g old new s lane v digest bytes p lt at is serves now c (l ∙ ap (set old.sessions.items lane) kept_is) k (may_put (g.content old.disk) digest checked bytes p read_is was may) holds in
+      (with_session s lane (writer (calls.chunk v p)), step_done s lane v digest checked bytes p at read_is was, after.shows, after.files)
 
   -- a chunk that is known
-  pub does_known : (old new : Parts D) (s : Store) (lane : ℕ) (v : Writer) (w : Writing) (x : Session) (digest : Digest32) (checked : Result (List ℕ) Refusal) (bytes : List ℕ) (known : Bool)
-      → lane < 64 → session s lane ≡ writer v → shown_writer v ≡ w → x ≡ get_or old.sessions.items lane x → x ≡ kept.Writer w → checked ≡ Ok bytes → IsCheckedChunk digest checked
-      → known ≡ is_some (length_at ((w.session).writer).pool digest.0) → known ≡ true → MayStand (content old.disk) digest (data_in checked)
-      → new.disk ≡ old.disk → new.catalogue.items ≡ old.catalogue.items → new.sessions.items ≡ old.sessions.items → new.locks ≡ old.locks
-      → Holds honest content old s → Does honest content new s (answered s (checked_chunk s lane (data_in checked))) (Ok Done)
-  does_known old new s lane v w x digest checked bytes known lt at shows x_at x_is was h value there may d c l k holds =
+  pub knows : (parts : Parts D) (s : Store) (lane : ℕ) (v : Writer) (w : Writing) (digest : Digest32) (checked : Result (List ℕ) Refusal) (bytes : List ℕ) (known : Bool)
+      → lane < 64 → session s lane ≡ writer v → shown_writer v ≡ w → want_writer (session_at parts lane) ≡ Ok w → checked ≡ Ok bytes → IsCheckedChunk digest checked
+      → known ≡ is_some (length_at ((w.session).writer).pool digest.0) → known ≡ true → MayStand (g.content parts.disk) digest (data_in checked)
+      → Holds g parts s → Reaches parts s lane checked
+  knows parts s lane v w digest checked bytes known lt at shows wants was h value there may holds =
       let (p, is) = read digest bytes (subst (IsCheckedChunk digest) was h) in
+      let within : lane < length parts.sessions.items = omega (arith, parts.lanes, parts.sessions.ok.0, lt) in
+      let x = session_at parts lane in
+      let x_is = is_writing x w wants in
       let pool : ((w.session).writer).pool ≡ pool_of v.pool = ap (λ u. ((u.session).writer).pool) (sym shows) ∙ pool_shown v in
-      let knows : is_some (length_at (pool_of v.pool) digest.0) ≡ true = ap (λ ps. is_some (length_at ps digest.0)) (sym pool) ∙ sym value ∙ there in
+      let known_is : is_some (length_at (pool_of v.pool) digest.0) ≡ true = ap (λ ps. is_some (length_at ps digest.0)) (sym pool) ∙ sym value ∙ there in
       let same : x ≡ kept.Writer (shown_writer (calls.chunk v p)) =
-      x_is ∙ ap (λ u. kept.Writer u) (sym shows ∙ sym (shown_known v p (ap (λ d. is_some (length_at (pool_of v.pool) d)) is.digest_is ∙ knows))) in
-      let uploads = uploads_known (content old.disk) v digest p is.digest_is knows (may_put (content old.disk) digest checked bytes p is was may) (holds.files.writers lane v at) in
-      does_go_on honest content old new s lane v (calls.chunk v p) x _ Done lt at refl refl (is_writer_more s v p is.piece ((holds.shows).sound.writers lane v at)) uploads
-      d c (l ∙ sym (set_back old.sessions.items lane x x_at)) k same (step_done s lane v digest checked bytes p at is was) holds
+      x_is ∙ ap (λ u. kept.Writer u) (sym shows ∙ sym (shown_known v p (ap (λ d. is_some (length_at (pool_of v.pool) d)) is.digest_is ∙ known_is))) in
+      let uploads = uploads_known (g.content parts.disk) v digest p is.digest_is known_is (may_put (g.content parts.disk) digest checked bytes p is was may) (holds.files.writers lane v at) in
+      let more = is_writer_more s v p is.piece ((holds.shows).sound.writers lane v at) in
+      let set_back : set parts.sessions.items lane x ≡ parts.sessions.items = found_stays parts.sessions.items lane x (sym (get_or_default parts.sessions.items lane x Idle within)) in
+      let sound = (holds.shows).sound in
+      let l : lane < length s.sessions = omega (arith, sound.lanes, lt) in
+      let alone : IsAlone s lane (calls.chunk v p) = λ i u ne was same. ne (sound.apart i lane u v was at same) in (
+        with_session s lane (writer (calls.chunk v p)),
+        step_done s lane v digest checked bytes p at is was,
+        shows_changed parts parts s lane (writer (calls.chunk v p)) x refl (sym set_back) same (locked_writes_on parts.locks parts.locks s lane v (calls.chunk v p) l refl at refl refl (holds.shows).locks)
+            (sound_writer s lane (calls.chunk v p) lt more alone sound) holds.shows,
+        disk_writer (g.content parts.disk) s lane (calls.chunk v p) l uploads holds.files,
+      )
 
   -- no other chunk was put
   pub adds_taken : (old : Parts D) (disk : D) (digest : Digest32) (checked : Result (List ℕ) Refusal) (bytes : List ℕ) → AreBytes bytes → checked ≡ Ok bytes → IsCheckedChunk digest checked
-      → (honest old.disk → content disk ≡ with_chunk digest.0 bytes (content old.disk)) → (s : Store) → Holds honest content old s → AddsChunks (content old.disk) (content disk) (Chunk digest checked)
+      → (g.honest old.disk → g.content disk ≡ with_chunk digest.0 bytes (g.content old.disk)) → (s : Store) → Holds g old s → AddsChunks (g.content old.disk) (g.content disk) (Chunk digest checked)
   adds_taken old disk digest checked bytes are was h now s holds =
       let ok : IsCheckedChunk digest (Ok bytes) = subst (IsCheckedChunk digest) was h in
       let (p, is) = read digest bytes ok in
-      subst (λ k. AddsChunks (content old.disk) (content disk) (Chunk digest k)) (sym was)
-      (subst (λ m. AddsChunks (content old.disk) m (Chunk digest (Ok bytes))) (sym (now holds.honest)) (adds (content old.disk) digest bytes p (sent digest bytes p are ok is)))
+      subst (λ k. AddsChunks (g.content old.disk) (g.content disk) (Chunk digest k)) (sym was)
+      (subst (λ m. AddsChunks (g.content old.disk) m (Chunk digest (Ok bytes))) (sym (now holds.honest)) (adds (g.content old.disk) digest bytes p (sent digest bytes p are ok is)))

@@ -1,14 +1,12 @@
 -- CLOSE_INDEX is the store's: the open archive becomes a file.
-use Rattle.std.proofs.Common.{◌≡◌, ◌↔◌, ◌+◌, ◌<◌, ℕ, Bool, true, false, not, ◌||◌, cond, length, get_or, set, map, List, [], ◌∷◌, Option, Some, None, Result, Ok, Err, nat_le, refl, sym, ap, subst, ◌∙◌, arith}
+use Rattle.std.proofs.Common.{◌≡◌, ◌+◌, ℕ, Bool, true, false, not, ◌||◌, cond, length, get_or, map, List, [], ◌∷◌, Option, Some, None, Result, Ok, Err, IfErr, IsErrAnd, IsErrOf, nat_le, refl, sym, ap, subst, ◌∙◌, arith}
 use Rattle.std.proofs.lemmas.Bool.{and_parts, and_from, or_parts}
 use Rattle.std.proofs.lemmas.List.Elements.{All-cons, All-head, All-tail, All-contains, All-weaker}
 use Rattle.std.specs.List.{All, AllByRecursion, Contains, find, list_any}
 use Rattle.std.specs.Option.{option_map}
 use Rattle.std.specs.Prelude.{◌==◌}
 use Rattle.std.specs.Str.{bytes_eq}
-use Rattle.disk_trait.specs.Files.{Files}
 use Rattle.store_types.specs.declared.names.Digest32.{Digest32}
-use Rattle.store_types.specs.declared.names.SnapshotKey.{SnapshotKey}
 use Rattle.store_types.specs.declared.refusal.CloseFault.{CloseFault}
 use Rattle.store_types.specs.declared.refusal.CloseFault.TheVariants.{Count, Size, Csum, Rest}
 use Rattle.store_types.specs.declared.refusal.Refusal.{Refusal}
@@ -16,35 +14,43 @@ use Rattle.store_types.specs.declared.refusal.Refusal.TheVariants.{WrongState, N
 use Rattle.store_types.specs.Chain.Refusing.{◌>>=◌, unless, or_else}
 use Rattle.store_files.specs.Archive.{Layout, dynamic, fixed, Archive, archive, File, archive_text, file_text, content_of, csum_by}
 use Rattle.wire_commands.specs.declared.command.Command.TheVariants.{CloseIndex}
-use Rattle.wire_commands.specs.declared.reply.Reply.TheVariants.{Done}
+use Rattle.wire_commands.specs.declared.reply.Reply.TheVariants.{Done, Refused}
 use Rattle.store_model.specs.Store as model
 use Rattle.store_model.specs.Store.{Begun, Store, Writer, writer, session, with_session}
 use Rattle.store_model.specs.Archives.{without_first, want_facts, want_size}
 use Rattle.store_model.specs.ArchiveSteps as steps
-use Rattle.store_model.specs.Stands.{IsPiece}
-use Rattle.store_model.specs.Steps.{outcome, answered}
-use Rattle.store_model.specs.Uploads.{file_path}
+use Rattle.store_files.specs.Folder.{IsPiece}
+use Rattle.store_model.specs.Steps.{outcome}
+use Rattle.store_files.specs.Folder.{file_path}
 use Rattle.store_model.specs.WriterCalls as calls
 use Rattle.store_model.specs.WriterSteps.{goes_on}
-use Rattle.backup_session.specs.Answers.{LeavesShown}
+use Rattle.wire_commands.specs.HasText.{FitsRefusal, ReplyHasText}
+use Rattle.backup_session.specs.Answers.{Does, DoesPlainly, Leaves, LeavesShown, Tells}
 use Rattle.backup_session.specs.Indexes.{layout_of, count_of, end_of, csum_of, text_of as text_of_index}
 use Rattle.backup_session.specs.Session as sessions
-use Rattle.backup_session.specs.Session.{held, kept}
-use Rattle.backup_session.specs.Shown.{shown, shown_begun}
+use Rattle.backup_session.specs.Session.{held}
+use Rattle.backup_session.specs.Shown.{Shows, shown, shown_begun}
 use Rattle.backup_session.specs.Steps as rows
 use Rattle.core_state.specs.declared.kept.Session.{Session}
 use Rattle.core_state.specs.declared.kept.Session.TheVariants as states
 use Rattle.core_state.specs.declared.kept.StoredFile.{StoredFile}
 use Rattle.core_state.specs.declared.kept.Writing.{Writing}
-use Rattle.core_state.specs.declared.parts.Parts.{Parts}
-use Rattle.core_state.specs.Holds.{IsBegun, has_named, names_differ, IsWriter, Holds, Does}
-use Rattle.core_state.specs.Replies.{refuses_closing}
-use Rattle.core_state.specs.Shown.{shown_session, shown_writer}
-use Rattle.core_state.specs.States.{state_of}
-use Rattle.core_uploads.specs.Uploaded.{insert_stored, with_put}
+use Rattle.core_state.specs.declared.stop.Stop.{Stop}
+use Rattle.core_state.specs.declared.stop.Stop.TheVariants as stops
+use Rattle.core_state.specs.Changes.{file_put, index_put}
+use Rattle.core_state.specs.Holds.{IsBegun, has_named, names_differ, IsWriter}
+use Rattle.core_state.specs.Named.{is_named}
+use Rattle.core_state.specs.Replies.{answers_closing, refuses_closing}
+use Rattle.core_state.specs.Stops.{StopHasText}
+use Rattle.core_state.proofs.Sessions.{writer_found}
+use Rattle.core_state.proofs.Texts.{bad_close_has_text, no_file_has_text, wrong_state_has_text}
+use Rattle.core_state.specs.Shown.{shown_writer}
 use Rattle.core_uploads.proofs.ArchiveFits.{fits_closed}
-use Rattle.core_uploads.proofs.GrownLemmas.{MayAdd, grown, has_named-insert, unlike, none_named}
-use Rattle.core_uploads.proofs.KeepLemmas.{does_grow}
+use Rattle.core_uploads.specs.Pending.{MakesPending, MayAdd, grown}
+use Rattle.core_uploads.specs.Stepped.{answer_of}
+use Rattle.core_uploads.specs.declared.files.NewFile.{NewFile}
+use Rattle.core_uploads.proofs.GrownLemmas.{has_named-insert, unlike, none_named}
+use Rattle.core_uploads.proofs.KeepLemmas.{held_same, shows_found}
 
 -- ---- an archive that is taken out
 
@@ -128,9 +134,9 @@ index_file b = record { name = b.name; content = archive b.archive }
 abbrev pub left_open : ℕ → Writer → List Begun
 left_open number w = without_first (calls.has_number number) w.begun
 
-text_is : (a : Archive) → archive_text a ≡ file_text (archive a)
+text_is_of : (a : Archive) → archive_text a ≡ file_text (archive a)
 unfolding file_text
-text_is a = refl
+text_is_of a = refl
 
 close_may_add : (s : Store) (w : Writer) (number : ℕ) (b : Begun) → IsWriter s.snapshots w → calls.begun_at number w ≡ Some b → want_size (b.archive).layout (length (content_of b.archive)) ≡ Ok tt → MayAdd w (index_file b) (left_open number w)
 close_may_add s w number b h found full =
@@ -204,15 +210,9 @@ module _ (number count size : ℕ) (csum : Digest32) (w : Writer) where
 -- ---- the step
 
 module _ (s : Store) (lane moment number count size : ℕ) (csum : Digest32) where
-  not_writing_by : (x : model.Session) → session s lane ≡ x → ((w : Writing) → shown_session s.snapshots x ≡ states.Writer w → ⊥) → outcome s lane moment (CloseIndex number count size csum) ≡ Err (WrongState (state_of (shown_session s.snapshots x)))
+  pub not_writing : (r : Refusal) → model.want_writer (session s lane) ≡ Err r → outcome s lane moment (CloseIndex number count size csum) ≡ Err r
   unfolding outcome steps.close_index
-  not_writing_by model.none at other = rw at refl
-  not_writing_by (writer w) at other = absurd (other (shown_writer w) refl)
-  not_writing_by (model.reader r) at other = rw at refl
-
-  pub not_writing : (found : Session) → found ≡ shown_session s.snapshots (session s lane) → ((w : Writing) → found ≡ states.Writer w → ⊥) → outcome s lane moment (CloseIndex number count size csum) ≡ Err (WrongState (state_of found))
-  not_writing found is other =
-      not_writing_by (session s lane) refl (λ w e. other w (is ∙ e)) ∙ ap (λ x. Err (WrongState (state_of x))) (sym is)
+  not_writing r none = rw none refl
 
   pub refused : (w : Writer) (r : Refusal) → session s lane ≡ writer w → calls.close_index w number count size csum ≡ Err r → outcome s lane moment (CloseIndex number count size csum) ≡ Err r
   unfolding outcome steps.close_index
@@ -310,20 +310,136 @@ module _ (number count size : ℕ) (csum : Digest32) (w : sessions.Writing) wher
   unfolding rows.close_index
   key_stays after text is = key_by (rows.begun_at number w) (λ b. rows.want_close b.index count size csum) (λ b. (record w { begun = without_first (rows.has_number number) w.begun; files = rows.insert_fact (rows.fact_of b) w.files }, text_of_index b.index)) after text (λ b. refl) is
 
--- ---- the act
+-- ---- the session
 
-module _ {D : Type 0} (honest : D → Type 0) (content : D → Files) where
-  pub does_close : (old new : Parts D) (s : Store) (lane moment number count size : ℕ) (csum : Digest32) (w : Writer) (found : Writing) (file : StoredFile) (key : SnapshotKey) (name : List ℕ) (mid left : sessions.Session) (files : List StoredFile) (text : List ℕ)
-      → lane < 64 → session s lane ≡ writer w → shown_writer w ≡ found → Some name ≡ option_map (λ b. b.name) (rows.begun_at number (found.session).writer)
-      → LeavesShown (held (found.session).writer) mid (calls.close_index w number count size csum) text
-      → key ≡ ((found.session).writer).key → file.name ≡ name → file.path ≡ file_path key name → left ≡ kept mid → files ≡ insert_stored file found.files
-      → (honest old.disk ↔ honest new.disk) → (honest old.disk → content new.disk ≡ with_put file text (content old.disk))
-      → new.catalogue.items ≡ old.catalogue.items → new.sessions.items ≡ set old.sessions.items lane (states.Writer (record { session = left; files = files })) → new.locks ≡ old.locks
-      → Holds honest content old s → Does honest content new s (answered s (outcome s lane moment (CloseIndex number count size csum))) (Ok Done)
-  does_close old new s lane moment number count size csum w found file key name mid left files text lt at is named leaves key_is name_is path left_is files_is served placed c l k h =
-      let closed = is_closed number count size csum w leaves.plain text leaves.stepped in
-      let same = name_at number w found name closed.b is named closed.found in
-      let may = close_may_add s w number closed.b (((h.shows).sound).writers lane w at) closed.found closed.full in
-      let step = closes s lane moment number count size csum w leaves.plain text at leaves.stepped ∙ ap (λ v. Ok (with_session s lane (writer v), Done)) closed.same in
-      does_grow honest content old new s lane w leaves.plain (index_file closed.b) (left_open number w) found file key leaves.after mid left files text _ lt at is may closed.same (closed.text_is ∙ text_is (closed.b).archive)
-      leaves.left leaves.shows key_is (name_is ∙ same) (path ∙ ap (file_path key) same) left_is files_is served placed c l k step h
+refused_text : (r : Refusal) → refuses_closing r ≡ true → FitsRefusal r → ReplyHasText (Refused r)
+refused_text (WrongState state) is fits = wrong_state_has_text state
+refused_text NoFile is fits = no_file_has_text
+refused_text (BadClose fault) is fits = bad_close_has_text fault fits
+refused_text _ is fits = cc
+
+-- a stop by the call has a spelling
+pub stop_text : (number count size : ℕ) (csum : Digest32) {A : Type 0} (show : A → List ℕ) (old new : sessions.Session) (told : Result A Refusal) (r : Refusal) (result : Result A Stop) → told ≡ Err r
+    → Tells show (held old.writer) old new (rows.close_index old.writer number count size csum) told → FitsRefusal r → IsErrAnd result (λ x. x ≡ stops.Refused r) → IfErr result StopHasText
+stop_text number count size csum show old new told r (Ok x) was tells fits is = absurd is
+stop_text number count size csum show old new told r (Err x) was tells fits is =
+    let refuses : (rows.close_index old.writer number count size csum ≡ Err r) × (new ≡ old) = subst (Tells show (held old.writer) old new (rows.close_index old.writer number count size csum)) was tells in
+    subst StopHasText (sym is) (refused_text r (closing_refuses number count size csum old.writer r refuses.0) fits)
+
+module _ (moment number count size : ℕ) (csum : Digest32) (found : Session) (w : Writing) (named : is_named found ≡ true) (is : found ≡ states.Writer w) where
+  abbrev Makes : Session → Result NewFile Stop → Type 0
+  Makes new result = MakesPending found new (λ s lane. outcome s lane moment (CloseIndex number count size csum)) answers_closing (λ x. index_put (rows.begun_at number (x.session).writer) x) result
+
+  stops_at : (new : Session) (result : Result NewFile Stop) (stop : Stop) → IsErrAnd result (λ x. x ≡ stop) → Makes new (Err stop) → Makes new result
+  stops_at new (Ok n) stop ended p = absurd ended
+  stops_at new (Err x) stop ended p = subst (λ y. Makes new (Err y)) (sym ended) p
+
+  -- memory was wanting
+  pub index_short : (result : Result NewFile Stop) → IsErrAnd result (λ x. x ≡ stops.NoMemory) → Makes (states.Writer w) result
+  index_short result ended = stops_at (states.Writer w) result stops.NoMemory ended (record { text = tt; answers = tt; same = sym is; change = tt; pending = tt })
+
+  -- no index of the number is open
+  pub index_none : (r : Refusal) (result : Result NewFile Stop) → IsErrAnd result (λ x. x ≡ stops.Refused r) → r ≡ NoFile → option_map (λ b. b.name) (rows.begun_at number (w.session).writer) ≡ None → Makes (states.Writer w) result
+  index_none r result ended r_is none = stops_at (states.Writer w) result (stops.Refused r) ended (subst (λ x. Makes (states.Writer w) (Err (stops.Refused x))) (sym r_is) (record {
+    text = no_file_has_text;
+    answers = refl;
+    same = sym is;
+    change = tt;
+    pending = λ s lane sound at. let f = writer_found s lane found w at is in none_at s lane moment number count size csum f.0 w f.1 f.2 none;
+  }))
+
+  module _ {A : Type 0} (show : A → List ℕ) (new : sessions.Session) (closed : Result A Stop)
+      (does : Does show (held (w.session).writer) w.session new (answer_of closed) (rows.close_index (w.session).writer number count size csum))
+      (plain : DoesPlainly show (held (w.session).writer) w.session new (answer_of closed) (λ v. calls.close_index v number count size csum)) where
+    abbrev left : Session
+    left = states.Writer (record w { session = new })
+
+    as_found : new ≡ w.session → left ≡ found
+    as_found same = ap (λ x. let y : Writing = record w { session = x } in states.Writer y) same ∙ sym is
+
+    pub index_stopped : (stop : Stop) (result : Result NewFile Stop) → IsErrAnd result (λ x. x ≡ stop) → closed ≡ Err stop → StopHasText stop → (IsErrOf closed stops.DiskFailed → ⊥) → Makes left result
+    index_stopped stop result ended was text uncalled = stops_at left result stop ended (by_stop stop was text)
+      where
+        by_stop : (stop : Stop) → closed ≡ Err stop → StopHasText stop → Makes left (Err stop)
+        by_stop (stops.Refused r) was text =
+            let refuses : (rows.close_index (w.session).writer number count size csum ≡ Err r) × (new ≡ w.session) =
+            subst (λ t. Does show (held (w.session).writer) w.session new (answer_of t) (rows.close_index (w.session).writer number count size csum)) was does in
+            record {
+              text = text;
+              answers = closing_refuses number count size csum (w.session).writer r refuses.0;
+              same = as_found refuses.1;
+              change = tt;
+              pending = λ s lane sound at.
+                  let f = writer_found s lane found w at is in
+                  refused s lane moment number count size csum f.0 r f.1
+                  (subst (λ t. DoesPlainly show (held (w.session).writer) w.session new (answer_of t) (λ v. calls.close_index v number count size csum)) was plain f.0 (shows_found s lane f.0 w sound f.1 f.2));
+            }
+        by_stop stops.NoMemory was text =
+            let same : new ≡ w.session = subst (λ t. Does show (held (w.session).writer) w.session new (answer_of t) (rows.close_index (w.session).writer number count size csum)) was does in
+            record { text = tt; answers = tt; same = as_found same; change = tt; pending = tt }
+        by_stop stops.DiskFailed was text = absurd (uncalled was)
+
+    -- the index's file, as the writer has it open
+    index_is : (name text : List ℕ) (after : sessions.Writing) → Some name ≡ option_map (λ b. b.name) (rows.begun_at number (w.session).writer) → rows.close_index (w.session).writer number count size csum ≡ Ok (after, text)
+        → index_put (rows.begun_at number (w.session).writer) w ≡ file_put name text w
+    unfolding rows.close_index
+    index_is name text after named stepped = by_begun (rows.begun_at number (w.session).writer) named stepped
+      where
+        same_text : (made : sessions.Writing) (x : List ℕ) (t : Result (Unit {0}) Refusal) → (let done : Result (sessions.Writing × List ℕ) Refusal = Ok (made, x) in t >>= λ _. done) ≡ Ok (after, text) → x ≡ text
+        same_text made x (Ok u) e = ap text_told e
+          where
+            text_told : Result (sessions.Writing × List ℕ) Refusal → List ℕ
+            text_told (Ok p) = p.1
+            text_told (Err q) = []
+        same_text made x (Err q) e = cc
+
+        by_begun : (o : Option sessions.Open) → Some name ≡ option_map (λ b. b.name) o
+            → (or_else NoFile o >>= λ b. rows.want_close b.index count size csum >>= λ _. let done : Result (sessions.Writing × List ℕ) Refusal = Ok (record (w.session).writer { begun = without_first (rows.has_number number) ((w.session).writer).begun; files = rows.insert_fact (rows.fact_of b) ((w.session).writer).files }, text_of_index b.index) in done) ≡ Ok (after, text)
+            → index_put o w ≡ file_put name text w
+        by_begun None named e = cc
+        by_begun (Some b) named e =
+            let same : name ≡ b.name = cc in
+            ap (λ n. file_put n (text_of_index b.index) w) (sym same) ∙ ap (λ t. file_put name t w) (same_text _ (text_of_index b.index) (rows.want_close b.index count size csum) e)
+
+    pub index_done : (a : A) (file : StoredFile) (text : List ℕ) → closed ≡ Ok a → text ≡ show a → Some file.name ≡ option_map (λ b. b.name) (rows.begun_at number (w.session).writer)
+        → file.path ≡ file_path ((w.session).writer).key file.name → Makes left (Ok (record { file = file; text = text }))
+    index_done a file text was text_is name path =
+        let leaves : Leaves (held (w.session).writer) new (rows.close_index (w.session).writer number count size csum) (show a) =
+        subst (λ t. Does show (held (w.session).writer) w.session new (answer_of t) (rows.close_index (w.session).writer number count size csum)) was does in
+        record {
+          text = tt;
+          answers = tt;
+          same = tt;
+          change = λ x x_is. subst (λ y. index_put (rows.begun_at number (y.session).writer) y ≡ file_put file.name text y) (writings w x (sym is ∙ x_is))
+              (subst (λ t. index_put (rows.begun_at number (w.session).writer) w ≡ file_put file.name t w) (sym text_is) (index_is file.name (show a) leaves.after name leaves.stepped));
+          pending = record {
+            found = w;
+            after = leaves.after;
+            old_is = is;
+            new_is = ap (λ x. let y : Writing = record w { session = x } in states.Writer y) leaves.left;
+            key = key_stays number count size csum (w.session).writer leaves.after (show a) leaves.stepped;
+            path = path;
+            adds = λ s lane sound at.
+                let f = writer_found s lane found w at is in
+                let shown : LeavesShown (held (w.session).writer) new (calls.close_index f.0 number count size csum) (show a) =
+                subst (λ t. DoesPlainly show (held (w.session).writer) w.session new (answer_of t) (λ v. calls.close_index v number count size csum)) was plain f.0 (shows_found s lane f.0 w sound f.1 f.2) in
+                let closed_is = is_closed number count size csum f.0 shown.plain (show a) shown.stepped in
+                record {
+                  before = f.0;
+                  after = shown.plain;
+                  new = index_file closed_is.b;
+                  begun = left_open number f.0;
+                  at = f.1;
+                  shown = f.2;
+                  may = close_may_add s f.0 number closed_is.b (sound.writers lane f.0 f.1) closed_is.found closed_is.full;
+                  same = closed_is.same;
+                  text_is = text_is ∙ closed_is.text_is ∙ text_is_of (closed_is.b).archive;
+                  shows = subst (λ x. Shows x shown.plain) (held_same (w.session).writer shown.after leaves.after (sym shown.left ∙ leaves.left)) shown.shows;
+                  named = name_at number f.0 w file.name closed_is.b f.2 name closed_is.found;
+                  step = closes s lane moment number count size csum f.0 shown.plain (show a) f.1 shown.stepped ∙ ap (λ v. Ok (with_session s lane (writer v), Done)) closed_is.same;
+                };
+          };
+        }
+      where
+        writings : (a b : Writing) → states.Writer a ≡ states.Writer b → a ≡ b
+        writings a b e = cc

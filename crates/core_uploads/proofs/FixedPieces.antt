@@ -8,7 +8,8 @@ use Rattle.store_files.specs.Cells.{entry_limit}
 use Rattle.store_files.specs.Archive.{Layout, fixed}
 use Rattle.store_files.specs.FixedIndex.{is_chunk_size, piece_count, piece_len}
 use Rattle.store_model.specs.Archives.{fits_layout}
-use Rattle.store_model.specs.Stands.{IsPiece, fills_size}
+use Rattle.store_model.specs.Stands.{fills_size}
+use Rattle.store_files.specs.Folder.{IsPiece}
 use Rattle.backup_session.specs.Shown.{fits_from}
 
 -- ---- sizes

@@ -1,36 +1,37 @@
 -- A file of a writer more leaves what the store has: BLOB's, or that of an archive that is closed.
-use Rattle.std.proofs.Common.{◌≡◌, ◌≢◌, ℕ, ◌+◌, ◌<◌, ◌≤◌, Bool, true, false, ◌||◌, cond, length, get_or, List, [], ◌∷◌, Some, refl, sym, ap, subst, ◌∙◌, arith}
-use Rattle.std.proofs.lemmas.Bool.{or_parts}
+use Rattle.std.proofs.Common.{◌≡◌, ◌≢◌, ◌⊎◌, inl, inr, ⊎_elim, ℕ, ◌+◌, ◌-◌, ◌<◌, Bool, true, false, ◌||◌, ◌&&◌, cond, drop, length, get_or, nat_lt, List, [], ◌∷◌, ◌++◌, Some, refl, sym, ap, subst, ◌∙◌, arith}
+use Rattle.std.specs.Prelude.{codes, ◌==◌}
+use Rattle.std.proofs.Common.{append_assoc}
+use Rattle.std.proofs.Math.Seq.{drop-append_seam}
+use Rattle.std.proofs.lemmas.Bool.{and_parts, and_from, ltb-true, or_parts}
+use Rattle.std.proofs.lemmas.List.{drop-drop, length-append}
 use Rattle.std.proofs.lemmas.List.Elements.{All-nil, All-cons}
 use Rattle.std.proofs.lemmas.Slice.Eq.{bytes_eq-Decides}
 use Rattle.std.specs.FinMap.{get}
-use Rattle.std.specs.List.{All, AllByRecursion, Contains, list_any}
-use Rattle.std.specs.Bool.{IsTrue}
+use Rattle.std.specs.List.{All, Contains, list_any}
 use Rattle.std.specs.Str.{bytes_eq}
-use Rattle.disk_trait.specs.Files.{Files, placed}
-use Rattle.disk_trait.specs.Laws.{placed_same, placed_other}
+use Rattle.disk_trait.specs.Files.{Files}
+use Rattle.file_install.specs.Install.{temporary, installed}
+use Rattle.file_install.proofs.InstallLaws.{installed_name, installed_other}
 use Rattle.store_types.specs.declared.names.SnapshotKey.{SnapshotKey}
-use Rattle.store_types.specs.FileNames.{manifest_name}
+use Rattle.store_types.specs.FileNames.{manifest_name, is_blob_name, is_dynamic_name, is_fixed_name, blob_ending, dynamic_ending, fixed_ending}
 use Rattle.store_types.specs.Names.{name_lt}
 use Rattle.store_types.proofs.KeyTexts.{no_slash}
-use Rattle.store_files.specs.Archive.{File, file_text, pieces_of}
+use Rattle.store_files.specs.Archive.{Layout, dynamic, fixed, Content, archive, blob, File, file_text, pieces_of}
 use Rattle.store_model.specs.Store.{Begun, Store, Writer, writer, session, with_session, insert_file}
-use Rattle.store_model.specs.Uploads.{file_path}
-use Rattle.store_model.specs.Stands.{names_content, FitsContent, file_limit}
+use Rattle.store_files.specs.Folder.{file_path}
+use Rattle.store_model.specs.Stands.{names_content, FitsContent}
 use Rattle.store_model.proofs.Paths.{same_path, chunk_apart, content_plain}
 use Rattle.store_model.proofs.FileInsertions.{All-insert_file, length-insert_file, is_free, names_rise-insert}
-use Rattle.store_model.proofs.StandsLemmas.{Apart, Puts, agrees_off, stands_agree}
+use Rattle.store_model.proofs.StandsLemmas.{Apart, agrees_off, stands_agree}
 use Rattle.core_state.specs.declared.kept.StoredFile.{StoredFile}
 use Rattle.core_state.specs.Shown.{shown_file, shown_files}
-use Rattle.core_state.specs.Holds.{IsBegun, has_named, names_differ, IsSound, IsWriter, IsPut, HasUploads, IsOnDisk}
+use Rattle.core_state.specs.Holds.{has_named, IsSound, IsWriter, IsPut, HasUploads, IsOnDisk}
 use Rattle.core_state.proofs.Sessions.{changed, writers_same}
 use Rattle.core_state.proofs.Soundness.{IsAlone, disk_writer}
 use Rattle.core_state.proofs.OnDisk.{IsOff, names_plain, apart_upload, keys_apart, off_other, uploads_off}
+use Rattle.core_uploads.specs.Pending.{MayAdd, grown}
 use Rattle.core_uploads.specs.Uploaded.{insert_stored, with_put}
-
--- with a file more, and these open archives
-abbrev pub grown : Writer → File → List Begun → Writer
-grown w new begun = record w { files = insert_file new w.files; begun = begun }
 
 -- ---- what is kept of the writer
 
@@ -44,17 +45,6 @@ shown_insert key new (f ∷ fs) = by_test (name_lt new.name f.name) (shown_inser
     by_test false e = ap (λ (l : List StoredFile). shown_file key f ∷ l) e
 
 -- ---- soundness
-
--- the new file, and the archives that are open beside it
-pub record MayAdd (w : Writer) (new : File) (begun : List Begun) : Type 0 where
-  pub named : names_content new.content new.name ≡ true
-  pub fits : FitsContent new.content
-  pub free : is_free new.name w.files
-  pub count : length w.files + 1 + length begun ≤ file_limit
-  pub pieces : All (Contains w.pool) (pieces_of new.content)
-  pub begun_are : AllByRecursion (IsBegun w.pool) begun
-  pub free_open : All (λ b. has_named b.name (insert_file new w.files) ≡ false) begun
-  pub differ : IsTrue (names_differ begun)
 
 pub is_writer_grown : (s : Store) (w : Writer) (new : File) (begun : List Begun) → IsWriter s.snapshots w → MayAdd w new begun → IsWriter s.snapshots (grown w new begun)
 is_writer_grown s w new begun h may = let c = may.count in record {
@@ -120,39 +110,103 @@ manifest_kept m w new begun is h = record {
   pool = h.pool;
 }
 
-module _ (m n : Files) (s : Store) (lane : ℕ) (w : Writer) (new : File) (begun : List Begun) (lt : lane < 64) (h : IsSound s) (at : session s lane ≡ writer w) (named : names_content new.content new.name ≡ true) (free : is_free new.name w.files)
-    (other : new.name ≢ manifest_name) (puts : Puts m n (file_path w.key new.name) (file_text new.content)) (disk : IsOnDisk m s) where
+-- ---- temporary names
+
+plain_behind : (xs ys : List ℕ) → no_slash xs ≡ true → no_slash ys ≡ true → no_slash (xs ++ ys) ≡ true
+plain_behind [] ys h k = k
+plain_behind (x ∷ xs) ys h k = let both = and_parts _ (no_slash xs) h in and_from _ (no_slash (xs ++ ys)) both.0 (plain_behind xs ys both.1 k)
+
+-- a temporary name is that of another file in the same folder
+temporary_in : (key : SnapshotKey) (name : List ℕ) → temporary (file_path key name) ≡ file_path key (name ++ codes ".tmp")
+temporary_in key name = simp append_assoc refl
+
+-- which ends in another letter than the files of snapshots
+staged_ending : (ending name : List ℕ) (a : Bool) → (a && (bytes_eq ending (drop (length (name ++ codes ".tmp") - 5) (name ++ codes ".tmp")) && nat_lt 5 (length (name ++ codes ".tmp")))) ≡ true → drop 4 ending ≡ drop 3 (codes ".tmp")
+staged_ending ending name a h =
+    let s = name ++ codes ".tmp" in
+    let both = and_parts (bytes_eq ending (drop (length s - 5) s)) (nat_lt 5 (length s)) (and_parts a _ h).1 in
+    let long : 5 < length s = ltb-true 5 (length s) both.1 in
+    let size : length s ≡ length name + 4 = length-append name (codes ".tmp") in
+    let here : length s - 5 + 4 ≡ length name + 3 = omega (arith, long, size) in
+    ap (drop 4) ((bytes_eq-Decides ending (drop (length s - 5) s)).0 both.0) ∙ drop-drop 4 (length s - 5) s ∙ ap (λ n. drop n s) here
+    ∙ sym (drop-drop 3 (length name) s) ∙ ap (drop 3) (drop-append_seam name (codes ".tmp"))
+
+false_true : false ≡ true → ⊥
+false_true e = cc
+
+last_letter : (ending : List ℕ) → (get_or (drop 4 ending) 0 0 == 112) ≡ false → drop 4 ending ≡ drop 3 (codes ".tmp") → ⊥
+last_letter ending other e = false_true (sym other ∙ ap (λ l. get_or l 0 0 == 112) e)
+
+staged_name : (c : Content) (name : List ℕ) → names_content c (name ++ codes ".tmp") ≡ true → ⊥
+staged_name (blob bytes) name h = last_letter blob_ending refl (staged_ending blob_ending name _ h)
+staged_name (archive a) name h = by_layout a.layout h
+  where
+    by_layout : (layout : Layout) → (elim layout [ dynamic ↦ is_dynamic_name (name ++ codes ".tmp") | fixed size chunk_size ↦ is_fixed_name (name ++ codes ".tmp") ]) ≡ true → ⊥
+    by_layout dynamic h = last_letter dynamic_ending refl (staged_ending dynamic_ending name _ h)
+    by_layout (fixed size cut) h = last_letter fixed_ending refl (staged_ending fixed_ending name _ h)
+
+staged_other : (name : List ℕ) → name ++ codes ".tmp" ≢ manifest_name
+staged_other name e = staged_name (blob []) name (ap is_blob_name e)
+
+-- ---- the file is installed
+
+module _ (m : Files) (s : Store) (lane : ℕ) (w : Writer) (new : File) (begun : List Begun) (text : List ℕ) (lt : lane < 64) (h : IsSound s) (at : session s lane ≡ writer w) (named : names_content new.content new.name ≡ true)
+    (free : is_free new.name w.files) (other : new.name ≢ manifest_name) (text_is : text ≡ file_text new.content) (disk : IsOnDisk m s) where
+  abbrev path : List ℕ
+  path = file_path w.key new.name
+
+  abbrev staged : List ℕ
+  staged = new.name ++ codes ".tmp"
+
+  abbrev n : Files
+  n = installed m path text
+
+  staged_at : temporary path ≡ file_path w.key staged
+  staged_at = temporary_in w.key new.name
+
   plain : no_slash new.name ≡ true
   plain = content_plain new.content new.name named
 
+  staged_plain : no_slash staged ≡ true
+  staged_plain = plain_behind new.name (codes ".tmp") plain refl
+
   abbrev IsHere : List ℕ → Type 0
-  IsHere q = q ≡ file_path w.key new.name
+  IsHere q = (q ≡ path) ⊎ (q ≡ temporary path)
 
   same : (q : List ℕ) → (IsHere q → ⊥) → get n q ≡ get m q
-  same q off = puts.others q off
+  same q off = installed_other m path text q (λ e. off (inl e)) (λ e. off (inr e))
+
+  is_writer : IsWriter s.snapshots w
+  is_writer = h.writers lane w at
 
   own_files : All (IsPut n w) w.files
   own_files = λ i d l not_manifest.
       let f = get_or w.files i d in
-      puts.others (file_path w.key f.name)
-      (λ e. free_apart new.name w.files free i d l (same_path w.key w.key f.name new.name (h.writers lane w at).key (h.writers lane w at).key (names_plain s.snapshots w (h.writers lane w at) i d l) plain e).1)
+      let f_plain = names_plain s.snapshots w is_writer i d l in
+      installed_other m path text (file_path w.key f.name)
+      (λ e. free_apart new.name w.files free i d l (same_path w.key w.key f.name new.name is_writer.key is_writer.key f_plain plain e).1)
+      (λ e. staged_name f.content new.name
+      (ap (names_content f.content) (sym (same_path w.key w.key f.name staged is_writer.key is_writer.key f_plain staged_plain (e ∙ staged_at)).1) ∙ is_writer.kinds i d l))
       ∙ (disk.writers lane w at).files i d l not_manifest
 
   own : HasUploads n (grown w new begun)
   own = record {
-    files = All-insert_file (IsPut n w) new w.files (λ _. puts.there) own_files;
-    pool = λ i d l. puts.others _ (chunk_apart _ w.key new.name) ∙ (disk.writers lane w at).pool i d l;
+    files = All-insert_file (IsPut n w) new w.files (λ _. installed_name m path text ∙ ap (λ t. Some t) text_is) own_files;
+    pool = λ i d l. installed_other m path text _ (chunk_apart _ w.key new.name) (λ e. chunk_apart _ w.key staged (e ∙ staged_at)) ∙ (disk.writers lane w at).pool i d l;
   }
 
-  pub put_on_disk : IsOnDisk n (with_session s lane (writer (grown w new begun)))
+  put_on_disk : IsOnDisk n (with_session s lane (writer (grown w new begun)))
   put_on_disk = let l : lane < length s.sessions = omega (arith, h.lanes, lt) in record {
     snapshots = stands_agree m n s.snapshots
-        (agrees_off m n s.snapshots IsHere same (λ q e. subst (Apart s.snapshots) (sym e) (apart_upload s w new.name h (h.writers lane w at) plain other))) disk.snapshots;
+        (agrees_off m n s.snapshots IsHere same
+        (λ q here. ⊎_elim (λ e. subst (Apart s.snapshots) (sym e) (apart_upload s w new.name h is_writer plain other))
+        (λ e. subst (Apart s.snapshots) (sym (e ∙ staged_at)) (apart_upload s w staged h is_writer staged_plain (staged_other new.name))) here)) disk.snapshots;
     writers = λ i v is. changed s lane (writer (grown w new begun)) i (writer v) (HasUploads n v) l is
         (λ e found. subst (HasUploads n) (writers_same (grown w new begun) v found) own)
         (λ ne old. uploads_off m n v IsHere same
-        (λ q e. subst (IsOff v) (sym e) (off_other s.snapshots v w.key new.name (h.writers i v old) (h.writers lane w at).key plain (keys_apart s i lane v w h ne old at)))
-        (λ digest q e same_name. chunk_apart digest w.key new.name (same_name ∙ e)) (disk.writers i v old));
+        (λ q here. ⊎_elim (λ e. subst (IsOff v) (sym e) (off_other s.snapshots v w.key new.name (h.writers i v old) is_writer.key plain (keys_apart s i lane v w h ne old at)))
+        (λ e. subst (IsOff v) (sym (e ∙ staged_at)) (off_other s.snapshots v w.key staged (h.writers i v old) is_writer.key staged_plain (keys_apart s i lane v w h ne old at))) here)
+        (λ digest q here same_name. ⊎_elim (λ e. chunk_apart digest w.key new.name (same_name ∙ e)) (λ e. chunk_apart digest w.key staged (same_name ∙ e ∙ staged_at)) here) (disk.writers i v old));
   }
 
 -- by whether it is the manifest
@@ -162,16 +216,13 @@ pub grown_on_disk : (m n : Files) (s : Store) (lane : ℕ) (w : Writer) (new : F
 grown_on_disk m n s lane w new begun file text lt h at named free is text_is now disk =
     by_test (bytes_eq new.name manifest_name) refl (now ∙ ap (λ f. with_put f text m) is)
   where
-    by_test : (b : Bool) → bytes_eq new.name manifest_name ≡ b → n ≡ cond b m (placed m (file_path w.key new.name) (Some text)) → IsOnDisk n (with_session s lane (writer (grown w new begun)))
+    both_ways : true ≡ false → ⊥
+    both_ways e = cc
+
+    by_test : (b : Bool) → bytes_eq new.name manifest_name ≡ b → n ≡ cond b m (installed m (file_path w.key new.name) text) → IsOnDisk n (with_session s lane (writer (grown w new begun)))
     by_test true e now =
         subst (λ f. IsOnDisk f (with_session s lane (writer (grown w new begun)))) (sym now)
         (disk_writer m s lane (grown w new begun) (omega (arith, h.lanes, lt)) (manifest_kept m w new begun ((bytes_eq-Decides new.name manifest_name).0 e) (disk.writers lane w at)) disk)
     by_test false e now =
-        put_on_disk m n s lane w new begun lt h at named free (λ same. both_ways (sym ((bytes_eq-Decides new.name manifest_name).1 same) ∙ e))
-        (record {
-          there = ap (λ f. get f (file_path w.key new.name)) now ∙ placed_same m (file_path w.key new.name) (Some text) ∙ ap (λ t. Some t) text_is;
-          others = λ q ne. ap (λ f. get f q) now ∙ placed_other m (file_path w.key new.name) (Some text) q ne;
-        }) disk
-      where
-        both_ways : true ≡ false → ⊥
-        both_ways e = cc
+        subst (λ f. IsOnDisk f (with_session s lane (writer (grown w new begun)))) (sym now)
+        (put_on_disk m s lane w new begun text lt h at named free (λ same. both_ways (sym ((bytes_eq-Decides new.name manifest_name).1 same) ∙ e)) text_is disk)

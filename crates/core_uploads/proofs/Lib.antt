@@ -4,10 +4,9 @@ pub mod BlobLemmas
 pub mod BlobStep
 pub mod GrownLemmas
 pub mod KeepLemmas
-pub mod CloseTexts
 pub mod CloseLemmas
-pub mod OtherNames
-pub mod Wanting
+pub mod OtherChunks
+pub mod PendingLemmas
 pub mod FixedPieces
 pub mod ArchiveFits
 pub mod ArchiveLemmas

@@ -4,7 +4,7 @@ use Rattle.std.proofs.lemmas.List.Elements.{All-append, Contains-append_left}
 use Rattle.std.specs.List.{All, AllByRecursion, Contains}
 use Rattle.disk_trait.specs.Files.{Files}
 use Rattle.store_files.specs.Archive.{pieces_of}
-use Rattle.store_model.specs.Stands.{IsPiece}
+use Rattle.store_files.specs.Folder.{IsPiece}
 use Rattle.store_model.specs.Store.{Begun, Store, Writer}
 use Rattle.store_model.specs.WriterSteps.{with_pool}
 use Rattle.core_state.specs.Chunks.{HasChunk}

@@ -1,5 +1,6 @@
 -- PREVIOUS is the store's: what is read of the base's file, and the pieces that the writer may name then.
-use Rattle.std.proofs.Common.{◌≡◌, ◌↔◌, ◌⊎◌, inl, inr, ⊎_elim, ◌<◌, ◌+◌, ◌-◌, ℕ, Bool, true, false, ◌&&◌, ◌||◌, cond, List, [], ◌∷◌, length, nat_lt, nat_le, drop, find, map, set, Option, Some, None, Result, Ok, Err, OnOk, OnErr, refl, sym, ap, subst, ◌∙◌, arith}
+use Rattle.disk_trait.specs.declared.disk.Disk.{Ghosts}
+use Rattle.std.proofs.Common.{◌≡◌, ◌↔◌, ◌⊎◌, inl, inr, ⊎_elim, ◌<◌, ◌+◌, ◌-◌, ℕ, Bool, true, false, ◌&&◌, ◌||◌, cond, List, [], ◌∷◌, length, nat_lt, nat_le, drop, find, map, set, Option, Some, None, Result, Ok, Err, OnOk, OnErr, IsErrOf, IsErrAnd, refl, sym, ap, ap₂, subst, ◌∙◌, arith}
 use Rattle.std.proofs.lemmas.Bool.{and_parts, and_from}
 use Rattle.std.proofs.Math.ListN.{get_or-append}
 use Rattle.std.proofs.lemmas.List.{length-append, get_or-append-add}
@@ -18,15 +19,21 @@ use Rattle.store_types.specs.FileNames.{is_file_name, is_id, is_index_name, is_f
 use Rattle.store_files.specs.Archive.{Layout, dynamic, fixed, Archive, Content, archive, blob, File, Snapshot, file_named, file_text, pieces_of, ends_from}
 use Rattle.wire_commands.specs.declared.command.Command.TheVariants.{Previous as PreviousCommand}
 use Rattle.wire_commands.specs.declared.reply.Reply.{Reply}
-use Rattle.wire_commands.specs.declared.reply.Reply.TheVariants.{Part, Refused}
+use Rattle.wire_commands.specs.declared.reply.Reply.TheVariants.{Part}
+use Rattle.wire_commands.specs.declared.reply.Reply.TheVariants as replies
 use Rattle.store_model.specs.Store.{Store, Writer, Outcome, writer, session, with_session, want_writer, snapshot_named}
-use Rattle.store_model.specs.Stands.{IsPiece, FitsContent, HoldsPieces, names_content}
-use Rattle.store_model.specs.Steps.{outcome, answered}
+use Rattle.store_model.specs.Stands.{FitsContent, HoldsPieces, names_content}
+use Rattle.store_files.specs.Folder.{IsPiece}
+use Rattle.store_model.specs.Steps.{outcome}
 use Rattle.store_model.specs.WriterSteps.{previous, base_of, goes_on, with_pool, part_of}
 use Rattle.dynamic_index.specs.Writing.{Known}
-use Rattle.stored_files.specs.Parts.{part_from, IsPartOf}
-use Rattle.stored_files.specs.Indexes.{index_at, is_fixed_layout, lengths_from, Indexed}
-use Rattle.stored_files.proofs.Archives.{archive_at, lengths_of_pieces}
+use Rattle.dynamic_index.specs.Writing as indexes
+use Rattle.snapshot_files.specs.Parts.{part_at, part_from, IsPart, RefusesPart}
+use Rattle.snapshot_files.specs.Reads as reads
+use Rattle.snapshot_files.specs.declared.read_error.ReadError.{ReadError}
+use Rattle.snapshot_files.specs.declared.read_error.ReadError.TheVariants as errors
+use Rattle.snapshot_files.specs.Indexes.{index_at, is_fixed_layout, lengths_from, shown_index, Indexed}
+use Rattle.snapshot_files.proofs.Archives.{archive_at, lengths_of_pieces}
 use Rattle.backup_session.specs.Session as backups
 use Rattle.backup_session.specs.Session.{Pool, settled}
 use Rattle.backup_session.specs.Steps as rows
@@ -40,22 +47,39 @@ use Rattle.core_state.specs.declared.kept.Writing.{Writing}
 use Rattle.core_state.specs.declared.parts.Parts.{Parts}
 use Rattle.core_state.specs.Chunks.{HasChunk}
 use Rattle.core_state.specs.Found.{kept_named, path_named, path_of_kept, path_in}
-use Rattle.core_state.specs.Holds.{IsOnDisk, Holds, Does}
+use Rattle.core_state.specs.Holds.{IsOnDisk, Holds, Shows}
+use Rattle.core_state.specs.Commands.{IsNoRefusal}
+use Rattle.core_state.specs.Settles.{kind_by, reply_by}
+use Rattle.core_state.specs.Stops.{told, stop_by_read, IfRefused}
+use Rattle.core_state.specs.Wanted as wants
+use Rattle.core_state.specs.declared.stop.Stop.{Stop}
+use Rattle.core_state.specs.declared.stop.Stop.TheVariants.{Refused, NoMemory, DiskFailed}
+use Rattle.disk_trait.specs.Effects.{OnlyReads}
+use Rattle.disk_trait.specs.declared.disk.DiskError.TheVariants as disks
 use Rattle.core_state.specs.Named.{has_text, is_named}
-use Rattle.core_state.specs.Shown.{shown_session, shown_snapshot, shown_writer, shown_files}
+use Rattle.core_state.specs.Shown.{shown_snapshot, shown_writer, shown_files}
 use Rattle.core_state.specs.Replies.{answers_previous, refuses_previous}
-use Rattle.core_state.specs.States.{state_of}
-use Rattle.core_state.specs.Unchanged.{is_uncalled, Unchanged}
-use Rattle.core_state.specs.Unreadables.{whole_by, read_by}
-use Rattle.core_state.proofs.Acting.{holds_same}
+use Rattle.core_state.specs.Unchanged.{SameKept, is_uncalled}
+use Rattle.core_state.specs.Unreadables.{Asked, TellsUnreadable, from_offset, whole_by, read_by}
+use Rattle.wire_commands.specs.HasText.{ReplyHasText}
+use Rattle.store_history.specs.declared.act.Act.{Act}
+use Rattle.store_history.specs.declared.act.Act.TheVariants.{Plain}
+use Rattle.core_state.specs.declared.entering.Place.{Place}
+use Rattle.core_state.specs.Commands.{ActDoes, ActLeaves}
+use Rattle.core_state.specs.Wanted.{session_at}
+use Rattle.core_state.proofs.Texts.{bad_name_has_text}
+use Rattle.core_uploads.proofs.SteppedLemmas.{false_true}
+use Rattle.core_state.proofs.Chunks.{adds_same}
+use Rattle.core_state.proofs.Commanding.{refused_does, refused_leaves, same_kept, short_does, short_leaves, stopped_does, stopped_leaves, unwritten_by_state, writer_shown, writes_does, writes_leaves}
+use Rattle.core_state.proofs.Unreadables.{refusal_called, tells_failed, tells_other, tells_read}
 use Rattle.core_state.proofs.Finding.{mapped, found_in}
 use Rattle.core_state.proofs.Found.{IsThere, kept_is, not_kept, is_there, not_there, there_text, there_kind, there_fits}
 use Rattle.core_state.proofs.LockLemmas.{locked_writes_on}
 use Rattle.core_state.proofs.Soundness.{IsAlone, sound_writer, disk_writer, shows_changed}
-use Rattle.core_uploads.specs.Previous.{kept_by, base_file, asked_at, asked_of_base, Previous, previous_by, shown_given, Tells, with_known}
-use Rattle.core_uploads.specs.declared.base.Given.{Given}
+use Rattle.core_uploads.specs.Previous.{kept_by, base_file, asked_at, asked_of_base, Previous, previous_by, shown_given, with_known}
+use Rattle.core_uploads.specs.declared.previous_files.Given.{Given}
+use Rattle.core_uploads.specs.Names.{IsNoName}
 use Rattle.core_uploads.proofs.Pooled.{is_writer_pooled, has_uploads_pooled}
-use Rattle.core_uploads.proofs.Wanting.{no_writer}
 
 -- ---- the step
 
@@ -78,8 +102,8 @@ module _ (s : Store) (lane : ℕ) (name : List ℕ) (offset : ℕ) where
   unfolding outcome previous
   step_is m = refl
 
-  pub not_writing : (m : ℕ) (found : Session) → found ≡ shown_session s.snapshots (session s lane) → ((w : Writing) → found ≡ kept.Writer w → ⊥) → outcome s lane m (PreviousCommand name offset) ≡ Err (WrongState (state_of found))
-  not_writing m found is other = step_is m ∙ ap wanted_then (no_writer s.snapshots (session s lane) found is other)
+  pub not_writing : (m : ℕ) (r : Refusal) → want_writer (session s lane) ≡ Err r → outcome s lane m (PreviousCommand name offset) ≡ Err r
+  not_writing m r none = step_is m ∙ ap wanted_then none
 
   writing_is : (m : ℕ) (w : Writer) → session s lane ≡ writer w → outcome s lane m (PreviousCommand name offset) ≡ name_then w (is_file_name name)
   writing_is m w at = step_is m ∙ ap (λ x. wanted_then (want_writer x)) at
@@ -157,9 +181,9 @@ module _ (s : Store) (lane : ℕ) (name : List ℕ) (offset : ℕ) where
   range_then w content text true = refl
   range_then w content text false = refl
 
-  pub reads : (m : ℕ) (w : Writer) (path : List ℕ) (b : HasBase w path) → session s lane ≡ writer w → is_file_name name ≡ true
+  reads_it : (m : ℕ) (w : Writer) (path : List ℕ) (b : HasBase w path) → session s lane ≡ writer w → is_file_name name ≡ true
       → outcome s lane m (PreviousCommand name offset) ≡ with_part w ((b.there).file).content (part_from (file_text ((b.there).file).content) offset)
-  reads m w path b at good =
+  reads_it m w path b at good =
       let t = b.there in
       let base : base_of s w ≡ Some t.snapshot = ap (λ o. elim o [ None ↦ None | Some key ↦ snapshot_named key s.snapshots ]) b.base ∙ t.kept in
       base_is m w at good ∙ ap (base_then w) base ∙ ap (file_then w) t.named
@@ -284,22 +308,22 @@ went s lane w reply = refl
 
 -- ---- the act
 
-module _ {D : Type 0} (honest : D → Type 0) (content : D → Files) where
+module _ {D : Type 0} (d : Ghosts D) where
   -- the lane's writer may name more pieces that are there
-  holds_noted : (old new : Parts D) (s : Store) (lane : ℕ) (w : Writer) (pieces : List (List ℕ)) (y : Session) → lane < 64 → session s lane ≡ writer w → All IsPiece pieces → All (HasChunk (content old.disk)) pieces
-      → (honest old.disk ↔ honest new.disk) → (honest old.disk → content new.disk ≡ content old.disk) → new.catalogue.items ≡ old.catalogue.items → new.sessions.items ≡ set old.sessions.items lane y → new.locks ≡ old.locks
-      → y ≡ kept.Writer (shown_writer (with_pool pieces w)) → Holds honest content old s → Holds honest content new (with_session s lane (writer (with_pool pieces w)))
+  holds_noted : (old new : Parts D) (s : Store) (lane : ℕ) (w : Writer) (pieces : List (List ℕ)) (y : Session) → lane < 64 → session s lane ≡ writer w → All IsPiece pieces → All (HasChunk (d.content old.disk)) pieces
+      → (d.honest old.disk ↔ d.honest new.disk) → (d.honest old.disk → d.content new.disk ≡ d.content old.disk) → new.catalogue.items ≡ old.catalogue.items → new.sessions.items ≡ set old.sessions.items lane y → new.locks ≡ old.locks
+      → y ≡ kept.Writer (shown_writer (with_pool pieces w)) → Holds d old s → Holds d new (with_session s lane (writer (with_pool pieces w)))
   holds_noted old new s lane w pieces y lt at are there kept_on same c l k y_is h =
       let after = with_pool pieces w in
       let sound = (h.shows).sound in
       let within : lane < length s.sessions = omega (arith, sound.lanes, lt) in
       let alone : IsAlone s lane after = λ i x ne x_at e. ne (sound.apart i lane x w x_at at e) in
       let is_writer = is_writer_pooled s w pieces are (sound.writers lane w at) in
-      let uploads = has_uploads_pooled (content old.disk) w pieces there ((h.files).writers lane w at) in
+      let uploads = has_uploads_pooled (d.content old.disk) w pieces there ((h.files).writers lane w at) in
       record {
         honest = kept_on.0 h.honest;
         shows = shows_changed old new s lane (writer after) y c l y_is (locked_writes_on old.locks new.locks s lane w after within k at refl refl (h.shows).locks) (sound_writer s lane after lt is_writer alone sound) h.shows;
-        files = subst (λ f. IsOnDisk f (with_session s lane (writer after))) (sym (same h.honest)) (disk_writer (content old.disk) s lane after within uploads h.files);
+        files = subst (λ f. IsOnDisk f (with_session s lane (writer after))) (sym (same h.honest)) (disk_writer (d.content old.disk) s lane after within uploads h.files);
       }
 
 content_pieces : (x : Content) → FitsContent x → All IsPiece (pieces_of x)
@@ -325,65 +349,58 @@ given_by s lane name offset w x (Ok reply) p e =
       pieces = ap (λ (q : Previous). q.pieces) (sym same);
     }
 
-module _ {D : Type 0} (honest : D → Type 0) (content : D → Files) (old new : Parts D) (s : Store) (lane m : ℕ) (name path : List ℕ) (offset : ℕ) (w : Writer)
-    (at : session s lane ≡ writer w) (good : is_file_name name ≡ true) (h : Holds honest content old s) (b : HasBase s lane name offset w path) where
+module _ {D : Type 0} (d : Ghosts D) (old new : Parts D) (s : Store) (lane m : ℕ) (name path : List ℕ) (offset : ℕ) (w : Writer)
+    (at : session s lane ≡ writer w) (good : is_file_name name ≡ true) (h : Holds d old s) (b : HasBase s lane name offset w path) where
   abbrev file : Content
   file = ((b.there).file).content
 
   fits : FitsContent file
   fits = there_fits s.snapshots b.key name path b.there ((h.shows).sound).each
 
-  read_is : previous_by (whole_by name) (content old.disk) path offset ≡ gives file (part_from (file_text file) offset)
+  read_is : previous_by (whole_by name) (d.content old.disk) path offset ≡ gives file (part_from (file_text file) offset)
   read_is =
-      given (content old.disk) path name offset file (there_kind s.snapshots b.key name path b.there ((h.shows).sound).each) fits
-      (there_text (content old.disk) s.snapshots b.key name path b.there ((h.files).snapshots).files)
+      given (d.content old.disk) path name offset file (there_kind s.snapshots b.key name path b.there ((h.shows).sound).each) fits
+      (there_text (d.content old.disk) s.snapshots b.key name path b.there ((h.files).snapshots).files)
 
   outcome_is : outcome s lane m (PreviousCommand name offset) ≡ with_part s lane name offset w file (part_from (file_text file) offset)
-  outcome_is = reads s lane name offset m w path b at good
+  outcome_is = reads_it s lane name offset m w path b at good
 
   -- the part is refused
-  pub does_refused_part : (r : Refusal) → previous_by (whole_by name) (content old.disk) path offset ≡ Err r
-      → (honest old.disk ↔ honest new.disk) → (honest old.disk → content new.disk ≡ content old.disk) → new.catalogue.items ≡ old.catalogue.items → new.sessions.items ≡ old.sessions.items → new.locks ≡ old.locks
-      → Does honest content new s (answered s (outcome s lane m (PreviousCommand name offset))) (Ok (Refused r))
-  does_refused_part r is kept_on same c l k =
-      let done : Does honest content new s (s, Refused r) (Ok (Refused r)) = (refl, holds_same honest content old new s kept_on same c l k h) in
-      let step : outcome s lane m (PreviousCommand name offset) ≡ Err r = outcome_is ∙ refused_by s lane name offset w file r (part_from (file_text file) offset) (sym read_is ∙ is) in
-      subst (λ o. Does honest content new s (answered s o) (Ok (Refused r))) (sym step) done
+  pub part_refused : (r : Refusal) → previous_by (whole_by name) (d.content old.disk) path offset ≡ Err r → outcome s lane m (PreviousCommand name offset) ≡ Err r
+  part_refused r is = outcome_is ∙ refused_by s lane name offset w file r (part_from (file_text file) offset) (sym read_is ∙ is)
 
   -- it is given, and its pieces may be named
-  pub does_part : (p : Previous) (y : Session) → lane < 64 → previous_by (whole_by name) (content old.disk) path offset ≡ Ok p
-      → (honest old.disk ↔ honest new.disk) → (honest old.disk → content new.disk ≡ content old.disk) → new.catalogue.items ≡ old.catalogue.items → new.sessions.items ≡ set old.sessions.items lane y → new.locks ≡ old.locks
+  pub part_done : (p : Previous) (y : Session) → lane < 64 → previous_by (whole_by name) (d.content old.disk) path offset ≡ Ok p
+      → (d.honest old.disk ↔ d.honest new.disk) → (d.honest old.disk → d.content new.disk ≡ d.content old.disk) → new.catalogue.items ≡ old.catalogue.items → new.sessions.items ≡ set old.sessions.items lane y → new.locks ≡ old.locks
       → ((shown : List (List ℕ)) → p.pieces ≡ map known_of shown → y ≡ kept.Writer (shown_writer (with_pool shown w)))
-      → Does honest content new s (answered s (outcome s lane m (PreviousCommand name offset))) (Ok p.part)
-  does_part p y lt is kept_on same c l k noted =
+      → (after : Store) × (outcome s lane m (PreviousCommand name offset) ≡ Ok (after, p.part)) × Shows new after × IsOnDisk (d.content new.disk) after
+  part_done p y lt is kept_on same c l k noted =
       let g = given_by s lane name offset w file (part_from (file_text file) offset) p (sym read_is ∙ is) in
-      let there = pieces_held (content old.disk) s.snapshots b.key name (b.there).snapshot (b.there).file (b.there).kept (b.there).named ((h.files).snapshots).pieces in
-      let holds = holds_noted honest content old new s lane w (pieces_of file) y lt at (content_pieces file fits) there kept_on same c l k (noted (pieces_of file) g.pieces) h in
-      let done : Does honest content new s (with_session s lane (writer (with_pool (pieces_of file) w)), p.part) (Ok p.part) = (refl, holds) in
-      let step : outcome s lane m (PreviousCommand name offset) ≡ Ok (with_session s lane (writer (with_pool (pieces_of file) w)), p.part) = outcome_is ∙ g.step in
-      subst (λ o. Does honest content new s (answered s o) (Ok p.part)) (sym step) done
+      let there = pieces_held (d.content old.disk) s.snapshots b.key name (b.there).snapshot (b.there).file (b.there).kept (b.there).named ((h.files).snapshots).pieces in
+      let holds = holds_noted d old new s lane w (pieces_of file) y lt at (content_pieces file fits) there kept_on same c l k (noted (pieces_of file) g.pieces) h in
+      (with_session s lane (writer (with_pool (pieces_of file) w)), outcome_is ∙ g.step, holds.shows, holds.files)
 
 -- ---- what was asked for
 
-pub asked_writer : (name : List ℕ) (offset : ℕ) (session : Session) (w : Writing) (catalogue : List Listed) (found : Result (List ℕ) Refusal) → session ≡ kept.Writer w → is_file_name name ≡ true
+asked_writer : (name : List ℕ) (offset : ℕ) (session : Session) (w : Writing) (catalogue : List Listed) (found : Result (List ℕ) Refusal) → session ≡ kept.Writer w → is_file_name name ≡ true
     → base_file ((w.session).writer).base name catalogue ≡ found → asked_of_base name offset session catalogue ≡ asked_at name offset found
 asked_writer name offset session w catalogue found is good at =
     ap (λ x. asked_of_base name offset x catalogue) is ∙ ap (λ b. cond b (asked_at name offset (base_file ((w.session).writer).base name catalogue)) None) good ∙ ap (asked_at name offset) at
 
-pub asked_bad : (name : List ℕ) (offset : ℕ) (session : Session) (catalogue : List Listed) → is_file_name name ≡ false → asked_of_base name offset session catalogue ≡ None
+asked_bad : (name : List ℕ) (offset : ℕ) (session : Session) (catalogue : List Listed) → is_file_name name ≡ false → asked_of_base name offset session catalogue ≡ None
 asked_bad name offset kept.Idle catalogue bad = refl
 asked_bad name offset (kept.Writer w) catalogue bad = ap (λ b. cond b (asked_at name offset (base_file ((w.session).writer).base name catalogue)) None) bad
 asked_bad name offset (kept.Reader r) catalogue bad = refl
 
-pub asked_other : (name : List ℕ) (offset : ℕ) (session : Session) (catalogue : List Listed) → ((w : Writing) → session ≡ kept.Writer w → ⊥) → asked_of_base name offset session catalogue ≡ None
-asked_other name offset kept.Idle catalogue other = refl
-asked_other name offset (kept.Writer w) catalogue other = absurd (other w refl)
-asked_other name offset (kept.Reader r) catalogue other = refl
+asked_unwritten : (name : List ℕ) (offset : ℕ) (session : Session) (catalogue : List Listed) (r : Refusal) → wants.want_writer session ≡ Err r → asked_of_base name offset session catalogue ≡ None
+asked_unwritten name offset kept.Idle catalogue r none = refl
+asked_unwritten name offset (kept.Writer w) catalogue r none = cc
+asked_unwritten name offset (kept.Reader q) catalogue r none = refl
 
-pub state_apart : (state : SessionState) (name : List ℕ) → Some (Refused (WrongState state)) ≡ Some (Refused (Unreadable name)) → ⊥
+state_apart : (state : SessionState) (name : List ℕ) → Some (replies.Refused (WrongState state)) ≡ Some (replies.Refused (Unreadable name)) → ⊥
 state_apart state name e = cc
 
-pub name_apart : (name : List ℕ) → Some (Refused BadName) ≡ Some (Refused (Unreadable name)) → ⊥
+name_apart : (name : List ℕ) → Some (replies.Refused BadName) ≡ Some (replies.Refused (Unreadable name)) → ⊥
 name_apart name e = cc
 
 -- the refusals of a base's file
@@ -400,13 +417,13 @@ module _ (base : Option SnapshotKey) (name : List ℕ) (catalogue : List Listed)
       by_kept None e = inl cc
       by_kept (Some k) e = by_path (path_named name k.files) e
 
-  pub base_apart : base_file base name catalogue ≡ Err r → (told : List ℕ) → Some (Refused r) ≡ Some (Refused (Unreadable told)) → ⊥
-  base_apart is told e = ⊎_elim (λ a. snapshot_no told (sym (ap (λ x. Some (Refused x)) a) ∙ e)) (λ b. file_no told (sym (ap (λ x. Some (Refused x)) b) ∙ e)) (either_is is)
+  pub base_apart : base_file base name catalogue ≡ Err r → (told : List ℕ) → Some (replies.Refused r) ≡ Some (replies.Refused (Unreadable told)) → ⊥
+  base_apart is told e = ⊎_elim (λ a. snapshot_no told (sym (ap (λ x. Some (replies.Refused x)) a) ∙ e)) (λ b. file_no told (sym (ap (λ x. Some (replies.Refused x)) b) ∙ e)) (either_is is)
     where
-      snapshot_no : (told : List ℕ) → Some (Refused NoSnapshot) ≡ Some (Refused (Unreadable told)) → ⊥
+      snapshot_no : (told : List ℕ) → Some (replies.Refused NoSnapshot) ≡ Some (replies.Refused (Unreadable told)) → ⊥
       snapshot_no told e = cc
 
-      file_no : (told : List ℕ) → Some (Refused NoFile) ≡ Some (Refused (Unreadable told)) → ⊥
+      file_no : (told : List ℕ) → Some (replies.Refused NoFile) ≡ Some (replies.Refused (Unreadable told)) → ⊥
       file_no told e = cc
 
   -- it comes without a call of the disk
@@ -415,26 +432,107 @@ module _ (base : Option SnapshotKey) (name : List ℕ) (catalogue : List Listed)
 
 -- ---- what is answered
 
-pub part_answers : (path : List ℕ) (reply : Reply) → IsPartOf path (Ok reply) → answers_previous reply ≡ true
-part_answers path (Part total bytes) h = refl
-part_answers path _ h = absurd h
+pub part_answers : (reply : Reply) → IsPart reply → answers_previous reply ≡ true
+part_answers (Part total bytes) h = refl
+part_answers _ h = absurd h
 
-pub part_unchanged : {D : Type 0} (honest : D → Type 0) (content : D → Files) (old new : Parts D) (path : List ℕ) (reply : Reply) → IsPartOf path (Ok reply) → Unchanged honest content old new reply
-part_unchanged honest content old new path (Part total bytes) h = tt
-part_unchanged honest content old new path _ h = absurd h
+pub part_plain : (reply : Reply) → IsPart reply → IsNoRefusal reply
+part_plain (Part total bytes) h = tt
+part_plain _ h = absurd h
 
-pub refusal_answers : (path : List ℕ) (r : Refusal) → IsPartOf path (Err r) → refuses_previous r ≡ true
+pub refusal_answers : (path : List ℕ) (r : Refusal) → RefusesPart path r → refuses_previous r ≡ true
 refusal_answers path (BadRange size) h = refl
 refusal_answers path (Unreadable name) h = refl
 refusal_answers path _ h = absurd h
 
--- ---- what the calls tell
+-- ---- what stops it
 
-pub told_refusal : (wanted : Result Previous Refusal) (told : Result Given Refusal) (r : Refusal) → Tells wanted told → told ≡ Err r → wanted ≡ Err r
-told_refusal wanted told r h is = subst (Tells wanted) is h
+-- of a stop by a read
+pub stop_as : (P Q : Refusal → Type 0) (e : ReadError) → ((r : Refusal) → P r → Q r) → reads.IfRefused P e → IfRefused Q (stop_by_read e)
+stop_as P Q (errors.Refused r) so p = so r p
+stop_as P Q errors.NoMemory so p = tt
+stop_as P Q errors.Failed so p = tt
 
-pub told_given : (wanted : Result Previous Refusal) (told : Result Given Refusal) (v : Given) → Tells wanted told → told ≡ Ok v → wanted ≡ Ok (shown_given v)
-told_given wanted told v h is = subst (Tells wanted) is h
+pub stop_gives : {A B : Type 0} (f : A → B) (wanted : Result B Refusal) (Q : Refusal → Type 0) (e : ReadError) → ((r : Refusal) → wanted ≡ Err r → Q r) → reads.Gives f (Err e) wanted → IfRefused Q (stop_by_read e)
+stop_gives f wanted Q (errors.Refused r) so g = so r g
+stop_gives f wanted Q errors.NoMemory so g = tt
+stop_gives f wanted Q errors.Failed so g = tt
+
+pub read_failed : {A : Type 0} (e : ReadError) → IsErrOf {T = A} (Err (stop_by_read e)) DiskFailed → e ≡ errors.Failed
+read_failed (errors.Refused r) is = cc
+read_failed errors.NoMemory is = cc
+read_failed errors.Failed is = refl
+
+reads_as : {D : Type 0} (d : Ghosts D) (old new : D) (failed by : Type 0) → (by → failed) → OnlyReads d old new failed → OnlyReads d old new by
+reads_as d old new failed by why x = record {
+  serves = record { kept = (x.serves).kept; count = (x.serves).count; cause = λ f. (x.serves).cause (why f) };
+  crash = x.crash;
+  same = x.same;
+}
+
+-- what a read did, as of its stop
+pub reads_to : {D : Type 0} (d : Ghosts D) (old new : D) (read : Result Given ReadError) (e : ReadError) → read ≡ Err e → OnlyReads d old new (IsErrOf read errors.Failed) → OnlyReads d old new (IsErrOf {T = Given} (Err (stop_by_read e)) DiskFailed)
+reads_to d old new read e was x = reads_as d old new _ _ (λ f. was ∙ ap (λ y. Err y) (read_failed e f)) x
+
+-- and of one without a fault
+pub reads_short : {D : Type 0} (d : Ghosts D) (old new : D) (failed : Type 0) → OnlyReads d old new failed → OnlyReads d old new (IsErrOf {T = Given} (Err NoMemory) DiskFailed)
+reads_short d old new failed x = reads_as d old new failed _ never x
+  where
+    never : {P : Type 0} → IsErrOf {T = Given} (Err NoMemory) DiskFailed → P
+    never f = cc
+
+-- ---- whether it is unreadable
+
+module _ {D : Type 0} (d : Ghosts D) (disk : D) (asked : Option Asked) where
+  abbrev TellsSo : Result Reply Stop → Type 0
+  TellsSo result = TellsUnreadable d disk asked (kind_by (told result)) (Some (reply_by (told result)))
+
+  by_stop : (result : Result Reply Stop) (stop : Stop) → IsErrAnd result (λ x. x ≡ stop) → TellsSo (Err stop) → TellsSo result
+  by_stop (Ok reply) stop is p = absurd is
+  by_stop (Err x) stop is p = subst (λ y. TellsSo (Err y)) (sym is) p
+
+  pub tells_short : (result : Result Reply Stop) → IsErrAnd result (λ x. x ≡ NoMemory) → TellsSo result
+  tells_short result is = by_stop result NoMemory is (tells_failed d disk asked disks.NoMemory)
+
+module _ {D : Type 0} (d : Ghosts D) (disk : D) (name : List ℕ) (offset : ℕ) (found : Session) (catalogue : List Listed) where
+  abbrev asks : Option Asked
+  asks = asked_of_base name offset found catalogue
+
+  pub tells_unwritten : (r : Refusal) (result : Result Reply Stop) → IsErrAnd result (λ x. x ≡ Refused r) → wants.want_writer found ≡ Err r → TellsSo d disk asks result
+  tells_unwritten r result is none = by_stop d disk asks result (Refused r) is
+      (unwritten_by_state found r (λ x. TellsUnreadable d disk asks 0 (Some (replies.Refused x))) (λ state. tells_other d disk asks 0 _ (λ told e. state_apart state told e) (asked_unwritten name offset found catalogue r none)) none)
+
+  pub tells_unnamed : (stop : Stop) (result : Result Reply Stop) → IsErrAnd result (λ x. x ≡ stop) → IsNoName name stop → TellsSo d disk asks result
+  tells_unnamed stop result is bad = by_stop d disk asks result stop is (by_name stop bad)
+    where
+      by_name : (stop : Stop) → IsNoName name stop → TellsSo d disk asks (Err stop)
+      by_name (Refused r) bad = subst (λ x. TellsUnreadable d disk asks 0 (Some (replies.Refused x))) (sym bad.0) (tells_other d disk asks 0 _ (λ told e. name_apart told e) (asked_bad name offset found catalogue bad.1))
+      by_name NoMemory bad = tells_failed d disk asks disks.NoMemory
+      by_name DiskFailed bad = absurd bad
+
+  pub tells_no_base : (w : Writing) (r : Refusal) (result : Result Reply Stop) → IsErrAnd result (λ x. x ≡ Refused r) → found ≡ kept.Writer w → is_file_name name ≡ true → base_file ((w.session).writer).base name catalogue ≡ Err r → TellsSo d disk asks result
+  tells_no_base w r result is at good none = by_stop d disk asks result (Refused r) is
+      (tells_other d disk asks 0 _ (λ told e. base_apart ((w.session).writer).base name catalogue r none told e) (asked_writer name offset found w catalogue (Err r) at good none))
+
+  -- the file was read
+  module _ (w : Writing) (path : List ℕ) (at : found ≡ kept.Writer w) (good : is_file_name name ≡ true) (there : base_file ((w.session).writer).base name catalogue ≡ Ok path) where
+    abbrev a : Asked
+    a = record { path = path; way = from_offset (whole_by name) offset }
+
+    asked_is : asks ≡ Some a
+    asked_is = asked_writer name offset found w catalogue (Ok path) at good there
+
+    pub tells_unread : (e : ReadError) (result : Result Reply Stop) → IsErrAnd result (λ x. x ≡ stop_by_read e) → reads.IfRefused (RefusesPart path) e
+        → (d.honest disk → reads.Gives shown_given (Err e) (previous_by (whole_by name) (d.content disk) path offset)) → TellsSo d disk asks result
+    tells_unread e result is kind exact = by_stop d disk asks result (stop_by_read e) is (by_error e kind exact)
+      where
+        by_error : (e : ReadError) → reads.IfRefused (RefusesPart path) e → (d.honest disk → reads.Gives shown_given (Err e) (previous_by (whole_by name) (d.content disk) path offset)) → TellsSo d disk asks (Err (stop_by_read e))
+        by_error (errors.Refused r) kind exact = tells_read d disk asks a (Err r) asked_is kind (λ honest. refusal_is (d.content disk) path (whole_by name) offset r (exact honest))
+        by_error errors.NoMemory kind exact = tells_failed d disk asks disks.NoMemory
+        by_error errors.Failed kind exact = tells_failed d disk asks disks.Failed
+
+    pub tells_given : (g : Given) → IsPart g.part → (d.honest disk → previous_by (whole_by name) (d.content disk) path offset ≡ Ok (shown_given g)) → TellsSo d disk asks (Ok g.part)
+    tells_given g kind exact = tells_read d disk asks a (Ok g.part) asked_is kind (λ honest. part_is (d.content disk) path (whole_by name) offset (shown_given g) (exact honest))
 
 pub base_of_shown : (v : Writer) (w : Writing) → shown_writer v ≡ w → v.base ≡ ((w.session).writer).base
 unfolding shown
@@ -478,15 +576,109 @@ pub whole_read : (m : Files) (path name : List ℕ) (offset : ℕ) (fixed_is : B
     → P (previous_by (Some fixed_is) m path offset) → P (previous_by (whole_by name) m path offset)
 whole_read m path name offset fixed_is P index is h = subst (λ o. P (previous_by o m path offset)) (ap (λ b. Some b) is ∙ whole_index name index) h
 
-part_at : (m : Files) (path : List ℕ) (offset : ℕ) (r : Result Reply Refusal) → ((text : List ℕ) → get m path ≡ Some text → r ≡ part_from text offset) → (get m path ≡ None → r ≡ Err (Unreadable path)) → read_by None m path offset ≡ r
-part_at m path offset r there nothing = by_text (get m path) refl
-  where
-    by_text : (o : Option (List ℕ)) → get m path ≡ o → (or_else (Unreadable path) o >>= λ text. part_from text offset) ≡ r
-    by_text None e = sym (nothing e)
-    by_text (Some text) e = sym (there text e)
-
 -- a file that is no index
-pub part_read_is : (m : Files) (path name : List ℕ) (offset : ℕ) (r : Result Reply Refusal) → is_index_name name ≡ false → ((text : List ℕ) → get m path ≡ Some text → r ≡ part_from text offset) → (get m path ≡ None → r ≡ Err (Unreadable path))
-    → previous_by (whole_by name) m path offset ≡ (r >>= λ part. Ok (record { part = part; pieces = [] }))
-part_read_is m path name offset r plain there nothing =
-    ap (λ o. previous_by o m path offset) (sym (whole_none name plain)) ∙ ap (λ q. q >>= λ part. let p : Result Previous Refusal = Ok (record { part = part; pieces = [] }) in p) (part_at m path offset r there nothing)
+plain_is : (m : Files) (path name : List ℕ) (offset : ℕ) → is_index_name name ≡ false → previous_by (whole_by name) m path offset ≡ (part_at m path offset >>= λ part. Ok (record { part = part; pieces = [] }))
+plain_is m path name offset plain = ap (λ o. previous_by o m path offset) (sym (whole_none name plain))
+
+pub plain_read : (m : Files) (path name : List ℕ) (offset : ℕ) (g : Given) (part : Reply) → is_index_name name ≡ false → part_at m path offset ≡ Ok part → g.part ≡ part → g.pieces.items ≡ [] → reads.Gives shown_given (Ok g) (previous_by (whole_by name) m path offset)
+plain_read m path name offset g part plain is same none =
+    plain_is m path name offset plain ∙ ap (λ q. q >>= λ x. let p : Result Previous Refusal = Ok (record { part = x; pieces = [] }) in p) is
+    ∙ ap (λ x. let p : Result Previous Refusal = Ok (record { part = x; pieces = [] }) in p) (sym same)
+    ∙ ap (λ xs. let p : Result Previous Refusal = Ok (record { part = g.part; pieces = map indexes.known_of xs }) in p) (sym none)
+
+pub plain_unread : (m : Files) (path name : List ℕ) (offset : ℕ) (e : ReadError) (result : Result Given ReadError) → IsErrAnd result (λ x. x ≡ e) → is_index_name name ≡ false → reads.Gives {A = Reply} (λ part. part) (Err e) (part_at m path offset)
+    → reads.Gives shown_given result (previous_by (whole_by name) m path offset)
+plain_unread m path name offset e (Ok g) is plain gives = absurd is
+plain_unread m path name offset e (Err x) is plain gives = subst (λ y. reads.Gives shown_given (Err y) (previous_by (whole_by name) m path offset)) (sym is) (by_error e gives)
+  where
+    by_error : (e : ReadError) → reads.Gives {A = Reply} (λ part. part) (Err e) (part_at m path offset) → reads.Gives shown_given (Err e) (previous_by (whole_by name) m path offset)
+    by_error (errors.Refused r) is = plain_is m path name offset plain ∙ ap (λ q. q >>= λ x. let p : Result Previous Refusal = Ok (record { part = x; pieces = [] }) in p) is
+    by_error errors.NoMemory is = tt
+    by_error errors.Failed is = tt
+
+-- an index
+pub index_unread : (m : Files) (path : List ℕ) (is_fixed : Bool) (offset : ℕ) (e : ReadError) (result : Result Given ReadError) → IsErrAnd result (λ x. x ≡ e) → reads.Gives shown_index (Err e) (index_at m path is_fixed offset)
+    → reads.Gives shown_given result (previous_by (Some is_fixed) m path offset)
+index_unread m path is_fixed offset e (Ok g) is gives = absurd is
+index_unread m path is_fixed offset e (Err x) is gives = subst (λ y. reads.Gives shown_given (Err y) (previous_by (Some is_fixed) m path offset)) (sym is) (by_error e gives)
+  where
+    by_error : (e : ReadError) → reads.Gives shown_index (Err e) (index_at m path is_fixed offset) → reads.Gives shown_given (Err e) (previous_by (Some is_fixed) m path offset)
+    by_error (errors.Refused r) is = ap (λ q. q >>= λ x. let p : Result Previous Refusal = Ok (record { part = x.part; pieces = lengths_from 0 x.entries }) in p) is
+    by_error errors.NoMemory is = tt
+    by_error errors.Failed is = tt
+
+-- ---- the exits
+
+module _ {D : Type 0} (d : Ghosts D) (parts : Parts D) (at : Place) (name : List ℕ) (offset : ℕ) where
+  abbrev act : Act
+  act = Plain (PreviousCommand name offset)
+
+  -- the text is no file's name, or memory is wanting
+  pub unnamed_does : (stop : Stop) (result : Result Reply Stop) → IsErrAnd result (λ x. x ≡ stop) → at.lane < 64 → (w : Writing) → wants.want_writer (session_at parts at.lane) ≡ Ok w → IsNoName name stop → ActDoes d parts parts at act result
+  unnamed_does (Refused r) result is lt w writes bad =
+      refused_does d parts parts at act r result is refl (same_kept parts) (subst (λ x. ReplyHasText (replies.Refused x)) (sym bad.0) bad_name_has_text) (ap refuses_previous bad.0)
+      (λ s shows.
+      let (v, v_at, v_is) = writer_shown parts s at.lane w shows lt writes in
+      bad_name s at.lane name offset at.moment v v_at bad.1 ∙ ap (λ x. let o : Outcome = Err x in o) (sym bad.0))
+  unnamed_does NoMemory result is lt w writes bad = short_does d parts parts at act result is refl (same_kept parts)
+  unnamed_does DiskFailed result is lt w writes bad = absurd bad
+
+  pub unnamed_leaves : (stop : Stop) (result : Result Reply Stop) → IsErrAnd result (λ x. x ≡ stop) → IsNoName name stop → ActLeaves d parts parts at act result
+  unnamed_leaves (Refused r) result is bad = refused_leaves d parts parts at act r result is refl (same_kept parts) (λ closing. false_true closing)
+  unnamed_leaves NoMemory result is bad = short_leaves d parts parts at act result is refl (same_kept parts) (λ closing. false_true closing)
+  unnamed_leaves DiskFailed result is bad = absurd bad
+
+  -- the base has no such file
+  pub no_base_does : (new : Parts D) → new.disk ≡ parts.disk → SameKept parts new → (r : Refusal) (result : Result Reply Stop) → IsErrAnd result (λ x. x ≡ Refused r) → at.lane < 64 → (w : Writing) → wants.want_writer (session_at parts at.lane) ≡ Ok w → is_file_name name ≡ true
+      → base_file ((w.session).writer).base name parts.catalogue.items ≡ Err r → ReplyHasText (replies.Refused r) → refuses_previous r ≡ true → ActDoes d parts new at act result
+  no_base_does new same kept_so r result is lt w writes good none text kind =
+      refused_does d parts new at act r result is same kept_so text kind
+      (λ s shows.
+      let (v, v_at, v_is) = writer_shown parts s at.lane w shows lt writes in
+      no_base s at.lane name offset at.moment parts.catalogue.items v r v_at good shows.catalogue (ap (λ b. base_file b name parts.catalogue.items) (base_of_shown v w v_is) ∙ none))
+
+  pub no_base_leaves : (new : Parts D) → new.disk ≡ parts.disk → SameKept parts new → (r : Refusal) (result : Result Reply Stop) → IsErrAnd result (λ x. x ≡ Refused r) → ActLeaves d parts new at act result
+  no_base_leaves new same kept_so r result is = refused_leaves d parts new at act r result is same kept_so (λ closing. false_true closing)
+
+  module _ (new : Parts D) (failed : Type 0) (read : OnlyReads d parts.disk new.disk failed) where
+    -- memory was wanting for what was read
+    pub unnoted_does : (result : Result Reply Stop) → IsErrAnd result (λ x. x ≡ NoMemory) → SameKept parts new → ActDoes d parts new at act result
+    unnoted_does result is kept = stopped_does d {A = Given} parts new at act (Err NoMemory) NoMemory result is refl (reads_short d parts.disk new.disk failed read) kept tt tt (λ s h. tt)
+
+    pub unnoted_leaves : (result : Result Reply Stop) → IsErrAnd result (λ x. x ≡ NoMemory) → SameKept parts new → ActLeaves d parts new at act result
+    unnoted_leaves result is kept = stopped_leaves d parts new at act NoMemory result failed is read kept refl tt (λ closing. false_true closing)
+
+    pub unread_leaves : (path : List ℕ) (e : ReadError) (result : Result Reply Stop) → IsErrAnd result (λ x. x ≡ stop_by_read e) → SameKept parts new → reads.IfRefused (RefusesPart path) e → ActLeaves d parts new at act result
+    unread_leaves path e result is kept kind =
+        stopped_leaves d parts new at act (stop_by_read e) result failed is read kept refl
+        (stop_as (RefusesPart path) (λ r. is_uncalled r ≡ true → new.disk ≡ parts.disk) e (λ r k t. absurd (false_true (sym (refusal_called path r k) ∙ t))) kind) (λ closing. false_true closing)
+
+    pub given_leaves : (g : Given) → IsPart g.part → new.catalogue.items ≡ parts.catalogue.items → ActLeaves d parts new at act (Ok g.part)
+    given_leaves g kind c =
+        writes_leaves d parts new at act g.part (part_plain g.part kind) refl (λ h. read.same h) read.crash tt c (λ admin. absurd (false_true admin)) (adds_same d parts new act (Ok g.part) read.same) (λ ends. absurd (false_true ends))
+
+    module _ (w : Writing) (path : List ℕ) (lt : at.lane < 64) (writes : wants.want_writer (session_at parts at.lane) ≡ Ok w) (good : is_file_name name ≡ true) (there : base_file ((w.session).writer).base name parts.catalogue.items ≡ Ok path) where
+      based : (s : Store) (v : Writer) → Holds d parts s → shown_writer v ≡ w → HasBase s at.lane name offset v path
+      based s v h v_is = has_base s at.lane name offset parts.catalogue.items v path (h.shows).catalogue (ap (λ b. base_file b name parts.catalogue.items) (base_of_shown v w v_is) ∙ there)
+
+      -- it is not read
+      pub unread_does : (e : ReadError) (result : Result Reply Stop) → IsErrAnd result (λ x. x ≡ stop_by_read e) → (IsErrOf {T = Given} (Err (stop_by_read e)) DiskFailed → failed) → SameKept parts new → reads.ErrorHasText e → reads.IfRefused (RefusesPart path) e
+          → (d.honest parts.disk → reads.Gives shown_given (Err e) (previous_by (whole_by name) (d.content parts.disk) path offset)) → ActDoes d parts new at act result
+      unread_does e result is why kept text kind exact =
+          stopped_does d {A = Given} parts new at act (Err (stop_by_read e)) (stop_by_read e) result is refl (reads_as d parts.disk new.disk failed _ why read) kept
+          (stop_as (λ r. ReplyHasText (replies.Refused r)) (λ r. ReplyHasText (replies.Refused r)) e (λ r t. t) text) (stop_as (RefusesPart path) (λ r. refuses_previous r ≡ true) e (λ r k. refusal_answers path r k) kind)
+          (λ s h.
+          let (v, v_at, v_is) = writer_shown parts s at.lane w h.shows lt writes in
+          stop_gives shown_given (previous_by (whole_by name) (d.content parts.disk) path offset) (λ r. outcome s at.lane at.moment (PreviousCommand name offset) ≡ Err r) e
+          (λ r is. part_refused d parts new s at.lane at.moment name path offset v v_at good h (based s v h v_is) r is) (exact h.honest))
+
+      -- it is given
+      pub given_does : (g : Given) (y found : Session) → IsPart g.part → ReplyHasText g.part → (d.honest parts.disk → previous_by (whole_by name) (d.content parts.disk) path offset ≡ Ok (shown_given g))
+          → new.catalogue.items ≡ parts.catalogue.items → new.sessions.items ≡ set parts.sessions.items at.lane y → new.locks ≡ parts.locks → found ≡ kept.Writer w → y ≡ with_known (map indexes.known_of g.pieces.items) found
+          → ActDoes d parts new at act (Ok g.part)
+      given_does g y found kind text exact c l k found_is y_is =
+          writes_does d parts new at act g.part failed read.serves text (part_answers g.part kind) (part_plain g.part kind)
+          (λ safe s h.
+          let (v, v_at, v_is) = writer_shown parts s at.lane w h.shows lt writes in
+          part_done d parts new s at.lane at.moment name path offset v v_at good h (based s v h v_is) (shown_given g) y lt (exact h.honest) (read.serves).kept read.same c l k
+          (λ shown pieces. y_is ∙ ap₂ with_known pieces (found_is ∙ ap (λ x. kept.Writer x) (sym v_is)) ∙ shown_known v shown))

@@ -1,6 +1,6 @@
 pub mod Uploaded
-pub mod Others
-pub mod Appended
+pub mod Pending
+pub mod Names
 pub mod Noted
 pub mod Stepped
 pub mod Previous

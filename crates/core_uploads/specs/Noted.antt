@@ -1,5 +1,11 @@
 -- A chunk that a lane's writer notes, by what the core keeps.
-use Rattle.std.specs.Prelude.{◌≡◌, ℕ, List, None}
+use Rattle.std.specs.Prelude.{◌≡◌, ℕ, List, None, Result, OnOk, IsErrOf}
+use Rattle.disk_trait.specs.Disk.{Serves}
+use Rattle.disk_trait.specs.Effects.{LeavesBy, LeavesSame, SameContent}
+use Rattle.disk_trait.specs.declared.disk.Disk.{Ghosts}
+use Rattle.disk_trait.specs.declared.disk.DiskError.{DiskError}
+use Rattle.disk_trait.specs.declared.disk.DiskError.TheVariants.{NoMemory, Failed}
+use Rattle.chunk_store.specs.Pieces.{Stores, with_chunk}
 use Rattle.backup_session.specs.Session.{IsPool, length_at, settled}
 use Rattle.backup_session.specs.Steps as rows
 use Rattle.core_state.specs.declared.kept.Session.{Session}
@@ -26,3 +32,13 @@ abbrev pub with_noted : List ℕ → ℕ → Session → Session
 with_noted digest len Idle = Idle
 with_noted digest len (Writer w) = Writer (noted w digest len)
 with_noted digest len (Reader r) = Reader r
+
+-- ---- what it leaves on the disk
+
+-- The chunk is installed where its file isn't there. Want of memory changes nothing.
+pub record PutsChunk {D : Type 0} (d : Ghosts D) (old new : D) (digest bytes : List ℕ) (result : Result (Unit {0}) DiskError) : Type 0 where
+  pub serves : Serves d.honest d.faults old new (IsErrOf result Failed)
+  pub crash : LeavesBy d old new (Stores digest bytes (d.content old))
+  pub put : d.honest old → OnOk result (d.content new ≡ with_chunk digest bytes (d.content old))
+  pub same : IsErrOf result NoMemory → SameContent d old new
+  pub unmoved : IsErrOf result NoMemory → LeavesSame d old new

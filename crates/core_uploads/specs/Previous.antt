@@ -1,5 +1,5 @@
 -- PREVIOUS, by what the core keeps and what the disk holds.
-use Rattle.std.specs.Prelude.{◌≡◌, ◌≤◌, ℕ, Bool, List, [], map, if◌then◌else◌, Option, None, Some, Result, Ok, Err, MatchResult}
+use Rattle.std.specs.Prelude.{◌≡◌, ◌≤◌, ℕ, Bool, List, [], map, if◌then◌else◌, Option, None, Some, Result, Ok, Err}
 use Rattle.std.specs.List.{AllByRecursion}
 use Rattle.disk_trait.specs.Files.{Files}
 use Rattle.store_types.specs.declared.names.SnapshotKey.{SnapshotKey}
@@ -9,7 +9,7 @@ use Rattle.store_types.specs.Chain.Refusing.{◌>>=◌, or_else}
 use Rattle.store_types.specs.FileNames.{is_file_name}
 use Rattle.wire_commands.specs.declared.reply.Reply.{Reply}
 use Rattle.dynamic_index.specs.Writing.{Known, known_of}
-use Rattle.stored_files.specs.Indexes.{index_at, lengths_from}
+use Rattle.snapshot_files.specs.Indexes.{index_at, lengths_from}
 use Rattle.backup_session.specs.Session.{settled}
 use Rattle.backup_session.specs.Steps as rows
 use Rattle.core_state.specs.declared.kept.Kept.{Kept}
@@ -19,7 +19,7 @@ use Rattle.core_state.specs.declared.kept.Session.{Session}
 use Rattle.core_state.specs.declared.kept.Session.TheVariants.{Idle, Writer, Reader}
 use Rattle.core_state.specs.Found.{kept_named, path_named}
 use Rattle.core_state.specs.Unreadables.{Asked, from_offset, whole_by, read_by}
-use Rattle.core_uploads.specs.declared.base.Given.{Given}
+use Rattle.core_uploads.specs.declared.previous_files.Given.{Given}
 
 -- ---- the file of the base
 
@@ -56,15 +56,6 @@ previous_by (Some is_fixed) m path offset = index_at m path is_fixed offset >>= 
 
 abbrev pub shown_given : Given → Previous
 shown_given g = record { part = g.part; pieces = map known_of g.pieces.items }
-
--- this is what is told
-abbrev pub Tells : Result Previous Refusal → Result Given Refusal → Type 0
-Tells wanted told = MatchResult told (λ g. wanted ≡ Ok (shown_given g)) (λ refusal. wanted ≡ Err refusal)
-
--- the part alone
-abbrev pub part_given : Result Given Refusal → Result Reply Refusal
-part_given (Ok g) = Ok g.part
-part_given (Err refusal) = Err refusal
 
 -- lengths that pieces have
 abbrev pub ArePieces : List Known → Type 0

@@ -1,26 +1,21 @@
 -- What a command that makes no call of the disk does to its lane's session.
-use Rattle.std.specs.Prelude.{◌≡◌, ℕ, ◌⊎◌, Ok, Err}
+use Rattle.std.specs.Prelude.{◌≡◌, ℕ, Bool, Result, Ok, Err, IfOk, OnErr, IsTrue}
 use Rattle.disk_trait.specs.Files.{Files}
-use Rattle.store_types.specs.declared.refusal.Refusal.{Refusal}
+use Rattle.disk_trait.specs.declared.disk.DiskError.{DiskError}
+use Rattle.disk_trait.specs.declared.disk.DiskError.TheVariants as disks
+use Rattle.store_types.specs.declared.refusal.Refusal.{Refusal as Cause}
+use Rattle.wire_commands.specs.HasText.{ReplyHasText}
 use Rattle.wire_commands.specs.declared.reply.Reply.{Reply}
-use Rattle.wire_commands.specs.declared.reply.Reply.TheVariants.{Refused}
 use Rattle.store_model.specs.Store.{Store, Writer, Outcome, writer, session, with_session}
 use Rattle.core_state.specs.declared.kept.Session.{Session}
 use Rattle.core_state.specs.declared.kept.Session.TheVariants as kept
+use Rattle.core_state.specs.declared.stop.Stop.{Stop}
+use Rattle.core_state.specs.declared.stop.Stop.TheVariants.{Refused, NoMemory, DiskFailed}
+use Rattle.core_state.specs.Commands.{IsNoRefusal}
 use Rattle.core_state.specs.Holds.{IsSound, IsWriter, HasUploads}
+use Rattle.core_state.specs.Named.{is_named}
 use Rattle.core_state.specs.Shown.{shown_session, shown_writer}
-
--- where it is refused, the session is as before
-abbrev pub SameIfRefused : Session → Session → Reply → Type 0
-SameIfRefused old new (Refused refusal) = new ≡ old
-SameIfRefused old new reply = Unit {0}
-
--- the store's step is refused so
-pub record IsRefused (old new : Session) (o : Outcome) (reply : Reply) : Type 0 where
-  pub refusal : Refusal
-  pub step : o ≡ Err refusal
-  pub reply_is : reply ≡ Refused refusal
-  pub same : new ≡ old
+use Rattle.core_state.specs.Stops.{told}
 
 -- The store's step makes another of the lane's writer, and that one is kept. What stands on the disk for it is the same.
 pub record GoesOn (s : Store) (lane : ℕ) (new : Session) (o : Outcome) (reply : Reply) : Type 0 where
@@ -34,7 +29,27 @@ pub record GoesOn (s : Store) (lane : ℕ) (new : Session) (o : Outcome) (reply 
   pub is_writer : IsWriter s.snapshots after
   pub uploads : (m : Files) → HasUploads m before → HasUploads m after
 
--- for every sound store that has the session at a lane
-abbrev pub StepsAt : Session → Session → (Store → ℕ → Outcome) → Reply → Type 0
-StepsAt old new outcome_at reply =
-    (s : Store) (lane : ℕ) → IsSound s → old ≡ shown_session s.snapshots (session s lane) → IsRefused old new (outcome_at s lane) reply ⊎ GoesOn s lane new (outcome_at s lane) reply
+-- For every sound store that has the session at a lane: its step is done, or refused so. The disk is not called, so it doesn't fail.
+abbrev pub IsStepOf : Session → Session → (Store → ℕ → Outcome) → Result Reply Stop → Type 0
+IsStepOf old new outcome_at (Ok reply) =
+    (s : Store) (lane : ℕ) → IsSound s → old ≡ shown_session s.snapshots (session s lane) → GoesOn s lane new (outcome_at s lane) reply
+IsStepOf old new outcome_at (Err (Refused refusal)) =
+    (s : Store) (lane : ℕ) → IsSound s → old ≡ shown_session s.snapshots (session s lane) → outcome_at s lane ≡ Err refusal
+IsStepOf old new outcome_at (Err NoMemory) = Unit {0}
+IsStepOf old new outcome_at (Err DiskFailed) = ⊥
+
+-- It does the store's step, and is answered by one of these replies. Where it stops the session is as before.
+pub record StepsQuietly (old new : Session) (outcome_at : Store → ℕ → Outcome) (may_be : Reply → Bool) (result : Result Reply Stop) : Type 0 where
+  pub text : IfOk (told result) ReplyHasText
+  pub answers : IfOk (told result) (λ reply. IsTrue (may_be reply))
+  pub plain : IfOk result IsNoRefusal
+  pub named : IsTrue (is_named new)
+  pub same : OnErr result (new ≡ old)
+  pub step : IsStepOf old new outcome_at result
+
+-- what a call of the backup's session answered, by what came of it
+abbrev pub answer_of : {A : Type 0} → Result A Stop → Result (Result A Cause) DiskError
+answer_of (Ok x) = Ok (Ok x)
+answer_of (Err (Refused refusal)) = Ok (Err refusal)
+answer_of (Err NoMemory) = Err disks.NoMemory
+answer_of (Err DiskFailed) = Err disks.Failed

@@ -1,38 +1,34 @@
 //! NEW_DYNAMIC, NEW_FIXED, APPEND and CLOSE_INDEX.
 
-ghost use Rattle.std.specs.Prelude.{◌≡◌, ◌<◌, ◌≤◌, ℕ, List, map, None, Some, MatchResult, IfOk, OnErr, IsErrOf, IsTrue};
-ghost use Rattle.disk_trait.specs.Disk.{Serves};
+ghost use Rattle.std.specs.Prelude.{◌≡◌, ◌<◌, ◌≤◌, ℕ, true, map, None, IfOk, IfErr, IsErrOf, IsTrue};
 ghost use Rattle.store_types.specs.Times.{last_moment};
-ghost use Rattle.wire_commands.specs.HasText.{ReplyHasText};
 ghost use Rattle.wire_commands.specs.declared.command.Command.TheVariants as commands;
-ghost use Rattle.wire_commands.specs.declared.reply.Reply.TheVariants.{Refused};
-ghost use Rattle.store_files.specs.Archive.{Snapshot};
+ghost use Rattle.store_history.specs.declared.act.Act.TheVariants.{Plain};
 ghost use Rattle.store_model.specs.ArchiveSteps.{named as named_entry};
 ghost use Rattle.store_model.specs.Steps.{outcome};
-ghost use Rattle.store_model.specs.Store as model;
 ghost use Rattle.store_model.specs.WriterCalls as calls;
-ghost use Rattle.backup_session.specs.Answers.{Does, DoesPlainly};
-ghost use Rattle.backup_session.specs.Session.{settled};
-ghost use Rattle.backup_session.specs.Shown.{Shows};
-ghost use Rattle.core_state.specs.Holds.{Acts};
+ghost use Rattle.backup_session.specs.Answers.{Does, DoesPlainly, IsPendingAt};
+ghost use Rattle.backup_session.specs.Session.{held, settled};
+ghost use Rattle.backup_session.specs.Steps as rows;
+ghost use Rattle.backup_session.specs.Steps.{begun_at};
+ghost use Rattle.core_state.specs.Changes.{index_put};
+ghost use Rattle.core_state.specs.Closing.{is_writer};
+ghost use Rattle.core_state.specs.Commands.{ActDoes, ActLeaves};
 ghost use Rattle.core_state.specs.Named.{is_named};
-ghost use Rattle.core_state.specs.Replies.{answers_index, answers_fixed, refuses_fixed, refuses_append, answers_append, answers_closing};
-ghost use Rattle.core_state.specs.Settles.{reply_by};
-ghost use Rattle.core_state.specs.Shown.{shown_session};
-ghost use Rattle.core_state.specs.Unchanged.{Unchanged};
-ghost use Rattle.core_uploads.specs.Appended.{appended, HasOpen, Grows, Appends, StaysRefused};
+ghost use Rattle.core_state.specs.Replies.{answers_append, answers_closing};
+ghost use Rattle.core_state.specs.Stops.{StopHasText};
+ghost use Rattle.core_state.specs.declared.stop.Stop.TheVariants.{DiskFailed};
 ghost use Rattle.core_uploads.specs.NewIndexes.{answers_new, new_command, new_plain, new_rows};
-ghost use Rattle.core_uploads.specs.Others.{OthersStay};
-ghost use Rattle.core_uploads.specs.Stepped.{SameIfRefused, StepsAt};
+ghost use Rattle.core_uploads.specs.Pending.{MakesPending};
+ghost use Rattle.core_uploads.specs.Stepped.{StepsQuietly, answer_of};
 
-use crate::closing::refused_closing;
-use crate::files::{keep_file, stored_file};
-use crate::sessions::wrong_state;
+use crate::files::{NewFile, keep_pending, stored_file};
+use crate::names::file_name;
 use backup_session::Writer;
-use core_state::{Parts, Session};
-use disk_trait::{Disk, DiskError};
+use core_state::{Parts, Place, Session, Stop};
+use disk_trait::Disk;
 use std::alloc::{AllocError, Global};
-use store_types::{AppendEntry, Digest32, FileName, Refusal};
+use store_types::{AppendEntry, Bytes, Digest32, FileName, Refusal};
 use wire_commands::Reply;
 
 /// An index that is begun.
@@ -43,132 +39,98 @@ enum NewIndex {
     Fixed { size: u64, chunk_size: u64 },
 }
 
-/// The backup begins an index of this name. Where it is refused, and where memory is wanting, it is as before.
+/// The backup begins an index of this name, and gives its number. Where it is refused, and where memory is wanting, it is
+/// as before.
 fn begin(
     session: &mut Writer,
     alloc: Global,
     name: FileName,
     moment: u64,
     index: NewIndex,
-) -> Result<Result<u8, Refusal>, AllocError>
+) -> Result<u8, Stop>
     requires settled { session.old.pending ≡ None }
     requires in_time { moment ≤ last_moment }
-    ensures does { Does (λ n. n) settled session.old session.new result (new_rows index session.old.writer name moment) }
+    ensures does { Does (λ n. n) settled session.old session.new (answer_of result) (new_rows index session.old.writer name moment) }
     ensures settled { session.new.pending ≡ None }
-    ensures plain { DoesPlainly (λ n. n) settled session.old session.new result (λ w. new_plain index w name moment) }
+    ensures plain { DoesPlainly (λ n. n) settled session.old session.new (answer_of result) (λ w. new_plain index w name moment) }
+    ensures text { IfErr result StopHasText }
+    ensures uncalled { IsErrOf result DiskFailed → ⊥ }
 {
     match index {
-        NewIndex::Dynamic => session.new_dynamic(alloc, name, moment),
+        NewIndex::Dynamic => Ok(session.new_dynamic(alloc, name, moment)??),
         NewIndex::Fixed { size, chunk_size } => {
-            session.new_fixed(alloc, name, moment, size, chunk_size)
+            Ok(session.new_fixed(alloc, name, moment, size, chunk_size)??)
         }
     }
 }
 
-/// The reply to an index that is refused so.
-#[tactic(auto, using(core_state::proofs::Texts::too_many_has_text, core_state::proofs::Texts::wrong_size_has_text))]
-fn refused_index(refusal: Refusal) -> Reply
-    requires { IsTrue (refuses_fixed refusal) }
-    ensures value { result ≡ Refused refusal }
-    ensures text { ReplyHasText result }
-{
-    // each number by itself, since its type says that it fits its field
-    match refusal {
-        Refusal::TooMany { limit } => Reply::Refused(Refusal::TooMany { limit }),
-        Refusal::WrongSize { place, size } => Reply::Refused(Refusal::WrongSize { place, size }),
-        refusal => Reply::Refused(refusal),
-    }
-}
-
-/// A session's writer begins an index. Where it is refused, and where memory is wanting, the session is as before.
+/// A session's writer begins an index, whose number is the reply. Where it is refused, and where memory is wanting, the
+/// session is as before.
 fn begin_index(
     session: &mut Session,
     alloc: Global,
     name: &[u8],
     moment: u64,
     index: NewIndex,
-) -> Result<Reply, AllocError>
+) -> Result<Reply, Stop>
     requires named { IsTrue (is_named session.old) }
+    requires writer { is_writer session.old ≡ true }
     requires in_time { moment ≤ last_moment }
-    ensures text { IfOk result ReplyHasText }
-    ensures answers { IfOk result (λ reply. IsTrue (answers_new index reply)) }
-    ensures named { IsTrue (is_named session.new) }
-    ensures same { MatchResult result (SameIfRefused session.old session.new) (λ _. session.new ≡ session.old) }
-    ensures steps { IfOk result (StepsAt session.old session.new (λ s lane. outcome s lane moment (new_command index name.now))) }
+    ensures { StepsQuietly session.old session.new (λ s lane. outcome s lane moment (new_command index name.now)) (answers_new index) result }
 {
     match session {
         Session::Writer(w) => {
-            let Ok(name) = FileName::check(alloc, name)? else {
-                return Ok(Reply::Refused(Refusal::BadName));
-            };
-            match begin(&mut w.session, alloc, name, moment, index)? {
-                Ok(number) => Ok(Reply::Number(number)),
-                Err(refusal) => Ok(refused_index(refusal)),
-            }
+            let name = file_name(alloc, name)?;
+            let number = begin(&mut w.session, alloc, name, moment, index)?;
+            Ok(Reply::Number(number))
         }
-        _ => Ok(Reply::Refused(wrong_state(session))),
+        _ => unreachable!(),
     }
 }
 
 /// The lane's writer begins a dynamic index. It makes no disk call.
 ///
-/// The moment is in seconds since 1970, and the reply is the index's number. The refusals, in the order in which they are
-/// tested: the lane has no writer; the name is no dynamic index's; the writer has such a file or open index; it has 64 of
-/// them; 16 indexes are open.
+/// The reply is the index's number. The refusals, in the order in which they are tested: the lane has no writer; the name
+/// is no dynamic index's; the writer has such a file or open index; it has 64 of them; 16 indexes are open.
 pub fn new_dynamic<D: Disk>(
     parts: &mut Parts<D>,
     alloc: Global,
-    lane: u32,
-    moment: u64,
+    at: Place,
     name: &[u8],
-) -> Result<Reply, DiskError>
-    requires lane { lane < 64 }
-    requires in_time { moment ≤ last_moment }
-    ensures serves { Serves D.honest D.faults parts.old.disk parts.new.disk (IsErrOf result DiskError.Failed) }
-    ensures calls { D.calls parts.old.disk ≤ D.calls parts.new.disk }
-    ensures text { IfOk result ReplyHasText }
-    ensures answers { IfOk result (λ reply. IsTrue (answers_index reply)) }
-    ensures unchanged { Unchanged D.honest D.content parts.old parts.new (reply_by result) }
-    ensures others { OthersStay D.honest D.content parts.old parts.new lane (Some (reply_by result)) }
-    ensures catalogue { parts.new.catalogue.items ≡ parts.old.catalogue.items }
-    ensures act { Acts D.honest D.content parts.old parts.new (λ s. outcome s lane moment (commands.NewDynamic name.now)) result }
-    ensures disk { parts.new.disk ≡ parts.old.disk }
+) -> Result<Reply, Stop>
+    requires lane { at.lane < 64 }
+    requires in_time { at.moment ≤ last_moment }
+    ensures does { ActDoes D.Disk parts.old parts.new at (Plain (commands.NewDynamic name.now)) result }
+    ensures leaves { ActLeaves D.Disk parts.old parts.new at (Plain (commands.NewDynamic name.now)) result }
 {
-    let session = &mut parts.sessions[lane as usize];
-    Ok(begin_index(session, alloc, name, moment, NewIndex::Dynamic)?)
+    parts.writer(at.lane)?;
+    let session = &mut parts.sessions[at.lane as usize];
+    begin_index(session, alloc, name, at.moment, NewIndex::Dynamic)
 }
 
 /// The lane's writer begins a fixed index, of an archive of so many bytes, in pieces of so many bytes. It makes no disk
 /// call.
 ///
-/// The moment is in seconds since 1970, and the reply is the index's number. The refusals, in the order in which they are
-/// tested: the lane has no writer; the name is no fixed index's; the writer has such a file or open index; it has 64 of
-/// them; 16 indexes are open; the length of pieces is no power of two from 4,096 to 16,777,216; the archive would have
-/// more than 1,048,576 pieces.
+/// The reply is the index's number. The refusals, in the order in which they are tested: the lane has no writer; the name
+/// is no fixed index's; the writer has such a file or open index; it has 64 of them; 16 indexes are open; the length of
+/// pieces is no power of two from 4,096 to 16,777,216; the archive would have more than 1,048,576 pieces.
 pub fn new_fixed<D: Disk>(
     parts: &mut Parts<D>,
     alloc: Global,
-    lane: u32,
-    moment: u64,
+    at: Place,
     name: &[u8],
     size: u64,
     chunk_size: u64,
-) -> Result<Reply, DiskError>
-    requires lane { lane < 64 }
-    requires in_time { moment ≤ last_moment }
-    ensures serves { Serves D.honest D.faults parts.old.disk parts.new.disk (IsErrOf result DiskError.Failed) }
-    ensures calls { D.calls parts.old.disk ≤ D.calls parts.new.disk }
-    ensures text { IfOk result ReplyHasText }
-    ensures answers { IfOk result (λ reply. IsTrue (answers_fixed reply)) }
-    ensures unchanged { Unchanged D.honest D.content parts.old parts.new (reply_by result) }
-    ensures others { OthersStay D.honest D.content parts.old parts.new lane (Some (reply_by result)) }
-    ensures catalogue { parts.new.catalogue.items ≡ parts.old.catalogue.items }
-    ensures act { Acts D.honest D.content parts.old parts.new (λ s. outcome s lane moment (commands.NewFixed name.now size chunk_size)) result }
-    ensures disk { parts.new.disk ≡ parts.old.disk }
+) -> Result<Reply, Stop>
+    requires lane { at.lane < 64 }
+    requires in_time { at.moment ≤ last_moment }
+    ensures does { ActDoes D.Disk parts.old parts.new at (Plain (commands.NewFixed name.now size chunk_size)) result }
+    ensures leaves { ActLeaves D.Disk parts.old parts.new at (Plain (commands.NewFixed name.now size chunk_size)) result }
 {
-    let session = &mut parts.sessions[lane as usize];
+    parts.writer(at.lane)?;
+    let session = &mut parts.sessions[at.lane as usize];
     let index = NewIndex::Fixed { size, chunk_size };
-    Ok(begin_index(session, alloc, name, moment, index)?)
+    begin_index(session, alloc, name, at.moment, index)
 }
 
 /// The entries as pairs.
@@ -182,67 +144,42 @@ fn pairs_of(alloc: Global, entries: &[AppendEntry]) -> Result<Vec<(Digest32, u64
     Ok(pairs)
 }
 
-/// The reply to an append that is refused so.
-#[tactic(auto, using(core_state::proofs::Texts::too_many_has_text, core_state::proofs::Texts::unknown_chunk_has_text, core_state::proofs::Texts::bad_offset_has_text, core_state::proofs::Texts::wrong_size_has_text))]
-fn refused_append(refusal: Refusal) -> Reply
-    requires { IsTrue (refuses_append refusal) }
-    ensures value { result ≡ Refused refusal }
-    ensures text { ReplyHasText result }
-{
-    // each number by itself, since its type says that it fits its field
-    match refusal {
-        Refusal::TooMany { limit } => Reply::Refused(Refusal::TooMany { limit }),
-        Refusal::UnknownChunk { place } => Reply::Refused(Refusal::UnknownChunk { place }),
-        Refusal::BadOffset { place, expected } => Reply::Refused(Refusal::BadOffset {
-            place,
-            expected,
-        }),
-        Refusal::WrongSize { place, size } => Reply::Refused(Refusal::WrongSize { place, size }),
-        refusal => Reply::Refused(refusal),
-    }
-}
-
-/// The backup gets chunks that were sent, as in `append`. At a refusal, and at want of memory, it is as before.
+/// The backup gets chunks that were sent, as in `append`. Where it is refused, and where memory is wanting, it is as before.
 fn grow(
     session: &mut Writer,
     alloc: Global,
     number: u8,
     entries: &[AppendEntry],
-) -> Result<Reply, AllocError>
+) -> Result<(), Stop>
     requires { session.old.pending ≡ None }
-    ensures text { IfOk result ReplyHasText }
-    ensures answers { IfOk result (λ reply. IsTrue (answers_append reply)) }
+    ensures does { Does (λ u. u) settled session.old session.new (answer_of result) (rows.append session.old.writer number (map named_entry entries.now)) }
     ensures settled { session.new.pending ≡ None }
-    ensures key { session.new.writer.key ≡ session.old.writer.key }
-    ensures err { OnErr result (session.new ≡ session.old) }
-    ensures refused { IfOk result (StaysRefused session.old session.new) }
-    ensures plain { (w : model.Writer) → Shows session.old.writer w → IfOk result (Grows (calls.append w number (map named_entry entries.now)) session.new) }
+    ensures plain { DoesPlainly (λ u. u) settled session.old session.new (answer_of result) (λ w. calls.append w number (map named_entry entries.now)) }
+    ensures text { IfErr result StopHasText }
+    ensures uncalled { IsErrOf result DiskFailed → ⊥ }
 {
     let pairs = pairs_of(alloc, entries)?;
-    match session.append(alloc, number, &pairs)? {
-        Ok(()) => Ok(Reply::Done),
-        Err(refusal) => Ok(refused_append(refusal)),
-    }
+    Ok(session.append(alloc, number, &pairs)??)
 }
 
-/// The session's writer appends chunks, as in `append`. At a refusal, and at want of memory, the session is as before.
+/// The session's writer appends chunks, as in `append`. Where it is refused, and where memory is wanting, the session is as
+/// before.
 fn append_to(
     session: &mut Session,
     alloc: Global,
     number: u8,
     entries: &[AppendEntry],
-) -> Result<Reply, AllocError>
-    requires { IsTrue (is_named session.old) }
-    ensures text { IfOk result ReplyHasText }
-    ensures answers { IfOk result (λ reply. IsTrue (answers_append reply)) }
-    ensures named { IsTrue (is_named session.new) }
-    ensures err { OnErr result (session.new ≡ session.old) }
-    ensures refused { IfOk result (StaysRefused session.old session.new) }
-    ensures plain { (snapshots : List Snapshot) (x : model.Session) → session.old ≡ shown_session snapshots x → HasOpen x → IfOk result (Appends (appended x number entries.now) session.new) }
+) -> Result<Reply, Stop>
+    requires named { IsTrue (is_named session.old) }
+    requires writer { is_writer session.old ≡ true }
+    ensures { (moment : ℕ) → StepsQuietly session.old session.new (λ s lane. outcome s lane moment (commands.Append number entries.now)) answers_append result }
 {
     match session {
-        Session::Writer(w) => grow(&mut w.session, alloc, number, entries),
-        _ => Ok(Reply::Refused(wrong_state(session))),
+        Session::Writer(w) => {
+            grow(&mut w.session, alloc, number, entries)?;
+            Ok(Reply::Done)
+        }
+        _ => unreachable!(),
     }
 }
 
@@ -255,23 +192,65 @@ fn append_to(
 pub fn append<D: Disk>(
     parts: &mut Parts<D>,
     alloc: Global,
-    lane: u32,
+    at: Place,
     number: u8,
     entries: &[AppendEntry],
-) -> Result<Reply, DiskError>
-    requires { lane < 64 }
-    ensures serves { Serves D.honest D.faults parts.old.disk parts.new.disk (IsErrOf result DiskError.Failed) }
-    ensures calls { D.calls parts.old.disk ≤ D.calls parts.new.disk }
-    ensures text { IfOk result ReplyHasText }
-    ensures answers { IfOk result (λ reply. IsTrue (answers_append reply)) }
-    ensures unchanged { Unchanged D.honest D.content parts.old parts.new (reply_by result) }
-    ensures others { OthersStay D.honest D.content parts.old parts.new lane (Some (reply_by result)) }
-    ensures catalogue { parts.new.catalogue.items ≡ parts.old.catalogue.items }
-    ensures act { (moment : ℕ) → Acts D.honest D.content parts.old parts.new (λ s. outcome s lane moment (commands.Append number entries.now)) result }
-    ensures disk { parts.new.disk ≡ parts.old.disk }
+) -> Result<Reply, Stop>
+    requires { at.lane < 64 }
+    ensures does { ActDoes D.Disk parts.old parts.new at (Plain (commands.Append number entries.now)) result }
+    ensures leaves { ActLeaves D.Disk parts.old parts.new at (Plain (commands.Append number entries.now)) result }
 {
-    let session = &mut parts.sessions[lane as usize];
-    Ok(append_to(session, alloc, number, entries)?)
+    parts.writer(at.lane)?;
+    let session = &mut parts.sessions[at.lane as usize];
+    append_to(session, alloc, number, entries)
+}
+
+/// The backup closes an index, whose file is pending then, and gives its text. Where it is refused, and where memory is
+/// wanting, it is as before.
+fn close(
+    session: &mut Writer,
+    alloc: Global,
+    number: u8,
+    count: u64,
+    size: u64,
+    csum: &Digest32,
+) -> Result<Vec<u8>, Stop>
+    requires { session.old.pending ≡ None }
+    ensures does { Does (λ text. text.items) (held session.old.writer) session.old session.new (answer_of result) (rows.close_index session.old.writer number count size csum.now) }
+    ensures pending { IsPendingAt session.new (answer_of result) }
+    ensures plain { DoesPlainly (λ text. text.items) (held session.old.writer) session.old session.new (answer_of result) (λ w. calls.close_index w number count size csum.now) }
+    ensures text { IfErr result StopHasText }
+    ensures uncalled { IsErrOf result DiskFailed → ⊥ }
+{
+    Ok(session.close_index(alloc, number, count, size, csum)??)
+}
+
+/// An index of the session's writer becomes a file, which is pending then. Where it is refused, and where memory is
+/// wanting, the session is as before.
+fn take_index(
+    session: &mut Session,
+    alloc: Global,
+    number: u8,
+    count: u64,
+    size: u64,
+    csum: &Digest32,
+) -> Result<NewFile, Stop>
+    requires named { IsTrue (is_named session.old) }
+    requires writer { is_writer session.old ≡ true }
+    ensures { (moment : ℕ) → MakesPending session.old session.new (λ s lane. outcome s lane moment (commands.CloseIndex number count size csum.now)) answers_closing (λ w. index_put (begun_at number w.session.writer) w) result }
+{
+    match session {
+        Session::Writer(w) => {
+            let name = w.session.index_name(number).ok_or(Refusal::NoFile)?;
+            let file = stored_file(alloc, w.session.key(), name)?;
+            let text = close(&mut w.session, alloc, number, count, size, csum)?;
+            Ok(NewFile {
+                file,
+                text: Bytes::from_vec(text),
+            })
+        }
+        _ => unreachable!(),
+    }
 }
 
 /// An index of the lane's writer becomes a file. After a fault of the disk the index is open as before.
@@ -281,41 +260,19 @@ pub fn append<D: Disk>(
 pub fn close_index<D: Disk>(
     parts: &mut Parts<D>,
     alloc: Global,
-    lane: u32,
+    at: Place,
     number: u8,
     count: u64,
     size: u64,
     csum: &Digest32,
-) -> Result<Reply, DiskError>
-    requires { lane < 64 }
-    ensures serves { Serves D.honest D.faults parts.old.disk parts.new.disk (IsErrOf result DiskError.Failed) }
-    ensures calls { D.calls parts.old.disk ≤ D.calls parts.new.disk }
-    ensures text { IfOk result ReplyHasText }
-    ensures answers { IfOk result (λ reply. IsTrue (answers_closing reply)) }
-    ensures unchanged { Unchanged D.honest D.content parts.old parts.new (reply_by result) }
-    ensures others { OthersStay D.honest D.content parts.old parts.new lane (Some (reply_by result)) }
-    ensures catalogue { parts.new.catalogue.items ≡ parts.old.catalogue.items }
-    ensures act { (moment : ℕ) → Acts D.honest D.content parts.old parts.new (λ s. outcome s lane moment (commands.CloseIndex number count size csum.now)) result }
+) -> Result<Reply, Stop>
+    requires { at.lane < 64 }
+    ensures does { ActDoes D.Disk parts.old parts.new at (Plain (commands.CloseIndex number count size csum.now)) result }
+    ensures leaves { ActLeaves D.Disk parts.old parts.new at (Plain (commands.CloseIndex number count size csum.now)) result }
 {
-    let session = &mut parts.sessions[lane as usize];
-    let Session::Writer(w) = session else {
-        return Ok(Reply::Refused(wrong_state(session)));
-    };
-    let Some(name) = w.session.index_name(number) else {
-        return Ok(Reply::Refused(Refusal::NoFile));
-    };
-    let file = stored_file(alloc, w.session.key(), name)?;
-    let text = match w.session.close_index(alloc, number, count, size, csum)? {
-        Ok(text) => text,
-        Err(refusal) => return Ok(refused_closing(refusal)),
-    };
-    keep_file(
-        &mut parts.disk,
-        alloc,
-        &mut w.session,
-        &mut w.files,
-        file,
-        &text,
-    )?;
+    parts.writer(at.lane)?;
+    let session = &mut parts.sessions[at.lane as usize];
+    let new = take_index(session, alloc, number, count, size, csum)?;
+    keep_pending(&mut parts.disk, alloc, session, new)?;
     Ok(Reply::Done)
 }

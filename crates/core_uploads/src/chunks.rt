@@ -1,58 +1,49 @@
 //! CHUNK.
 
-ghost use Rattle.std.specs.Prelude.{◌≡◌, ◌<◌, ◌≤◌, ◌-◌, ℕ, length as len, None, Some, Ok, Err, IfOk, OnOk, OnErr, IsErrOf, IsTrue};
-ghost use Rattle.disk_trait.specs.Disk.{Serves};
+ghost use Rattle.std.specs.Prelude.{◌≡◌, ◌<◌, ◌-◌, ℕ, length as len, None, Ok, Err, OnOk, OnErr, IsTrue};
+ghost use Rattle.store_types.specs.declared.refusal.Refusal.TheVariants.{WrongDigest};
 ghost use Rattle.wire_commands.specs.HasText.{ReplyHasText};
 ghost use Rattle.wire_commands.specs.declared.reply.Reply.TheVariants.{Refused};
 ghost use Rattle.blob_codec.specs.Laws.{AreBytes};
-ghost use Rattle.store_types.specs.declared.refusal.Refusal.TheVariants.{WrongDigest};
-ghost use Rattle.store_model.specs.ArchiveSteps.{checked_chunk};
-ghost use Rattle.chunk_store.specs.Pieces.{IsChunk, with_chunk};
+ghost use Rattle.chunk_store.specs.Pieces.{IsChunk};
 ghost use Rattle.store_history.specs.Acts.{IsCheckedChunk};
-ghost use Rattle.store_history.specs.History.{data_in};
+ghost use Rattle.store_history.specs.declared.act.Act.TheVariants as acts;
 ghost use Rattle.backup_session.specs.Session.{Writing, IsPool, length_at, settled};
 ghost use Rattle.backup_session.specs.Steps as rows;
-ghost use Rattle.core_state.specs.Chunks.{MayStand, Adds};
-ghost use Rattle.core_state.specs.Holds.{Acts};
-ghost use Rattle.core_state.specs.Replies.{answers_chunk};
-ghost use Rattle.core_state.specs.Settles.{reply_by};
-ghost use Rattle.core_state.specs.Unchanged.{Unchanged};
-ghost use Rattle.core_uploads.specs.Noted.{MayNote, with_noted};
-ghost use Rattle.core_uploads.specs.Others.{ActLeaves};
+ghost use Rattle.core_state.specs.Commands.{ActDoes, ActLeaves};
+ghost use Rattle.core_state.specs.Replies.{refuses_chunk};
+ghost use Rattle.core_uploads.specs.Noted.{MayNote, PutsChunk, with_noted};
 
-use crate::sessions::wrong_state;
 use crate::uploads::bad_blob;
 use backup_session::Writer;
+use blob_codec::HEADER_SIZE;
 use chunk_store::insert_blob;
-use core_state::{Act, Parts, Session};
+use core_state::{Parts, Place, Session, Stop};
 use disk_trait::{Disk, DiskError};
 use std::alloc::Global;
 use store_types::{Bytes, Digest32, Refusal};
 use wire_commands::Reply;
 
-/// The bytes of a blob before its data: the magic and the CRC-32.
-const HEADER: usize = 12;
-
-/// The reply to an upload whose data have another digest.
+/// The refusal of an upload whose data have another digest.
 #[tactic(auto, using(core_state::proofs::Texts::wrong_digest_has_text))]
-fn wrong_digest(found: Digest32) -> Reply
-    ensures value { result ≡ Refused (WrongDigest found) }
-    ensures text { ReplyHasText result }
+fn wrong_digest(found: Digest32) -> Refusal
+    ensures value { result ≡ WrongDigest found }
+    ensures text { ReplyHasText (Refused result) }
 {
-    Reply::Refused(Refusal::WrongDigest { found })
+    Refusal::WrongDigest { found }
 }
 
-/// The reply to an upload that is refused as its check was.
-fn refused(digest: &Digest32, refusal: Refusal) -> Reply
+/// The refusal of an upload, as its check was: each number by itself, since its type says that it fits its field.
+fn refused(digest: &Digest32, refusal: Refusal) -> Refusal
     requires { IsCheckedChunk digest.now (Err refusal) }
-    ensures value { result ≡ Refused refusal }
-    ensures kind { IsTrue (answers_chunk result) }
-    ensures text { ReplyHasText result }
+    ensures value { result ≡ refusal }
+    ensures kind { IsTrue (refuses_chunk result) }
+    ensures text { ReplyHasText (Refused result) }
 {
     match refusal {
         Refusal::BadBlob(cause) => bad_blob(cause),
         Refusal::WrongDigest { found } => wrong_digest(found),
-        refusal => Reply::Refused(refusal),
+        refusal => refusal,
     }
 }
 
@@ -66,15 +57,12 @@ fn put_chunk<D: Disk>(
 ) -> Result<(), DiskError>
     requires settled { session.old.pending ≡ None }
     requires chunk { IsChunk digest.now.0 bytes.now }
-    ensures serves { Serves D.honest D.faults disk.old disk.new (IsErrOf result DiskError.Failed) }
-    ensures calls { D.calls disk.old ≤ D.calls disk.new }
     ensures ok { OnOk result (session.new ≡ session.old) }
     ensures err { OnErr result ((before : Writing) → (length : ℕ) → IsPool before.pool → length_at before.pool digest.now.0 ≡ None
         → session.old ≡ settled (rows.chunk before digest.now.0 length) → session.new ≡ settled before) }
-    ensures put { D.honest disk.old → OnOk result (D.content disk.new ≡ with_chunk digest.now.0 bytes.now (D.content disk.old)) }
-    ensures unchanged { IsErrOf result DiskError.NoMemory → D.honest disk.old → D.content disk.new ≡ D.content disk.old }
+    ensures puts { PutsChunk D.Disk disk.old disk.new digest.now.0 bytes.now result }
 {
-    if let Err(cause) = insert_blob(alloc, disk, digest, bytes) {
+    if let Err(cause) = insert_blob(disk, alloc, digest, bytes) {
         session.forget(digest);
         return Err(cause);
     }
@@ -92,17 +80,14 @@ fn take_chunk<D: Disk>(
     requires unknown { MayNote digest.now.0 session.old }
     requires checked { IsCheckedChunk digest.now (Ok bytes.now) }
     ensures bytes { AreBytes bytes.now }
-    ensures serves { Serves D.honest D.faults disk.old disk.new (IsErrOf result DiskError.Failed) }
-    ensures calls { D.calls disk.old ≤ D.calls disk.new }
     ensures ok { OnOk result (session.new ≡ with_noted digest.now.0 (len bytes.now - 12) session.old) }
     ensures err { OnErr result (session.new ≡ session.old) }
-    ensures put { D.honest disk.old → OnOk result (D.content disk.new ≡ with_chunk digest.now.0 bytes.now (D.content disk.old)) }
-    ensures unchanged { IsErrOf result DiskError.NoMemory → D.honest disk.old → D.content disk.new ≡ D.content disk.old }
+    ensures puts { PutsChunk D.Disk disk.old disk.new digest.now.0 bytes.now result }
 {
     let Session::Writer(w) = session else {
         unreachable!();
     };
-    let length = bytes.len() - HEADER;
+    let length = bytes.len() - HEADER_SIZE;
     w.session.chunk(digest, length as u32)?;
     put_chunk(disk, alloc, &mut w.session, digest, bytes)?;
     Ok(())
@@ -116,42 +101,24 @@ fn take_chunk<D: Disk>(
 pub fn chunk<D: Disk>(
     parts: &mut Parts<D>,
     alloc: Global,
-    lane: u32,
+    at: Place,
     digest: &Digest32,
     checked: Result<Bytes, Refusal>,
-) -> Result<Reply, DiskError>
-    requires lane { lane < 64 }
+) -> Result<Reply, Stop>
+    requires lane { at.lane < 64 }
     requires checked { IsCheckedChunk digest.now checked }
-    ensures serves { Serves D.honest D.faults parts.old.disk parts.new.disk (IsErrOf result DiskError.Failed) }
-    ensures calls { D.calls parts.old.disk ≤ D.calls parts.new.disk }
-    ensures text { IfOk result ReplyHasText }
-    ensures answers { IfOk result (λ reply. IsTrue (answers_chunk reply)) }
-    ensures unchanged { Unchanged D.honest D.content parts.old parts.new (reply_by result) }
-    ensures others { ActLeaves D.honest D.content parts.old parts.new lane (Act.Chunk digest.now checked) (Some (reply_by result)) }
-    ensures catalogue { parts.new.catalogue.items ≡ parts.old.catalogue.items }
-    // no other chunk is put
-    ensures chunks { Adds D.honest D.content parts.old parts.new (Act.Chunk digest.now checked) result }
-    // where no other piece's chunk stands under the digest
-    ensures act { MayStand (D.content parts.old.disk) digest.now (data_in checked) → Acts D.honest D.content parts.old parts.new (λ s. checked_chunk s lane (data_in checked)) result }
+    ensures does { ActDoes D.Disk parts.old parts.new at (acts.Chunk digest.now checked) result }
+    ensures leaves { ActLeaves D.Disk parts.old parts.new at (acts.Chunk digest.now checked) result }
 {
-    let lane = lane as usize;
-    let session = &parts.sessions[lane];
-    let Session::Writer(w) = session else {
-        return Ok(Reply::Refused(wrong_state(session)));
-    };
+    let w = parts.writer(at.lane)?;
     let bytes = match checked {
         Ok(bytes) => bytes,
-        Err(refusal) => return Ok(refused(digest, refusal)),
+        Err(refusal) => return Err(Stop::Refused(refused(digest, refusal))),
     };
     if w.session.knows(digest) {
         return Ok(Reply::Done);
     }
-    take_chunk(
-        &mut parts.disk,
-        alloc,
-        &mut parts.sessions[lane],
-        digest,
-        bytes.as_slice(),
-    )?;
+    let session = &mut parts.sessions[at.lane as usize];
+    take_chunk(&mut parts.disk, alloc, session, digest, bytes.as_slice())?;
     Ok(Reply::Done)
 }

@@ -1,18 +1,27 @@
 //! The files of a writer.
 
-ghost use Rattle.std.specs.Prelude.{◌≡◌, ◌<◌, ◌≤◌, length, position, slice_get, Some, None, IfOk, OnOk, OnErr, IsSome, IsErrOf, IsTrue};
+ghost use Rattle.std.specs.Prelude.{◌≡◌, ◌<◌, length, position, slice_get, Some, IfOk, OnOk, OnErr, IsSome};
 ghost use Rattle.std.specs.List.{remove};
-ghost use Rattle.disk_trait.specs.Disk.{Serves};
 ghost use Rattle.store_types.specs.Names.{IsKey, name_lt};
-ghost use Rattle.store_model.specs.Uploads.{file_path};
+ghost use Rattle.store_files.specs.Folder.{file_path};
 ghost use Rattle.backup_session.specs.Session.{settled, kept};
-ghost use Rattle.core_uploads.specs.Uploaded.{insert_stored, with_put};
+ghost use Rattle.core_state.specs.declared.kept.StoredFile.{StoredFile};
+ghost use Rattle.core_uploads.specs.Pending.{HasPending, with_pending, without_pending};
+ghost use Rattle.core_uploads.specs.Uploaded.{PutsFile, insert_stored};
 
 use backup_session::Writer;
-use core_state::{StoredFile, path_of};
+use core_state::{Session, StoredFile};
 use disk_trait::{Disk, DiskError};
+use snapshot_files::{FilePath, path_of, put_file};
 use std::alloc::{AllocError, Global};
-use store_types::{FileName, Rows, SnapshotKey};
+use store_types::{Bytes, FileName, Rows, SnapshotKey};
+
+/// A file that is to be put, with its text.
+#[derive(Drop)]
+pub struct NewFile {
+    pub file: StoredFile,
+    pub text: Bytes,
+}
 
 /// A file of the snapshot, with its name in the datastore folder.
 pub fn stored_file(
@@ -48,36 +57,43 @@ fn insert(files: &mut Rows<StoredFile>, file: StoredFile) -> Result<usize, Alloc
     Ok(place)
 }
 
+/// Where the file at a place stands.
+fn path_at(files: &[StoredFile], place: usize) -> &FilePath
+    requires { place < length files.now }
+    ensures { (file : StoredFile) → slice_get files.now place ≡ Some file → result.now ≡ file.path }
+{
+    &files[place].path
+}
+
 /// Puts a file, unless it is the manifest, and keeps its name. After an error its name is not kept.
-fn put_file<D: Disk>(
+fn put_new<D: Disk>(
     disk: &mut D,
     alloc: Global,
     files: &mut Rows<StoredFile>,
     file: StoredFile,
     text: &[u8],
 ) -> Result<(), DiskError>
-    ensures serves { Serves D.honest D.faults disk.old disk.new (IsErrOf result DiskError.Failed) }
-    ensures calls { D.calls disk.old ≤ D.calls disk.new }
     ensures ok { OnOk result (files.new ≡ insert_stored file files.old) }
     ensures err { OnErr result (files.new ≡ files.old) }
-    ensures put { D.honest disk.old → OnOk result (D.content disk.new ≡ with_put file text.now (D.content disk.old)) }
-    ensures unchanged { IsErrOf result DiskError.NoMemory → D.honest disk.old → D.content disk.new ≡ D.content disk.old }
+    ensures puts { PutsFile D.Disk disk.old disk.new file text.now result }
 {
     let is_manifest = file.name.is_manifest();
     let place = insert(files, file)?;
     if is_manifest {
         return Ok(());
     }
-    let path = &files.as_slice()[place].path;
-    if let Err(cause) = disk.put(alloc, path.as_str(), text) {
-        let _ = files.remove(place);
-        return Err(cause);
+    let path = path_at(files.as_slice(), place);
+    match put_file(disk, alloc, path, text) {
+        Ok(()) => Ok(()),
+        Err(cause) => {
+            let _ = files.remove(place);
+            Err(cause)
+        }
     }
-    Ok(())
 }
 
 /// Puts the pending file, whose text this is, and keeps it in session and list. After an error it is in neither.
-pub fn keep_file<D: Disk>(
+fn keep_file<D: Disk>(
     disk: &mut D,
     alloc: Global,
     session: &mut Writer,
@@ -86,19 +102,45 @@ pub fn keep_file<D: Disk>(
     text: &[u8],
 ) -> Result<(), DiskError>
     requires { IsSome session.old.pending }
-    ensures serves { Serves D.honest D.faults disk.old disk.new (IsErrOf result DiskError.Failed) }
-    ensures calls { D.calls disk.old ≤ D.calls disk.new }
     ensures kept { OnOk result (session.new ≡ kept session.old) }
     ensures back { OnErr result (session.new ≡ settled session.old.writer) }
     ensures ok { OnOk result (files.new ≡ insert_stored file files.old) }
     ensures err { OnErr result (files.new ≡ files.old) }
-    ensures put { D.honest disk.old → OnOk result (D.content disk.new ≡ with_put file text.now (D.content disk.old)) }
-    ensures unchanged { IsErrOf result DiskError.NoMemory → D.honest disk.old → D.content disk.new ≡ D.content disk.old }
+    ensures puts { PutsFile D.Disk disk.old disk.new file text.now result }
 {
-    if let Err(cause) = put_file(disk, alloc, files, file, text) {
+    if let Err(cause) = put_new(disk, alloc, files, file, text) {
         session.back();
         return Err(cause);
     }
     session.keep();
     Ok(())
+}
+
+/// The session's writer gets its pending file, which is put unless it is the manifest. After an error the writer is as
+/// before it.
+pub fn keep_pending<D: Disk>(
+    disk: &mut D,
+    alloc: Global,
+    session: &mut Session,
+    new: NewFile,
+) -> Result<(), DiskError>
+    requires { HasPending session.old }
+    ensures ok { OnOk result (session.new ≡ with_pending new.file session.old) }
+    ensures err { OnErr result (session.new ≡ without_pending session.old) }
+    ensures puts { PutsFile D.Disk disk.old disk.new new.file new.text result }
+{
+    let NewFile { file, text } = new;
+    match session {
+        Session::Writer(w) => {
+            keep_file(
+                disk,
+                alloc,
+                &mut w.session,
+                &mut w.files,
+                file,
+                text.as_slice(),
+            )
+        }
+        _ => unreachable!(),
+    }
 }

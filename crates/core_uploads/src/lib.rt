@@ -3,15 +3,13 @@
 #![tactic(auto)]
 
 mod archives;
-mod base;
 mod chunks;
-mod closing;
 mod files;
-mod sessions;
+mod names;
+mod previous_files;
 mod uploads;
 
 pub use archives::{append, close_index, new_dynamic, new_fixed};
-pub use base::previous;
 pub use chunks::chunk;
-pub use sessions::wrong_state;
+pub use previous_files::previous;
 pub use uploads::blob;

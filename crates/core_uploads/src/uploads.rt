@@ -1,7 +1,7 @@
 //! BLOB.
 
-ghost use Rattle.std.specs.Prelude.{◌≡◌, ◌<◌, ◌≤◌, Some, Err, IfOk, IsErrOf, IsTrue};
-ghost use Rattle.disk_trait.specs.Disk.{Serves};
+ghost use Rattle.std.specs.Prelude.{◌≡◌, ◌<◌, ℕ, List, true, None, Err, IsErrOf, IsOk, IsTrue};
+ghost use Rattle.blob_codec.specs.Blob.{blob as blob_text, data_of};
 ghost use Rattle.blob_codec.specs.Laws.{AreBytes};
 ghost use Rattle.store_types.specs.declared.refusal.Refusal.TheVariants.{BadBlob as BadBlobOf};
 ghost use Rattle.store_types.specs.declared.refusal.BadBlob.TheVariants as causes;
@@ -9,46 +9,55 @@ ghost use Rattle.wire_commands.specs.HasText.{ReplyHasText};
 ghost use Rattle.wire_commands.specs.declared.reply.Reply.TheVariants.{Refused};
 ghost use Rattle.store_history.specs.Acts.{IsChecked};
 ghost use Rattle.store_history.specs.History.{data_in};
+ghost use Rattle.store_history.specs.declared.act.Act.TheVariants as acts;
+ghost use Rattle.store_model.specs.WriterCalls as calls;
 ghost use Rattle.store_model.specs.WriterSteps.{checked_blob};
-ghost use Rattle.core_state.specs.Holds.{Acts};
-ghost use Rattle.core_state.specs.Replies.{answers_blob};
-ghost use Rattle.core_state.specs.Settles.{reply_by};
-ghost use Rattle.core_state.specs.Unchanged.{Unchanged};
-ghost use Rattle.core_uploads.specs.Others.{OthersStay};
+ghost use Rattle.backup_session.specs.Answers.{Does, DoesPlainly, IsPendingAt};
+ghost use Rattle.backup_session.specs.Session.{held};
+ghost use Rattle.backup_session.specs.Steps as rows;
+ghost use Rattle.core_state.specs.Changes.{blob_put};
+ghost use Rattle.core_state.specs.Closing.{is_writer};
+ghost use Rattle.core_state.specs.Commands.{ActDoes, ActLeaves};
+ghost use Rattle.core_state.specs.Named.{is_named};
+ghost use Rattle.core_state.specs.Replies.{answers_blob, refuses_blob};
+ghost use Rattle.core_state.specs.declared.stop.Stop.TheVariants.{DiskFailed};
+ghost use Rattle.core_uploads.specs.Pending.{MakesPending};
+ghost use Rattle.core_uploads.specs.Stepped.{answer_of};
 
-use crate::files::{keep_file, stored_file};
-use crate::sessions::wrong_state;
-use core_state::{Parts, Session};
-use disk_trait::{Disk, DiskError};
+use crate::files::{NewFile, keep_pending, stored_file};
+use crate::names::file_name;
+use backup_session::Writer;
+use core_state::{Parts, Place, Session, Stop};
+use disk_trait::Disk;
 use std::alloc::Global;
 use store_types::{BadBlob, Bytes, FileName, Refusal};
 use wire_commands::Reply;
 
-/// The reply to an upload whose CRC-32 isn't the one that it keeps.
-fn wrong_crc(kept: u32, found: u32) -> Reply
-    ensures value { result ≡ Refused (BadBlobOf (causes.WrongCrc kept found)) }
-    ensures text { ReplyHasText result }
+/// The refusal of an upload whose CRC-32 isn't the one that it keeps.
+fn wrong_crc(kept: u32, found: u32) -> Refusal
+    ensures value { result ≡ BadBlobOf (causes.WrongCrc kept found) }
+    ensures text { ReplyHasText (Refused result) }
 {
-    Reply::Refused(Refusal::BadBlob(BadBlob::WrongCrc { kept, found }))
+    Refusal::BadBlob(BadBlob::WrongCrc { kept, found })
 }
 
-/// The reply to an upload that is no blob.
-pub fn bad_blob(cause: BadBlob) -> Reply
-    ensures value { result ≡ Refused (BadBlobOf cause) }
-    ensures text { ReplyHasText result }
+/// The refusal of an upload that is no blob.
+pub fn bad_blob(cause: BadBlob) -> Refusal
+    ensures value { result ≡ BadBlobOf cause }
+    ensures text { ReplyHasText (Refused result) }
 {
     match cause {
         BadBlob::WrongCrc { kept, found } => wrong_crc(kept, found),
-        cause => Reply::Refused(Refusal::BadBlob(cause)),
+        cause => Refusal::BadBlob(cause),
     }
 }
 
-/// The reply to an upload that is refused as its check was.
-fn refused(refusal: Refusal) -> Reply
+/// The refusal of an upload, as its check was: each number by itself, since its type says that it fits its field.
+fn refused(refusal: Refusal) -> Refusal
     requires { IsChecked (Err refusal) }
-    ensures value { result ≡ Refused refusal }
-    ensures kind { IsTrue (answers_blob result) }
-    ensures text { ReplyHasText result }
+    ensures value { result ≡ refusal }
+    ensures kind { IsTrue (refuses_blob result) }
+    ensures text { ReplyHasText (Refused result) }
 {
     match refusal {
         Refusal::BadBlob(cause) => bad_blob(cause),
@@ -56,13 +65,47 @@ fn refused(refusal: Refusal) -> Reply
     }
 }
 
-/// The bytes of an upload.
-fn bytes_of(text: &Bytes) -> &[u8]
-    ensures value { result.now ≡ text.now }
-    ensures bytes { AreBytes result.now }
+/// The backup takes a blob's file, which is pending then. Where it is refused, and where memory is wanting, it is as before.
+fn take(session: &mut Writer, alloc: Global, name: FileName, text: &Bytes) -> Result<(), Stop>
+    requires settled { session.old.pending ≡ None }
+    requires blob { IsOk (data_of text.now) }
+    ensures bytes { AreBytes text.now }
+    ensures does { Does (λ u. u) (held session.old.writer) session.old session.new (answer_of result) (rows.blob session.old.writer name text.now) }
+    ensures pending { IsPendingAt session.new (answer_of result) }
+    ensures plain { (contents : List ℕ) → text.now ≡ blob_text contents → DoesPlainly (λ u. u) (held session.old.writer) session.old session.new (answer_of result) (λ w. calls.put_data w name contents) }
+    ensures uncalled { IsErrOf result DiskFailed → ⊥ }
 {
     let bytes = text.as_slice();
-    bytes
+    Ok(session.blob(alloc, name, bytes)??)
+}
+
+/// The session's writer takes a blob's file, which is pending then. Where it is refused, and where memory is wanting, the
+/// session is as before.
+fn take_blob(
+    session: &mut Session,
+    alloc: Global,
+    name: &[u8],
+    checked: Result<Bytes, Refusal>,
+) -> Result<NewFile, Stop>
+    requires named { IsTrue (is_named session.old) }
+    requires writer { is_writer session.old ≡ true }
+    requires checked { IsChecked checked }
+    ensures { MakesPending session.old session.new (λ s lane. checked_blob s lane name.now (data_in checked)) answers_blob (blob_put name.now checked) result }
+{
+    match session {
+        Session::Writer(w) => {
+            let name = file_name(alloc, name)?;
+            w.session.want_blob(&name)?;
+            let text = match checked {
+                Ok(text) => text,
+                Err(refusal) => return Err(Stop::Refused(refused(refusal))),
+            };
+            let file = stored_file(alloc, w.session.key(), &name)?;
+            take(&mut w.session, alloc, name, &text)?;
+            Ok(NewFile { file, text })
+        }
+        _ => unreachable!(),
+    }
 }
 
 /// The lane's writer gets a file of these bytes, or is refused as the check of the upload was.
@@ -73,47 +116,18 @@ fn bytes_of(text: &Bytes) -> &[u8]
 pub fn blob<D: Disk>(
     parts: &mut Parts<D>,
     alloc: Global,
-    lane: u32,
+    at: Place,
     name: &[u8],
     checked: Result<Bytes, Refusal>,
-) -> Result<Reply, DiskError>
-    requires lane { lane < 64 }
+) -> Result<Reply, Stop>
+    requires lane { at.lane < 64 }
     requires checked { IsChecked checked }
-    ensures serves { Serves D.honest D.faults parts.old.disk parts.new.disk (IsErrOf result DiskError.Failed) }
-    ensures calls { D.calls parts.old.disk ≤ D.calls parts.new.disk }
-    ensures text { IfOk result ReplyHasText }
-    ensures answers { IfOk result (λ reply. IsTrue (answers_blob reply)) }
-    ensures unchanged { Unchanged D.honest D.content parts.old parts.new (reply_by result) }
-    ensures others { OthersStay D.honest D.content parts.old parts.new lane (Some (reply_by result)) }
-    ensures catalogue { parts.new.catalogue.items ≡ parts.old.catalogue.items }
-    ensures act { Acts D.honest D.content parts.old parts.new (λ s. checked_blob s lane name.now (data_in checked)) result }
+    ensures does { ActDoes D.Disk parts.old parts.new at (acts.Blob name.now checked) result }
+    ensures leaves { ActLeaves D.Disk parts.old parts.new at (acts.Blob name.now checked) result }
 {
-    let session = &mut parts.sessions[lane as usize];
-    let Session::Writer(w) = session else {
-        return Ok(Reply::Refused(wrong_state(session)));
-    };
-    let Ok(name) = FileName::check(alloc, name)? else {
-        return Ok(Reply::Refused(Refusal::BadName));
-    };
-    if let Err(refusal) = w.session.want_blob(&name) {
-        return Ok(Reply::Refused(refusal));
-    }
-    let text = match checked {
-        Ok(text) => text,
-        Err(refusal) => return Ok(refused(refusal)),
-    };
-    let file = stored_file(alloc, w.session.key(), &name)?;
-    let bytes = bytes_of(&text);
-    if let Err(refusal) = w.session.blob(alloc, name, bytes)? {
-        return Ok(Reply::Refused(refusal));
-    }
-    keep_file(
-        &mut parts.disk,
-        alloc,
-        &mut w.session,
-        &mut w.files,
-        file,
-        bytes,
-    )?;
+    parts.writer(at.lane)?;
+    let session = &mut parts.sessions[at.lane as usize];
+    let new = take_blob(session, alloc, name, checked)?;
+    keep_pending(&mut parts.disk, alloc, session, new)?;
     Ok(Reply::Done)
 }

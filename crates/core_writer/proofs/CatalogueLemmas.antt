@@ -7,7 +7,7 @@ use Rattle.store_types.specs.Names.{key_lt, same_group, group_of_key}
 use Rattle.core_state.specs.declared.kept.Kept.{Kept}
 use Rattle.core_state.specs.declared.kept.Listed.{Listed}
 use Rattle.core_writer.specs.Opened.{kept_in, latest_kept}
-use Rattle.core_writer.specs.Closed.{insert_listed}
+use Rattle.core_state.specs.Catalogue.{insert_listed}
 use Rattle.core_uploads.proofs.Places.{insert_at}
 
 abbrev is_in : GroupKey → Listed → Bool

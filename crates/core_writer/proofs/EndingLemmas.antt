@@ -1,103 +1,93 @@
 -- What is left of a disk as a writer's files are removed.
-use Rattle.std.proofs.Common.{◌≡◌, ◌≢◌, ◌↔◌, ⊎_elim, ℕ, ◌+◌, ◌<◌, Bool, true, false, not, cond, ◌&&◌, ◌||◌, length, get_or, take, List, [], ◌∷◌, ◌++◌, Option, None, refl, sym, ap, subst, ◌∙◌, arith}
-use Rattle.std.proofs.lemmas.Bool.{or_cases, false_from_ne_true}
-use Rattle.std.proofs.lemmas.List.{take_more}
+use Rattle.disk_trait.specs.declared.disk.Disk.{Ghosts}
+use Rattle.std.proofs.Common.{◌≡◌, ◌≢◌, ◌↔◌, ℕ, zero, suc, ◌<◌, Bool, true, false, cond, length, get_or, List, [], ◌∷◌, None, Some, refl, sym, ap, subst, ◌∙◌, arith}
 use Rattle.std.proofs.lemmas.List.Elements.{All-head, All-tail}
 use Rattle.std.proofs.lemmas.Slice.Eq.{bytes_eq-Decides}
 use Rattle.std.specs.FinMap.{get, remove}
-use Rattle.std.specs.List.{All, list_any}
+use Rattle.std.specs.List.{All, Contains, cons_option}
 use Rattle.std.specs.Str.{bytes_eq}
 use Rattle.store_types.specs.FileNames.{manifest_name}
 use Rattle.disk_trait.specs.Files.{Files}
-use Rattle.disk_trait.specs.Laws.{get_placed, same_files}
+use Rattle.disk_trait.specs.Laws.{placed_same, placed_other, by_name}
 use Rattle.core_state.specs.declared.kept.StoredFile.{StoredFile}
-use Rattle.core_state.specs.declared.kept.Session.{Session}
 use Rattle.core_state.specs.declared.parts.Parts.{Parts}
 use Rattle.store_types.specs.declared.names.SnapshotKey.{SnapshotKey}
 use Rattle.store_files.specs.Archive.{File}
 use Rattle.store_model.specs.Store as model
 use Rattle.store_model.specs.Store.{Store, Writer, none, writer, session, with_session}
-use Rattle.store_model.specs.Uploads.{file_path}
+use Rattle.store_files.specs.Folder.{file_path}
 use Rattle.store_model.proofs.StandsLemmas.{Apart, agrees_off, stands_agree}
+use Rattle.snapshot_files.specs.Forgotten.{without}
+use Rattle.snapshot_files.proofs.Losing.{without_others}
+use Rattle.core_state.specs.Changes.{put_paths}
 use Rattle.core_state.specs.Shown.{shown_file, shown_files, shown_session}
 use Rattle.core_state.specs.Holds.{IsSound, Shows, IsOnDisk, HasUploads, Holds}
-use Rattle.core_state.proofs.Sessions.{at_lane, changed, no_writer_none}
+use Rattle.core_state.proofs.Sessions.{changed, no_writer_none}
 use Rattle.core_state.proofs.Soundness.{disk_idle}
 use Rattle.core_state.proofs.OnDisk.{IsOff, apart_upload, names_plain, keys_apart, off_other, uploads_off}
-use Rattle.core_writer.specs.Ended.{FilesGone, is_removed, removed_by}
-use Rattle.core_uploads.specs.Others.{stored_files}
+use Rattle.core_state.proofs.Commanding.{session_shown}
+use Rattle.core_state.specs.Wanted.{session_at}
+use Rattle.core_writer.specs.Ended.{files_in}
 
--- what one file less leaves at a name
-abbrev pub without : List ℕ → StoredFile → Option (List ℕ) → Option (List ℕ)
-without q f o = cond (is_removed q f) None o
+-- ---- where the files stand
 
-and_true : (a b : Bool) → b ≡ false → (a && not b) ≡ a
-and_true true false e = refl
-and_true false false e = refl
-and_true a true e = cc
+paths_by : (b : Bool) (path : List ℕ) (rest : List (List ℕ)) → b ≡ false → cons_option (cond b None (Some path)) rest ≡ path ∷ rest
+paths_by true path rest e = cc
+paths_by false path rest e = refl
 
-and_false : (a b : Bool) → b ≡ true → (a && not b) ≡ false
-and_false true true e = refl
-and_false false true e = refl
-and_false a false e = cc
+no_path : (b : Bool) (path : List ℕ) (rest : List (List ℕ)) → b ≡ true → cons_option (cond b None (Some path)) rest ≡ rest
+no_path true path rest e = refl
+no_path false path rest e = cc
 
-pub removed-file : (m n : Files) (f : StoredFile) (path q : List ℕ) → bytes_eq f.name manifest_name ≡ false → path ≡ f.path → n ≡ remove m path → get n q ≡ without q f (get m q)
-removed-file m n f path q other here is =
-    ap (λ x. get x q) (is ∙ ap (remove m) here) ∙ get_placed m f.path None q
-    ∙ ap (λ b. cond b None (get m q)) (sym (and_true (bytes_eq q f.path) (bytes_eq f.name manifest_name) other))
+paths_put : (f : StoredFile) (fs : List StoredFile) → bytes_eq f.name manifest_name ≡ false → put_paths (f ∷ fs) ≡ f.path ∷ put_paths fs
+paths_put f fs e = paths_by (bytes_eq f.name manifest_name) f.path (put_paths fs) e
 
-pub removed-manifest : (m : Files) (f : StoredFile) (q : List ℕ) → bytes_eq f.name manifest_name ≡ true → get m q ≡ without q f (get m q)
-removed-manifest m f q is = ap (λ b. cond b None (get m q)) (sym (and_false (bytes_eq q f.path) (bytes_eq f.name manifest_name) is))
+paths_manifest : (f : StoredFile) (fs : List StoredFile) → bytes_eq f.name manifest_name ≡ true → put_paths (f ∷ fs) ≡ put_paths fs
+paths_manifest f fs e = no_path (bytes_eq f.name manifest_name) f.path (put_paths fs) e
 
-any_push : (q : List ℕ) (fs : List StoredFile) (f : StoredFile) → list_any (is_removed q) (fs ++ f ∷ []) ≡ (is_removed q f || list_any (is_removed q) fs)
-any_push q [] f = refl
-any_push q (g ∷ fs) f = ap (λ b. is_removed q g || b) (any_push q fs f) ∙ swapped (is_removed q g) (is_removed q f) (list_any (is_removed q) fs)
+-- what was there before is there, or there is less
+pub remove_less : (m : Files) (name q bytes : List ℕ) → get (remove m name) q ≡ Some bytes → get m q ≡ Some bytes
+remove_less m name q bytes e =
+    by_name q name (get m q ≡ Some bytes)
+    (λ is. absurd (none_some bytes (sym (ap (get (remove m name)) is ∙ placed_same m name None) ∙ e)))
+    (λ ne. sym (placed_other m name None q ne) ∙ e)
   where
-    swapped : (a b c : Bool) → (a || (b || c)) ≡ (b || (a || c))
-    swapped true true c = refl
-    swapped true false c = refl
-    swapped false b c = refl
+    none_some : (b : List ℕ) → None ≡ Some b → ⊥
+    none_some b e = cc
 
-or_cond : (a b : Bool) (o : Option (List ℕ)) → cond (a || b) None o ≡ cond a None (cond b None o)
-or_cond true b o = refl
-or_cond false b o = refl
-
-pub removed-more : (m : Files) (q : List ℕ) (fs : List StoredFile) (i : ℕ) (f : StoredFile) → i < length fs → f ≡ get_or fs i f → removed_by (take (i + 1) fs) m q ≡ without q f (removed_by (take i fs) m q)
-removed-more m q fs i f lt is =
-    ap (λ l. removed_by l m q) (take_more fs i f lt ∙ ap (λ x. take i fs ++ x ∷ []) (sym is))
-    ∙ ap (λ b. cond b None (get m q)) (any_push q (take i fs) f) ∙ or_cond (is_removed q f) (list_any (is_removed q) (take i fs)) (get m q)
+pub without_less : (paths : List (List ℕ)) (m : Files) (q bytes : List ℕ) → get (without paths m) q ≡ Some bytes → get m q ≡ Some bytes
+without_less [] m q bytes e = e
+without_less (p ∷ paths) m q bytes e = remove_less m p q bytes (without_less paths (remove m p) q bytes e)
 
 -- ---- the disk as a writer's files are removed
-
-and_both : (a b : Bool) → (a && not b) ≡ true → (a ≡ true) × (b ≡ false)
-and_both true true e = cc
-and_both true false e = (refl, refl)
-and_both false b e = cc
 
 not_true : (b : Bool) (P : Type 0) → b ≡ false → (P → b ≡ true) → P → ⊥
 not_true true P e h p = cc
 not_true false P e h p = let is = h p in cc
 
 -- a name that was removed is one of the files'
-pub removed_one : (P : List ℕ → Type 0) (key : SnapshotKey) (fs : List File) (q : List ℕ) → list_any (is_removed q) (shown_files key fs) ≡ true → All (λ f. f.name ≢ manifest_name → P (file_path key f.name)) fs → P q
-removed_one P key [] q e each = cc
-removed_one P key (f ∷ fs) q e each =
-    ⊎_elim
-    (λ (here : is_removed q (shown_file key f) ≡ true).
-    let both = and_both (bytes_eq q (file_path key f.name)) (bytes_eq f.name manifest_name) here in
-    subst P (sym ((bytes_eq-Decides q (file_path key f.name)).0 both.0))
-    (All-head (λ (g : File). g.name ≢ manifest_name → P (file_path key g.name)) f fs each (not_true (bytes_eq f.name manifest_name) (f.name ≡ manifest_name) both.1 (bytes_eq-Decides f.name manifest_name).1)))
-    (λ (later : list_any (is_removed q) (shown_files key fs) ≡ true).
-    removed_one P key fs q later (All-tail (λ (g : File). g.name ≢ manifest_name → P (file_path key g.name)) f fs each))
-    (or_cases (is_removed q (shown_file key f)) (list_any (is_removed q) (shown_files key fs)) e)
+pub removed_one : (P : List ℕ → Type 0) (key : SnapshotKey) (fs : List File) (q : List ℕ) → Contains (put_paths (shown_files key fs)) q → All (λ f. f.name ≢ manifest_name → P (file_path key f.name)) fs → P q
+removed_one P key [] q (k, lt, is) each = absurd (omega (arith, lt))
+removed_one P key (f ∷ fs) q has each =
+    by_test (bytes_eq f.name manifest_name) refl
+    (λ later. removed_one P key fs q later (All-tail (λ (g : File). g.name ≢ manifest_name → P (file_path key g.name)) f fs each))
+  where
+    either : (Contains (put_paths (shown_files key fs)) q → P q) → (bytes_eq f.name manifest_name ≡ false) → Contains (file_path key f.name ∷ put_paths (shown_files key fs)) q → P q
+    either go e (zero, lt, is) =
+        subst P is (All-head (λ (g : File). g.name ≢ manifest_name → P (file_path key g.name)) f fs each (not_true (bytes_eq f.name manifest_name) (f.name ≡ manifest_name) e (bytes_eq-Decides f.name manifest_name).1))
+    either go e (suc k, lt, is) = go (k, omega (arith, lt), is)
+
+    by_test : (b : Bool) → bytes_eq f.name manifest_name ≡ b → (Contains (put_paths (shown_files key fs)) q → P q) → P q
+    by_test true e go = go (subst (λ p. Contains p q) (paths_manifest (shown_file key f) (shown_files key fs) e) has)
+    by_test false e go = either go e (subst (λ p. Contains p q) (paths_put (shown_file key f) (shown_files key fs) e) has)
 
 module _ (m n : Files) (s : Store) (lane : ℕ) (v : Writer) (lt : lane < 64) (h : IsSound s) (at : session s lane ≡ writer v)
-    (removed : (q : List ℕ) → get n q ≡ removed_by (shown_files v.key v.files) m q) (disk : IsOnDisk m s) where
+    (removed : n ≡ without (put_paths (shown_files v.key v.files)) m) (disk : IsOnDisk m s) where
   abbrev IsGone : List ℕ → Type 0
-  IsGone q = list_any (is_removed q) (shown_files v.key v.files) ≡ true
+  IsGone q = Contains (put_paths (shown_files v.key v.files)) q
 
   same : (q : List ℕ) → (IsGone q → ⊥) → get n q ≡ get m q
-  same q kept = removed q ∙ ap (λ b. cond b None (get m q)) (false_from_ne_true (list_any (is_removed q) (shown_files v.key v.files)) kept)
+  same q kept = ap (λ f. get f q) removed ∙ without_others (put_paths (shown_files v.key v.files)) m q kept
 
   apart : (q : List ℕ) → IsGone q → Apart s.snapshots q
   apart q gone =
@@ -117,28 +107,23 @@ module _ (m n : Files) (s : Store) (lane : ℕ) (v : Writer) (lt : lane < 64) (h
   }
 
 -- by what the session is
-ended_on_disk : (m n : Files) (s : Store) (lane : ℕ) (x : model.Session) → lane < 64 → IsSound s → session s lane ≡ x → ((q : List ℕ) → get n q ≡ removed_by (stored_files (shown_session s.snapshots x)) m q) → IsOnDisk m s → IsOnDisk n (with_session s lane none)
+ended_on_disk : (m n : Files) (s : Store) (lane : ℕ) (x : model.Session) → lane < 64 → IsSound s → session s lane ≡ x → n ≡ without (put_paths (files_in (shown_session s.snapshots x))) m → IsOnDisk m s → IsOnDisk n (with_session s lane none)
 ended_on_disk m n s lane model.none lt h at removed disk =
-    subst (λ f. IsOnDisk f (with_session s lane none)) (sym (same_files n m removed)) (disk_idle m s lane (omega (arith, h.lanes, lt)) disk)
+    subst (λ f. IsOnDisk f (with_session s lane none)) (sym removed) (disk_idle m s lane (omega (arith, h.lanes, lt)) disk)
 ended_on_disk m n s lane (model.writer v) lt h at removed disk = removed_on_disk m n s lane v lt h at removed disk
 ended_on_disk m n s lane (model.reader r) lt h at removed disk =
-    subst (λ f. IsOnDisk f (with_session s lane none)) (sym (same_files n m removed)) (disk_idle m s lane (omega (arith, h.lanes, lt)) disk)
+    subst (λ f. IsOnDisk f (with_session s lane none)) (sym removed) (disk_idle m s lane (omega (arith, h.lanes, lt)) disk)
 
-module _ {D : Type 0} (honest : D → Type 0) (content : D → Files) where
-  pub has_ended : (old new : Parts D) (s : Store) (lane : ℕ) (found : Session) → lane < 64 → found ≡ get_or old.sessions.items lane found → (honest old.disk ↔ honest new.disk)
-      → (honest old.disk → (q : List ℕ) → get (content new.disk) q ≡ removed_by (stored_files found) (content old.disk) q)
-      → Shows new (with_session s lane none) → Holds honest content old s → Holds honest content new (with_session s lane none)
-  has_ended old new s lane found lt at kept removed shows h =
+module _ {D : Type 0} (d : Ghosts D) where
+  pub has_ended : (old new : Parts D) (s : Store) (lane : ℕ) → lane < 64 → (d.honest old.disk ↔ d.honest new.disk)
+      → (d.honest old.disk → d.content new.disk ≡ without (put_paths (files_in (session_at old lane))) (d.content old.disk))
+      → Shows new (with_session s lane none) → Holds d old s → Holds d new (with_session s lane none)
+  has_ended old new s lane lt kept removed shows h =
       let sound = (h.shows).sound in
-      let is = at_lane old.sessions.items s lane found (h.shows).sessions sound.lanes lt at in
+      let is = session_shown old s lane h.shows lt in
       record {
         honest = kept.0 h.honest;
         shows = shows;
-        files = ended_on_disk (content old.disk) (content new.disk) s lane (session s lane) lt sound refl
-            (λ q. removed h.honest q ∙ ap (λ x. removed_by (stored_files x) (content old.disk) q) is) h.files;
+        files = ended_on_disk (d.content old.disk) (d.content new.disk) s lane (session s lane) lt sound refl
+            (removed h.honest ∙ ap (λ x. without (put_paths (files_in x)) (d.content old.disk)) is) h.files;
       }
-
-  -- nothing has changed before or since
-  pub gone_between : (old mid : Parts D) (acted new : D) (lane : ℕ) → mid ≡ old → new ≡ acted → FilesGone honest content mid acted lane → FilesGone honest content old new lane
-  gone_between old mid acted new lane before since gone =
-      subst (λ p. FilesGone honest content p new lane) before (subst (λ x. FilesGone honest content mid x lane) (sym since) gone)

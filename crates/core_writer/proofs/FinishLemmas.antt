@@ -1,22 +1,24 @@
 -- FINISH is the store's.
-use Rattle.std.proofs.Common.{◌≡◌, ◌≢◌, ◌↔◌, ℕ, ◌<◌, Bool, true, false, not, ◌==◌, cond, length, get_or, set, map, List, [], ◌∷◌, Option, Some, None, Result, Ok, Err, MatchResult, refl, sym, ap, subst, ◌∙◌, arith}
-use Rattle.std.proofs.lemmas.Bool.{and_parts, and_from, false_from_ne_true}
+use Rattle.disk_trait.specs.declared.disk.Disk.{Ghosts}
+use Rattle.std.proofs.Common.{◌≡◌, ◌≢◌, ℕ, ◌<◌, Bool, true, false, not, ◌==◌, cond, length, get_or, set, map, List, [], ◌∷◌, ◌++◌, append_assoc, eqb-true, inl, Option, Some, None, Result, Ok, Err, IfErr, IsErrAnd, MatchResult, refl, sym, ap, subst, ◌∙◌, arith}
+use Rattle.std.proofs.lemmas.Bool.{eqb-false, and_parts, and_from, false_from_ne_true}
 use Rattle.std.proofs.lemmas.List.{length-set}
 use Rattle.std.proofs.lemmas.Option.{some_pair_parts}
 use Rattle.std.proofs.lemmas.Slice.Eq.{bytes_eq-Decides}
-use Rattle.std.specs.FinMap.{get}
+use Rattle.std.specs.FinMap.{get, remove}
 use Rattle.std.specs.List.{All, AllByRecursion, find, list_all}
-use Rattle.std.specs.Prelude.{option_map, is_some}
+use Rattle.std.specs.Prelude.{option_map, is_some, codes}
 use Rattle.std.specs.Str.{bytes_eq}
-use Rattle.disk_trait.specs.Files.{Files, placed}
-use Rattle.disk_trait.specs.Laws.{placed_same, placed_other}
+use Rattle.disk_trait.specs.Files.{Files}
+use Rattle.disk_trait.specs.Laws.{placed_same, placed_other, differs}
+use Rattle.file_install.specs.Install.{temporary, installed}
 use Rattle.store_types.specs.declared.names.SnapshotKey.{SnapshotKey}
 use Rattle.store_types.specs.declared.refusal.Refusal.{Refusal}
 use Rattle.store_types.specs.declared.refusal.Refusal.TheVariants.{NoFile, OpenIndexes, WrongState, BadManifest, ManifestMismatch}
 use Rattle.store_types.specs.Chain.Refusing.{◌>>=◌, unless, or_else, if_none}
-use Rattle.store_types.specs.FileNames.{manifest_name}
-use Rattle.store_types.specs.Names.{key_lt, same_group, group_of_key}
-use Rattle.store_files.specs.Archive.{File, Snapshot, file_text, file_named}
+use Rattle.store_types.specs.FileNames.{manifest_name, is_dynamic_name, is_fixed_name}
+use Rattle.store_types.specs.Names.{key_lt, key_text, same_group, group_of_key}
+use Rattle.store_files.specs.Archive.{File, Snapshot, Content, Layout, archive, blob, dynamic, fixed, file_text, file_named}
 use Rattle.store_files.specs.Manifest.{Manifest, manifest_of as manifest_of_bytes}
 use Rattle.store_files.specs.Manifest.Mismatch.{Mismatch}
 use Rattle.lock_book.specs.Locks.{Releases}
@@ -26,14 +28,15 @@ use Rattle.wire_commands.specs.declared.reply.Reply.TheVariants.{Done, Refused}
 use Rattle.store_model.specs.Store as model
 use Rattle.store_model.specs.Manifests.{data_in, manifest_data, want_manifest, mismatch_refusal, want_listed, listing_of, finish_check}
 use Rattle.store_model.specs.Store.{Begun, Store, Writer, none, writer, session, with_session, Outcome, in_group, insert_snapshot, snapshot_named}
-use Rattle.store_model.specs.Uploads.{file_path}
+use Rattle.store_files.specs.Folder.{file_path}
 use Rattle.store_model.specs.WriterSteps.{snapshot_of, finish}
-use Rattle.store_model.specs.Steps.{outcome, answered}
-use Rattle.store_model.specs.Stands.{IsSnapshot, manifest_path, group_limit}
-use Rattle.store_model.proofs.Paths.{manifest_plain, chunk_apart}
+use Rattle.store_model.specs.Steps.{outcome}
+use Rattle.store_model.specs.Stands.{IsSnapshot, group_limit, names_content}
+use Rattle.store_files.specs.Folder.{chunk_name, manifest_path}
+use Rattle.store_model.proofs.Paths.{manifest_plain, chunk_apart, same_path}
 use Rattle.store_model.proofs.Insertions.{All-insert, find-insert, length-in_group-insert, rise-insert}
 use Rattle.store_model.proofs.FileInsertions.{only_named}
-use Rattle.store_model.proofs.StandsLemmas.{Puts, IsReady, different, stands_finished, groups_insert}
+use Rattle.store_model.proofs.StandsLemmas.{Apart, Puts, IsReady, agrees_off, apart_file, different, stands_agree, stands_finished, groups_insert}
 use Rattle.store_model.proofs.ListingLemmas.{listing_lists}
 use Rattle.backup_session.specs.Finish as checks
 use Rattle.backup_session.specs.Session as rows
@@ -46,17 +49,34 @@ use Rattle.core_state.specs.declared.kept.Session.TheVariants as sessions
 use Rattle.core_state.specs.declared.parts.Parts.{Parts}
 use Rattle.core_state.specs.Named.{has_text, is_named, is_named_snapshot}
 use Rattle.core_state.specs.Shown.{shown_file, shown_files, shown_snapshot, shown_writer, shown_session}
-use Rattle.core_state.specs.Holds.{IsBegun, IsSound, IsWriter, IsReader, IsOlder, HasUploads, IsOnDisk, Holds, Does}
+use Rattle.core_state.specs.Holds as plain
+use Rattle.core_state.specs.Holds.{IsBegun, IsSound, IsWriter, IsReader, IsOlder, HasUploads, IsOnDisk, Holds}
 use Rattle.core_state.proofs.Sessions.{changed, shown_set, no_writer_none, no_reader_none}
 use Rattle.core_state.proofs.LockLemmas.{locked_ended}
 use Rattle.core_state.proofs.Soundness.{sound_idle}
-use Rattle.core_state.proofs.OnDisk.{IsOff, fresh, off_other, keys_apart, uploads_off, pieces_there}
-use Rattle.core_state.specs.States.{state_of}
+use Rattle.core_state.proofs.OnDisk.{IsOff, fresh, names_plain, off_other, keys_apart, uploads_off, pieces_there}
+use Rattle.core_state.proofs.Commanding.{is_writing, writer_shown}
+use Rattle.core_state.proofs.Commanding.{session_shown}
+use Rattle.core_state.proofs.NamedLemmas.{list_all-at, writer_named}
+use Rattle.core_state.specs.declared.entering.Place.{Place}
+use Rattle.core_state.specs.declared.stop.Stop.{Stop}
+use Rattle.core_state.specs.declared.stop.Stop.TheVariants as Stopped
+use Rattle.core_state.specs.Stops.{IfRefused}
+use Rattle.std.proofs.lemmas.List.{get_or_default}
+use Rattle.core_state.specs.Wanted.{session_at, want_writer}
+use Rattle.core_state.specs.Chunks.{AddsChunks}
+use Rattle.core_writer.specs.Finished.{TestedBy, manifest_in}
+use Rattle.core_writer.specs.Stopping.{StopsBy}
+use Rattle.core_writer.proofs.EndingLemmas.{remove_less}
+use Rattle.store_history.specs.declared.act.Act.TheVariants as acts
+use Rattle.sha2.specs.Sha256.{sha256}
+use Rattle.blob_codec.specs.Blob as blobs
 use Rattle.core_state.specs.Replies.{refuses_finish}
 use Rattle.core_state.proofs.Readers.{sessions_finished}
 use Rattle.core_state.proofs.Texts.{wrong_state_has_text, no_file_has_text, open_indexes_has_text, bad_manifest_has_text, mismatch_has_text}
-use Rattle.core_uploads.proofs.Wanting.{no_writer}
-use Rattle.core_writer.specs.Closed.{manifest_by, kept_manifest, insert_listed, listed_of, closed}
+use Rattle.core_state.specs.Catalogue.{insert_listed, listed_of, closed}
+use Rattle.core_state.specs.Changes as changes
+use Rattle.core_state.specs.Changes.{finish_by, finish_put, manifest_by, kept_manifest}
 
 -- ---- the manifest
 
@@ -103,6 +123,12 @@ has_manifest w path text e = by_file (file_named manifest_name w.files) refl (sy
         let both = some_pair_parts (file_path w.key g.name) path (file_text g.content) text e in
         record { file = g; found = is; is_path = sym both.0 ∙ ap (file_path w.key) (found_name w.files g is); is_text = sym both.1 }
 
+-- where the manifest of a session stands
+manifest_there : (snapshots : List Snapshot) (x : model.Session) (path text : List ℕ) → manifest_in (shown_session snapshots x) ≡ Some (path, text) → (key : SnapshotKey) × (path ≡ manifest_path key)
+manifest_there snapshots model.none path text e = cc
+manifest_there snapshots (model.writer w) path text e = (w.key, (has_manifest w path text e).is_path)
+manifest_there snapshots (model.reader r) path text e = cc
+
 no_manifest : (w : Writer) → kept_manifest (shown_writer w) ≡ None → file_named manifest_name w.files ≡ None
 no_manifest w e = by_file (file_named manifest_name w.files) refl (sym (kept_manifest-shown w) ∙ e)
   where
@@ -123,8 +149,8 @@ module _ (s : Store) (lane moment : ℕ) where
   unfolding outcome finish
   step_is = refl
 
-  pub not_writing : (found : Session) → found ≡ shown_session s.snapshots (session s lane) → ((w : Writing) → found ≡ sessions.Writer w → ⊥) → outcome s lane moment Finish ≡ Err (WrongState (state_of found))
-  not_writing found is other = step_is ∙ ap (finish_then s lane) (no_writer s.snapshots (session s lane) found is other)
+  pub not_writing : (r : Refusal) → model.want_writer (session s lane) ≡ Err r → outcome s lane moment Finish ≡ Err r
+  not_writing r e = step_is ∙ ap (finish_then s lane) e
 
   writing_is : (w : Writer) → session s lane ≡ writer w → outcome s lane moment Finish ≡ finish_then s lane (Ok w)
   writing_is w at = step_is ∙ ap (λ x. finish_then s lane (model.want_writer x)) at
@@ -197,6 +223,10 @@ told_ok step told view m h is = subst (λ t. MatchResult t (λ m. step ≡ Ok (v
 pub told_err : {A : Type 0} (step : Result Manifest Refusal) (told : Result A Refusal) (view : A → Manifest) (r : Refusal) → MatchResult told (λ m. step ≡ Ok (view m)) (λ r. step ≡ Err r) → told ≡ Err r → step ≡ Err r
 told_err step told view r h is = subst (λ t. MatchResult t (λ m. step ≡ Ok (view m)) (λ r. step ≡ Err r)) is h
 
+pub check_stops : (w : rows.Writing) (refusal : Refusal) (result : Result (Unit {0}) Stop) → IsErrAnd result (λ x. x ≡ Stopped.Refused refusal) → checks.finish_check w ≡ Err refusal → FitsRefusal refusal → IfErr result (StopsBy refuses_finish)
+check_stops w refusal (Ok u) is refuses fits = absurd is
+check_stops w refusal (Err x) is refuses fits = subst (StopsBy refuses_finish) (sym is) (let kind = check_refuses w refusal refuses in (kind, finish_has_text refusal kind fits))
+
 pub shows_found : (s : Store) (w : Writing) (v : Writer) → shown_writer v ≡ w → IsWriter s.snapshots v → Shows (w.session).writer v
 shows_found s w v is h = record { same = sym (ap (λ x. (x.session).writer) is); begun = all_open v.pool v.begun h.begun }
   where
@@ -215,6 +245,39 @@ is_snapshot s w m h is = record {
   manifest = let c = h.count in listing_lists w.key w.files m (listed w m is) (omega (arith, c));
   count = let c = h.count in omega (arith, c);
 }
+
+-- ---- the manifest's temporary name
+
+abbrev staged_name : List ℕ
+staged_name = temporary manifest_name
+
+temporary_is : (key : SnapshotKey) → temporary (manifest_path key) ≡ file_path key staged_name
+temporary_is key = append_assoc (key_text key ++ codes "/") manifest_name (codes ".tmp")
+
+-- a writer's file has another name
+not_staged : (c : Content) → names_content c staged_name ≡ true → ⊥
+not_staged (blob bytes) e = false_true e
+  where
+    false_true : false ≡ true → ⊥
+    false_true e = cc
+not_staged (archive a) e = by_layout a.layout e
+  where
+    by_layout : (l : Layout) → elim l [ dynamic ↦ is_dynamic_name staged_name | fixed size chunk_size ↦ is_fixed_name staged_name ] ≡ true → ⊥
+    by_layout dynamic e = cc
+    by_layout (fixed size chunk_size) e = cc
+
+own_off : (snapshots : List Snapshot) (w : Writer) → IsWriter snapshots w → IsOff w (file_path w.key staged_name)
+own_off snapshots w h = λ i d l e.
+    let f = get_or w.files i d in
+    let same = (same_path w.key w.key f.name staged_name h.key h.key (names_plain snapshots w h i d l) refl e).1 in
+    not_staged f.content (subst (λ n. names_content f.content n ≡ true) same (h.kinds i d l))
+
+by_lane : (i j : ℕ) (P : Type 0) → (i ≡ j → P) → (i ≢ j → P) → P
+by_lane i j P same other = by_test (i == j) refl
+  where
+    by_test : (b : Bool) → (i == j) ≡ b → P
+    by_test true e = same (eqb-true i j e)
+    by_test false e = other (eqb-false i j e)
 
 count_cond : {A : Type 0} (b : Bool) (x : A) (xs : List A) → b ≡ false → length (cond b (x ∷ xs) xs) ≡ length xs
 count_cond true x xs e = cc
@@ -269,14 +332,41 @@ module _ (s : Store) (lane : ℕ) (w : Writer) (path text : List ℕ) (listing :
     λ e. ap (λ (x : File). file_text x.content) (only_named manifest_name w.files m.file (h.writers lane w at).names m.found i d l e) ∙ sym m.is_text,
   )
 
-  pub finished_on_disk : (f g : Files) → Puts f g (manifest_path w.key) text → IsOnDisk f s → IsOnDisk g (finished s lane w)
-  finished_on_disk f g puts disk = let l : lane < length s.sessions = omega (arith, h.lanes, lt) in record {
+  put_on_disk : (f g : Files) → Puts f g (manifest_path w.key) text → IsOnDisk f s → IsOnDisk g (finished s lane w)
+  put_on_disk f g puts disk = let l : lane < length s.sessions = omega (arith, h.lanes, lt) in record {
     snapshots = stands_finished f g s.snapshots (snapshot_of w) text whole new puts disk.snapshots (h.writers lane w at).room (ready f disk) (pieces_there f s.snapshots w (h.writers lane w at) (disk.writers lane w at));
     writers = λ i v is. changed s lane none i (writer v) (HasUploads g v) l is (λ e n. absurd (no_writer_none v n))
         (λ ne old. uploads_off f g v (λ q. q ≡ manifest_path w.key) (λ q off. puts.others q off)
         (λ q e. subst (IsOff v) (sym e) (off_other s.snapshots v w.key manifest_name (h.writers i v old) (h.writers lane w at).key manifest_plain (keys_apart s i lane v w h ne old at)))
         (λ digest q e same_name. chunk_apart digest w.key manifest_name (same_name ∙ e)) (disk.writers i v old));
   }
+
+  -- nothing of the store stands at the manifest's temporary name
+  off_temporary : (i : ℕ) (v : Writer) → session s i ≡ writer v → IsOff v (temporary (manifest_path w.key))
+  off_temporary i v is = subst (IsOff v) (sym (temporary_is w.key)) (by_lane i lane (IsOff v (file_path w.key staged_name))
+      (λ same. subst (λ x. IsOff x (file_path w.key staged_name)) (same_writer (sym at ∙ ap (session s) (sym same) ∙ is)) (own_off s.snapshots w (h.writers lane w at)))
+      (λ ne. off_other s.snapshots v w.key staged_name (h.writers i v is) (h.writers lane w at).key refl (keys_apart s i lane v w h ne is at)))
+    where
+      same_writer : {v : Writer} → writer w ≡ writer v → w ≡ v
+      same_writer e = cc
+
+  cleared_on_disk : (f : Files) → IsOnDisk f s → IsOnDisk (remove f (temporary (manifest_path w.key))) s
+  cleared_on_disk f disk =
+      let q = temporary (manifest_path w.key) in
+      let same : (p : List ℕ) → (p ≡ q → ⊥) → get (remove f q) p ≡ get f p = λ p ne. placed_other f q None p ne in
+      let apart : Apart s.snapshots q = subst (Apart s.snapshots) (sym (temporary_is w.key)) (apart_file s.snapshots w.key staged_name h.each (h.writers lane w at).key refl (differs _ _ refl) new) in record {
+        snapshots = stands_agree f (remove f q) s.snapshots (agrees_off f (remove f q) s.snapshots (λ p. p ≡ q) same (λ p e. subst (Apart s.snapshots) (sym e) apart)) disk.snapshots;
+        writers = λ i v is. uploads_off f (remove f q) v (λ p. p ≡ q) same (λ p e. subst (IsOff v) (sym e) (off_temporary i v is)) (λ digest p e there. apart.chunks digest (there ∙ e)) (disk.writers i v is);
+      }
+
+  pub finished_on_disk : (f : Files) → IsOnDisk f s → IsOnDisk (installed f (manifest_path w.key) text) (finished s lane w)
+  finished_on_disk f disk =
+      let q = temporary (manifest_path w.key) in
+      let r = remove f q in
+      put_on_disk r (installed f (manifest_path w.key) text) (record {
+        there = placed_same r (manifest_path w.key) (Some text);
+        others = λ p ne. placed_other r (manifest_path w.key) (Some text) p ne;
+      }) (cleared_on_disk f disk)
 
 -- ---- the catalogue
 
@@ -321,34 +411,84 @@ named_closed number (sessions.Writer w) xs is h =
     list_all-insert (listed_of number w) xs (and_parts (has_text ((w.session).writer).key) (not (is_some (w.session).pending)) is).0 h
 named_closed number (sessions.Reader r) xs is h = h
 
+-- ---- the exits of the act
+
+-- the change of a FINISH, by the session
+pub finish_change : (x : Session) (path text : List ℕ) → manifest_in x ≡ Some (path, text) → finish_by x ≡ changes.finishes path text
+finish_change sessions.Idle path text e = cc
+finish_change (sessions.Writer w) path text e = ap finish_put e
+finish_change (sessions.Reader r) path text e = cc
+
+-- no file of the writer is pending
+pub settled_by : {D : Type 0} (parts : Parts D) (lane : ℕ) (w : Writing) → lane < 64 → want_writer (session_at parts lane) ≡ Ok w → (w.session).pending ≡ None
+settled_by parts lane w lt is =
+    let items = parts.sessions.items in
+    let within : lane < length items = omega (arith, parts.lanes, parts.sessions.ok.0, lt) in
+    let x = session_at parts lane in
+    (writer_named w (sym (ap is_named (is_writing x w is)) ∙ list_all-at is_named items lane x parts.named within (sym (get_or_default items lane x sessions.Idle within)))).1
+
+module _ {D : Type 0} (old : Parts D) (s : Store) (at : Place) (w : Writing) (shows : plain.Shows old s) (lt : at.lane < 64) (is : want_writer (session_at old at.lane) ≡ Ok w) where
+  shown_by : (v : Writer) × (session s at.lane ≡ writer v) × (shown_writer v ≡ w)
+  shown_by = writer_shown old s at.lane w shows lt is
+
+  tested : (r : Result (Unit {0}) Stop) → ((v : Writer) → Shows (w.session).writer v → TestedBy (finish_check v) r) → TestedBy (finish_check shown_by.0) r
+  tested r plainly = plainly shown_by.0 (shows_found s w shown_by.0 shown_by.2 ((shows.sound).writers at.lane shown_by.0 shown_by.1))
+
+  pub tests_refuse : (stop : Stop) → ((v : Writer) → Shows (w.session).writer v → TestedBy (finish_check v) (Err stop)) → IfRefused (λ refusal. outcome s at.lane at.moment Finish ≡ Err refusal) stop
+  tests_refuse (Stopped.Refused refusal) plainly = refused s at.lane at.moment shown_by.0 refusal shown_by.1 (tested (Err (Stopped.Refused refusal)) plainly)
+  tests_refuse Stopped.NoMemory plainly = tt
+  tests_refuse Stopped.DiskFailed plainly = tt
+
+  kept_is : manifest_in (session_at old at.lane) ≡ kept_manifest (shown_writer shown_by.0)
+  kept_is = ap manifest_in (is_writing (session_at old at.lane) w is) ∙ ap kept_manifest (sym shown_by.2)
+
+  pub tests_there : {P : Type 0} → ((v : Writer) → Shows (w.session).writer v → TestedBy (finish_check v) (Ok tt)) → manifest_in (session_at old at.lane) ≡ None → P
+  tests_there plainly absent = let t = tested (Ok tt) plainly in absurd (checked_there shown_by.0 t.0 t.1 (sym kept_is ∙ absent))
+
 -- ---- the act
 
-module _ {D : Type 0} (honest : D → Type 0) (content : D → Files) where
-  pub does_finish : (old new : Parts D) (s : Store) (lane moment number : ℕ) (found : Session) (w : Writer) (path text : List ℕ) (listing : Manifest) → lane < 64 → session s lane ≡ writer w → finish_check w ≡ Ok listing → found ≡ sessions.Writer (shown_writer w) → kept_manifest (shown_writer w) ≡ Some (path, text)
-      → (honest old.disk ↔ honest new.disk) → (honest old.disk → content new.disk ≡ placed (content old.disk) path (Some text))
-      → new.catalogue.items ≡ closed number found old.catalogue.items → new.sessions.items ≡ set old.sessions.items lane sessions.Idle → Releases old.locks new.locks lane
-      → Holds honest content old s → Does honest content new s (answered s (outcome s lane moment Finish)) (Ok Done)
+module _ {D : Type 0} (d : Ghosts D) where
+  finish_stands : (old new : Parts D) (s : Store) (lane moment number : ℕ) (w : Writer) (path text : List ℕ) (listing : Manifest) → lane < 64 → session s lane ≡ writer w → finish_check w ≡ Ok listing → kept_manifest (shown_writer w) ≡ Some (path, text)
+      → (d.honest old.disk → d.content new.disk ≡ installed (d.content old.disk) path text)
+      → new.catalogue.items ≡ closed number (session_at old lane) old.catalogue.items → new.sessions.items ≡ set old.sessions.items lane sessions.Idle → Releases old.locks new.locks lane
+      → Holds d old s → (after : Store) × (outcome s lane moment Finish ≡ Ok (after, Done)) × plain.Shows new after × IsOnDisk (d.content new.disk) after
   unfolding shown
-  does_finish old new s lane moment number found w path text listing lt at check is manifest kept put c l k h =
+  finish_stands old new s lane moment number w path text listing lt at check manifest put c l k h =
       let sound = (h.shows).sound in
       let m = has_manifest w path text manifest in
+      let is : session_at old lane ≡ sessions.Writer (shown_writer w) = session_shown old s lane h.shows lt ∙ ap (shown_session s.snapshots) at in
       let within : lane < length s.sessions = omega (arith, sound.lanes, lt) in
       let locks = locked_ended old.locks new.locks s lane within sound (sound_idle s lane lt sound) k (h.shows).locks in
-      let now : content new.disk ≡ placed (content old.disk) (manifest_path w.key) (Some text) = put h.honest ∙ ap (λ q. placed (content old.disk) q (Some text)) m.is_path in
-      let puts : Puts (content old.disk) (content new.disk) (manifest_path w.key) text = record {
-        there = ap (λ f. get f (manifest_path w.key)) now ∙ placed_same (content old.disk) (manifest_path w.key) (Some text);
-        others = λ q ne. ap (λ f. get f q) now ∙ placed_other (content old.disk) (manifest_path w.key) (Some text) q ne;
-      } in
-      let holds : Holds honest content new (finished s lane w) = record {
-        honest = kept.0 h.honest;
-        shows = record {
+      let now : d.content new.disk ≡ installed (d.content old.disk) (manifest_path w.key) text = put h.honest ∙ ap (λ q. installed (d.content old.disk) q text) m.is_path in (
+        finished s lane w,
+        finishes s lane moment w listing at check,
+        record {
           catalogue = ap all_kept (c ∙ ap (λ x. closed number x old.catalogue.items) is) ∙ kept_listed (listed_of number (shown_writer w)) old.catalogue.items
               ∙ ap (insert_kept (shown_snapshot (snapshot_of w))) (h.shows).catalogue ∙ sym (shown_listed (snapshot_of w) s.snapshots);
           sessions = l ∙ ap (λ k. set k lane sessions.Idle) ((h.shows).sessions ∙ sym (sessions_finished s lane w sound at)) ∙ sym (shown_set (insert_snapshot (snapshot_of w) s.snapshots) s lane none);
           locks = record { groups = locks.groups; shared = locks.shared };
           sound = sound_finished s lane w path text listing lt sound at m check;
-        };
-        files = finished_on_disk s lane w path text listing lt sound at m check (content old.disk) (content new.disk) puts h.files;
-      } in
-      let done : Does honest content new s (finished s lane w, Done) (Ok Done) = (refl, holds) in
-      subst (λ o. Does honest content new s (answered s o) (Ok Done)) (sym (finishes s lane moment w listing at check)) done
+        },
+        subst (λ f. IsOnDisk f (finished s lane w)) (sym now) (finished_on_disk s lane w path text listing lt sound at m check (d.content old.disk) h.files),
+      )
+
+  pub finish_done : (old new : Parts D) (s : Store) (at : Place) (w : Writing) (path text : List ℕ) → Holds d old s → at.lane < 64 → want_writer (session_at old at.lane) ≡ Ok w
+      → ((v : Writer) → Shows (w.session).writer v → TestedBy (finish_check v) (Ok tt)) → manifest_in (session_at old at.lane) ≡ Some (path, text)
+      → (d.honest old.disk → d.content new.disk ≡ installed (d.content old.disk) path text)
+      → new.catalogue.items ≡ closed at.number (session_at old at.lane) old.catalogue.items → new.sessions.items ≡ set old.sessions.items at.lane sessions.Idle → Releases old.locks new.locks at.lane
+      → (after : Store) × (outcome s at.lane at.moment Finish ≡ Ok (after, Done)) × plain.Shows new after × IsOnDisk (d.content new.disk) after
+  finish_done old new s at w path text h lt is plainly kept put c l k =
+      let f = shown_by old s at w h.shows lt is in
+      let t = tested old s at w h.shows lt is (Ok tt) plainly in
+      finish_stands old new s at.lane at.moment at.number f.0 path text t.0 lt f.1 t.1 (sym (kept_is old s at w h.shows lt is) ∙ kept) put c l k h
+
+  -- the manifest is put under no chunk's name
+  pub finish_adds : (old : Parts D) (n : Files) (lane : ℕ) (path text : List ℕ) → lane < 64 → manifest_in (session_at old lane) ≡ Some (path, text)
+      → (d.honest old.disk → n ≡ installed (d.content old.disk) path text) → (s : Store) → Holds d old s → AddsChunks (d.content old.disk) n (acts.Plain Finish)
+  finish_adds old n lane path text lt kept put s h p there =
+      let m = d.content old.disk in
+      let at = session_shown old s lane h.shows lt in
+      let key = manifest_there s.snapshots (session s lane) path text (ap manifest_in (sym at) ∙ kept) in
+      let q = chunk_name (sha256 p) in
+      let other : q ≢ path = λ e. chunk_apart (sha256 p) key.0 manifest_name (e ∙ key.1) in
+      inl (remove_less m (temporary path) q (blobs.blob p) (sym (placed_other (remove m (temporary path)) path (Some text) q other) ∙ sym (ap (λ f. get f q) (put h.honest)) ∙ there))

@@ -2,9 +2,8 @@ pub mod CatalogueLemmas
 pub mod EndingLemmas
 pub mod OpenedLemmas
 pub mod OpeningLemmas
+pub mod Stopping
 pub mod FinishLemmas
-pub mod ActLemmas
-pub mod Elsewhere
-pub mod ChunkNames
-pub mod ListedLemmas
 pub mod AbortLemmas
+pub mod LaneEnds
+pub mod ActLemmas

@@ -11,21 +11,15 @@ use Rattle.store_types.specs.declared.refusal.Refusal.TheVariants.{GroupBusy, To
 use Rattle.store_types.specs.Chain.Refusing.{◌>>=◌, unless, if_none}
 use Rattle.store_types.specs.Names.{same_group, group_of_key}
 use Rattle.store_files.specs.Archive.{Snapshot}
-use Rattle.store_model.specs.Store as model
 use Rattle.store_model.specs.Store.{in_group, latest_in}
 use Rattle.store_model.specs.WriterSteps.{want_newer}
 use Rattle.core_state.specs.declared.kept.Kept.{Kept}
 use Rattle.core_state.specs.declared.kept.Listed.{Listed}
 use Rattle.core_state.specs.Named.{has_text, is_named_snapshot}
-use Rattle.core_state.specs.Shown.{shown_session, shown_snapshot}
-use Rattle.core_writer.specs.Opened.{want_idle, kept_in, latest_kept, base_kept}
+use Rattle.core_state.specs.Shown.{shown_snapshot}
+use Rattle.core_writer.specs.Opened.{kept_in, latest_kept, base_kept}
 
 -- ---- each test
-
-pub shown_idle : (ss : List Snapshot) (x : model.Session) → want_idle (shown_session ss x) ≡ model.want_idle x
-shown_idle ss model.none = refl
-shown_idle ss (model.writer w) = refl
-shown_idle ss (model.reader r) = refl
 
 cond_shown : (b : Bool) (x : Snapshot) (xs : List Snapshot) (ys : List Kept) → ys ≡ map shown_snapshot xs → cond b (shown_snapshot x ∷ ys) ys ≡ map shown_snapshot (cond b (x ∷ xs) xs)
 cond_shown true x xs ys e = ap (λ (l : List Kept). shown_snapshot x ∷ l) e

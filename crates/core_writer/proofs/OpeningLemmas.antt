@@ -1,5 +1,6 @@
 -- OPEN_WRITER is the store's.
-use Rattle.std.proofs.Common.{◌≡◌, ℕ, ◌<◌, Bool, true, false, length, get_or, set, map, List, [], Option, Some, None, Result, Ok, Err, refl, sym, ap, subst, ◌∙◌, arith}
+use Rattle.disk_trait.specs.declared.disk.Disk.{Ghosts}
+use Rattle.std.proofs.Common.{◌≡◌, ℕ, ◌<◌, Bool, true, false, length, set, map, List, [], Option, Some, None, Result, Ok, Err, refl, sym, ap, subst, ◌∙◌, arith}
 use Rattle.std.proofs.lemmas.List.Elements.{All-nil}
 use Rattle.std.specs.Prelude.{nat_lt}
 use Rattle.disk_trait.specs.Files.{Files}
@@ -17,7 +18,7 @@ use Rattle.wire_commands.specs.declared.command.Command.TheVariants.{OpenWriter}
 use Rattle.store_model.specs.Store as model
 use Rattle.store_model.specs.Store.{Store, Writer, writer, session, with_session, Outcome, writes_group, group_holder, in_group, latest_in}
 use Rattle.store_model.specs.WriterSteps.{want_newer, new_writer, base_text, goes_on, open_writer}
-use Rattle.store_model.specs.Steps.{outcome, answered}
+use Rattle.store_model.specs.Steps.{outcome}
 use Rattle.store_model.proofs.GroupTimes.{newer_than_all}
 use Rattle.backup_session.specs.Session.{settled}
 use Rattle.backup_session.specs.Session as sessions
@@ -30,12 +31,19 @@ use Rattle.core_state.specs.declared.kept.Session.{Session}
 use Rattle.core_state.specs.declared.kept.Session.TheVariants as kept
 use Rattle.core_state.specs.declared.parts.Parts.{Parts}
 use Rattle.core_state.specs.Shown.{shown_snapshot}
-use Rattle.core_state.specs.Holds.{IsSound, IsWriter, Shows, IsOnDisk, HasUploads, Holds, Does}
+use Rattle.core_state.specs.Holds.{IsSound, IsWriter, Shows, IsOnDisk, HasUploads, Holds}
 use Rattle.core_state.proofs.LockLemmas.{idle_holds, locked_writer, no_holder}
-use Rattle.core_state.proofs.Sessions.{at_lane}
 use Rattle.core_state.proofs.Soundness.{IsAlone, sound_writer, disk_writer, shows_changed}
-use Rattle.core_writer.specs.Opened.{want_idle, base_kept, new_writing}
-use Rattle.core_writer.proofs.OpenedLemmas.{shown_idle, latest_shown, count_shown, may_open}
+use Rattle.core_state.specs.Wanted.{session_at}
+use Rattle.core_state.proofs.Commanding.{idle_shown}
+use Rattle.core_writer.specs.Opened.{base_kept, new_writing}
+use Rattle.core_state.specs.Wanted.{want_idle}
+use Rattle.core_writer.specs.Opened.{TellsBase}
+use Rattle.core_state.specs.Stops.{IfRefused}
+use Rattle.core_state.specs.declared.stop.Stop.{Stop}
+use Rattle.core_state.specs.declared.stop.Stop.TheVariants as Stopped
+use Rattle.core_state.specs.declared.kept.Listed.{Listed}
+use Rattle.core_writer.proofs.OpenedLemmas.{latest_shown, count_shown, may_open}
 
 -- ---- the store's tests
 
@@ -135,15 +143,6 @@ pub named_new : (v : sessions.Session) (files : List StoredFile) (key : Snapshot
 named_new v files key moment base is named =
     ap (λ x. is_named (kept.Writer (record { session = x; files = files }))) is ∙ writer_stays_named (record { session = settled (rows.opened key moment base); files = files }) named refl
 
--- what the code finds at the lane
-pub idle_is : {D : Type 0} (old : Parts D) (s : Store) (lane : ℕ) (found : Session) (r : Result (Unit {0}) Refusal) → lane < 64 → found ≡ get_or old.sessions.items lane found → want_idle found ≡ r → Shows old s → model.want_idle (session s lane) ≡ r
-idle_is old s lane found r lt at is h = sym (shown_idle s.snapshots (session s lane)) ∙ ap want_idle (sym (at_lane old.sessions.items s lane found h.sessions (h.sound).lanes lt at)) ∙ is
-
-pub no_session : (x : model.Session) → model.want_idle x ≡ Ok tt → x ≡ model.none
-no_session model.none e = refl
-no_session (model.writer w) e = cc
-no_session (model.reader r) e = cc
-
 -- a lane without a session finds the groups of other lanes alone
 pub tests_are : {D : Type 0} (old : Parts D) (s : Store) (lane : ℕ) (key : SnapshotKey) (r : Result (Option SnapshotKey) Refusal)
     → base_kept (map (λ x. x.kept) old.catalogue.items) (other_than lane (book.group_holder old.locks (group_of_key key))) key ≡ r → session s lane ≡ model.none → Shows old s
@@ -152,28 +151,38 @@ tests_are old s lane key r is idle h =
     let holder = (idle_holds old.locks s lane idle h.locks).groups (group_of_key key) ∙ (h.locks).groups (group_of_key key) in
     ap (λ k. base_kept k (group_holder s (group_of_key key)) key) (sym h.catalogue) ∙ ap (λ o. base_kept (map (λ x. x.kept) old.catalogue.items) o key) (sym holder) ∙ is
 
-module _ {D : Type 0} (honest : D → Type 0) (content : D → Files) where
-  pub does_open : (old new : Parts D) (s : Store) (lane moment : ℕ) (text : List ℕ) (found : Session) (key : SnapshotKey) (base : Option SnapshotKey) (y : Session) (reply : Reply)
-      → lane < 64 → found ≡ get_or old.sessions.items lane found → want_idle found ≡ Ok tt → key_of text ≡ Some key → IsKey key
+pub bad_named : {D : Type 0} (old : Parts D) (s : Store) (lane moment : ℕ) (text : List ℕ) → Shows old s → lane < 64 → want_idle (session_at old lane) ≡ Ok tt → key_of text ≡ None → outcome s lane moment (OpenWriter text) ≡ Err BadName
+bad_named old s lane moment text h lt idle bad = bad_name s lane moment text (ap model.want_idle (idle_shown old s lane h lt idle)) bad
+
+-- the tests refuse, by the catalogue as it was lent
+pub opening_refuses : {D : Type 0} (old : Parts D) (s : Store) (lane moment : ℕ) (text : List ℕ) (key : SnapshotKey) (listed : List Listed) (stop : Stop) → lane < 64 → want_idle (session_at old lane) ≡ Ok tt → key_of text ≡ Some key → listed ≡ old.catalogue.items
+    → TellsBase (base_kept (map (λ x. x.kept) listed) (other_than lane (book.group_holder old.locks (group_of_key key))) key) (Err stop) → Shows old s → IfRefused (λ refusal. outcome s lane moment (OpenWriter text) ≡ Err refusal) stop
+opening_refuses old s lane moment text key listed (Stopped.Refused refusal) lt idle named lent told h =
+    let none = idle_shown old s lane h lt idle in
+    refused s lane moment text key refusal (ap model.want_idle none) named
+    (tests_are old s lane key (Err refusal) (subst (λ xs. base_kept (map (λ x. x.kept) xs) (other_than lane (book.group_holder old.locks (group_of_key key))) key ≡ Err refusal) lent told) none h)
+opening_refuses old s lane moment text key listed Stopped.NoMemory lt idle named lent told h = tt
+opening_refuses old s lane moment text key listed Stopped.DiskFailed lt idle named lent told h = tt
+
+module _ {D : Type 0} (g : Ghosts D) where
+  pub opens : (old new : Parts D) (s : Store) (lane moment : ℕ) (text : List ℕ) (key : SnapshotKey) (base : Option SnapshotKey) (y : Session) (reply : Reply)
+      → lane < 64 → want_idle (session_at old lane) ≡ Ok tt → key_of text ≡ Some key → IsKey key
       → base_kept (map (λ x. x.kept) old.catalogue.items) (other_than lane (book.group_holder old.locks (group_of_key key))) key ≡ Ok base
-      → new.disk ≡ old.disk → new.catalogue.items ≡ old.catalogue.items → new.sessions.items ≡ set old.sessions.items lane y → TakesWriter old.locks new.locks lane (group_of_key key) base → y ≡ kept.Writer (new_writing key moment base) → shows.Shows (rows.opened key moment base) (new_writer key moment base) → reply ≡ Base (base_text base)
-      → Holds honest content old s → Does honest content new s (answered s (outcome s lane moment (OpenWriter text))) (Ok reply)
-  does_open old new s lane moment text found key base y reply lt at idle named is_key tested d c l k y_is shown reply_is h =
+      → new.catalogue.items ≡ old.catalogue.items → new.sessions.items ≡ set old.sessions.items lane y → TakesWriter old.locks new.locks lane (group_of_key key) base → y ≡ kept.Writer (new_writing key moment base) → shows.Shows (rows.opened key moment base) (new_writer key moment base) → reply ≡ Base (base_text base)
+      → Holds g old s → (after : Store) × (outcome s lane moment (OpenWriter text) ≡ Ok (after, reply)) × Shows new after × IsOnDisk (g.content old.disk) after
+  opens old new s lane moment text key base y reply lt idle named is_key tested c l k y_is shown reply_is h =
       let sound = (h.shows).sound in
       let within : lane < length s.sessions = omega (arith, sound.lanes, lt) in
-      let idle2 = idle_is old s lane found (Ok tt) lt at idle h.shows in
-      let none = no_session (session s lane) idle2 in
+      let none = idle_shown old s lane h.shows lt idle in
+      let idle2 : model.want_idle (session s lane) ≡ Ok tt = ap model.want_idle none in
       let tested2 = tests_are old s lane key (Ok base) tested none h.shows in
       let may = may_open (map shown_snapshot s.snapshots) (group_holder s (group_of_key key)) key base tested2 in
       let w = new_writer key moment base in
       let is_writer = is_new_writer s key moment base sound is_key (ap (want_newer key.time) (sym (latest_shown (group_of_key key) s.snapshots)) ∙ may.newer) (subst (λ n. n < 4096) (count_shown (group_of_key key) s.snapshots) may.room) in
       let sound_after = sound_writer s lane w lt is_writer (alone s lane w sound may.free) sound in
-      let locks = locked_writer old.locks new.locks s lane w within sound sound_after none k (h.shows).locks in
-      let disk2 = disk_writer (content old.disk) s lane w within (no_uploads (content old.disk) key moment base) h.files in
-      let holds : Holds honest content new (with_session s lane (writer w)) = record {
-        honest = subst honest (sym d) h.honest;
-        shows = shows_changed old new s lane (writer w) y c l (y_is ∙ ap (λ v. kept.Writer (record { session = settled v; files = [] })) shown.same) locks sound_after h.shows;
-        files = subst (λ m. IsOnDisk m (with_session s lane (writer w))) (sym (ap content d)) disk2;
-      } in
-      let done : Does honest content new s (with_session s lane (writer w), Base (base_text base)) (Ok reply) = (reply_is, holds) in
-      subst (λ o. Does honest content new s (answered s o) (Ok reply)) (sym (opened s lane moment text key base idle2 named tested2)) done
+      let locks = locked_writer old.locks new.locks s lane w within sound sound_after none k (h.shows).locks in (
+        with_session s lane (writer w),
+        opened s lane moment text key base idle2 named tested2 ∙ ap (λ r. Ok (with_session s lane (writer w), r)) (sym reply_is),
+        shows_changed old new s lane (writer w) y c l (y_is ∙ ap (λ v. kept.Writer (record { session = settled v; files = [] })) shown.same) locks sound_after h.shows,
+        disk_writer (g.content old.disk) s lane w within (no_uploads (g.content old.disk) key moment base) h.files,
+      )

@@ -1,17 +1,22 @@
--- What is left by a crash once a FINISH is done.
-use Rattle.std.specs.Prelude.{◌≡◌, ℕ, Option, Some}
-use Rattle.disk_trait.specs.Files.{Files}
-use Rattle.disk_trait.specs.Disk.{Now}
-use Rattle.wire_commands.specs.declared.command.Command.TheVariants.{Finish}
-use Rattle.wire_commands.specs.declared.reply.Reply.{Reply}
-use Rattle.wire_commands.specs.declared.reply.Reply.TheVariants.{Done}
-use Rattle.store_history.specs.declared.act.Act.{Act}
-use Rattle.store_history.specs.declared.act.Act.TheVariants.{Plain}
+-- FINISH's tests, by what the core keeps.
+use Rattle.std.specs.Prelude.{◌≡◌, ℕ, List, Option, None, Result, Ok, Err}
+use Rattle.store_types.specs.declared.refusal.Refusal.{Refusal}
+use Rattle.store_files.specs.Manifest.{Manifest}
+use Rattle.core_state.specs.declared.kept.Session.{Session}
+use Rattle.core_state.specs.declared.kept.Session.TheVariants.{Idle, Writer, Reader}
+use Rattle.core_state.specs.declared.stop.Stop.{Stop}
+use Rattle.core_state.specs.declared.stop.Stop.TheVariants.{Refused, NoMemory, DiskFailed}
+use Rattle.core_state.specs.Changes.{kept_manifest}
 
--- Of an honest disk a crash now leaves what it reads, and nothing else. Another has no images, so of it nothing is said.
-abbrev pub IsFirm : {D : Type 0} → (D → Files) → (D → ℕ) → (D → ℕ → Files → Type 0) → D → Type 0
-IsFirm content calls images disk = Now calls images disk (λ c. c ≡ content disk)
+-- the name in the datastore folder of the manifest of the session's writer, and its text
+abbrev pub manifest_in : Session → Option (List ℕ × List ℕ)
+manifest_in Idle = None
+manifest_in (Writer w) = kept_manifest w
+manifest_in (Reader r) = None
 
--- so it is as a FINISH is told to be done
-abbrev pub FinishesFirmly : {D : Type 0} → (D → Files) → (D → ℕ) → (D → ℕ → Files → Type 0) → D → Act → Option Reply → Type 0
-FinishesFirmly content calls images disk act reply = act ≡ Plain Finish → reply ≡ Some Done → IsFirm content calls images disk
+-- the tests have passed, or the first that refuses did
+abbrev pub TestedBy : Result Manifest Refusal → Result (Unit {0}) Stop → Type 0
+TestedBy tested (Ok u) = (listing : Manifest) × (tested ≡ Ok listing)
+TestedBy tested (Err (Refused refusal)) = tested ≡ Err refusal
+TestedBy tested (Err NoMemory) = Unit {0}
+TestedBy tested (Err DiskFailed) = Unit {0}

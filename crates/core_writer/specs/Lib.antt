@@ -1,5 +1,5 @@
 pub mod Opened
-pub mod Closed
 pub mod Ended
 pub mod WriterActs
 pub mod Finished
+pub mod Stopping

@@ -1,15 +1,14 @@
 //! What the catalogue is asked, and how a snapshot comes into it.
 
-ghost use Rattle.std.specs.Prelude.{◌≡◌, ◌<◌, ◌≤◌, map, filter, length, nat_lt, option_map, position, vec_len, vec_capacity, IfErr, IsTrue};
+ghost use Rattle.std.specs.Prelude.{◌≡◌, ◌<◌, ◌≤◌, map, filter, length, nat_lt, option_map, position, vec_len, vec_capacity, IfErr};
 ghost use Rattle.store_types.specs.Chain.Refusing.{unless};
 ghost use Rattle.store_types.specs.Names.{same_group, group_of_key, key_lt};
-ghost use Rattle.store_types.specs.declared.refusal.Refusal.TheVariants.{NotNewer, TooMany};
-ghost use Rattle.wire_commands.specs.declared.reply.Reply.TheVariants.{Refused};
-ghost use Rattle.wire_commands.specs.HasText.{ReplyHasText};
-ghost use Rattle.core_state.specs.Replies.{refuses_writer};
+ghost use Rattle.store_types.specs.declared.refusal.Refusal.TheVariants.{TooMany};
 ghost use Rattle.store_model.specs.WriterSteps.{want_newer as needs_newer};
+ghost use Rattle.core_state.specs.Replies.{refuses_writer};
 ghost use Rattle.core_writer.specs.Opened.{kept_in, latest_kept};
-ghost use Rattle.core_writer.specs.Closed.{insert_listed};
+ghost use Rattle.core_writer.specs.Stopping.{RefusesBy};
+ghost use Rattle.core_state.specs.Catalogue.{insert_listed};
 
 use core_state::Listed;
 use store_types::{Refusal, SnapshotKey};
@@ -37,23 +36,16 @@ fn count_in(catalogue: &[Listed], key: &SnapshotKey) -> usize
         .count()
 }
 
-/// The refusal of a snapshot that is not later than its group's latest, of this time in seconds since 1970.
-#[tactic(auto, using(core_state::proofs::Texts::not_newer_has_text))]
-fn not_newer(latest: u64) -> Refusal
-    ensures value { result ≡ NotNewer latest }
-    ensures text { ReplyHasText (Refused result) }
-{
-    Refusal::NotNewer { latest }
-}
-
 /// The snapshot is later than the latest of its group.
+#[tactic(auto, using(core_state::proofs::Texts::not_newer_has_text))]
 pub fn want_newer(key: &SnapshotKey, latest: Option<&SnapshotKey>) -> Result<(), Refusal>
-    ensures text { IfErr result (λ refusal. ReplyHasText (Refused refusal)) }
-    ensures kind { IfErr result (λ refusal. IsTrue (refuses_writer refusal)) }
+    ensures refusal { IfErr result (RefusesBy refuses_writer) }
     ensures value { result ≡ needs_newer key.now.time (option_map (λ latest. latest.now) latest.entry) }
 {
     match latest {
-        Some(latest) if key.time <= latest.time => Err(not_newer(latest.time)),
+        Some(latest) if key.time <= latest.time => Err(Refusal::NotNewer {
+            latest: latest.time,
+        }),
         _ => Ok(()),
     }
 }
@@ -61,8 +53,7 @@ pub fn want_newer(key: &SnapshotKey, latest: Option<&SnapshotKey>) -> Result<(),
 /// The snapshot's group has room for one more.
 #[tactic(auto, using(core_state::proofs::Texts::too_many_has_text))]
 pub fn want_room(catalogue: &[Listed], key: &SnapshotKey) -> Result<(), Refusal>
-    ensures text { IfErr result (λ refusal. ReplyHasText (Refused refusal)) }
-    ensures kind { IfErr result (λ refusal. IsTrue (refuses_writer refusal)) }
+    ensures refusal { IfErr result (RefusesBy refuses_writer) }
     ensures value { result ≡ unless (TooMany 4096) (nat_lt (length (kept_in (group_of_key key.now) (map (λ x. x.kept) catalogue.now))) 4096) }
 {
     if count_in(catalogue, key) < 4096 {

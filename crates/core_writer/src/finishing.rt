@@ -1,41 +1,41 @@
 //! FINISH.
 
-ghost use Rattle.std.specs.Prelude.{◌≡◌, ◌<◌, ◌≤◌, ℕ, Some, option_map, IfOk, OnOk, IsErrOf, IsTrue, vec_len, vec_capacity, slice_index_or};
+ghost use Rattle.std.specs.Prelude.{◌≡◌, ◌<◌, None, Ok, Err, option_map, IfErr, vec_len, vec_capacity};
 ghost use Rattle.std.specs.List.{find};
+ghost use Rattle.std.specs.Result.{result_ok};
 ghost use Rattle.std.specs.Str.{bytes_eq};
 ghost use Rattle.store_types.specs.FileNames.{manifest_name};
-ghost use Rattle.disk_trait.specs.Files.{placed};
-ghost use Rattle.disk_trait.specs.Disk.{Serves};
-ghost use Rattle.wire_commands.specs.HasText.{FitsRefusal, ReplyHasText};
-ghost use Rattle.wire_commands.specs.declared.reply.Reply.TheVariants.{Refused};
+ghost use Rattle.store_types.specs.declared.refusal.Refusal.TheVariants as refusals;
 ghost use Rattle.wire_commands.specs.declared.command.Command.TheVariants as commands;
-ghost use Rattle.store_model.specs.Steps.{outcome};
-ghost use Rattle.core_state.specs.Holds.{Acts};
+ghost use Rattle.store_model.specs.Manifests.{finish_check as plain_check};
+ghost use Rattle.store_model.specs.Store.{Writer as PlainWriter};
+ghost use Rattle.store_history.specs.declared.act.Act.TheVariants.{Plain};
+ghost use Rattle.backup_session.specs.Shown.{Shows};
 ghost use Rattle.core_state.specs.declared.kept.Session.TheVariants.{Idle};
-ghost use Rattle.core_state.specs.Replies.{answers_finish, refuses_finish};
-ghost use Rattle.core_state.specs.Settles.{reply_by};
-ghost use Rattle.core_state.specs.Unchanged.{Unchanged};
-ghost use Rattle.core_writer.specs.Closed.{closed, closed_by, kept_manifest};
-ghost use Rattle.core_writer.specs.Finished.{IsFirm};
-ghost use Rattle.core_uploads.specs.Others.{OthersStay};
+ghost use Rattle.core_state.specs.Catalogue.{closed};
+ghost use Rattle.core_state.specs.Changes.{kept_manifest};
+ghost use Rattle.core_state.specs.Commands.{ActDoes, ActLeaves};
+ghost use Rattle.core_state.specs.Replies.{refuses_finish};
+ghost use Rattle.core_writer.specs.Finished.{TestedBy, manifest_in};
+ghost use Rattle.core_writer.specs.Stopping.{StopsBy};
 
 use crate::catalogue::insert;
-use core_state::{Kept, Listed, Parts, Path, Session, StoredFile, Writing};
-use core_uploads::wrong_state;
-use disk_trait::{Disk, DiskError};
+use core_state::{Kept, Listed, Parts, Place, Session, Stop, StoredFile, Writing};
+use disk_trait::Disk;
+use snapshot_files::FilePath;
 use std::alloc::Global;
 use std::mem;
 use store_types::Refusal;
 use wire_commands::Reply;
 
-/// The reply to a FINISH that is refused so.
-fn refused_finish(refusal: Refusal) -> Reply
-    requires kind { IsTrue (refuses_finish refusal) }
-    requires fits { FitsRefusal refusal }
-    ensures value { result ≡ Refused refusal }
-    ensures text { ReplyHasText result }
+/// The writer has no open index, and its manifest is the snapshot's and lists its other files.
+fn check(w: &Writing, alloc: Global) -> Result<(), Stop>
+    requires { w.now.session.pending ≡ None }
+    ensures stop { IfErr result (StopsBy refuses_finish) }
+    ensures plain { (v : PlainWriter) → Shows w.now.session.writer v → TestedBy (plain_check v) result }
 {
-    Reply::Refused(refusal)
+    w.session.finish_check(alloc)??;
+    Ok(())
 }
 
 fn manifest_file(files: &[StoredFile]) -> Option<&StoredFile>
@@ -45,7 +45,7 @@ fn manifest_file(files: &[StoredFile]) -> Option<&StoredFile>
 }
 
 /// The manifest's name in the datastore folder, and its text.
-fn manifest_of(w: &Writing) -> Option<(&Path, &[u8])>
+fn manifest_of(w: &Writing) -> Option<(&FilePath, &[u8])>
     ensures { option_map (λ m. (m.0.now, m.1.now)) result ≡ kept_manifest w.now }
 {
     let text = w.session.manifest()?;
@@ -53,22 +53,15 @@ fn manifest_of(w: &Writing) -> Option<(&Path, &[u8])>
     Some((&file.path, text))
 }
 
-/// Puts the manifest, and makes sure that on an honest disk it and the files put before it outlast a crash.
-fn put_manifest<D: Disk>(
-    disk: &mut D,
-    alloc: Global,
-    path: &Path,
-    text: &[u8],
-) -> Result<(), DiskError>
-    ensures serves { Serves D.honest D.faults disk.old disk.new (IsErrOf result DiskError.Failed) }
-    ensures calls { D.calls disk.old ≤ D.calls disk.new }
-    ensures put { D.honest disk.old → OnOk result (D.content disk.new ≡ placed (D.content disk.old) path.now (Some text.now)) }
-    ensures unchanged { IsErrOf result DiskError.NoMemory → D.honest disk.old → D.content disk.new ≡ D.content disk.old }
-    ensures firm { OnOk result (IsFirm D.content D.calls D.images disk.new) }
+/// The name in the datastore folder of the manifest of the session's writer, and its text.
+fn manifest_at(session: &Session) -> Result<(&FilePath, &[u8]), Refusal>
+    ensures value { option_map (λ m. (m.0.now, m.1.now)) (result_ok result) ≡ manifest_in session.now }
+    ensures refusal { IfErr result (λ refusal. refusal ≡ refusals.NoFile) }
 {
-    disk.put(alloc, path.as_str(), text)?;
-    disk.sync()?;
-    Ok(())
+    match session {
+        Session::Writer(w) => manifest_of(w).ok_or(Refusal::NoFile),
+        _ => Err(Refusal::NoFile),
+    }
 }
 
 /// The session ends, and its writer's snapshot is in the catalogue. It takes no memory.
@@ -89,47 +82,23 @@ fn close(catalogue: &mut Vec<Listed>, session: &mut Session, number: u64)
 
 /// The files of the lane's writer become a finished snapshot, and the lane holds nothing any more.
 ///
-/// The number is that of the order's entry of this act. The refusals, in the order in which they are tested: the lane has
-/// no writer; it has open indexes; it has no manifest; the manifest is none, by its cause; the first mismatch between the
-/// manifest and the snapshot's key and other files. A refusal changes nothing. All memory is taken before the first disk
-/// call, that of the put itself apart.
-pub fn finish<D: Disk>(
-    parts: &mut Parts<D>,
-    alloc: Global,
-    lane: u32,
-    number: u64,
-) -> Result<Reply, DiskError>
-    requires { lane < 64 }
-    ensures serves { Serves D.honest D.faults parts.old.disk parts.new.disk (IsErrOf result DiskError.Failed) }
-    ensures calls { D.calls parts.old.disk ≤ D.calls parts.new.disk }
-    ensures text { IfOk result ReplyHasText }
-    ensures answers { IfOk result (λ reply. IsTrue (answers_finish reply)) }
-    ensures unchanged { Unchanged D.honest D.content parts.old parts.new (reply_by result) }
-    ensures others { OthersStay D.honest D.content parts.old parts.new lane (Some (reply_by result)) }
-    // the snapshot is listed with this number
-    ensures listed { parts.new.catalogue.items ≡ closed_by (Some (reply_by result)) number (slice_index_or parts.old.sessions.items lane Idle) parts.old.catalogue.items }
-    // once it is done a crash leaves what an honest disk reads
-    ensures firm { reply_by result ≡ Reply.Done → IsFirm D.content D.calls D.images parts.new.disk }
-    ensures act { (moment : ℕ) → Acts D.honest D.content parts.old parts.new (λ s. outcome s lane moment commands.Finish) result }
+/// The manifest is put under a temporary name, synced and renamed, and synced again: a crash meanwhile leaves it whole or
+/// leaves none, and after Ok it and the files put before it outlast a crash.
+///
+/// The refusals, in the order in which they are tested: the lane has no writer; it has open indexes; it has no manifest;
+/// the manifest is none, by its cause; the first mismatch between the manifest and the snapshot's key and other files. A
+/// refusal changes nothing. All memory is taken before the first disk call.
+pub fn finish<D: Disk>(parts: &mut Parts<D>, alloc: Global, at: Place) -> Result<Reply, Stop>
+    requires { at.lane < 64 }
+    ensures does { ActDoes D.Disk parts.old parts.new at (Plain commands.Finish) result }
+    ensures leaves { ActLeaves D.Disk parts.old parts.new at (Plain commands.Finish) result }
 {
-    let session = &parts.sessions[lane as usize];
-    let Session::Writer(w) = session else {
-        return Ok(Reply::Refused(wrong_state(session)));
-    };
-    if let Err(refusal) = w.session.finish_check(alloc)? {
-        return Ok(refused_finish(refusal));
-    }
-    // the check found it
-    let Some((path, text)) = manifest_of(w) else {
-        return Ok(Reply::Refused(Refusal::NoFile));
-    };
+    check(parts.writer(at.lane)?, alloc)?;
+    let (path, text) = manifest_at(&parts.sessions[at.lane as usize])?;
     parts.catalogue.reserve(1)?;
-    put_manifest(&mut parts.disk, alloc, path, text)?;
-    close(
-        &mut parts.catalogue,
-        &mut parts.sessions[lane as usize],
-        number,
-    );
-    parts.locks.release(lane);
+    snapshot_files::finish(&mut parts.disk, alloc, path, text)?;
+    let session = &mut parts.sessions[at.lane as usize];
+    close(&mut parts.catalogue, session, at.number);
+    parts.locks.release(at.lane);
     Ok(Reply::Done)
 }

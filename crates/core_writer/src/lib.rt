@@ -7,7 +7,6 @@ mod catalogue;
 mod ending;
 mod finishing;
 mod opening;
-mod sessions;
 
 pub use act::{end_act, writer_act};
 pub use ending::{abort, end};

@@ -77,7 +77,7 @@ pub trait Disk {
     /// The bytes at a name, or `None` where nothing is there.
     fn read(&mut self, alloc: Global, name: &str) -> Result<Option<Vec<u8>>, DiskError>
         ensures serves { Serves honest faults self.old self.new (IsErrOf result DiskError.Failed) }
-        ensures moment { Ticks honest calls self.old self.new }
+        ensures tick { Ticks honest calls self.old self.new }
         ensures crash { Steps calls images self.old self.new Same }
         ensures same { honest self.old → content self.new ≡ content self.old }
         ensures bytes { honest self.old → IfOk result (λ found. option_map (λ v. v.items) found ≡ get (content self.old) name.now) }
@@ -92,7 +92,7 @@ pub trait Disk {
         into: &mut [u8],
     ) -> Result<Option<usize>, Failed>
         ensures serves { Serves honest faults self.old self.new (IsErr result) }
-        ensures moment { Ticks honest calls self.old self.new }
+        ensures tick { Ticks honest calls self.old self.new }
         ensures crash { Steps calls images self.old self.new Same }
         ensures same { honest self.old → content self.new ≡ content self.old }
         ensures there { honest self.old → IfOk result (λ n. is_some n ≡ is_some (get (content self.old) name.now)) }
@@ -103,7 +103,7 @@ pub trait Disk {
     /// How many bytes stand at a name, or `None` where nothing is there.
     fn size(&mut self, name: &str) -> Result<Option<u64>, Failed>
         ensures serves { Serves honest faults self.old self.new (IsErr result) }
-        ensures moment { Ticks honest calls self.old self.new }
+        ensures tick { Ticks honest calls self.old self.new }
         ensures crash { Steps calls images self.old self.new Same }
         ensures same { honest self.old → content self.new ≡ content self.old }
         ensures size { honest self.old → IfOk result (λ n. n ≡ option_map (λ file. length file) (get (content self.old) name.now)) };
@@ -111,7 +111,7 @@ pub trait Disk {
     /// The names that begin with a prefix, in byte order.
     fn list(&mut self, alloc: Global, prefix: &str) -> Result<Vec<String>, DiskError>
         ensures serves { Serves honest faults self.old self.new (IsErrOf result DiskError.Failed) }
-        ensures moment { Ticks honest calls self.old self.new }
+        ensures tick { Ticks honest calls self.old self.new }
         ensures crash { Steps calls images self.old self.new Same }
         ensures same { honest self.old → content self.new ≡ content self.old }
         ensures names { honest self.old → IfOk result (λ names. map string_bytes names.items ≡ filter (λ name. starts_with eqb name prefix.now) (keys (content self.old))) }
@@ -122,7 +122,7 @@ pub trait Disk {
     fn put(&mut self, alloc: Global, name: &str, bytes: &[u8]) -> Result<(), DiskError>
         requires { length name.now ≤ 255 }
         ensures serves { Serves honest faults self.old self.new (IsErrOf result DiskError.Failed) }
-        ensures moment { Ticks honest calls self.old self.new }
+        ensures tick { Ticks honest calls self.old self.new }
         ensures crash { Steps calls images self.old self.new (SameBut name.now) }
         ensures put { honest self.old → OnOk result (content self.new ≡ placed (content self.old) name.now (Some bytes.now)) }
         ensures unchanged { IsErrOf result DiskError.NoMemory → (honest self.old → content self.new ≡ content self.old)
@@ -133,7 +133,7 @@ pub trait Disk {
     fn rename(&mut self, from: &str, to: &str) -> Result<bool, Failed>
         requires { length to.now ≤ 255 }
         ensures serves { Serves honest faults self.old self.new (IsErr result) }
-        ensures moment { Ticks honest calls self.old self.new }
+        ensures tick { Ticks honest calls self.old self.new }
         ensures crash { Steps calls images self.old self.new (MayMove from.now to.now) }
         ensures there { honest self.old → IfOk result (λ done. done ≡ is_some (get (content self.old) from.now)) }
         ensures renamed { honest self.old → IfOk result (λ done. done ≡ true → content self.new ≡ renamed (content self.old) from.now to.now) }
@@ -144,7 +144,7 @@ pub trait Disk {
     /// the name, and then nothing changed.
     fn remove(&mut self, name: &str) -> Result<bool, Failed>
         ensures serves { Serves honest faults self.old self.new (IsErr result) }
-        ensures moment { Ticks honest calls self.old self.new }
+        ensures tick { Ticks honest calls self.old self.new }
         ensures crash { Steps calls images self.old self.new (MayGo name.now) }
         ensures there { honest self.old → IfOk result (λ done. done ≡ is_some (get (content self.old) name.now)) }
         ensures removed { honest self.old → OnOk result (content self.new ≡ remove (content self.old) name.now) }
@@ -154,7 +154,7 @@ pub trait Disk {
     /// After Ok, a crash leaves only what is read.
     fn sync(&mut self) -> Result<(), Failed>
         ensures serves { Serves honest faults self.old self.new (IsErr result) }
-        ensures moment { Ticks honest calls self.old self.new }
+        ensures tick { Ticks honest calls self.old self.new }
         ensures crash { Steps calls images self.old self.new Same }
         ensures same { honest self.old → OnOk result (content self.new ≡ content self.old) }
         ensures durable { OnOk result (Now calls images self.new (λ c. c ≡ content self.new)) };

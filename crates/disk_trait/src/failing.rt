@@ -53,7 +53,7 @@ pub struct FailingDisk<D: Disk + Drop> {
 fn pass<D: Disk>(disk: &mut D)
     ensures kept { D.honest disk.old ↔ D.honest disk.new }
     ensures count { D.faults disk.old ≤ D.faults disk.new }
-    ensures moment { Ticks D.honest D.calls disk.old disk.new }
+    ensures tick { Ticks D.honest D.calls disk.old disk.new }
     ensures crash { Steps D.calls D.images disk.old disk.new Same }
     ensures same { D.honest disk.old → D.content disk.new ≡ D.content disk.old }
 {
@@ -111,7 +111,7 @@ impl<D: Disk + Drop> FailingDisk<D> {
         ensures rose { min (min (D.faults self.old.inner + self.old.failed) (2 ^ 64 - 1) + 1) (2 ^ 64 - 1) ≤ min (D.faults self.new.inner + self.new.failed) (2 ^ 64 - 1) }
         ensures own { self.new.failed ≡ min (self.old.failed + 1) (2 ^ 64 - 1) }
         ensures schedule { self.new.schedule ≡ self.old.schedule }
-        ensures moment { Ticks D.honest D.calls self.old.inner self.new.inner }
+        ensures tick { Ticks D.honest D.calls self.old.inner self.new.inner }
         ensures crash { Steps D.calls D.images self.old.inner self.new.inner Same }
         ensures same { D.honest self.old.inner → D.content self.new.inner ≡ D.content self.old.inner }
     {
@@ -151,7 +151,7 @@ impl<D: Disk + Drop> Disk for FailingDisk<D> {
 
     fn read(&mut self, alloc: Global, name: &str) -> Result<Option<Vec<u8>>, DiskError>
         ensures serves { Serves ⟦<FailingDisk<D> as Disk>⟧.honest ⟦<FailingDisk<D> as Disk>⟧.faults self.old self.new (IsErrOf result DiskError.Failed) }
-        ensures moment { Ticks D.honest D.calls (below self.old) (below self.new) }
+        ensures tick { Ticks D.honest D.calls (below self.old) (below self.new) }
         ensures crash { Steps D.calls D.images (below self.old) (below self.new) Same }
         ensures same { D.honest (below self.old) → D.content (below self.new) ≡ D.content (below self.old) }
         ensures bytes { D.honest (below self.old) → IfOk result (λ found. option_map (λ v. v.items) found ≡ get (D.content (below self.old)) name.now) }
@@ -172,7 +172,7 @@ impl<D: Disk + Drop> Disk for FailingDisk<D> {
         into: &mut [u8],
     ) -> Result<Option<usize>, Failed>
         ensures serves { Serves ⟦<FailingDisk<D> as Disk>⟧.honest ⟦<FailingDisk<D> as Disk>⟧.faults self.old self.new (IsErr result) }
-        ensures moment { Ticks D.honest D.calls (below self.old) (below self.new) }
+        ensures tick { Ticks D.honest D.calls (below self.old) (below self.new) }
         ensures crash { Steps D.calls D.images (below self.old) (below self.new) Same }
         ensures same { D.honest (below self.old) → D.content (below self.new) ≡ D.content (below self.old) }
         ensures there { D.honest (below self.old) → IfOk result (λ n. is_some n ≡ is_some (get (D.content (below self.old)) name.now)) }
@@ -190,7 +190,7 @@ impl<D: Disk + Drop> Disk for FailingDisk<D> {
 
     fn size(&mut self, name: &str) -> Result<Option<u64>, Failed>
         ensures serves { Serves ⟦<FailingDisk<D> as Disk>⟧.honest ⟦<FailingDisk<D> as Disk>⟧.faults self.old self.new (IsErr result) }
-        ensures moment { Ticks D.honest D.calls (below self.old) (below self.new) }
+        ensures tick { Ticks D.honest D.calls (below self.old) (below self.new) }
         ensures crash { Steps D.calls D.images (below self.old) (below self.new) Same }
         ensures same { D.honest (below self.old) → D.content (below self.new) ≡ D.content (below self.old) }
         ensures size { D.honest (below self.old) → IfOk result (λ n. n ≡ option_map (λ file. length file) (get (D.content (below self.old)) name.now)) }
@@ -205,7 +205,7 @@ impl<D: Disk + Drop> Disk for FailingDisk<D> {
 
     fn list(&mut self, alloc: Global, prefix: &str) -> Result<Vec<String>, DiskError>
         ensures serves { Serves ⟦<FailingDisk<D> as Disk>⟧.honest ⟦<FailingDisk<D> as Disk>⟧.faults self.old self.new (IsErrOf result DiskError.Failed) }
-        ensures moment { Ticks D.honest D.calls (below self.old) (below self.new) }
+        ensures tick { Ticks D.honest D.calls (below self.old) (below self.new) }
         ensures crash { Steps D.calls D.images (below self.old) (below self.new) Same }
         ensures same { D.honest (below self.old) → D.content (below self.new) ≡ D.content (below self.old) }
         ensures names { D.honest (below self.old) → IfOk result (λ names. map string_bytes names.items ≡ filter (λ name. starts_with eqb name prefix.now) (keys (D.content (below self.old)))) }
@@ -222,7 +222,7 @@ impl<D: Disk + Drop> Disk for FailingDisk<D> {
     fn put(&mut self, alloc: Global, name: &str, bytes: &[u8]) -> Result<(), DiskError>
         requires { length name.now ≤ 255 }
         ensures serves { Serves ⟦<FailingDisk<D> as Disk>⟧.honest ⟦<FailingDisk<D> as Disk>⟧.faults self.old self.new (IsErrOf result DiskError.Failed) }
-        ensures moment { Ticks D.honest D.calls (below self.old) (below self.new) }
+        ensures tick { Ticks D.honest D.calls (below self.old) (below self.new) }
         ensures crash { Steps D.calls D.images (below self.old) (below self.new) (SameBut name.now) }
         ensures put { D.honest (below self.old) → OnOk result (D.content (below self.new) ≡ placed (D.content (below self.old)) name.now (Some bytes.now)) }
         ensures unchanged { IsErrOf result DiskError.NoMemory → (D.honest (below self.old) → D.content (below self.new) ≡ D.content (below self.old))
@@ -241,7 +241,7 @@ impl<D: Disk + Drop> Disk for FailingDisk<D> {
     fn rename(&mut self, from: &str, to: &str) -> Result<bool, Failed>
         requires { length to.now ≤ 255 }
         ensures serves { Serves ⟦<FailingDisk<D> as Disk>⟧.honest ⟦<FailingDisk<D> as Disk>⟧.faults self.old self.new (IsErr result) }
-        ensures moment { Ticks D.honest D.calls (below self.old) (below self.new) }
+        ensures tick { Ticks D.honest D.calls (below self.old) (below self.new) }
         ensures crash { Steps D.calls D.images (below self.old) (below self.new) (MayMove from.now to.now) }
         ensures there { D.honest (below self.old) → IfOk result (λ done. done ≡ is_some (get (D.content (below self.old)) from.now)) }
         ensures renamed { D.honest (below self.old) → IfOk result (λ done. done ≡ true → D.content (below self.new) ≡ renamed (D.content (below self.old)) from.now to.now) }
@@ -260,7 +260,7 @@ impl<D: Disk + Drop> Disk for FailingDisk<D> {
 
     fn remove(&mut self, name: &str) -> Result<bool, Failed>
         ensures serves { Serves ⟦<FailingDisk<D> as Disk>⟧.honest ⟦<FailingDisk<D> as Disk>⟧.faults self.old self.new (IsErr result) }
-        ensures moment { Ticks D.honest D.calls (below self.old) (below self.new) }
+        ensures tick { Ticks D.honest D.calls (below self.old) (below self.new) }
         ensures crash { Steps D.calls D.images (below self.old) (below self.new) (MayGo name.now) }
         ensures there { D.honest (below self.old) → IfOk result (λ done. done ≡ is_some (get (D.content (below self.old)) name.now)) }
         ensures removed { D.honest (below self.old) → OnOk result (D.content (below self.new) ≡ remove (D.content (below self.old)) name.now) }
@@ -279,7 +279,7 @@ impl<D: Disk + Drop> Disk for FailingDisk<D> {
 
     fn sync(&mut self) -> Result<(), Failed>
         ensures serves { Serves ⟦<FailingDisk<D> as Disk>⟧.honest ⟦<FailingDisk<D> as Disk>⟧.faults self.old self.new (IsErr result) }
-        ensures moment { Ticks D.honest D.calls (below self.old) (below self.new) }
+        ensures tick { Ticks D.honest D.calls (below self.old) (below self.new) }
         ensures crash { Steps D.calls D.images (below self.old) (below self.new) Same }
         ensures same { D.honest (below self.old) → OnOk result (D.content (below self.new) ≡ D.content (below self.old)) }
         ensures durable { OnOk result (Now D.calls D.images (below self.new) (λ c. c ≡ D.content (below self.new))) }

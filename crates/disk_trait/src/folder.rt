@@ -119,7 +119,9 @@ impl<R: Files + AllocGlobal + Clone + Drop> Folder<R> {
         make_folders(&self.rt, &mut self.target, self.root.as_str(), to)?;
         fs::rename(&self.rt, self.path.as_str(), self.target.as_str())?;
         sync_folder_of(&self.rt, self.target.as_str())?;
-        sync_folder_of(&self.rt, self.path.as_str())?;
+        if folder_of(self.path.as_str()) != folder_of(self.target.as_str()) {
+            sync_folder_of(&self.rt, self.path.as_str())?;
+        }
         Ok(true)
     }
 
@@ -138,7 +140,7 @@ impl<R: Files + AllocGlobal + Clone + Drop> Folder<R> {
             names: Vec::new(alloc),
             folders: Vec::new(alloc),
         };
-        let first = first_folder(prefix);
+        let first = folder_of(prefix);
         if first.is_empty() || is_plain(first) {
             found.folders.push(String::from_str(alloc, first)?)?;
         }
@@ -218,9 +220,9 @@ fn is_plain(name: &str) -> bool {
     !name.contains('\0') && name.split('/').all(is_part)
 }
 
-// The folder of a prefix, which is the part before its last slash.
-fn first_folder(prefix: &str) -> &str {
-    match prefix.rsplit_once('/') {
+// The folder of a path or a prefix: the part before its last slash.
+fn folder_of(path: &str) -> &str {
+    match path.rsplit_once('/') {
         Some((folder, _)) => folder,
         None => "",
     }
@@ -280,8 +282,5 @@ fn make_folder<R: Files>(rt: &R, path: &str) -> Result<(), Failed> {
 
 // Syncs the folder in which a path stands.
 fn sync_folder_of<R: Files>(rt: &R, path: &str) -> Result<(), Failed> {
-    match path.rsplit_once('/') {
-        Some((folder, _)) => Ok(fs::open(rt, folder)?.sync_all()?),
-        None => Err(Failed),
-    }
+    Ok(fs::open(rt, folder_of(path))?.sync_all()?)
 }

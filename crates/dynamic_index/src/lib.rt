@@ -14,12 +14,6 @@ pub use writer::DynamicWriter;
 /// The bytes before the entries.
 pub const HEADER_SIZE: usize = 4096;
 
-/// The most entries of an index.
-pub const ENTRY_LIMIT: usize = 1_048_576;
-
-/// The most bytes of a piece.
-pub const PIECE_LIMIT: u64 = 16_777_216;
-
 // The bytes of an entry.
 const ENTRY_SIZE: usize = 40;
 

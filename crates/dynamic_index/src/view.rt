@@ -8,11 +8,11 @@ ghost use Rattle.store_files.specs.DynamicIndex.{dynamic_of, dynamic_text, magic
 ghost use Rattle.dynamic_index.specs.Pieces.{size_of, entry_at, start_of, stop_of, HoldsOffset};
 ghost use Rattle.dynamic_index.specs.Viewing.{fault_of as fault_in};
 
-use crate::{ENTRY_LIMIT, ENTRY_SIZE, HEADER_SIZE, MAGIC, PIECE_LIMIT};
+use crate::{ENTRY_SIZE, HEADER_SIZE, MAGIC};
 use sha2::{Digest, Sha256};
 use std::marker::Model;
 use store_files::IndexFault;
-use store_types::Digest32;
+use store_types::{Digest32, ENTRY_LIMIT, PIECE_LIMIT};
 use thiserror::Error;
 
 /// Bytes are no dynamic index, for this cause, the first in the order of `IndexFault`.

@@ -20,7 +20,7 @@ fn temporary_name(alloc: Global, name: &str) -> Result<String, AllocError>
 }
 
 // Puts the content under its temporary name, and syncs it.
-fn stage<D: Disk>(alloc: Global, disk: &mut D, name: &str, bytes: &[u8]) -> Result<(), DiskError>
+fn stage<D: Disk>(disk: &mut D, alloc: Global, name: &str, bytes: &[u8]) -> Result<(), DiskError>
     requires { length name.now ≤ 255 }
     ensures serves { Serves D.honest D.faults disk.old disk.new (IsErrOf result DiskError.Failed) }
     ensures crash { Steps D.calls D.images disk.old disk.new (SameBut name.now) }
@@ -39,8 +39,8 @@ fn stage<D: Disk>(alloc: Global, disk: &mut D, name: &str, bytes: &[u8]) -> Resu
 ///
 /// Fails where the disk does: three calls, put, sync and rename. Want of memory changes nothing.
 pub fn install<D: Disk>(
-    alloc: Global,
     disk: &mut D,
+    alloc: Global,
     name: &str,
     bytes: &[u8],
 ) -> Result<(), DiskError>
@@ -54,15 +54,15 @@ pub fn install<D: Disk>(
 {
     let temporary = temporary_name(alloc, name)?;
     let staged = temporary.as_str();
-    stage(alloc, disk, staged, bytes)?;
+    stage(disk, alloc, staged, bytes)?;
     let _ = disk.rename(staged, name)?;
     Ok(())
 }
 
 /// Installs a file, and syncs once more: after Ok a crash leaves the new content alone.
 pub fn install_firm<D: Disk>(
-    alloc: Global,
     disk: &mut D,
+    alloc: Global,
     name: &str,
     bytes: &[u8],
 ) -> Result<(), DiskError>
@@ -75,7 +75,7 @@ pub fn install_firm<D: Disk>(
     ensures unchanged { IsErrOf result DiskError.NoMemory → (D.honest disk.old → D.content disk.new ≡ D.content disk.old)
         × Steps D.calls D.images disk.old disk.new Same × (D.faults disk.new ≡ D.faults disk.old) }
 {
-    install(alloc, disk, name, bytes)?;
+    install(disk, alloc, name, bytes)?;
     disk.sync()?; // the rename lasts
     Ok(())
 }

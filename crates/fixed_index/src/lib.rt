@@ -16,7 +16,4 @@ pub use writer::FixedWriter;
 /// The bytes before the digests.
 pub const HEADER_SIZE: usize = 4096;
 
-/// The most digests of an index.
-pub const ENTRY_LIMIT: usize = 1_048_576;
-
 const MAGIC: [u8; 8] = [47, 127, 65, 237, 145, 253, 15, 205];

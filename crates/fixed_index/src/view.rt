@@ -8,11 +8,11 @@ ghost use Rattle.store_files.specs.FixedIndex.{fixed_of, fixed_text, magic, fiel
 ghost use Rattle.fixed_index.specs.Viewing.{fault_of as fault_in};
 
 use crate::sizes::{is_chunk_size, piece_count};
-use crate::{ENTRY_LIMIT, HEADER_SIZE, MAGIC};
+use crate::{HEADER_SIZE, MAGIC};
 use sha2::{Digest, Sha256};
 use std::marker::Model;
 use store_files::IndexFault;
-use store_types::Digest32;
+use store_types::{Digest32, ENTRY_LIMIT};
 use thiserror::Error;
 
 /// Bytes are no fixed index, for this cause, the first in the order of `IndexFault`.

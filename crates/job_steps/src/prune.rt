@@ -7,11 +7,8 @@ ghost use Rattle.job_steps.specs.Rows.{row_of, row_at, asked_first, mark_told};
 
 use prune_rules::{Item, Mark, marks_into};
 use std::alloc::{AllocError, Global};
-use store_types::{Bytes, Keep, Refusal, Rows, SnapshotKey};
+use store_types::{Bytes, GROUP_LIMIT, Keep, Refusal, Rows, SnapshotKey};
 use wire_commands::{Command, PruneMark, PruneRow, Reply};
-
-/// So many snapshots of a group are told at most.
-const GROUP_LIMIT: usize = 4096;
 
 /// Room for as many snapshots as are told of a group.
 #[derive(Drop)]

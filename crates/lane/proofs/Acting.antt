@@ -1,4 +1,5 @@
 -- What the answer of an act tells.
+use Rattle.disk_trait.specs.declared.disk.Disk.{Ghosts}
 use Rattle.std.proofs.Common.{◌≡◌, ◌+◌, ◌⊎◌, inl, inr, ℕ, true, List, [], ◌∷◌, ◌++◌, Option, Some, None, IsSome, IsTrue, refl, sym, ap, subst, ◌∙◌, arith}
 use Rattle.std.specs.Option.{unwrap_or}
 use Rattle.wire_commands.specs.declared.command.Command.{Command}
@@ -63,13 +64,13 @@ none_some (Some r) is some = cc
 
 -- ---- what is told
 
-caused : {D E C : Type 0} (faults_of : D → ℕ) (a : Act) (old new : Core D E C) (x : Answer) → IsNoEnd a → IsCaused faults_of old new a x → HasCause faults_of old new a x
-caused faults_of (acts.Plain c) old new x h cause = cause
-caused faults_of (acts.JobGroup c) old new x h cause = cause
-caused faults_of (acts.Blob name checked) old new x h cause = cause
-caused faults_of (acts.Chunk digest checked) old new x h cause = cause
-caused faults_of acts.Short old new x h cause = cause
-caused faults_of acts.End old new x h cause = absurd h
+caused : {D E C : Type 0} (d : Ghosts D) (a : Act) (old new : Core D E C) (x : Answer) → IsNoEnd a → IsCaused d old new a x → HasCause d old new a x
+caused d (acts.Plain c) old new x h cause = cause
+caused d (acts.JobGroup c) old new x h cause = cause
+caused d (acts.Blob name checked) old new x h cause = cause
+caused d (acts.Chunk digest checked) old new x h cause = cause
+caused d acts.Short old new x h cause = short cause.0 cause.1
+caused d acts.End old new x h cause = absurd h
 
 same_reply : (o : Option Reply) (r s : Reply) → o ≡ Some r → o ≡ Some s → r ≡ s
 same_reply o r s is also = inner (sym is ∙ also)
@@ -85,23 +86,23 @@ pub want_kind : (a : Act) (x : Answer) (told : Told) → (a ≡ acts.Short → (
 want_kind a x told wanting last same (inl is) = wanting is
 want_kind a x told wanting last same (inr is) = last (same ∙ is)
 
-want_reply : {D E C : Type 0} (faults_of : D → ℕ) (old new : Core D E C) (a : Act) (x : Answer) (r : Reply) → HasCause faults_of old new a x → x.reply ≡ Some r → (x.entry).kind ≡ 2 → r ≡ Refused NoMemory
-want_reply faults_of old new a x r (done before is reply told may) tells two = absurd (omega (arith, is, two))
-want_reply faults_of old new a x r (short is told) tells two = same_reply x.reply r _ tells told
-want_reply faults_of old new a x r (failed before is told first rose) tells two = absurd (omega (arith, is, two))
-want_reply faults_of old new a x r (halted place before is told) tells two = absurd (omega (arith, is, two))
+want_reply : {D E C : Type 0} (d : Ghosts D) (old new : Core D E C) (a : Act) (x : Answer) (r : Reply) → HasCause d old new a x → x.reply ≡ Some r → (x.entry).kind ≡ 2 → r ≡ Refused NoMemory
+want_reply d old new a x r (done before is reply told may) tells two = absurd (omega (arith, is, two))
+want_reply d old new a x r (short is told) tells two = same_reply x.reply r _ tells told
+want_reply d old new a x r (failed before is told first rose) tells two = absurd (omega (arith, is, two))
+want_reply d old new a x r (halted place before is told) tells two = absurd (omega (arith, is, two))
 
-may_reply : {D E C : Type 0} (faults_of : D → ℕ) (old new : Core D E C) (a : Act) (x : Answer) (r : Reply) → HasCause faults_of old new a x → x.reply ≡ Some r → IsTrue (may_answer a r) ⊎ IsRefused r
-may_reply faults_of old new a x r (done before is reply told may) tells = inl (subst (λ s. IsTrue (may_answer a s)) (same_reply x.reply reply r told tells) may)
-may_reply faults_of old new a x r (short is told) tells = inr (as_refused r _ (same_reply x.reply r _ tells told))
-may_reply faults_of old new a x r (failed before is told first rose) tells = inr (as_refused r _ (same_reply x.reply r _ tells told))
-may_reply faults_of old new a x r (halted place before is told) tells = inr (as_refused r _ (same_reply x.reply r _ tells told))
+may_reply : {D E C : Type 0} (d : Ghosts D) (old new : Core D E C) (a : Act) (x : Answer) (r : Reply) → HasCause d old new a x → x.reply ≡ Some r → IsTrue (may_answer a r) ⊎ IsRefused r
+may_reply d old new a x r (done before is reply told may) tells = inl (subst (λ s. IsTrue (may_answer a s)) (same_reply x.reply reply r told tells) may)
+may_reply d old new a x r (short is told) tells = inr (as_refused r _ (same_reply x.reply r _ tells told))
+may_reply d old new a x r (failed before is told first rose) tells = inr (as_refused r _ (same_reply x.reply r _ tells told))
+may_reply d old new a x r (halted place before is told) tells = inr (as_refused r _ (same_reply x.reply r _ tells told))
 
-pub may_tell : {D E C : Type 0} (faults_of : D → ℕ) (old new : Core D E C) (a : Act) (x : Answer) (told : Told) → IsNoEnd a → IsCaused faults_of old new a x
+pub may_tell : {D E C : Type 0} (d : Ghosts D) (old new : Core D E C) (a : Act) (x : Answer) (told : Told) → IsNoEnd a → IsCaused d old new a x
     → x.reply ≡ Some told.reply → (IsWant a told → (x.entry).kind ≡ 2) → MayTell a told
-may_tell faults_of old new a x told no_end cause tells two = let has = caused faults_of a old new x no_end cause in record {
-  reply_is = may_reply faults_of old new a x told.reply has tells;
-  want = λ wants. want_reply faults_of old new a x told.reply has tells (two wants);
+may_tell d old new a x told no_end cause tells two = let has = caused d a old new x no_end cause in record {
+  reply_is = may_reply d old new a x told.reply has tells;
+  want = λ wants. want_reply d old new a x told.reply has tells (two wants);
 }
 
 -- ---- an end that met a fault

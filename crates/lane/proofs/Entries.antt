@@ -1,4 +1,5 @@
 -- Entries one after another.
+use Rattle.disk_trait.specs.declared.disk.Disk.{Ghosts}
 use Rattle.std.proofs.Common.{◌≡◌, ◌≤◌, ℕ, Bool, true, false, ◌||◌, ◌==◌, [], ◌∷◌, ◌++◌, length, Option, Some, None, IsSome, if◌then◌else◌, ◌⊎◌, inl, inr, refl, sym, ap, ◌∙◌, arith, append-nil, append_assoc}
 use Rattle.std.proofs.lemmas.Bool.{eq-eqb, eqb-true}
 use Rattle.std.proofs.lemmas.List.{length-append}
@@ -60,11 +61,11 @@ new_fault place kind before after is none some = by_kind (kind == 5) refl
     by_kind true five = eqb-true kind 5 five
     by_kind false other = absurd (none_some after (is ∙ ap (λ b. if b then first_fault place before else before) other ∙ none) some)
 
-pub one_entered : {D E C : Type 0} (calls_of faults_of : D → ℕ) (old new : Core D E C) (k : ℕ) (answer : Answer) (wanting : Type 0)
-    → IsAnswered calls_of faults_of old new k answer → (wanting → (answer.entry).kind ≡ 2) → HasEntered faults_of old new k wanting
-one_entered calls_of faults_of old new k answer wanting is two = record {
+pub one_entered : {D E C : Type 0} (d : Ghosts D) (old new : Core D E C) (k : ℕ) (answer : Answer) (wanting : Type 0)
+    → IsAnswered d old new k answer → (wanting → (answer.entry).kind ≡ 2) → HasEntered d old new k wanting
+one_entered d old new k answer wanting is two = record {
   added = answer.entry ∷ [];
-  counts = calls_of (new.parts).disk ∷ [];
+  counts = d.calls (new.parts).disk ∷ [];
   entries = is.entries;
   calls = is.calls;
   beside = refl;
@@ -77,8 +78,8 @@ one_entered calls_of faults_of old new k answer wanting is two = record {
 
 -- ---- none
 
-pub none_entered : {D E C : Type 0} (faults_of : D → ℕ) (core : Core D E C) (k : ℕ) (wanting : Type 0) → (wanting → ⊥) → HasEntered faults_of core core k wanting
-none_entered faults_of core k wanting no_want = record {
+pub none_entered : {D E C : Type 0} (d : Ghosts D) (core : Core D E C) (k : ℕ) (wanting : Type 0) → (wanting → ⊥) → HasEntered d core core k wanting
+none_entered d core k wanting no_want = record {
   added = [];
   counts = [];
   entries = sym (append-nil (core.journal).entries.items);
@@ -100,9 +101,9 @@ none_entered faults_of core k wanting no_want = record {
 
 -- ---- some, and more
 
-pub more_entered : {D E C : Type 0} (faults_of : D → ℕ) (a b c : Core D E C) (k : ℕ) (first second both : Type 0)
-    → HasEntered faults_of a b k first → HasEntered faults_of b c k second → (both → first ⊎ second) → HasEntered faults_of a c k both
-more_entered faults_of a b c k first second both x y of = record {
+pub more_entered : {D E C : Type 0} (d : Ghosts D) (a b c : Core D E C) (k : ℕ) (first second both : Type 0)
+    → HasEntered d a b k first → HasEntered d b c k second → (both → first ⊎ second) → HasEntered d a c k both
+more_entered d a b c k first second both x y of = record {
   added = x.added ++ y.added;
   counts = x.counts ++ y.counts;
   entries = y.entries ∙ ap (λ es. es ++ y.added) x.entries ∙ append_assoc (a.journal).entries.items x.added y.added;
@@ -115,11 +116,11 @@ more_entered faults_of a b c k first second both x y of = record {
   memory = λ wants. list_any-append (λ e. e.kind == 2) x.added y.added ∙ by_want (of wants);
 }
   where
-    by_fault : a.fault ≡ None → (b.fault ≡ None → Rose (faults_of (b.parts).disk) (faults_of (c.parts).disk)) → (b.fault ≡ None) ⊎ IsSome b.fault → Rose (faults_of (a.parts).disk) (faults_of (c.parts).disk)
+    by_fault : a.fault ≡ None → (b.fault ≡ None → Rose (d.faults (b.parts).disk) (d.faults (c.parts).disk)) → (b.fault ≡ None) ⊎ IsSome b.fault → Rose (d.faults (a.parts).disk) (d.faults (c.parts).disk)
     by_fault none later (inl clean) = rose_later _ _ _ x.count (later clean)
     by_fault none later (inr some) = rose_on _ _ _ (x.fault none some) y.count
 
-    by_kind : a.fault ≡ None → (has_kind 5 x.added ≡ true) ⊎ (has_kind 5 y.added ≡ true) → Rose (faults_of (a.parts).disk) (faults_of (c.parts).disk)
+    by_kind : a.fault ≡ None → (has_kind 5 x.added ≡ true) ⊎ (has_kind 5 y.added ≡ true) → Rose (d.faults (a.parts).disk) (d.faults (c.parts).disk)
     by_kind none (inl five) = rose_on _ _ _ (x.cause none five) y.count
     by_kind none (inr five) = by_fault none (λ clean. y.cause clean five) (none_or_some b.fault)
 

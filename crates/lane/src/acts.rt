@@ -37,12 +37,12 @@ pub fn ask<D: Disk, E, C: Clock>(
     requires room { Reserved core.old lane }
     requires formed { IsWellFormed act }
     requires no_end { IsNoEnd act }
-    ensures did { (first : Core D E C) (began : History) → Did (Reaches D.honest D.content D.calls C.readings first began core.old) (Reaches D.honest D.content D.calls C.readings first began core.new) lane act result }
+    ensures did { (first : Core D E C) (began : History) → Did (Reaches D.Disk C.readings first began core.old) (Reaches D.Disk C.readings first began core.new) lane act result }
     ensures tells { MayTell act result }
     ensures text { ReplyHasText result.reply }
     ensures room { LeavesReserve core.old core.new lane result.last }
     ensures remote { core.new.remote ≡ core.old.remote }
-    ensures entered { HasEntered D.faults core.old core.new lane (IsWant act result) }
+    ensures entered { HasEntered D.Disk core.old core.new lane (IsWant act result) }
 {
     let Answer { reply, last, .. } = apply(core, alloc, lane, act);
     let Some(reply) = reply else {

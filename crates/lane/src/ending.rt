@@ -29,9 +29,9 @@ pub struct Last {
 fn end<D: Disk, E, C: Clock>(core: &mut Core<D, E, C>, alloc: Global, lane: u32)
     requires lane { lane < 64 }
     requires room { CanEnd core.old lane }
-    ensures ends { (first : Core D E C) (began : History) → EndsLane (Reaches D.honest D.content D.calls C.readings first began core.old) (Reaches D.honest D.content D.calls C.readings first began core.new) lane }
+    ensures ends { (first : Core D E C) (began : History) → EndsLane (Reaches D.Disk C.readings first began core.old) (Reaches D.Disk C.readings first began core.new) lane }
     ensures remote { core.new.remote ≡ core.old.remote }
-    ensures entered { HasEntered D.faults core.old core.new lane ⊥ }
+    ensures entered { HasEntered D.Disk core.old core.new lane ⊥ }
 {
     let answer = apply(core, alloc, lane, Act::End);
     if answer.entry.kind == 5 {
@@ -51,9 +51,9 @@ pub fn close<D: Disk, E, C: Clock, K: Sink>(
     requires lane { lane < 64 }
     requires room { CanEnd core.old lane }
     requires text { IfSome last.words ReplyHasText }
-    ensures closes { (first : Core D E C) (began : History) → Closes (Reaches D.honest D.content D.calls C.readings first began core.old) (Reaches D.honest D.content D.calls C.readings first began core.new) lane (K.taken sink.old) (K.taken sink.new) given.old given.new last result }
+    ensures closes { (first : Core D E C) (began : History) → Closes (Reaches D.Disk C.readings first began core.old) (Reaches D.Disk C.readings first began core.new) lane (K.taken sink.old) (K.taken sink.new) given.old given.new last result }
     ensures remote { core.new.remote ≡ core.old.remote }
-    ensures entered { HasEntered D.faults core.old core.new lane ⊥ }
+    ensures entered { HasEntered D.Disk core.old core.new lane ⊥ }
     ensures causes { (source source' sink_before size : ℕ) → HasCauses source source' sink_before (K.faults sink.old) size (Some last.ending)
         → HasCauses source source' sink_before (K.faults sink.new) size (Some result) }
     ensures memory { result ≡ Ending.NoMemory → last.ending ≡ Ending.NoMemory }

@@ -44,11 +44,11 @@ pub fn do_job<D: Disk, E, C: Clock>(
     requires lane { lane < 64 }
     requires room { Reserved core.old lane }
     requires job { IsSome (job_of command.now) }
-    ensures does { (first : Core D E C) (began : History) → Does (Reaches D.honest D.content D.calls C.readings first began core.old) (Reaches D.honest D.content D.calls C.readings first began core.new) lane (command_next command.now) result }
+    ensures does { (first : Core D E C) (began : History) → Does (Reaches D.Disk C.readings first began core.old) (Reaches D.Disk C.readings first began core.new) lane (command_next command.now) result }
     ensures text { ReplyHasText result.reply }
     ensures room { LeavesReserve core.old core.new lane result.last }
     ensures remote { core.new.remote ≡ core.old.remote }
-    ensures entered { HasEntered D.faults core.old core.new lane (result.last ≡ true) }
+    ensures entered { HasEntered D.Disk core.old core.new lane (result.last ≡ true) }
 {
     let Ok(mut job) = Job::start(alloc, command) else {
         return ask(core, alloc, lane, Act::Short);

@@ -51,11 +51,11 @@ pub fn run_alone<D: Disk, E, C: Clock, S: Source, K: Sink, G: Gate>(
     requires lane { lane < 64 }
     requires room { 3 ≤ held_by core.old.journal lane }
     ensures ran { (h : History) → Records C.readings core.old h → h.events ≡ []
-        → RanAlone (Reaches D.honest D.content D.calls C.readings core.old h core.new) h lane (S.left port.old.source) (S.left port.new.source) (K.taken port.old.sink) (K.taken port.new.sink) result }
+        → RanAlone (Reaches D.Disk C.readings core.old h core.new) h lane (S.left port.old.source) (S.left port.new.source) (K.taken port.old.sink) (K.taken port.new.sink) result }
     ensures causes { HasCauses (S.faults port.old.source) (S.faults port.new.source) (K.faults port.old.sink) (K.faults port.new.sink) result.taken (Some result.ending) }
     ensures budget { result.taken ≤ 2 ^ 40 }
     ensures remote { core.new.remote ≡ core.old.remote }
-    ensures entered { HasEntered D.faults core.old core.new lane (result.ending ≡ Ending.NoMemory) }
+    ensures entered { HasEntered D.Disk core.old core.new lane (result.ending ≡ Ending.NoMemory) }
 {
     let mut progress = Progress {
         input: Input::new(alloc),
@@ -85,7 +85,7 @@ fn turn<D: Disk, E, C: Clock, S: Source, K: Sink, G: Gate>(
 ) -> Option<Last>
     requires lane { lane < 64 }
     requires room { Reserved core.old lane }
-    ensures goes { (first : Core D E C) (began : History) → GoesOn (Reaches D.honest D.content D.calls C.readings first began core.old) (Reaches D.honest D.content D.calls C.readings first began core.new) lane
+    ensures goes { (first : Core D E C) (began : History) → GoesOn (Reaches D.Disk C.readings first began core.old) (Reaches D.Disk C.readings first began core.new) lane
         (S.left port.old.source) (S.left port.new.source) (K.taken port.old.sink) (K.taken port.new.sink)
         progress.old.input progress.new.input progress.old.given progress.new.given result }
     ensures text { IfSome result (λ last. IfSome last.words ReplyHasText) }
@@ -93,7 +93,7 @@ fn turn<D: Disk, E, C: Clock, S: Source, K: Sink, G: Gate>(
     ensures causes { HasCauses (S.faults port.old.source) (S.faults port.new.source) (K.faults port.old.sink) (K.faults port.new.sink) progress.new.input.taken (ending_of result) }
     ensures further { IfNone result (progress.old.input.taken + progress.old.input.front < progress.new.input.taken + progress.new.input.front) }
     ensures remote { core.new.remote ≡ core.old.remote }
-    ensures entered { HasEntered D.faults core.old core.new lane (ending_of result ≡ Some Ending.NoMemory) }
+    ensures entered { HasEntered D.Disk core.old core.new lane (ending_of result ≡ Some Ending.NoMemory) }
 {
     match read_front(alloc, &progress.input.cutter) {
         Ahead::Part => more(core, alloc, lane, port, progress),
@@ -152,7 +152,7 @@ fn more<D: Disk, E, C: Clock, S: Source, K: Sink>(
     requires lane { lane < 64 }
     requires room { Reserved core.old lane }
     requires part { cut progress.old.input.cutter.bytes ≡ short }
-    ensures goes { (first : Core D E C) (began : History) → GoesOn (Reaches D.honest D.content D.calls C.readings first began core.old) (Reaches D.honest D.content D.calls C.readings first began core.new) lane
+    ensures goes { (first : Core D E C) (began : History) → GoesOn (Reaches D.Disk C.readings first began core.old) (Reaches D.Disk C.readings first began core.new) lane
         (S.left port.old.source) (S.left port.new.source) (K.taken port.old.sink) (K.taken port.new.sink)
         progress.old.input progress.new.input progress.old.given progress.new.given result }
     ensures text { IfSome result (λ last. IfSome last.words ReplyHasText) }
@@ -160,7 +160,7 @@ fn more<D: Disk, E, C: Clock, S: Source, K: Sink>(
     ensures causes { HasCauses (S.faults port.old.source) (S.faults port.new.source) (K.faults port.old.sink) (K.faults port.new.sink) progress.new.input.taken (ending_of result) }
     ensures further { IfNone result (progress.old.input.taken + progress.old.input.front < progress.new.input.taken + progress.new.input.front) }
     ensures remote { core.new.remote ≡ core.old.remote }
-    ensures entered { HasEntered D.faults core.old core.new lane (ending_of result ≡ Some Ending.NoMemory) }
+    ensures entered { HasEntered D.Disk core.old core.new lane (ending_of result ≡ Some Ending.NoMemory) }
 {
     match progress.input.take(&mut port.source) {
         Taken::More => None,
@@ -187,7 +187,7 @@ fn serve<D: Disk, E, C: Clock, S: Source, K: Sink, G: Gate>(
     requires lane { lane < 64 }
     requires room { Reserved core.old lane }
     requires ahead { IsCommandAhead progress.old.input.cutter command }
-    ensures goes { (first : Core D E C) (began : History) → GoesOn (Reaches D.honest D.content D.calls C.readings first began core.old) (Reaches D.honest D.content D.calls C.readings first began core.new) lane
+    ensures goes { (first : Core D E C) (began : History) → GoesOn (Reaches D.Disk C.readings first began core.old) (Reaches D.Disk C.readings first began core.new) lane
         (S.left port.old.source) (S.left port.new.source) (K.taken port.old.sink) (K.taken port.new.sink)
         progress.old.input progress.new.input progress.old.given progress.new.given result }
     ensures text { IfSome result (λ last. IfSome last.words ReplyHasText) }
@@ -195,7 +195,7 @@ fn serve<D: Disk, E, C: Clock, S: Source, K: Sink, G: Gate>(
     ensures causes { HasCauses (S.faults port.old.source) (S.faults port.new.source) (K.faults port.old.sink) (K.faults port.new.sink) progress.new.input.taken (ending_of result) }
     ensures further { IfNone result (progress.old.input.taken + progress.old.input.front < progress.new.input.taken + progress.new.input.front) }
     ensures remote { core.new.remote ≡ core.old.remote }
-    ensures entered { HasEntered D.faults core.old core.new lane (ending_of result ≡ Some Ending.NoMemory) }
+    ensures entered { HasEntered D.Disk core.old core.new lane (ending_of result ≡ Some Ending.NoMemory) }
 {
     gate.before(lane, progress.number);
     let told = do_command(core, alloc, lane, command);
@@ -216,11 +216,11 @@ fn do_command<D: Disk, E, C: Clock>(
     requires lane { lane < 64 }
     requires room { Reserved core.old lane }
     requires other { command ≢ Command.Bye }
-    ensures does { (first : Core D E C) (began : History) → Does (Reaches D.honest D.content D.calls C.readings first began core.old) (Reaches D.honest D.content D.calls C.readings first began core.new) lane (command_next command) result }
+    ensures does { (first : Core D E C) (began : History) → Does (Reaches D.Disk C.readings first began core.old) (Reaches D.Disk C.readings first began core.new) lane (command_next command) result }
     ensures text { ReplyHasText result.reply }
     ensures room { LeavesReserve core.old core.new lane result.last }
     ensures remote { core.new.remote ≡ core.old.remote }
-    ensures entered { HasEntered D.faults core.old core.new lane (result.last ≡ true) }
+    ensures entered { HasEntered D.Disk core.old core.new lane (result.last ≡ true) }
 {
     if is_job(&command) {
         return do_job(core, alloc, lane, &command);
@@ -238,11 +238,11 @@ fn short<D: Disk, E, C: Clock, K: Sink>(
 ) -> Ending
     requires lane { lane < 64 }
     requires room { Reserved core.old lane }
-    ensures answers { (first : Core D E C) (began : History) → AnswersShort (Reaches D.honest D.content D.calls C.readings first began core.old) (Reaches D.honest D.content D.calls C.readings first began core.new) lane (K.taken sink.old) (K.taken sink.new) given.old given.new result }
+    ensures answers { (first : Core D E C) (began : History) → AnswersShort (Reaches D.Disk C.readings first began core.old) (Reaches D.Disk C.readings first began core.new) lane (K.taken sink.old) (K.taken sink.new) given.old given.new result }
     ensures room { CanEnd core.new lane }
     ensures causes { (source size : ℕ) → HasCauses source source (K.faults sink.old) (K.faults sink.new) size (Some result) }
     ensures remote { core.new.remote ≡ core.old.remote }
-    ensures entered { HasEntered D.faults core.old core.new lane (result ≡ Ending.NoMemory) }
+    ensures entered { HasEntered D.Disk core.old core.new lane (result ≡ Ending.NoMemory) }
 {
     let told = ask(core, alloc, lane, Act::Short);
     told.give(sink, given).unwrap_or(Ending::NoMemory)

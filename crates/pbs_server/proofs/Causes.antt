@@ -1,4 +1,5 @@
 -- Why a session is answered so.
+use Rattle.disk_trait.specs.declared.disk.Disk.{Ghosts}
 use Rattle.std.proofs.Common.{◌≡◌, ℕ, Bool, true, false, List, [], ◌++◌, length, Some, None, if◌then◌else◌, ◌⊎◌, inl, inr, refl, sym, ap, subst, ◌∙◌}
 use Rattle.std.specs.List.{All}
 use Rattle.port_traits.specs.Faults.{Rose}
@@ -200,17 +201,17 @@ pub record IsHandedBack (order : List Entry) (calls : List ℕ) (disk disk' : �
   pub memory : wanting → has_kind 2 order ≡ true
 
 -- what a lane entered from the first entry on is the order
-pub handed_back : {D E C : Type 0} (faults_of : D → ℕ) (old new : Core D E C) (wanting : Type 0) (order : List Entry) (calls : List ℕ) (disk disk' : D)
-    → HasEntered faults_of old new 0 wanting
+pub handed_back : {D E C : Type 0} (d : Ghosts D) (old new : Core D E C) (wanting : Type 0) (order : List Entry) (calls : List ℕ) (disk disk' : D)
+    → HasEntered d old new 0 wanting
     → (old.journal).entries.items ≡ [] → (old.journal).calls.items ≡ [] → old.fault ≡ None
     → order ≡ (new.journal).entries.items → calls ≡ (new.journal).calls.items → (old.parts).disk ≡ disk → disk' ≡ (new.parts).disk
-    → IsHandedBack order calls (faults_of disk) (faults_of disk') wanting
-handed_back faults_of old new wanting order calls disk disk' x no_entries no_calls no_fault entries_are calls_are disk_is disk_after = record {
+    → IsHandedBack order calls (d.faults disk) (d.faults disk') wanting
+handed_back d old new wanting order calls disk disk' x no_entries no_calls no_fault entries_are calls_are disk_is disk_after = record {
   order_is = record {
     lanes = subst (λ es. All (λ e. e.lane ≡ 0) es) (sym added) x.lanes;
     beside = ap length counts ∙ x.beside ∙ ap length (sym added);
-    faults = λ five. subst (λ n. Rose n (faults_of disk')) (ap faults_of disk_is)
-        (subst (λ n. Rose (faults_of (old.parts).disk) n) (sym (ap faults_of disk_after)) (x.cause no_fault (sym (ap (has_kind 5) added) ∙ five)));
+    faults = λ five. subst (λ n. Rose n (d.faults disk')) (ap d.faults disk_is)
+        (subst (λ n. Rose (d.faults (old.parts).disk) n) (sym (ap d.faults disk_after)) (x.cause no_fault (sym (ap (has_kind 5) added) ∙ five)));
   };
   memory = λ wants. ap (has_kind 2) added ∙ x.memory wants;
 }

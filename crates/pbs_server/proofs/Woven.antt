@@ -1,5 +1,7 @@
 -- A session that was served is answered as by the plain store.
+use Rattle.disk_trait.specs.declared.disk.Disk.{Ghosts}
 use Rattle.std.proofs.Common.{◌≡◌, ◌≤◌, ℕ, zero, suc, Bool, true, false, ◌||◌, ◌==◌, List, [], ◌∷◌, ◌++◌, Option, Some, None, IfSome, IsTrue, Ok, refl, sym, ap, subst, ◌∙◌}
+use Rattle.std.specs.FinMap.{get}
 use Rattle.port_traits.specs.Readings.{Readings}
 use Rattle.disk_trait.specs.Files.{Files}
 use Rattle.store_types.specs.declared.order.Entry.{Entry}
@@ -16,6 +18,8 @@ use Rattle.store_history.specs.Legal.{IsTimed, readings_left}
 use Rattle.store_files.specs.Order.{keeps_rules}
 use Rattle.core_state.specs.declared.state.Core.{Core}
 use Rattle.core_state.specs.History.{StandsFor, began, world}
+use Rattle.core_state.specs.Chunks.{HoldsOnly}
+use Rattle.core_state.specs.Foreign.{KeepsForeign}
 use Rattle.core_state.specs.Opening.{opening_at}
 use Rattle.core_state.specs.Records.{Records, Reaches}
 use Rattle.lane.specs.declared.port.LaneReport.{LaneReport}
@@ -88,14 +92,14 @@ no_fault R w (e ∷ es) none_is =
 -- what a session did on any disk, and on an honest one, from a core that stands for no events where this holds
 pub record HasBoth (clock : Option Readings) (old : Files) (before now : ℕ) (is_honest : Type 0) (left left' taken taken' : Option (List ℕ)) (order : List Entry) (calls : List ℕ) (report : LaneReport) (files : Files) (stands : Option (List Snapshot) → Type 0) : Type 0 where
   pub told : HasTold clock left left' taken taken' order calls report
-  pub plain : (R : Option (List Snapshot)) → stands R → NoClash (chunk_pieces old ++ sent told.events) → IsPlain (opening_at old before) R now is_honest told.input told.events told.replies order report files
+  pub plain : (R : Option (List Snapshot)) → stands R → NoClash (chunk_pieces old ++ sent told.events) → IsPlain (opening_at old before) R now is_honest told.input told.events told.replies order report old files
 
-pub has_both : {D E C : Type 0} (is_honest : D → Type 0) (content : D → Files) (calls_of : D → ℕ) (readings : C → Option Readings) (first core : Core D E C)
+pub has_both : {D E C : Type 0} (d : Ghosts D) (readings : C → Option Readings) (first core : Core D E C)
     (clock : Option Readings) (old : Files) (before : ℕ) (left left' taken taken' : Option (List ℕ)) (order : List Entry) (calls : List ℕ) (report : LaneReport) (disk : D)
-    → RanAlone (Reaches is_honest content calls_of readings first (began (opening_at old before) None clock) core) (began (opening_at old before) None clock) 0 left left' taken taken' report
-    → order ≡ (core.journal).entries.items → calls ≡ (core.journal).calls.items → disk ≡ (core.parts).disk
-    → HasBoth clock old before (calls_of disk) (is_honest disk) left left' taken taken' order calls report (content disk) (λ R. StandsFor is_honest content calls_of readings first (began (opening_at old before) R clock))
-has_both is_honest content calls_of readings first core clock old before left left' taken taken' order calls report disk ran order_as calls_as disk_as = record {
+    → RanAlone (Reaches d readings first (began (opening_at old before) None clock) core) (began (opening_at old before) None clock) 0 left left' taken taken' report
+    → d.content (first.parts).disk ≡ old → order ≡ (core.journal).entries.items → calls ≡ (core.journal).calls.items → disk ≡ (core.parts).disk
+    → HasBoth clock old before (d.calls disk) (d.honest disk) left left' taken taken' order calls report (d.content disk) (λ R. StandsFor d readings first (began (opening_at old before) R clock))
+has_both d readings first core clock old before left left' taken taken' order calls report disk ran first_as order_as calls_as disk_as = record {
   told = record {
     input = ran.input;
     events = ran.events;
@@ -113,7 +117,7 @@ has_both is_honest content calls_of readings first core clock old before left le
     calls_are = calls_as ∙ r.calls;
     read_out = ran.read_out;
   };
-  plain = λ R begun clear. plain R ((ran.stands_for).stands R begun clear);
+  plain = λ R begun clear. plain R ((ran.stands_for).stands R begun clear) (λ none. (ran.stands_for).foreign R begun clear none);
 }
   where
     r : Records readings core (with_events (began (opening_at old before) None clock) ran.events)
@@ -127,9 +131,13 @@ has_both is_honest content calls_of readings first core clock old before left le
     timed None t = t
     timed (Some c) t = t.0
 
-    plain : (R : Option (List Snapshot)) → StandsFor is_honest content calls_of readings core (with_events (began (opening_at old before) R clock) ran.events)
-        → IsPlain (opening_at old before) R (calls_of disk) (is_honest disk) ran.input ran.events (text ran.told) order report (content disk)
-    plain R s =
+    calm : (R : Option (List Snapshot)) → has_kind 5 order ≡ false → (after_all R (opened (opening_at old before)) ran.events).fault ≡ None
+    calm R is = no_fault R (opened (opening_at old before)) ran.events (sym (ap (has_kind 5) order_is) ∙ is)
+
+    plain : (R : Option (List Snapshot)) → StandsFor d readings core (with_events (began (opening_at old before) R clock) ran.events)
+        → (core.fault ≡ None → KeepsForeign d (first.parts).disk (core.parts).disk)
+        → IsPlain (opening_at old before) R (d.calls disk) (d.honest disk) ran.input ran.events (text ran.told) order report old (d.content disk)
+    plain R s foreign =
         let h = with_events (began (opening_at old before) R clock) ran.events in
         let served = served_alone (opening_at old before) R ran.events ran.input report.ending ran.told s.legal ran.lanes ran.ran in
         record {
@@ -137,8 +145,9 @@ has_both is_honest content calls_of readings first core clock old before left le
           woven = subst (λ es. weave [] R es (ran.input ∷ []) (report.ending ∷ []) ≡ Ok (record { store = (world h).store; replies = text ran.told ∷ [] })) (sym order_is)
               (served_woven (opening_at old before) R ran.events (ran.input ∷ []) (report.ending ∷ []) (ran.told ∷ []) served);
           legal = s.legal;
-          reached = subst (λ x. (world h).calls ≤ calls_of x) (sym disk_as) s.reached;
-          honest = subst is_honest (sym disk_as) s.honest;
-          stands = λ is. subst (λ x. Stands (content x) (world h).store.snapshots) (sym disk_as)
-              (s.files (no_fault R (opened (opening_at old before)) ran.events (sym (ap (has_kind 5) order_is) ∙ is))).snapshots;
+          reached = subst (λ x. (world h).calls ≤ d.calls x) (sym disk_as) s.reached;
+          honest = subst d.honest (sym disk_as) s.honest;
+          stands = λ is. subst (λ x. Stands (d.content x) (world h).store.snapshots) (sym disk_as) (s.files (calm R is)).snapshots;
+          chunks = λ is. subst (λ x. HoldsOnly (d.content x) (chunk_pieces old ++ sent ran.events)) (sym disk_as) (s.chunks (calm R is));
+          foreign = λ is q own. ap (λ x. get (d.content x) q) disk_as ∙ foreign (s.fault ∙ calm R is) q own ∙ ap (λ m. get m q) first_as;
         }

@@ -1,5 +1,7 @@
 -- What a run leaves, and that a session is answered as the plain store answers it.
+use Rattle.disk_trait.specs.declared.disk.Disk.{Ghosts}
 use Rattle.std.specs.Prelude.{◌≡◌, ◌≤◌, ◌^◌, ◌⊎◌, ℕ, false, List, [], ◌∷◌, ◌++◌, map, length, Option, Some, None, IfSome, IsSome, IsTrue, Ok}
+use Rattle.std.specs.FinMap.{get}
 use Rattle.port_traits.specs.Bytes.{WritesCounted}
 use Rattle.port_traits.specs.Readings.{Readings}
 use Rattle.disk_trait.specs.Files.{Files}
@@ -15,6 +17,8 @@ use Rattle.store_history.specs.declared.act.Event.{Event}
 use Rattle.store_history.specs.History.{Opening, opened, after_all, entries, sent}
 use Rattle.store_history.specs.LaneRun.{text, LaneRan}
 use Rattle.store_history.specs.Legal.{IsLegal, IsTimed}
+use Rattle.core_state.specs.Chunks.{HoldsOnly}
+use Rattle.core_state.specs.Foreign.{IsForeign}
 use Rattle.core_state.specs.Opening.{opening_at}
 use Rattle.core_state.specs.Records.{AreKept}
 use Rattle.lane.specs.declared.port.LaneReport.{LaneReport}
@@ -55,31 +59,34 @@ pub record HasTold (readings : Option Readings) (left left' taken taken' : Optio
 
 -- The plain store of whole archives, opened without snapshots and asked by the session's commands in the returned order, gives
 -- the bytes of the replies and this last store. The answers are the plain store's. The disk is honest still, its count of calls is
--- not below the last entry's, and what it holds stands for the last store's snapshots, where it did not fail.
-pub record IsPlain (opening : Opening) (remote : Option (List Snapshot)) (now : ℕ) (is_honest : Type 0) (input : List ℕ) (events : List Event) (replies : List ℕ) (order : List Entry) (report : LaneReport) (files : Files) : Type 0 where
+-- not below the last entry's. Where it did not fail, what it holds stands for the last store's snapshots, its chunk files are of pieces that
+-- were there or that the session sent, and what stood at names that are none of the store's stands there still.
+pub record IsPlain (opening : Opening) (remote : Option (List Snapshot)) (now : ℕ) (is_honest : Type 0) (input : List ℕ) (events : List Event) (replies : List ℕ) (order : List Entry) (report : LaneReport) (before files : Files) : Type 0 where
   pub store : Store
   pub woven : weave [] remote order (input ∷ []) (report.ending ∷ []) ≡ Ok (record { store = store; replies = replies ∷ [] })
   pub legal : IsLegal remote (opened opening) events
   pub reached : (after_all remote (opened opening) events).calls ≤ now
   pub honest : is_honest
   pub stands : has_kind 5 order ≡ false → StandsFor files store.snapshots
+  pub chunks : has_kind 5 order ≡ false → HoldsOnly files (chunk_pieces before ++ sent events)
+  pub foreign : has_kind 5 order ≡ false → (q : List ℕ) → IsForeign q → get files q ≡ get before q
 
 -- One session was served.
-pub record HasServed {D E S K : Type 0} (honest : D → Type 0) (content : D → Files) (calls_of faults_of : D → ℕ) (left : S → Option (List ℕ)) (source_faults : S → ℕ) (taken : K → Option (List ℕ)) (sink_faults : K → ℕ)
+pub record HasServed {D E S K : Type 0} (d : Ghosts D) (left : S → Option (List ℕ)) (source_faults : S → ℕ) (taken : K → Option (List ℕ)) (sink_faults : K → ℕ)
     (readings : Option Readings) (disk : D) (remote : Option E) (old new : Port S K) (report : LaneReport) (result : Served D E) : Type 0 where
   -- on any disk
   pub told : HasTold readings (left old.source) (left new.source) (taken old.sink) (taken new.sink) (result.order).items ((result.report).calls).items report
   -- on an honest disk without snapshots, whatever the remote has, where no two unequal pieces have one digest of those in the chunk
   -- files at opening and those that the session sent
-  pub plain : (R : Option (List Snapshot)) → honest disk → StandsFor (content disk) [] → NoClash (chunk_pieces (content disk) ++ sent told.events)
-      → IsPlain (opening_at (content disk) (calls_of disk)) R (calls_of result.disk) (honest result.disk) told.input told.events told.replies (result.order).items report (content result.disk)
+  pub plain : (R : Option (List Snapshot)) → d.honest disk → StandsFor (d.content disk) [] → NoClash (chunk_pieces (d.content disk) ++ sent told.events)
+      → IsPlain (opening_at (d.content disk) (d.calls disk)) R (d.calls result.disk) (d.honest result.disk) told.input told.events told.replies (result.order).items report (d.content disk) (d.content result.disk)
   -- on any disk
   pub status : result.status ≡ status_by (result.order).items report.ending
   pub causes : HasCauses (source_faults old.source) (source_faults new.source) (sink_faults old.sink) (sink_faults new.sink) report.taken (Some report.ending)
-  pub why : HasCause result.status (result.order).items report told.input told.events (faults_of disk) (faults_of result.disk) (source_faults old.source) (source_faults new.source) (sink_faults old.sink) (sink_faults new.sink)
-  pub order : IsOrder (result.order).items ((result.report).calls).items (faults_of disk) (faults_of result.disk)
+  pub why : HasCause result.status (result.order).items report told.input told.events (d.faults disk) (d.faults result.disk) (source_faults old.source) (source_faults new.source) (sink_faults old.sink) (sink_faults new.sink)
+  pub order : IsOrder (result.order).items ((result.report).calls).items (d.faults disk) (d.faults result.disk)
   pub budget : report.taken ≤ 2 ^ 40
-  pub faults : faults_of disk ≤ faults_of result.disk
+  pub faults : d.faults disk ≤ d.faults result.disk
   pub remote_is : result.remote ≡ remote
 
 -- No session was served: none was read, and nothing was done.
@@ -92,13 +99,13 @@ pub record HasNotServed {D E P : Type 0} (disk : D) (remote : Option E) (old new
   pub remote_is : result.remote ≡ remote
 
 -- what was served is told by the reports
-abbrev pub Leaves : {D E S K : Type 0} → (D → Type 0) → (D → Files) → (D → ℕ) → (D → ℕ) → (S → Option (List ℕ)) → (S → ℕ) → (K → Option (List ℕ)) → (K → ℕ)
+abbrev pub Leaves : {D E S K : Type 0} → Ghosts D → (S → Option (List ℕ)) → (S → ℕ) → (K → Option (List ℕ)) → (K → ℕ)
     → Option Readings → D → Option E → Served D E → List (Port S K) → List (Port S K) → List LaneReport → Type 0
-Leaves honest content calls_of faults_of left source_faults taken sink_faults readings disk remote result (old ∷ []) (new ∷ []) (report ∷ []) =
-    HasServed honest content calls_of faults_of left source_faults taken sink_faults readings disk remote old new report result
-Leaves honest content calls_of faults_of left source_faults taken sink_faults readings disk remote result old new [] =
+Leaves d left source_faults taken sink_faults readings disk remote result (old ∷ []) (new ∷ []) (report ∷ []) =
+    HasServed d left source_faults taken sink_faults readings disk remote old new report result
+Leaves d left source_faults taken sink_faults readings disk remote result old new [] =
     HasNotServed disk remote old new result
-Leaves honest content calls_of faults_of left source_faults taken sink_faults readings disk remote result old new _ = ⊥
+Leaves d left source_faults taken sink_faults readings disk remote result old new _ = ⊥
 
 -- the words have a reading, and ask for as many sessions as there are ports
 abbrev pub IsAsked : List (List ℕ) → ℕ → Type 0

@@ -24,7 +24,7 @@ pub fn serve<D: Disk, E: Disk, C: Clock + Drop, S: Source, K: Sink, J: Sink, G: 
     journal: &mut J,
     gate: &G,
 ) -> Served<D, E>
-    ensures leaves { Leaves D.honest D.content D.calls D.faults S.left S.faults K.taken K.faults (C.readings clock) disk remote result
+    ensures leaves { Leaves D.Disk S.left S.faults K.taken K.faults (C.readings clock) disk remote result
         lanes.old lanes.new result.report.lanes.items }
     ensures usage { result.status ≡ Status.Usage ↔ (IsAsked (map string_bytes words.now) (length lanes.old) → ⊥) }
     ensures unequal { result.report.unequal ≡ None }

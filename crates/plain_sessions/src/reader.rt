@@ -15,10 +15,7 @@ use crate::stop::Stop;
 use plain_snapshots::{BlobData, Content, File, PlainKey, file_named};
 use std::alloc::{AllocError, Global};
 use std::marker::Model;
-use store_types::{Bytes, Digest32, FileName, Refusal};
-
-/// The most bytes of a range.
-const RANGE_LIMIT: u32 = 4_194_304;
+use store_types::{Bytes, Digest32, FileName, RANGE_LIMIT, Refusal};
 
 /// The pieces of the archive of this name.
 fn pieces_at<'a>(files: &'a [File], name: &FileName) -> &'a [BlobData]

@@ -12,14 +12,10 @@ use crate::file::{File, manifest_data};
 use crate::snapshot::Snapshot;
 use manifest::FileFact;
 use std::alloc::{AllocError, Global};
-use store_types::{Bytes, Digest32, FileName, GroupKey, Rows, SnapshotKey};
+use store_types::{
+    Bytes, Digest32, FileName, GROUP_LIMIT, GroupKey, LIST_LIMIT, Rows, SnapshotKey,
+};
 use wire_commands::{FileRow, ListRow, Reply};
-
-/// The most snapshots that one listing tells.
-const LIST_LIMIT: usize = 1024;
-
-/// The most snapshots of a group that are told.
-const GROUP_LIMIT: usize = 4096;
 
 /// A snapshot in a listing. It is whole.
 fn list_row(alloc: Global, snapshot: &Snapshot) -> Result<ListRow, AllocError>

@@ -4,7 +4,7 @@ ghost use Rattle.std.specs.Prelude.{◌≡◌, ◌+◌, ◌≤◌, ◌∷◌, le
 ghost use Rattle.store_types.specs.FileNames.{manifest_name};
 ghost use Rattle.manifest.specs.Views.{manifest_view};
 ghost use Rattle.disk_trait.specs.Disk.{Serves};
-ghost use Rattle.store_model.specs.Uploads.{file_path as path_of};
+ghost use Rattle.store_files.specs.Folder.{file_path as path_of};
 ghost use Rattle.store_model.specs.Manifests.{listed_names as names_listed};
 ghost use Rattle.store_model.specs.Load.{content_in as content_of, files_in as files_of, read_manifest as manifest_of, snapshot_in as snapshot_of, key_of_manifest as key_named, entry_snapshot as snapshot_of_entry, in_order as ordered, load};
 ghost use Rattle.std.specs.List.{filter_map};
@@ -21,10 +21,7 @@ use blob_codec::decode;
 use disk_trait::{Disk, DiskError};
 use manifest::Manifest;
 use std::alloc::{AllocError, Global};
-use store_types::FileName;
-
-/// The most files that a manifest lists.
-const LISTED_LIMIT: usize = 63;
+use store_types::{FileName, LISTED_LIMIT};
 
 /// The data of a blob. Bytes that are none count as empty.
 fn blob_in(alloc: Global, bytes: &[u8]) -> Result<BlobData, AllocError>

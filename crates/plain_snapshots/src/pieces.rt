@@ -1,7 +1,7 @@
 //! The pieces of archives as a disk has them.
 
 ghost use Rattle.std.specs.Prelude.{◌≡◌, IfOk};
-ghost use Rattle.store_model.specs.Stands.{chunk_name as name_of_chunk};
+ghost use Rattle.store_files.specs.Folder.{chunk_name as name_of_chunk};
 ghost use Rattle.store_model.specs.Load.{piece_in as piece_of};
 ghost use Rattle.plain_snapshots.specs.Loading.{data_of_digest};
 

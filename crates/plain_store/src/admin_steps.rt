@@ -12,11 +12,8 @@ use plain_snapshots::{
     PlainKey, files_reply, keys_reply, list_reply, remove_snapshot, snapshot_named,
 };
 use std::alloc::Global;
-use store_types::{GroupKey, Keep, Refusal, SnapshotKey};
+use store_types::{COUNT_LIMIT, GroupKey, Keep, Refusal, SnapshotKey};
 use wire_commands::Reply;
-
-/// The most that an option of a prune counts.
-const COUNT_LIMIT: u16 = 1000;
 
 /// The snapshot that a text names, or none where it is empty.
 fn want_after(alloc: Global, text: &[u8]) -> Result<Option<PlainKey>, Stop>

@@ -9,11 +9,8 @@ ghost use Rattle.plain_store.specs.Parts.{part_from, file_part};
 use plain_sessions::Stop;
 use plain_snapshots::{File, file_named};
 use std::alloc::Global;
-use store_types::{Bytes, FileName, Refusal};
+use store_types::{Bytes, FileName, PART_LIMIT, Refusal};
 use wire_commands::Reply;
-
-/// The most bytes of a file that one reply holds.
-const PART_LIMIT: usize = 4_194_304;
 
 /// What is left of a text from an offset, and no more than one reply holds.
 fn part_of(alloc: Global, text: Vec<u8>, offset: u64) -> Result<Reply, Stop>
@@ -25,7 +22,7 @@ fn part_of(alloc: Global, text: Vec<u8>, offset: u64) -> Result<Reply, Stop>
         return Err(Stop::Refused(Refusal::BadRange { size: total }));
     }
     let rest = &text[offset as usize..];
-    let bytes = Bytes::from_slice(alloc, &rest[..rest.len().min(PART_LIMIT)])?;
+    let bytes = Bytes::from_slice(alloc, &rest[..rest.len().min(PART_LIMIT as usize)])?;
     Ok(Reply::Part { total, bytes })
 }
 

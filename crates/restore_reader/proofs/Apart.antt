@@ -10,7 +10,7 @@ use Rattle.store_types.specs.declared.names.Digest32.{Digest32}
 use Rattle.store_files.specs.DynamicIndex.{Ended, steps_fit}
 use Rattle.dynamic_index.specs.Pieces.{last_end}
 use Rattle.restore_reader.specs.declared.ranges.Part.{Part}
-use Rattle.restore_reader.specs.Session.{ended_of, ends_of}
+use Rattle.store_files.specs.Entries.{ended_of, ends_of}
 use Rattle.restore_reader.specs.Plan.{part_in, parts_in}
 use Rattle.restore_reader.specs.Cutting.{total_of}
 

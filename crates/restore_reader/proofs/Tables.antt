@@ -11,7 +11,7 @@ use Rattle.std.proofs.lemmas.Bool.{cases_lt}
 use Rattle.std.proofs.lemmas.List.Folds.{list_any_at, list_any_none}
 use Rattle.std.proofs.lemmas.List.Sorted.{searchable_from_sorted, list_any-IsPermutation}
 use Rattle.store_types.specs.declared.names.Digest32.{Digest32}
-use Rattle.restore_reader.specs.Session.{ends_of}
+use Rattle.store_files.specs.Entries.{ends_of}
 use Rattle.restore_reader.specs.Kept.{digest_cmp, IsTable}
 
 abbrev pub is_digest : Digest32 → Digest32 → Bool

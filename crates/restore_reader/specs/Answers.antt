@@ -1,7 +1,8 @@
 -- What a plan answers.
-use Rattle.std.specs.Prelude.{◌≡◌, ℕ, List, take, drop, Option, Some, Result, Ok, Err, MatchResult}
+use Rattle.std.specs.Prelude.{◌≡◌, ◌<◌, ◌^◌, ℕ, List, take, drop, Option, Some, Result, Ok, Err, MatchResult}
 use Rattle.std.specs.List.{concat}
 use Rattle.store_types.specs.declared.refusal.Refusal.{Refusal}
+use Rattle.store_types.specs.declared.refusal.Refusal.TheVariants.{NotAllowed, TooMany, BadRange}
 use Rattle.store_files.specs.Archive.{ends_from}
 use Rattle.restore_reader.specs.declared.ranges.Part.{Part}
 use Rattle.restore_reader.specs.Session.{Noted}
@@ -25,3 +26,10 @@ pub record GivesBytes (parts : List Part) (pieces : List (List ℕ)) (step : Res
 abbrev pub TellsPlainly : {A : Type 0} → (A → List Part) → List (List ℕ) → Result (List ℕ) Refusal → Result A Refusal → Type 0
 TellsPlainly show pieces step told =
     MatchResult told (λ a. GivesBytes (show a) pieces step) (λ refusal. step ≡ Err refusal)
+
+-- the refusals of a range, with their numbers within their fields
+abbrev pub RefusesRange : Refusal → Type 0
+RefusesRange NotAllowed = Unit {0}
+RefusesRange (TooMany limit) = limit < 2 ^ 32
+RefusesRange (BadRange size) = size < 2 ^ 64
+RefusesRange refusal = ⊥

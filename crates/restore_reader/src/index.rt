@@ -4,7 +4,7 @@ ghost use Rattle.std.specs.Prelude.{◌≡◌, ◌≤◌, ℕ, ◌-◌, List, ta
 ghost use Rattle.std.specs.List.{concat};
 ghost use Rattle.store_files.specs.Archive.{ends_from};
 ghost use Rattle.dynamic_index.specs.Pieces.{last_end};
-ghost use Rattle.restore_reader.specs.Session.{ends_of, FitsIndex};
+ghost use Rattle.store_files.specs.Entries.{ends_of, FitsIndex};
 ghost use Rattle.restore_reader.specs.Cutting.{Reads, total_of};
 ghost use Rattle.restore_reader.specs.Plan as plan;
 ghost use Rattle.restore_reader.specs.Steps as steps;
@@ -24,7 +24,8 @@ pub struct Index {
 }
 
 impl Model for Index {
-    ghost use Rattle.restore_reader.specs.Session.{Noted, ends_of, FitsIndex};
+    ghost use Rattle.restore_reader.specs.Session.{Noted};
+    ghost use Rattle.store_files.specs.Entries.{ends_of, FitsIndex};
     ghost use Rattle.restore_reader.specs.Kept.{IsTable};
 
     ghost Value = { Noted };

@@ -1,20 +1,18 @@
 //! The parts of pieces that make a range.
 
-ghost use Rattle.std.specs.Prelude.{◌≡◌, ℕ, ◌+◌, ◌-◌, ◌<◌, ◌≤◌, List, ◌++◌, length, take, drop, IsTrue, IfOk, OnOk};
+ghost use Rattle.std.specs.Prelude.{◌≡◌, ℕ, ◌+◌, ◌-◌, ◌<◌, ◌≤◌, List, ◌++◌, length, take, drop, IsTrue, IfOk, IfErr, OnOk};
 ghost use Rattle.std.specs.List.{concat, AllWithin};
 ghost use Rattle.store_files.specs.Archive.{ends_from};
 ghost use Rattle.store_files.specs.DynamicIndex.{steps_fit};
 ghost use Rattle.dynamic_index.specs.Pieces.{last_end};
-ghost use Rattle.restore_reader.specs.Session.{ended_of, ends_of};
+ghost use Rattle.store_files.specs.Entries.{ended_of, ends_of};
+ghost use Rattle.restore_reader.specs.Answers.{RefusesRange};
 ghost use Rattle.restore_reader.specs.Cutting.{Reads, total_of};
 ghost use Rattle.restore_reader.specs.Plan as plan;
 ghost use Rattle.store_model.specs.ReaderSteps as plain;
 
 use std::alloc::{AllocError, Global};
-use store_types::{Digest32, Refusal};
-
-/// The most bytes of a range.
-const RANGE_LIMIT: u32 = 4_194_304;
+use store_types::{Digest32, RANGE_LIMIT, Refusal};
 
 /// A part of a chunk.
 #[derive(Clone, Copy, Debug, PartialEq, Eq)]
@@ -31,6 +29,7 @@ pub struct Part {
 pub fn want_range(size: u64, offset: u64, length: u32) -> Result<(), Refusal>
     ensures value { result ≡ plain.want_range size offset length }
     ensures limit { OnOk result (length ≤ 4_194_304) }
+    ensures refusal { IfErr result RefusesRange }
 {
     if length > RANGE_LIMIT {
         return Err(Refusal::TooMany { limit: RANGE_LIMIT });

@@ -1,13 +1,13 @@
 //! A reader's calls.
 
-ghost use Rattle.std.specs.Prelude.{◌≡◌, ◌≤◌, List, [], option_map, Some, IfOk, OnOk, OnErr};
+ghost use Rattle.std.specs.Prelude.{◌≡◌, ◌≤◌, List, [], option_map, Some, IfOk, IfErr, OnOk, OnErr};
 ghost use Rattle.std.specs.List.{list_any, find};
 ghost use Rattle.std.specs.Str.{bytes_eq};
 ghost use Rattle.store_files.specs.Archive.{Archive, archive, ends_from, File};
 ghost use Rattle.store_model.specs.Store.{Reader as PlainReader};
 ghost use Rattle.store_model.specs.ReaderSteps.{note, content_at, pieces_at, range_of};
-ghost use Rattle.restore_reader.specs.Session.{ends_of, FitsIndex};
-ghost use Rattle.restore_reader.specs.Answers.{Tells, ReadsNoted, TellsPlainly};
+ghost use Rattle.store_files.specs.Entries.{ends_of, FitsIndex};
+ghost use Rattle.restore_reader.specs.Answers.{Tells, ReadsNoted, RefusesRange, TellsPlainly};
 ghost use Rattle.restore_reader.specs.Cutting.{total_of};
 ghost use Rattle.restore_reader.specs.Shown.{Shows};
 ghost use Rattle.restore_reader.specs.Shown as plain;
@@ -136,6 +136,7 @@ impl Reader {
         ensures total { IfOk result (λ told. IfOk told (λ parts. (total_of parts.items ≤ length) × (length ≤ 4_194_304))) }
         ensures plain { IfOk result (λ told. (files : List File) → (r : PlainReader) → Shows self.now files r →
             TellsPlainly (λ parts. parts.items) (pieces_at files name.now) (range_of files r name.now offset length) told) }
+        ensures refusal { IfOk result (λ told. IfErr told RefusesRange) }
     {
         self.plan(alloc, name, offset, length)
     }
@@ -151,6 +152,7 @@ impl Reader {
         ensures does { IfOk result (Tells (λ parts. parts.items) (steps.range_plan self.now name.now offset length)) }
         ensures bytes { IfOk result (λ told. IfOk told (λ parts. ReadsNoted parts.items (steps.noted_as self.now name.now) offset length)) }
         ensures total { IfOk result (λ told. IfOk told (λ parts. (total_of parts.items ≤ length) × (length ≤ 4_194_304))) }
+        ensures refusal { IfOk result (λ told. IfErr told RefusesRange) }
     {
         let Some(index) = index_named(&self.indexes, name) else {
             return Ok(Err(Refusal::NotAllowed));

@@ -5,9 +5,10 @@ use crate::asserts::same;
 use core_state::{Act, Core, open_on};
 use disk_trait::MemoryDisk;
 use lane::{Ending, LaneReport, Port, run_alone};
-use port_traits::{FreeGate, MemSink, MemSource, SetClock};
+use port_traits::{FreeGate, Gate, MemSink, MemSource, SetClock};
 use shared_store::apply;
 use std::alloc::Global;
+use std::cell::Cell;
 use std::process::Abort;
 use std::test::Fail;
 use store_types::Bytes;
@@ -117,8 +118,13 @@ fn joined(alloc: Global, parts: &[&[u8]]) -> Result<Vec<u8>, Fail> {
     Ok(whole)
 }
 
-/// Serves a session of these parts over an empty datastore.
-fn session(alloc: Global, parts: &[&[u8]], failing: Failing) -> Result<Served, Fail> {
+/// Serves a session of these parts over an empty datastore, on lane 3.
+fn session(
+    alloc: Global,
+    parts: &[&[u8]],
+    failing: Failing,
+    gate: &impl Gate,
+) -> Result<Served, Fail> {
     let input = joined(alloc, parts)?;
     let clock = SetClock::new(Vec::new(alloc), 0);
     let opened = open_on(alloc, MemoryDisk::new(alloc), None::<MemoryDisk>, clock);
@@ -126,7 +132,7 @@ fn session(alloc: Global, parts: &[&[u8]], failing: Failing) -> Result<Served, F
     let source = MemSource::new(input, list_of(alloc, failing.source)?);
     let sink = MemSink::new(alloc, list_of(alloc, failing.sink)?);
     let mut port = Port { source, sink };
-    let report = run_alone(&mut core, alloc, 3, &mut port, &FreeGate);
+    let report = run_alone(&mut core, alloc, 3, &mut port, gate);
     Ok(Served {
         told: Vec::from_slice(alloc, port.sink.as_bytes())?,
         report,
@@ -141,7 +147,7 @@ type Row = (Parts, Failing, Parts, u64, Ending);
 fn try_row(rt: &impl Abort, alloc: Global, row: &Row) -> Result<(), Fail> {
     let (parts, failing, told, taken, ending) = row;
     let wanted = joined(alloc, told)?;
-    let served = session(alloc, parts, *failing)?;
+    let served = session(alloc, parts, *failing, &FreeGate)?;
     same(rt, served.told.as_slice(), wanted.as_slice());
     let report = LaneReport {
         taken: *taken,
@@ -252,6 +258,85 @@ static PRUNED: [Row; 1] = [(
 #[test]
 fn jobs_are_done(rt: HostRuntime) -> Result<(), Fail> {
     try_rows(&rt, rt.alloc(), &PRUNED)
+}
+
+/// A gate that counts its calls, and those that come out of turn: for another lane, with another number, or not before and
+/// after a command in turn.
+#[derive(Drop)]
+struct CountingGate {
+    before: Cell<u64>,
+    after: Cell<u64>,
+    out_of_turn: Cell<u64>,
+}
+
+impl CountingGate {
+    fn new() -> CountingGate {
+        CountingGate {
+            before: Cell::new(0),
+            after: Cell::new(0),
+            out_of_turn: Cell::new(0),
+        }
+    }
+
+    fn check(&self, is_in_turn: bool) {
+        if !is_in_turn {
+            self.out_of_turn
+                .set(self.out_of_turn.get().saturating_add(1));
+        }
+    }
+}
+
+impl Gate for CountingGate {
+    fn before(&self, lane: u32, number: u64) {
+        let (before, after) = (self.before.get(), self.after.get());
+        self.check(lane == 3 && number == before && number == after);
+        self.before.set(before.saturating_add(1));
+    }
+
+    fn after(&self, lane: u32, number: u64) {
+        let (before, after) = (self.before.get(), self.after.get());
+        self.check(lane == 3 && number == after && before == after.saturating_add(1));
+        self.after.set(after.saturating_add(1));
+    }
+}
+
+/// How often a gate is called before the commands of a session of these parts, after them, and out of turn.
+fn gate_calls(alloc: Global, parts: &[&[u8]]) -> Result<(u64, u64, u64), Fail> {
+    let gate = CountingGate::new();
+    let _ = session(alloc, parts, NONE, &gate)?;
+    Ok((gate.before.get(), gate.after.get(), gate.out_of_turn.get()))
+}
+
+/// Each command has its two calls, a job as one command; BYE has none, and neither has what is no command.
+static GATED: [(Parts, u64); 4] = [
+    (&[], 0),
+    (&[BYE], 0),
+    (&[FINISH, UNKNOWN], 1),
+    (
+        &[
+            OPEN_WRITER,
+            MANIFEST,
+            FINISH,
+            OPEN_NEXT,
+            NEXT_MANIFEST,
+            FINISH,
+            DRY_PRUNE,
+            PRUNE,
+            GROUP,
+            BYE,
+        ],
+        9,
+    ),
+];
+
+#[test]
+fn gates_stand_round_each_command(rt: HostRuntime) -> Result<(), Fail> {
+    let alloc = rt.alloc();
+    for row in &GATED {
+        let (parts, count) = row;
+        same(&rt, gate_calls(alloc, parts)?, (*count, *count, 0));
+    }
+    Ok(())
 }
 
 /// What a lane is told of a session of these parts, on a datastore that other lanes have used.

@@ -371,11 +371,11 @@ fn try_session(rt: &impl Abort, alloc: Global, input: &[u8], left: &Left<'_>) ->
     try_source(rt, alloc, source_of(alloc, input)?.at_most(1), left)
 }
 
-/// The counts of the disk's calls beside the entries: FINISH puts and syncs, DOWNLOAD asks the size and reads; CHUNK asks the size,
-/// and puts only where no file was there.
+/// The counts of the disk's calls beside the entries: FINISH installs and syncs, DOWNLOAD asks the size and reads; CHUNK asks the size,
+/// and installs only where no file was there.
 static COUNTED: [(&[u8], &[u64]); 2] = [
-    (READ_BACK, &[0, 0, 2, 2, 4, 4]),
-    (SENT_AGAIN, &[0, 2, 2, 2, 3, 3]),
+    (READ_BACK, &[0, 0, 4, 4, 6, 6]),
+    (SENT_AGAIN, &[0, 4, 4, 4, 5, 5]),
 ];
 
 #[test]

@@ -1,4 +1,5 @@
 -- Acts that need no chunk tell of none that is damaged.
+use Rattle.disk_trait.specs.declared.disk.Disk.{Ghosts}
 use Rattle.std.proofs.Common.{◌≡◌, ℕ, true, false, List, [], Option, None, Some, sym, ap, subst, ◌∙◌}
 use Rattle.disk_trait.specs.Files.{Files}
 use Rattle.store_types.specs.declared.names.Digest32.{Digest32}
@@ -34,33 +35,33 @@ true_false e = cc
 no_damage : (files : Files) (digest : Digest32) (found : ChunkFault) → first_damage files [] ≡ Some (digest, found) → ⊥
 no_damage files digest found e = cc
 
-module _ {D : Type 0} (honest : D → Type 0) (content : D → Files) (disk : D) where
+module _ {D : Type 0} (d : Ghosts D) (disk : D) where
   -- no chunk is needed, and none is told of
   tells_other : (chunks : List Digest32) (kind : ℕ) (reply : Option Reply)
-      → ((digest : Digest32) (found : ChunkFault) → reply ≡ Some (Refused (Damaged digest found)) → ⊥) → chunks ≡ [] → TellsDamaged honest content disk chunks kind reply
+      → ((digest : Digest32) (found : ChunkFault) → reply ≡ Some (Refused (Damaged digest found)) → ⊥) → chunks ≡ [] → TellsDamaged d disk chunks kind reply
   tells_other chunks kind reply other is = record {
     named = λ digest found e. absurd (other digest found e);
     cause = λ digest found e h. absurd (other digest found e);
-    damaged = λ digest found k h at. absurd (no_damage (content disk) digest found (subst (λ ds. first_damage (content disk) ds ≡ Some (digest, found)) is at));
+    damaged = λ digest found k h at. absurd (no_damage (d.content disk) digest found (subst (λ ds. first_damage (d.content disk) ds ≡ Some (digest, found)) is at));
   }
 
 -- an act that needs no chunk
-pub tells_whole : {D E C : Type 0} (honest : D → Type 0) (content : D → Files) (faults_of : D → ℕ) (old new : Core D E C) (disk : D) (chunks : List Digest32) (act : Act) (answer : Answer)
-    → HasCause faults_of old new act answer → chunks ≡ [] → ((digest : Digest32) (found : ChunkFault) → may_answer act (Refused (Damaged digest found)) ≡ false)
-    → TellsDamaged honest content disk chunks (answer.entry).kind answer.reply
-tells_whole honest content faults_of old new disk chunks act answer (done before kind reply is may) none never =
-    tells_other honest content disk chunks _ answer.reply
+pub tells_whole : {D E C : Type 0} (d : Ghosts D) (old new : Core D E C) (disk : D) (chunks : List Digest32) (act : Act) (answer : Answer)
+    → HasCause d old new act answer → chunks ≡ [] → ((digest : Digest32) (found : ChunkFault) → may_answer act (Refused (Damaged digest found)) ≡ false)
+    → TellsDamaged d disk chunks (answer.entry).kind answer.reply
+tells_whole d old new disk chunks act answer (done before kind reply is may) none never =
+    tells_other d disk chunks _ answer.reply
     (λ digest found e. true_false (sym may ∙ ap (may_answer act) (same_reply reply (Refused (Damaged digest found)) (sym is ∙ e)) ∙ never digest found)) none
-tells_whole honest content faults_of old new disk chunks act answer (short kind is) none never =
-    tells_other honest content disk chunks _ answer.reply (λ digest found e. apart_memory digest found (sym is ∙ e)) none
-tells_whole honest content faults_of old new disk chunks act answer (failed before kind is fault risen) none never =
-    tells_other honest content disk chunks _ answer.reply (λ digest found e. apart_fault digest found (sym is ∙ e)) none
-tells_whole honest content faults_of old new disk chunks act answer (halted place fault kind is) none never =
-    tells_other honest content disk chunks _ answer.reply (λ digest found e. apart_halted place digest found (sym is ∙ e)) none
+tells_whole d old new disk chunks act answer (short kind is) none never =
+    tells_other d disk chunks _ answer.reply (λ digest found e. apart_memory digest found (sym is ∙ e)) none
+tells_whole d old new disk chunks act answer (failed before kind is fault risen) none never =
+    tells_other d disk chunks _ answer.reply (λ digest found e. apart_fault digest found (sym is ∙ e)) none
+tells_whole d old new disk chunks act answer (halted place fault kind is) none never =
+    tells_other d disk chunks _ answer.reply (λ digest found e. apart_halted place digest found (sym is ∙ e)) none
 
-pub end_tells_whole : {D E C : Type 0} (honest : D → Type 0) (content : D → Files) (faults_of : D → ℕ) (old new : Core D E C) (disk : D) (chunks : List Digest32) (answer : Answer)
-    → EndHasCause faults_of old new answer → chunks ≡ [] → TellsDamaged honest content disk chunks (answer.entry).kind answer.reply
-end_tells_whole honest content faults_of old new disk chunks answer (ended kind is) none =
-    tells_other honest content disk chunks _ answer.reply (λ digest found e. apart_none digest found (sym is ∙ e)) none
-end_tells_whole honest content faults_of old new disk chunks answer (end_failed before kind is fault risen) none =
-    tells_other honest content disk chunks _ answer.reply (λ digest found e. apart_fault digest found (sym is ∙ e)) none
+pub end_tells_whole : {D E C : Type 0} (d : Ghosts D) (old new : Core D E C) (disk : D) (chunks : List Digest32) (answer : Answer)
+    → EndHasCause d old new answer → chunks ≡ [] → TellsDamaged d disk chunks (answer.entry).kind answer.reply
+end_tells_whole d old new disk chunks answer (ended kind is) none =
+    tells_other d disk chunks _ answer.reply (λ digest found e. apart_none digest found (sym is ∙ e)) none
+end_tells_whole d old new disk chunks answer (end_failed before kind is fault risen) none =
+    tells_other d disk chunks _ answer.reply (λ digest found e. apart_fault digest found (sym is ∙ e)) none

@@ -1,3 +1,2 @@
 mod Damages
 mod Asking
-mod Leaving

@@ -1,8 +1,8 @@
--- Which acts are readers', which are on the store as a whole, and what an act asks for.
+-- Which acts are readers', and what an act asks for.
 use Rattle.std.specs.Prelude.{Bool, true, false, List, Option}
-use Rattle.wire_commands.specs.declared.command.Command.TheVariants.{Previous, OpenReader, Download, GetChunk, Range, CloseReader, List as ListAll, Files as FilesOf, Forget, Group}
+use Rattle.wire_commands.specs.declared.command.Command.TheVariants.{Previous, OpenReader, Download, GetChunk, Range, CloseReader, Files as FilesOf}
 use Rattle.store_history.specs.declared.act.Act.{Act}
-use Rattle.store_history.specs.declared.act.Act.TheVariants.{Plain, JobGroup}
+use Rattle.store_history.specs.declared.act.Act.TheVariants.{Plain}
 use Rattle.core_state.specs.declared.kept.Listed.{Listed}
 use Rattle.core_state.specs.declared.kept.Session.{Session}
 use Rattle.core_state.specs.Unreadables.{Asked}
@@ -17,14 +17,6 @@ is_readers (Plain (GetChunk digest)) = true
 is_readers (Plain (Range file offset len)) = true
 is_readers (Plain CloseReader) = true
 is_readers _ = false
-
-abbrev pub is_admins : Act → Bool
-is_admins (Plain (ListAll after)) = true
-is_admins (Plain (FilesOf snapshot)) = true
-is_admins (Plain (Forget snapshot)) = true
-is_admins (Plain (Group group)) = true
-is_admins (JobGroup command) = true
-is_admins _ = false
 
 -- the file that an act asks for: one of the base of the lane's writer or of the snapshot of its reader, or the manifest of the snapshot whose
 -- files it tells

@@ -7,8 +7,8 @@ use Rattle.store_types.specs.declared.names.SnapshotKey.{SnapshotKey}
 use Rattle.manifest.specs.declared.facts.Manifest.{Manifest}
 use Rattle.manifest.specs.declared.facts.FileFact.{FileFact}
 use Rattle.manifest.specs.Views.{fact_view, manifest_view}
-use Rattle.store_model.specs.Uploads.{file_path}
-use Rattle.store_model.specs.Stands.{manifest_path}
+use Rattle.store_files.specs.Folder.{file_path}
+use Rattle.store_files.specs.Folder.{manifest_path}
 use Rattle.snapshot_files.specs.Scanned.{first_missing, unreadable_by}
 
 length_viewed : (facts : List FileFact) → length (map fact_view facts) ≡ length facts

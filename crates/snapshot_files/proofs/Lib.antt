@@ -1,7 +1,15 @@
+mod Texts
+mod PartLemmas
+mod Entries
+mod Indexed
+pub mod Archives
 pub mod PathLengths
 pub mod Placing
 pub mod Losing
-pub mod ReadingCalls
+pub mod Removals
+pub mod Leaving
+pub mod StandingLemmas
+pub mod OnlyReading
 pub mod Places
 pub mod InOrder
 pub mod Joined

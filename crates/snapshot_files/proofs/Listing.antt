@@ -1,14 +1,13 @@
 -- The names in the folders of snapshots give each snapshot once.
-use Rattle.std.proofs.Common.{◌≡◌, ◌≢◌, ◌<◌, ◌⊎◌, inl, inr, ⊎_elim, ℕ, zero, suc, List, [], ◌∷◌, ◌++◌, Bool, true, false, T, cond, ◌&&◌, ◌||◌, length, get_or, map, filter, eqb, Option, Some, None, append_assoc, refl, sym, ap, subst, ◌∙◌, arith}
+use Rattle.std.proofs.Common.{◌≡◌, ◌≢◌, ◌⊎◌, inl, inr, ⊎_elim, ℕ, suc, List, [], ◌∷◌, ◌++◌, Bool, true, false, T, ◌&&◌, ◌||◌, get_or, map, eqb, Option, Some, None, append_assoc, refl, sym, ap, subst, ◌∙◌, arith}
 use Rattle.std.specs.Prelude.{codes, IsSome}
 use Rattle.std.specs.List.{All, AllPairs, Contains, cons_option, filter_map, list_any, starts_with}
-use Rattle.std.specs.Str.{bytes_eq}
 use Rattle.std.specs.Ordering.{is_lt, is_eq, eq_by_cmp}
 use Rattle.std.specs.declared.cmp.Ordering.{Ordering}
 use Rattle.std.specs.declared.cmp.Ordering.TheVariants.{Less, Equal, Greater}
 use Rattle.std.specs.FinMap.{get, keys, entries, entries_sorted, contains_key-keys}
 use Rattle.std.specs.FinMap.Entries.{is_sorted, below_all}
-use Rattle.std.proofs.lemmas.Bool.{and_parts, cond_both}
+use Rattle.std.proofs.lemmas.Bool.{and_parts}
 use Rattle.std.proofs.lemmas.Bool.Decides.{eqb_tells}
 use Rattle.std.proofs.lemmas.List.Elements.{All-nil, All-cons, All-head, All-tail, All-append, filter_passes}
 use Rattle.std.proofs.lemmas.List.Folds.{list_any-append}
@@ -24,7 +23,7 @@ use Rattle.store_types.specs.FileNames.{manifest_name}
 use Rattle.store_types.specs.Times.{time_text}
 use Rattle.store_types.specs.Names.{IsKey, text_cmp, same_key, kind_text, key_text, group_text}
 use Rattle.store_types.proofs.OrderLaws.{same_keys}
-use Rattle.store_model.specs.Stands.{manifest_path}
+use Rattle.store_files.specs.Folder.{manifest_path}
 use Rattle.store_model.proofs.Insertions.{Contains-here, Contains-later, Contains-cases}
 use Rattle.snapshot_files.specs.Scanned.{FoundSnapshot, found_at, found_named, names_under, folder_names}
 use Rattle.snapshot_files.proofs.Named.{named_is, at_name, at_there}

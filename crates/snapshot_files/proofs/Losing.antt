@@ -1,6 +1,6 @@
 -- What files leave that are removed one after another.
-use Rattle.std.proofs.Common.{◌≡◌, ◌≢◌, ◌⊎◌, ◌<◌, ◌+◌, ◌≤◌, inl, inr, ℕ, zero, suc, List, [], ◌∷◌, length, drop, get_or, None, refl, sym, ap, subst, ◌∙◌, arith, drop-cons, add-one}
-use Rattle.std.specs.List.{Contains}
+use Rattle.std.proofs.Common.{◌≡◌, ◌⊎◌, ◌<◌, ◌+◌, inl, inr, ℕ, zero, suc, List, [], ◌∷◌, length, drop, get_or, Option, None, Some, refl, sym, ap, subst, ◌∙◌, arith, drop-cons, add-one}
+use Rattle.std.specs.List.{Contains, cons_option, filter_map}
 use Rattle.std.specs.FinMap.{get, remove}
 use Rattle.disk_trait.specs.Files.{Files}
 use Rattle.disk_trait.specs.Disk.{MayGo}
@@ -53,6 +53,64 @@ loses_behind name names b c lose q = told (lose q)
     told (inl same) = inl same
     told (inr (none, has)) = inr (none, has_later name names q has)
 
+-- ---- of rows that may have one
+
+pub has_mapped : {X : Type 0} (at : X → Option (List ℕ)) (xs : List X) (i : ℕ) (x : X) (name : List ℕ) → i < length xs → x ≡ get_or xs i x → at x ≡ Some name → Contains (filter_map at xs) name
+has_mapped at [] i x name lt is e = absurd (omega (arith, lt))
+has_mapped at (y ∷ ys) zero x name lt is e =
+    subst (λ o. Contains (cons_option o (filter_map at ys)) name) (sym (ap at (sym is) ∙ e)) (has_first name (filter_map at ys))
+has_mapped at (y ∷ ys) (suc i) x name lt is e = behind (at y) (has_mapped at ys i x name (omega (arith, lt)) is e)
+  where
+    behind : (o : Option (List ℕ)) → Contains (filter_map at ys) name → Contains (cons_option o (filter_map at ys)) name
+    behind None has = has
+    behind (Some n) has = has_later n (filter_map at ys) name has
+
+none_in : (o : Option (List ℕ)) (rest : Names) → cons_option o rest ≡ [] → (o ≡ None) × (rest ≡ [])
+none_in None rest e = (refl, e)
+none_in (Some n) rest e = cc
+
+-- where none has a file, this one has none
+pub none_mapped : {X : Type 0} (at : X → Option (List ℕ)) (xs : List X) (i : ℕ) (x : X) → i < length xs → x ≡ get_or xs i x → filter_map at xs ≡ [] → at x ≡ None
+none_mapped at [] i x lt is e = absurd (omega (arith, lt))
+none_mapped at (y ∷ ys) zero x lt is e = ap at is ∙ (none_in (at y) (filter_map at ys) e).0
+none_mapped at (y ∷ ys) (suc i) x lt is e = none_mapped at ys i x (omega (arith, lt)) is (none_in (at y) (filter_map at ys) e).1
+
+loses_some : (names : Names) (o : Option (List ℕ)) (b c : Files) → ((name : List ℕ) → o ≡ Some name → Contains names name) → MayLose (cons_option o []) b c → MayLose names b c
+loses_some names o b c has lose q = told (lose q)
+  where
+    of : (o : Option (List ℕ)) → ((name : List ℕ) → o ≡ Some name → Contains names name) → Contains (cons_option o []) q → Contains names q
+    of None has (k, lt, is) = absurd (omega (arith, lt))
+    of (Some n) has (zero, lt, is) = subst (Contains names) is (has n refl)
+    of (Some n) has (suc k, lt, is) = absurd (omega (arith, lt))
+
+    told : (get c q ≡ get b q) ⊎ ((get c q ≡ None) × Contains (cons_option o []) q) → (get c q ≡ get b q) ⊎ ((get c q ≡ None) × Contains names q)
+    told (inl same) = inl same
+    told (inr (none, is)) = inr (none, of o has is)
+
+pub loses_mapped : {X : Type 0} (at : X → Option (List ℕ)) (xs : List X) (i : ℕ) (x : X) (b m c : Files) → i < length xs → x ≡ get_or xs i x
+    → MayLose (filter_map at xs) b m → MayLose (cons_option (at x) []) m c → MayLose (filter_map at xs) b c
+loses_mapped at xs i x b m c lt is one two =
+    loses_more (filter_map at xs) b m c one (loses_some (filter_map at xs) (at x) m c (λ name e. has_mapped at xs i x name lt is e) two)
+
+pub loses_its : (o : Option (List ℕ)) (name : List ℕ) (b c : Files) → o ≡ Some name → MayGo name b c → MayLose (cons_option o []) b c
+loses_its o name b c e go = subst (λ p. MayLose (cons_option p []) b c) (sym e) (loses_one (name ∷ []) name b c (has_first name []) go)
+
+without_first : (o : Option (List ℕ)) (rest : Names) (files : Files) → without (cons_option o rest) files ≡ without rest (without (cons_option o []) files)
+without_first None rest files = refl
+without_first (Some n) rest files = refl
+
+pub without_mapped : {X : Type 0} (at : X → Option (List ℕ)) (xs : List X) (i : ℕ) (x : X) (files after : Files) → i < length xs → x ≡ get_or xs i x
+    → after ≡ without (cons_option (at x) []) files → without (filter_map at (drop (i + 1) xs)) after ≡ without (filter_map at (drop i xs)) files
+without_mapped at xs i x files after lt is e =
+    let rest : Names = filter_map at (drop (i + 1) xs) in
+    ap (without rest) e ∙ sym (without_first (at x) rest files)
+    ∙ sym (ap (λ ys. without (filter_map at ys) files) (drop-cons xs i x lt ∙ ap (λ y. y ∷ drop (suc i) xs) (sym is) ∙ ap (λ k. x ∷ drop k xs) (sym (add-one i))))
+
+-- where each has one
+pub all_mapped : (names : Names) → filter_map (λ name. Some name) names ≡ names
+all_mapped [] = refl
+all_mapped (n ∷ ns) = ap (λ l. n ∷ l) (all_mapped ns)
+
 -- ---- the manifest first
 
 pub manifest_goes : (manifest : List ℕ) (paths : Names) (b c : Files) → MayGo manifest b c → Forgets manifest paths b c
@@ -78,12 +136,6 @@ pub forgets_firm : (read : Files) (manifest : List ℕ) (paths : Names) (b c : F
 forgets_firm read manifest paths b c (is, none, lose) = inr (none, lose)
 
 -- ---- what is left
-
-pub without_next : (names : Names) (i : ℕ) (name : List ℕ) (files after : Files) → i < length names → name ≡ get_or names i name → after ≡ remove files name
-    → without (drop (i + 1) names) after ≡ without (drop i names) files
-without_next names i name files after lt is e =
-    ap (without (drop (i + 1) names)) e
-    ∙ sym (ap (λ (ns : Names). without ns files) (drop-cons names i name lt ∙ ap (λ n. n ∷ drop (suc i) names) (sym is) ∙ ap (λ k. name ∷ drop k names) (sym (add-one i))))
 
 pub stays_without : (names : Names) (files : Files) (q : List ℕ) → get files q ≡ None → get (without names files) q ≡ None
 stays_without [] files q none = none

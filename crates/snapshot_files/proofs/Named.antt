@@ -11,7 +11,7 @@ use Rattle.store_types.specs.FileNames.{manifest_name}
 use Rattle.store_types.specs.Names.{IsKey, key_of, key_text}
 use Rattle.store_types.specs.Chain.Reading.{◌>>=◌, only_if}
 use Rattle.store_types.proofs.KeyLaws.{keys, key_one}
-use Rattle.store_model.specs.Stands.{manifest_path}
+use Rattle.store_files.specs.Folder.{manifest_path}
 use Rattle.store_model.specs.Load.{read_manifest, key_of_manifest, manifest_ending}
 use Rattle.snapshot_files.specs.Scanned.{FoundSnapshot, found_with, found_at, found_named}
 

@@ -10,7 +10,7 @@ use Rattle.store_types.specs.FileNames.{is_id, is_file_name, is_word_byte, is_id
 use Rattle.store_types.specs.Times.{digits, time_text}
 use Rattle.store_types.specs.Names.{IsKey, kind_text, group_text, key_text}
 use Rattle.store_types.proofs.NameLemmas.{file_name_id}
-use Rattle.store_model.specs.Uploads.{file_path}
+use Rattle.store_files.specs.Folder.{file_path}
 
 length-digits : (n x : ℕ) → length (digits n x) ≡ n
 unfolding digits
@@ -32,7 +32,7 @@ id_short id h =
     let three = and_parts (nat_le 1 (length id) && nat_le (length id) 64) (is_word_byte (get_or id 0 0)) four.0 in
     leb-true (length id) 64 (and_parts (nat_le 1 (length id)) (nat_le (length id) 64) three.0).1
 
-key_short : (k : SnapshotKey) → IsKey k → length (key_text k) ≤ 90
+pub key_short : (k : SnapshotKey) → IsKey k → length (key_text k) ≤ 90
 unfolding key_text group_text
 key_short k h = simp length-append (omega (arith, kind_short k.kind, id_short k.id h.0, length-time_text k.time))
 

@@ -1,3 +1,6 @@
 pub mod Forgotten
-pub mod OnlyReads
+pub mod Indexes
+pub mod Parts
+pub mod Reads
 pub mod Scanned
+pub mod Standing

@@ -1,6 +1,6 @@
 -- The snapshots that a datastore's files have, and which of them are damaged.
 use Rattle.std.specs.Prelude.{◌≡◌, ◌≤◌, ◌↔◌, ℕ, Bool, true, ◌&&◌, List, [], ◌∷◌, ◌++◌, map, filter, length, nat_le, eqb, if◌then◌else◌, Option, Some, None, is_some, option_map, codes, IsSome, IfSome, IsTrue}
-use Rattle.std.specs.List.{All, Contains, filter_map, starts_with}
+use Rattle.std.specs.List.{All, Contains, starts_with}
 use Rattle.std.specs.FinMap.{get, keys}
 use Rattle.disk_trait.specs.Files.{Files}
 use Rattle.store_types.specs.declared.names.SnapshotKey.{SnapshotKey}
@@ -8,8 +8,8 @@ use Rattle.store_types.specs.Names.{IsKey, key_lt}
 use Rattle.store_types.specs.Chain.Reading.{◌>>=◌}
 use Rattle.store_files.specs.Manifest.{Manifest}
 use Rattle.manifest.specs.Least.{lesser}
-use Rattle.store_model.specs.Uploads.{file_path}
-use Rattle.store_model.specs.Stands.{manifest_path}
+use Rattle.store_files.specs.Folder.{file_path}
+use Rattle.store_files.specs.Folder.{manifest_path}
 use Rattle.store_model.specs.Load.{read_manifest, key_of_manifest}
 
 -- its manifest, where that reads, and the name of the file that makes it damaged

@@ -1,30 +1,46 @@
 //! Files of snapshots are removed, the manifest first.
 
-ghost use Rattle.std.specs.Prelude.{◌≡◌, ◌∷◌, ℕ, List, None, map, OnOk, IsErr, IsErrOf};
-ghost use Rattle.std.specs.List.{Contains};
-ghost use Rattle.std.specs.FinMap.{get};
+ghost use Rattle.std.specs.Prelude.{◌≡◌, ◌∷◌, [], List, None, map, IsOk, OnOk, IsErr, IsErrOf, IsTrue};
+ghost use Rattle.std.specs.List.{All, cons_option, filter_map};
 ghost use Rattle.disk_trait.specs.Disk.{Serves, Steps, After, Now, Same};
+ghost use Rattle.store_types.specs.FileNames.{is_file_name};
 ghost use Rattle.store_types.specs.Names.{IsKey};
-ghost use Rattle.store_model.specs.Stands.{manifest_path};
-ghost use Rattle.store_model.specs.Uploads.{file_path};
+ghost use Rattle.store_files.specs.Folder.{file_path, manifest_path};
+ghost use Rattle.store_files.specs.Archive.{Snapshot};
+ghost use Rattle.store_model.specs.Store.{without_snapshot};
+ghost use Rattle.snapshot_files.specs.Standing.{Moves};
 ghost use Rattle.snapshot_files.specs.Forgotten.{MayLose, Forgets, ForgetsFirm, without};
 
-use crate::path::{FilePath, manifest_path_of, paths_of};
+use crate::path::{FilePath, Stored, manifest_path_of, paths_of};
 use disk_trait::{Disk, DiskError, Failed};
 use file_install::drop_firm;
 use std::alloc::Global;
 use store_types::{FileName, SnapshotKey};
 
-/// Removes files, those of them that are there. It takes no memory.
+// Removes its file, if it is there.
+fn remove_file<D: Disk, F: Stored>(disk: &mut D, file: &F) -> Result<(), Failed>
+    ensures serves { Serves D.honest D.faults disk.old disk.new (IsErr result) }
+    ensures crash { Steps D.calls D.images disk.old disk.new (MayLose (cons_option (F.at file.now) [])) }
+    ensures removed { D.honest disk.old → OnOk result (D.content disk.new ≡ without (cons_option (F.at file.now) []) (D.content disk.old)) }
+    ensures none { F.at file.now ≡ None → IsOk result × (disk.new ≡ disk.old) }
+{
+    if let Some(path) = file.path() {
+        let _ = disk.remove(path.as_str())?;
+    }
+    Ok(())
+}
+
+/// Removes the files of these, those of them that are there. It takes no memory, and makes no call where none has a file.
 ///
 /// Until a sync, each removal may or may not have happened.
-pub fn remove_files<D: Disk>(disk: &mut D, paths: &[FilePath]) -> Result<(), Failed>
+pub fn remove_files<D: Disk, F: Stored>(disk: &mut D, files: &[F]) -> Result<(), Failed>
     ensures serves { Serves D.honest D.faults disk.old disk.new (IsErr result) }
-    ensures crash { Steps D.calls D.images disk.old disk.new (MayLose paths.now) }
-    ensures removed { D.honest disk.old → OnOk result (D.content disk.new ≡ without paths.now (D.content disk.old)) }
+    ensures crash { Steps D.calls D.images disk.old disk.new (MayLose (filter_map F.at files.now)) }
+    ensures removed { D.honest disk.old → OnOk result (D.content disk.new ≡ without (filter_map F.at files.now) (D.content disk.old)) }
+    ensures none { filter_map F.at files.now ≡ [] → IsOk result × (disk.new ≡ disk.old) }
 {
-    for path in paths {
-        let _ = disk.remove(path.as_str())?;
+    for file in files {
+        remove_file(disk, file)?;
     }
     Ok(())
 }
@@ -58,13 +74,11 @@ pub fn forget<D: Disk>(
         (ForgetsFirm (D.content disk.old) (manifest_path key.now) (map (file_path key.now) files.now)))) }
     ensures removed { D.honest disk.old → OnOk result (D.content disk.new
         ≡ without (manifest_path key.now ∷ map (file_path key.now) files.now) (D.content disk.old)) }
-    // by names: these are gone, and the others stay
-    ensures gone { D.honest disk.old → OnOk result ((path : List ℕ) → Contains (manifest_path key.now ∷ map (file_path key.now) files.now) path
-        → get (D.content disk.new) path ≡ None) }
-    ensures others { D.honest disk.old → OnOk result ((path : List ℕ) → (Contains (manifest_path key.now ∷ map (file_path key.now) files.now) path → ⊥)
-        → get (D.content disk.new) path ≡ get (D.content disk.old) path) }
     ensures unchanged { IsErrOf result DiskError.NoMemory → (D.honest disk.old → D.content disk.new ≡ D.content disk.old)
         × Steps D.calls D.images disk.old disk.new Same × (D.faults disk.new ≡ D.faults disk.old) }
+    // what stood for a list stands for it, or for that list without the snapshot
+    ensures stands { (snapshots : List Snapshot) → All (λ name. IsTrue (is_file_name name)) files.now
+        → Moves D.Disk disk.old disk.new (IsOk result) snapshots (without_snapshot key.now snapshots) }
 {
     let manifest = manifest_path_of(alloc, key)?;
     let paths = paths_of(alloc, key, files)?;

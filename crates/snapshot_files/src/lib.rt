@@ -5,14 +5,18 @@
 
 mod forgetting;
 mod found;
+mod index;
+mod parts;
 mod path;
 mod putting;
-mod reading;
+mod read_error;
 mod scanning;
 
 pub use forgetting::{forget, remove_files};
 pub use found::{Found, read_manifest};
-pub use path::{FilePath, manifest_path_of, path_of};
+pub use index::{IndexPart, lengths_of, read_index};
+pub use parts::read_part;
+pub use path::{FilePath, Stored, manifest_path_of, path_of};
 pub use putting::{finish, put_file};
-pub use reading::read_part;
-pub use scanning::{LISTED_LIMIT, scan};
+pub use read_error::ReadError;
+pub use scanning::scan;

@@ -1,9 +1,9 @@
 //! Where the files of snapshots stand.
 
-ghost use Rattle.std.specs.Prelude.{◌≡◌, map, IfOk};
+ghost use Rattle.std.specs.Prelude.{◌≡◌, ℕ, List, Option, Some, map, option_map, IfOk};
 ghost use Rattle.store_types.specs.FileNames.{manifest_name};
 ghost use Rattle.store_types.specs.Names.{IsKey};
-ghost use Rattle.store_model.specs.Uploads.{file_path};
+ghost use Rattle.store_files.specs.Folder.{file_path};
 
 use std::alloc::{AllocError, Global};
 use std::marker::Model;
@@ -29,7 +29,8 @@ impl Model for FilePath {
 impl FilePath {
     ghost use Rattle.std.specs.Prelude.{◌≤◌, length, string_bytes};
 
-    fn from_string(text: String) -> FilePath
+    /// The path that the text is. `path_of` makes those of snapshots.
+    pub fn from_string(text: String) -> FilePath
         requires { length (string_bytes text) ≤ 251 }
         ensures { result ≡ string_bytes text }
     {
@@ -50,6 +51,24 @@ impl FilePath {
     {
         let FilePath { text } = self;
         Bytes::from_vec(text.into_bytes())
+    }
+}
+
+/// What may have a file in the datastore folder.
+pub trait Stored {
+    /// The name of its file there, where it has one.
+    ghost at: { Self → Option (List ℕ) };
+
+    /// Where its file stands, if it has one.
+    fn path(&self) -> Option<&FilePath>
+        ensures { option_map (λ p. p.now) result ≡ at self.now };
+}
+
+impl Stored for FilePath {
+    ghost at = { λ path. Some path };
+
+    fn path(&self) -> Option<&FilePath> {
+        Some(self)
     }
 }
 

@@ -3,14 +3,13 @@
 ghost use Rattle.std.specs.Prelude.{◌≡◌, ◌≤◌, ◌++◌, [], Some, not, is_some, length, map, option_map, string_bytes, IfSome, IfOk, OnOk, IsErrOf};
 ghost use Rattle.std.specs.List.{All, cons_option, filter_map};
 ghost use Rattle.std.specs.FinMap.{get};
-ghost use Rattle.disk_trait.specs.Disk.{Serves, Ticks, Steps, Same};
+ghost use Rattle.disk_trait.specs.Disk.{Ticks};
+ghost use Rattle.disk_trait.specs.Effects.{OnlyReads};
 ghost use Rattle.manifest.specs.Least.{lesser as lesser_of};
 ghost use Rattle.manifest.specs.Views.{manifest_view};
 ghost use Rattle.store_types.specs.Names.{IsKey};
 ghost use Rattle.store_model.specs.Load.{key_of_manifest as key_named};
-ghost use Rattle.store_model.specs.Stands.{manifest_path};
-ghost use Rattle.store_model.specs.Uploads.{file_path};
-ghost use Rattle.snapshot_files.specs.OnlyReads.{Reads};
+ghost use Rattle.store_files.specs.Folder.{file_path, manifest_path};
 ghost use Rattle.snapshot_files.specs.Scanned.{Lists, HasNames, found_named as found_of, first_missing as first_missing_of, missing_name as missing_of, unreadable_by, folder_names, in_order as ordered};
 
 use crate::found::{Found, insert_found, read_manifest};
@@ -18,10 +17,7 @@ use crate::path::{manifest_path_of, path_of};
 use disk_trait::{Disk, DiskError};
 use manifest::{FileFact, Manifest};
 use std::alloc::{AllocError, Global};
-use store_types::{Bytes, FileName, SnapshotKey};
-
-/// The most files that a manifest lists.
-pub const LISTED_LIMIT: usize = 63;
+use store_types::{Bytes, FileName, LISTED_LIMIT, SnapshotKey};
 
 /// The snapshot whose manifest has this name.
 fn key_of_manifest(alloc: Global, path: &str) -> Result<Option<SnapshotKey>, AllocError>
@@ -43,14 +39,13 @@ fn key_of_manifest(alloc: Global, path: &str) -> Result<Option<SnapshotKey>, All
 
 /// Whether the snapshot has no such file.
 fn is_missing<D: Disk>(
-    alloc: Global,
     disk: &mut D,
+    alloc: Global,
     key: &SnapshotKey,
     name: &FileName,
 ) -> Result<bool, DiskError>
     requires { IsKey key.now }
-    ensures serves { Serves D.honest D.faults disk.old disk.new (IsErrOf result DiskError.Failed) }
-    ensures reads { Reads D.honest D.content D.calls D.images disk.old disk.new }
+    ensures reads { OnlyReads D.Disk disk.old disk.new (IsErrOf result DiskError.Failed) }
     ensures missing { D.honest disk.old → IfOk result (λ missing. missing ≡ not (is_some (get (D.content disk.old) (file_path key.now name.now)))) }
 {
     let path = path_of(alloc, key, name)?;
@@ -74,18 +69,17 @@ fn lesser(first: Option<FileName>, name: FileName) -> Option<FileName>
 
 /// The first of the missing names so far, and of this one, where the snapshot has no such file.
 fn first_with<D: Disk>(
-    alloc: Global,
     disk: &mut D,
+    alloc: Global,
     key: &SnapshotKey,
     name: &FileName,
     first: Option<FileName>,
 ) -> Result<Option<FileName>, DiskError>
     requires { IsKey key.now }
-    ensures serves { Serves D.honest D.faults disk.old disk.new (IsErrOf result DiskError.Failed) }
-    ensures reads { Reads D.honest D.content D.calls D.images disk.old disk.new }
+    ensures reads { OnlyReads D.Disk disk.old disk.new (IsErrOf result DiskError.Failed) }
     ensures first { D.honest disk.old → IfOk result (λ new. new ≡ lesser_of first (missing_of (D.content disk.old) key.now name.now)) }
 {
-    if !is_missing(alloc, disk, key, name)? {
+    if !is_missing(disk, alloc, key, name)? {
         return Ok(first);
     }
     let name = name.clone()?;
@@ -94,19 +88,18 @@ fn first_with<D: Disk>(
 
 /// The first listed file, in byte order, that the snapshot lacks.
 fn first_missing<D: Disk>(
-    alloc: Global,
     disk: &mut D,
+    alloc: Global,
     key: &SnapshotKey,
     listed: &[FileFact],
 ) -> Result<Option<FileName>, DiskError>
     requires { IsKey key.now }
-    ensures serves { Serves D.honest D.faults disk.old disk.new (IsErrOf result DiskError.Failed) }
-    ensures reads { Reads D.honest D.content D.calls D.images disk.old disk.new }
+    ensures reads { OnlyReads D.Disk disk.old disk.new (IsErrOf result DiskError.Failed) }
     ensures first { D.honest disk.old → IfOk result (λ first. first ≡ first_missing_of (D.content disk.old) key.now (map (λ f. f.name) listed.now)) }
 {
     let mut first = None;
     for file in listed {
-        first = first_with(alloc, disk, key, &file.name, first)?;
+        first = first_with(disk, alloc, key, &file.name, first)?;
     }
     Ok(first)
 }
@@ -123,14 +116,13 @@ fn manifest_name_of(alloc: Global, key: &SnapshotKey) -> Result<Bytes, AllocErro
 
 /// The full name of the file that makes the snapshot with this manifest damaged.
 fn unreadable_of<D: Disk>(
-    alloc: Global,
     disk: &mut D,
+    alloc: Global,
     key: &SnapshotKey,
     manifest: &Option<Manifest>,
 ) -> Result<Option<Bytes>, DiskError>
     requires { IsKey key.now }
-    ensures serves { Serves D.honest D.faults disk.old disk.new (IsErrOf result DiskError.Failed) }
-    ensures reads { Reads D.honest D.content D.calls D.images disk.old disk.new }
+    ensures reads { OnlyReads D.Disk disk.old disk.new (IsErrOf result DiskError.Failed) }
     ensures unreadable { D.honest disk.old → IfOk result (λ name. name ≡ unreadable_by (D.content disk.old) key.now (option_map manifest_view manifest.now)) }
     ensures short { IfOk result (λ name. IfSome name (λ path. length path ≤ 251)) }
 {
@@ -141,7 +133,7 @@ fn unreadable_of<D: Disk>(
     if files.len() > LISTED_LIMIT {
         return Ok(Some(manifest_name_of(alloc, key)?));
     }
-    let Some(name) = first_missing(alloc, disk, key, files)? else {
+    let Some(name) = first_missing(disk, alloc, key, files)? else {
         return Ok(None);
     };
     let path = path_of(alloc, key, &name)?;
@@ -150,9 +142,8 @@ fn unreadable_of<D: Disk>(
 
 /// The snapshot whose manifest's file has this name.
 #[tactic(auto, unfolding(crate::specs::Scanned::found_named))]
-fn found_named<D: Disk>(alloc: Global, disk: &mut D, name: &str) -> Result<Option<Found>, DiskError>
-    ensures serves { Serves D.honest D.faults disk.old disk.new (IsErrOf result DiskError.Failed) }
-    ensures reads { Reads D.honest D.content D.calls D.images disk.old disk.new }
+fn found_named<D: Disk>(disk: &mut D, alloc: Global, name: &str) -> Result<Option<Found>, DiskError>
+    ensures reads { OnlyReads D.Disk disk.old disk.new (IsErrOf result DiskError.Failed) }
     ensures found { D.honest disk.old → IfOk result (λ found. found ≡ found_of (D.content disk.old) name.now) }
     ensures names { IfOk result (λ found. IfSome found HasNames) }
 {
@@ -163,7 +154,7 @@ fn found_named<D: Disk>(alloc: Global, disk: &mut D, name: &str) -> Result<Optio
         return Ok(None);
     };
     let manifest = read_manifest(alloc, &bytes)?;
-    let unreadable = unreadable_of(alloc, disk, &key, &manifest)?;
+    let unreadable = unreadable_of(disk, alloc, &key, &manifest)?;
     Ok(Some(Found {
         key,
         manifest,
@@ -173,17 +164,16 @@ fn found_named<D: Disk>(alloc: Global, disk: &mut D, name: &str) -> Result<Optio
 
 /// The snapshot whose manifest's file has this name, behind those before.
 fn find_into<D: Disk>(
-    alloc: Global,
     disk: &mut D,
+    alloc: Global,
     name: &str,
     all: &mut Vec<Found>,
 ) -> Result<(), DiskError>
-    ensures serves { Serves D.honest D.faults disk.old disk.new (IsErrOf result DiskError.Failed) }
-    ensures reads { Reads D.honest D.content D.calls D.images disk.old disk.new }
+    ensures reads { OnlyReads D.Disk disk.old disk.new (IsErrOf result DiskError.Failed) }
     ensures found { D.honest disk.old → OnOk result (all.new.items ≡ all.old.items ++ cons_option (found_of (D.content disk.old) name.now) []) }
     ensures names { All HasNames all.old.items → OnOk result (All HasNames all.new.items) }
 {
-    let Some(found) = found_named(alloc, disk, name)? else {
+    let Some(found) = found_named(disk, alloc, name)? else {
         return Ok(());
     };
     all.push(found)?;
@@ -192,27 +182,25 @@ fn find_into<D: Disk>(
 
 /// The snapshots whose manifests have one of these names.
 fn all_named<D: Disk>(
-    alloc: Global,
     disk: &mut D,
+    alloc: Global,
     names: &[String],
 ) -> Result<Vec<Found>, DiskError>
-    ensures serves { Serves D.honest D.faults disk.old disk.new (IsErrOf result DiskError.Failed) }
-    ensures reads { Reads D.honest D.content D.calls D.images disk.old disk.new }
+    ensures reads { OnlyReads D.Disk disk.old disk.new (IsErrOf result DiskError.Failed) }
     ensures found { D.honest disk.old → IfOk result (λ all. all.items ≡ filter_map (found_of (D.content disk.old)) (map string_bytes names.now)) }
     ensures names { IfOk result (λ all. All HasNames all.items) }
 {
     let mut all = Vec::new(alloc);
     for name in names {
-        find_into(alloc, disk, name.as_str(), &mut all)?;
+        find_into(disk, alloc, name.as_str(), &mut all)?;
     }
     Ok(all)
 }
 
 /// All names in the folders of snapshots.
-fn names_in_folders<D: Disk>(alloc: Global, disk: &mut D) -> Result<Vec<String>, DiskError>
-    ensures serves { Serves D.honest D.faults disk.old disk.new (IsErrOf result DiskError.Failed) }
-    ensures moment { Ticks D.honest D.calls disk.old disk.new }
-    ensures reads { Reads D.honest D.content D.calls D.images disk.old disk.new }
+fn names_in_folders<D: Disk>(disk: &mut D, alloc: Global) -> Result<Vec<String>, DiskError>
+    ensures reads { OnlyReads D.Disk disk.old disk.new (IsErrOf result DiskError.Failed) }
+    ensures tick { Ticks D.honest D.calls disk.old disk.new }
     ensures names { D.honest disk.old → IfOk result (λ names. map string_bytes names.items ≡ folder_names (D.content disk.old)) }
 {
     let mut names = disk.list(alloc, "ct/")?;
@@ -241,15 +229,13 @@ fn in_order(alloc: Global, mut all: Vec<Found>) -> Result<Vec<Found>, AllocError
 /// Other names in the folders are passed over, and chunks are not looked at. The calls of the disk, all of which only
 /// read, are a list for each type, and for each snapshot a read of its manifest and a `size` of each listed file. At
 /// an error nothing is told, whatever was read before it.
-pub fn scan<D: Disk>(alloc: Global, disk: &mut D) -> Result<Vec<Found>, DiskError>
-    ensures serves { Serves D.honest D.faults disk.old disk.new (IsErrOf result DiskError.Failed) }
-    ensures moment { Ticks D.honest D.calls disk.old disk.new }
-    ensures crash { Steps D.calls D.images disk.old disk.new Same }
-    ensures same { D.honest disk.old → D.content disk.new ≡ D.content disk.old }
+pub fn scan<D: Disk>(disk: &mut D, alloc: Global) -> Result<Vec<Found>, DiskError>
+    ensures reads { OnlyReads D.Disk disk.old disk.new (IsErrOf result DiskError.Failed) }
+    ensures tick { Ticks D.honest D.calls disk.old disk.new }
     ensures found { D.honest disk.old → IfOk result (λ found. Lists (D.content disk.old) found.items) }
     ensures names { IfOk result (λ found. All HasNames found.items) }
 {
-    let names = names_in_folders(alloc, disk)?;
-    let all = all_named(alloc, disk, &names)?;
+    let names = names_in_folders(disk, alloc)?;
+    let all = all_named(disk, alloc, &names)?;
     Ok(in_order(alloc, all)?)
 }

@@ -5,3 +5,5 @@ pub mod Book
 pub mod Archive
 pub mod Manifest
 pub mod Order
+pub mod Entries
+pub mod Folder

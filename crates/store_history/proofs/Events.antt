@@ -87,7 +87,7 @@ module _ (R : Option (List Snapshot)) (w : World) (ps : List Position) (k m : �
 
   -- the answers of a kind
   right_short : (a : Act) (r : Option Reply) (c : Class) → Right R w k m a r c short_kind → r ≡ Some (Refused NoMemory)
-  right_short a r stepping h = h
+  right_short a r stepping h = h.0
   right_short a r wanting h = h
   right_short a r ending h = absurd h
 

@@ -1,24 +1,25 @@
 -- Lanes that run, and histories that are legal.
 use Rattle.std.specs.Prelude.{◌≡◌, ℕ, Bool, List, [], ◌∷◌, ◌++◌, codes, refl, Option, Some, None, true, false, ⊤}
 use Rattle.std.specs.List.{flat_map}
-use Rattle.std.proofs.Common.{arith}
+use Rattle.std.proofs.Common.{arith, ap}
 use Rattle.store_types.specs.declared.refusal.Refusal.TheVariants.{BadFrame, DiskFault, Halted, NoMemory, SnapshotBusy, WrongState}
 use Rattle.store_types.specs.declared.refusal.SessionState.TheVariants.{Idle}
 use Rattle.wire_frames.specs.Frames.{frame}
 use Rattle.wire_commands.specs.declared.command.Command.{Command}
-use Rattle.wire_commands.specs.declared.command.Command.TheVariants.{Finish, Forget, Prune, Bye}
+use Rattle.wire_commands.specs.declared.command.Command.TheVariants.{Abort, CloseReader, Finish, Forget, Prune, Bye}
 use Rattle.wire_commands.specs.declared.reply.Reply.{Reply}
 use Rattle.wire_commands.specs.declared.reply.Reply.TheVariants.{Done, Keys, Marks, Refused}
 use Rattle.wire_commands.specs.declared.rows.PruneMark.TheVariants.{Kept, Held}
 use Rattle.wire_commands.specs.CommandText.{command_text}
 use Rattle.store_model.specs.declared.ending.Ending.TheVariants as endings
+use Rattle.store_model.specs.Store.{Reader, Writer, reader, session, writer}
 use Rattle.store_model.specs.PruneJob.{row}
 use Rattle.store_model.proofs.OnLiterals.{store_model_on_literals}
 use Rattle.store_history.specs.declared.act.Act.{Act}
 use Rattle.store_history.specs.declared.act.Act.TheVariants as acts
 use Rattle.store_history.specs.declared.act.Event.{Event}
-use Rattle.store_history.specs.History.{Opening, act_outcome, moved, after, after_all, opened}
-use Rattle.store_history.specs.Legal.{IsLegal}
+use Rattle.store_history.specs.History.{Opening, World, act_outcome, moved, after, after_all, opened}
+use Rattle.store_history.specs.Legal.{IsLegal, IsRight, closes}
 use Rattle.store_history.specs.LaneRun.{LaneRan, text, next_at, goes_on, heard_at, heard, last_words, position_after, may_want, may_want_at}
 
 abbrev event : Act → ℕ → Option Reply → ℕ → Bool → Event
@@ -61,7 +62,7 @@ unfolding on_histories
 legal = (
   record { says = (refl, refl); formed = tt; inside = omega arith; place = refl; last = λ is. cc; risen = omega arith; in_time = omega arith; counted = omega arith },
   (
-    record { says = refl; formed = tt; inside = omega arith; place = refl; last = λ is. cc; risen = omega arith; in_time = omega arith; counted = omega arith },
+    record { says = (refl, λ is. (let e = is.1 in cc)); formed = tt; inside = omega arith; place = refl; last = λ is. cc; risen = omega arith; in_time = omega arith; counted = omega arith },
     (
       record { says = refl; formed = tt; inside = omega arith; place = refl; last = λ is. cc; risen = omega arith; in_time = omega arith; counted = omega arith },
       (
@@ -71,6 +72,13 @@ legal = (
     ),
   ),
 )
+
+-- an ABORT that ends a writer is not answered by want of memory, nor is a CLOSE_READER that ends a reader
+abort_is_held : (w : World) (x : Writer) → w.fault ≡ None → session w.store 0 ≡ writer x → IsRight None w (event (acts.Plain Abort) 2 short 0 false) → ⊥
+abort_is_held w x none at right = (right.says).1 (none, ap (closes (acts.Plain Abort)) at)
+
+close_is_held : (w : World) (x : Reader) → w.fault ≡ None → session w.store 0 ≡ reader x → IsRight None w (event (acts.Plain CloseReader) 2 short 0 false) → ⊥
+close_is_held w x none at right = (right.says).1 (none, ap (closes (acts.Plain CloseReader)) at)
 
 -- a cut frame behind a FINISH: what the lane's end is replied, and that it is not where the source failed
 abbrev cut_input : List ℕ

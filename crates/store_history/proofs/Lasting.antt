@@ -223,7 +223,7 @@ puts_by R w k m zero r x right done is same =
     subst (λ y. IsThere x.key ((answered w.store y).0).snapshots) (sym (finish_is w.store k x is))
     (finished_puts w.store k x (finish_check x) same (let h : (answered w.store o).1 ≡ Done = cc in h))
 puts_by R w k m (suc zero) r x right done is same = absurd right
-puts_by R w k m (suc (suc zero)) r x right done is same = absurd (no_done r NoMemory done right)
+puts_by R w k m (suc (suc zero)) r x right done is same = absurd (no_done r NoMemory done right.0)
 puts_by R w k m (suc (suc (suc zero))) r x right done is same = absurd right
 puts_by R w k m (suc (suc (suc (suc zero)))) r x right done is same = absurd right
 puts_by R w k m (suc (suc (suc (suc (suc zero))))) r x right done is same = absurd (no_done r (fault_refusal w.fault) done right)

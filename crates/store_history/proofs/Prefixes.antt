@@ -8,7 +8,7 @@ use Rattle.store_history.specs.declared.act.Act.{Act}
 use Rattle.store_history.specs.declared.act.Event.{Event}
 use Rattle.store_history.specs.History.{World, EntryKind, step_kind, short_kind, fault_kind, end_kind, no_kind, kind_of, lane, moment, kind, moved, after, after_all}
 use Rattle.store_history.specs.Legal.{IsLegal}
-use Rattle.store_history.specs.Moments.{answered_by, undisturbed, one_more, is_past, Either, Reopens}
+use Rattle.store_history.specs.CrashPoints.{answered_by, undisturbed, one_more, is_past, Either, Reopens}
 use Rattle.store_history.proofs.Longer.{calls_risen}
 
 -- ---- a fault stays

@@ -14,13 +14,30 @@ use Rattle.store_history.specs.declared.act.Act.TheVariants as acts
 
 -- ---- well-formed acts
 
--- a command that is an act of its own: no upload, no job's, and no BYE, which belongs to the lane's end
+-- Which commands are acts of their own: all but the uploads, whose bytes are checked before the act, the jobs' commands, of which each step is
+-- an act, and BYE, which belongs to the lane's end. Each command stands here by its name, so that a new one is none by silence.
 abbrev pub IsPlain : Command → Type 0
+IsPlain (commands.OpenWriter snapshot) = Unit {0}
+IsPlain (commands.Previous file offset) = Unit {0}
+IsPlain (commands.NewFixed file size chunk_size) = Unit {0}
+IsPlain (commands.NewDynamic file) = Unit {0}
 IsPlain (commands.Chunk digest blob) = ⊥
+IsPlain (commands.Append number entries) = Unit {0}
+IsPlain (commands.CloseIndex number count size csum) = Unit {0}
 IsPlain (commands.Blob file blob) = ⊥
+IsPlain commands.Finish = Unit {0}
+IsPlain commands.Abort = Unit {0}
+IsPlain (commands.OpenReader snapshot) = Unit {0}
+IsPlain (commands.Download file offset) = Unit {0}
+IsPlain (commands.GetChunk digest) = Unit {0}
+IsPlain (commands.Range file offset length) = Unit {0}
+IsPlain commands.CloseReader = Unit {0}
+IsPlain (commands.List after) = Unit {0}
+IsPlain (commands.Files snapshot) = Unit {0}
+IsPlain (commands.Forget snapshot) = Unit {0}
 IsPlain (commands.Prune group keep dry) = ⊥
+IsPlain (commands.Group group) = Unit {0}
 IsPlain commands.Bye = ⊥
-IsPlain c = Unit {0}
 
 -- a job's command whose first step gives a group
 abbrev pub IsPrune : Command → Type 0

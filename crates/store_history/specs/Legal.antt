@@ -1,15 +1,17 @@
 -- Which histories are legal: each answer is the plain store's at that point.
-use Rattle.std.specs.Prelude.{ℕ, ◌≡◌, ◌<◌, ◌≤◌, true, List, [], ◌∷◌, Option, Some, None, min, max}
+use Rattle.std.specs.Prelude.{ℕ, ◌≡◌, ◌<◌, ◌≤◌, Bool, true, false, List, [], ◌∷◌, Option, Some, None, min, max}
 use Rattle.store_types.specs.Times.{last_moment}
 use Rattle.store_types.specs.declared.refusal.Refusal.TheVariants.{NoMemory}
 use Rattle.port_traits.specs.Readings.{Readings, reading_at, readings_after}
 use Rattle.store_files.specs.Archive.{Snapshot}
 use Rattle.wire_commands.specs.declared.reply.Reply.{Reply}
 use Rattle.wire_commands.specs.declared.reply.Reply.TheVariants.{Refused}
-use Rattle.store_model.specs.Store.{lane_count}
+use Rattle.wire_commands.specs.declared.command.Command.TheVariants as commands
+use Rattle.store_model.specs.Store.{Session, writer, reader, session, lane_count}
 use Rattle.store_model.specs.Steps.{answered}
 use Rattle.store_model.specs.Weave.{fault_refusal}
 use Rattle.store_history.specs.declared.act.Act.{Act}
+use Rattle.store_history.specs.declared.act.Act.TheVariants as acts
 use Rattle.store_history.specs.declared.act.Event.{Event}
 use Rattle.store_history.specs.Acts.{IsWellFormed, Class, stepping, wanting, ending, class_of}
 use Rattle.store_history.specs.History.{World, act_outcome, after, lane, moment, kind, reply, EntryKind, kind_of, step_kind, short_kind, fault_kind, end_kind}
@@ -17,13 +19,24 @@ use Rattle.store_history.specs.History.{World, act_outcome, after, lane, moment,
 abbrev pub Says : Option (List Snapshot) → World → ℕ → ℕ → Act → Option Reply → Type 0
 Says remote w k m a r = r ≡ Some (answered w.store (act_outcome remote w k m a)).1
 
+-- an ABORT ends a writer, a CLOSE_READER a reader
+abbrev pub closes : Act → Session → Bool
+closes (acts.Plain commands.Abort) (writer w) = true
+closes (acts.Plain commands.CloseReader) (reader r) = true
+closes _ session = false
+
+-- The act ends the lane's session, and no fault was before: its entry is kept for it, so it wants no memory.
+abbrev pub IsClosing : World → ℕ → Act → Type 0
+IsClosing w k a = (w.fault ≡ None) × (closes a (session w.store k) ≡ true)
+
 -- what an act is answered whose entry is of this kind
 abbrev pub Right : Option (List Snapshot) → World → ℕ → ℕ → Act → Option Reply → Class → EntryKind → Type 0
 -- the next command
 Right remote w k m a r stepping step_kind = (w.fault ≡ None) × Says remote w k m a r
--- want of memory, which comes to no lane's end
+-- want of memory, which comes to no lane's end, and to no act that ends a session
+Right remote w k m a r stepping short_kind = (r ≡ Some (Refused NoMemory)) × (IsClosing w k a → ⊥)
+Right remote w k m a r wanting short_kind = r ≡ Some (Refused NoMemory)
 Right remote w k m a r ending short_kind = ⊥
-Right remote w k m a r _ short_kind = r ≡ Some (Refused NoMemory)
 -- a fault of the disk, and what comes after it; a lane's end is not refused for an earlier fault
 Right remote w k m a r wanting fault_kind = ⊥
 Right remote w k m a r ending fault_kind = (w.fault ≡ None) × (r ≡ Some (Refused (fault_refusal w.fault)))

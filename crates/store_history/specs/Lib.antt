@@ -4,5 +4,5 @@ pub mod Legal
 pub mod LaneRun
 pub mod SoFar
 pub mod Woven
-pub mod Moments
+pub mod CrashPoints
 pub mod Seats

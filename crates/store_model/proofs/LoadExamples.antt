@@ -5,7 +5,7 @@ use Rattle.sha2.specs.Sha256.{sha256}
 use Rattle.store_types.specs.declared.names.Kind.TheVariants.{Host}
 use Rattle.blob_codec.specs.Blob as blobs
 use Rattle.store_files.specs.Archive.{dynamic, Archive, archive, blob, Snapshot, archive_text, csum_by}
-use Rattle.store_model.specs.Stands.{chunk_name}
+use Rattle.store_files.specs.Folder.{chunk_name}
 use Rattle.store_model.specs.Load.{Entries, snapshots_in}
 use Rattle.store_model.proofs.OnLiterals.{store_model_on_literals, digests_on_literals, loading_on_literals}
 

@@ -10,8 +10,9 @@ use Rattle.store_types.specs.Names.{IsKey, kind_text, group_text, key_text, part
 use Rattle.store_types.proofs.KeyTexts.{no_slash, first_part, last_part, id_no_slash, time_no_slash}
 use Rattle.store_types.proofs.KeyLaws.{key_texts}
 use Rattle.store_files.specs.Archive.{Layout, dynamic, fixed, Content, archive, blob}
-use Rattle.store_model.specs.Uploads.{file_path}
-use Rattle.store_model.specs.Stands.{names_content, chunk_name}
+use Rattle.store_files.specs.Folder.{file_path}
+use Rattle.store_model.specs.Stands.{names_content}
+use Rattle.store_files.specs.Folder.{chunk_name}
 
 kind_no_slash : (k : Kind) → no_slash (kind_text k) ≡ true
 kind_no_slash Ct = refl

@@ -15,8 +15,9 @@ use Rattle.store_types.proofs.KeyTexts.{no_slash}
 use Rattle.store_types.proofs.OrderLaws.{same_keys, same_groups}
 use Rattle.store_files.specs.Archive.{File, Snapshot, file_text}
 use Rattle.store_model.specs.Store.{in_group, insert_snapshot}
-use Rattle.store_model.specs.Uploads.{file_path}
-use Rattle.store_model.specs.Stands.{Files, StandsFor, IsSnapshot, HoldsFiles, HoldsPieces, HasWholeChunks, pieces_in, manifest_path, chunk_name, group_limit}
+use Rattle.store_files.specs.Folder.{file_path}
+use Rattle.store_model.specs.Stands.{StandsFor, IsSnapshot, HoldsFiles, HoldsPieces, pieces_in, group_limit}
+use Rattle.store_files.specs.Folder.{Files, HasWholeChunks, manifest_path, chunk_name}
 use Rattle.store_model.proofs.Paths.{same_path, content_plain, manifest_plain, chunk_apart}
 use Rattle.store_model.proofs.Insertions.{All-insert, Contains-new, Contains-kept, Contains-insert_cases, length-in_group-insert, rise-insert}
 

@@ -15,7 +15,7 @@ use Rattle.store_types.specs.Chain.Refusing.{◌>>=◌, unless, or_else}
 use Rattle.store_files.specs.Cells.{entry_limit}
 use Rattle.store_files.specs.FixedIndex.{is_chunk_size, piece_count, piece_len}
 use Rattle.store_files.specs.Archive.{Layout, dynamic, fixed, Archive}
-use Rattle.store_model.specs.Uploads.{file_path}
+use Rattle.store_files.specs.Folder.{file_path}
 
 -- ---- beginning
 

@@ -5,7 +5,7 @@ use Rattle.std.specs.Str.{bytes_eq}
 use Rattle.std.specs.FinMap.{entries}
 use Rattle.sha2.specs.Sha256.{sha256}
 use Rattle.blob_codec.specs.Blob.{blob, data_limit}
-use Rattle.store_model.specs.Stands.{Files, chunk_name}
+use Rattle.store_files.specs.Folder.{Files, chunk_name}
 
 -- no two unequal pieces have one digest
 abbrev pub NoClash : List (List ℕ) → Type 0

@@ -14,9 +14,9 @@ use Rattle.store_files.specs.DynamicIndex as dynamic_index
 use Rattle.store_files.specs.Archive.{Layout, dynamic, fixed, Archive, Content, archive, blob, File, Snapshot}
 use Rattle.store_files.specs.Manifest.{Manifest, manifest_of}
 use Rattle.store_model.specs.Store.{insert_snapshot, insert_file}
-use Rattle.store_model.specs.Uploads.{file_path}
+use Rattle.store_files.specs.Folder.{file_path}
 use Rattle.store_model.specs.Manifests.{listed_names}
-use Rattle.store_model.specs.Stands.{Files, chunk_name, manifest_path}
+use Rattle.store_files.specs.Folder.{Files, chunk_name, manifest_path}
 
 -- a map's names and their bytes, in byte order of the names
 abbrev pub Entries : Type 0

@@ -1,38 +1,22 @@
 -- When a map from names to bytes stands for a list of snapshots.
-use Rattle.std.specs.Prelude.{◌<◌, ◌≡◌, ℕ, ◌+◌, ◌≤◌, Bool, true, ◌&&◌, ◌==◌, List, [], ◌∷◌, ◌++◌, map, length, take, ◌↔◌, Some, IsTrue, IsSome, codes}
+use Rattle.std.specs.Prelude.{◌≡◌, ℕ, ◌+◌, ◌≤◌, Bool, true, ◌&&◌, ◌==◌, List, [], ◌∷◌, map, length, ◌↔◌, Some, IsTrue, IsSome}
 use Rattle.std.specs.List.{All, Contains, flat_map}
-use Rattle.std.specs.FinMap.{FinMap, get}
+use Rattle.std.specs.FinMap.{get}
 use Rattle.sha2.specs.Sha256.{sha256}
 use Rattle.store_types.specs.declared.names.SnapshotKey.{SnapshotKey}
 use Rattle.store_types.specs.declared.names.GroupKey.{GroupKey}
-use Rattle.store_types.specs.FileNames.{manifest_name, is_fixed_name, is_dynamic_name, is_blob_name}
-use Rattle.store_types.specs.Names.{IsKey, text_cmp, key_lt, name_lt}
+use Rattle.store_types.specs.FileNames.{is_fixed_name, is_dynamic_name, is_blob_name}
+use Rattle.store_types.specs.Names.{IsKey, key_lt, name_lt}
 use Rattle.blob_codec.specs.Blob as blobs
 use Rattle.store_files.specs.FixedIndex as fixed_index
 use Rattle.store_files.specs.FixedIndex.{piece_len}
 use Rattle.store_files.specs.DynamicIndex as dynamic_index
 use Rattle.store_files.specs.Archive.{Layout, dynamic, fixed, Archive, Content, archive, blob, File, Snapshot, fixed_of_archive, dynamic_of_archive, file_text, pieces_of}
 use Rattle.store_model.specs.Store.{in_group}
-use Rattle.store_model.specs.Uploads.{file_path}
 use Rattle.store_model.specs.Manifests.{ListsFiles}
-use Rattle.hex.specs.Hex.{encode_lower}
-
--- a disk as it reads: from names, in byte order, to bytes
-abbrev pub Files : Type 0
-Files = FinMap text_cmp (List ℕ)
-
--- `.chunks/<first four hex digits>/<64 hex digits>`
-abbrev pub chunk_name : List ℕ → List ℕ
-chunk_name digest = codes ".chunks/" ++ take 4 (encode_lower digest) ++ codes "/" ++ encode_lower digest
-
-abbrev pub manifest_path : SnapshotKey → List ℕ
-manifest_path key = file_path key manifest_name
+use Rattle.store_files.specs.Folder.{Files, chunk_name, file_path, manifest_path, IsPiece, HasWholeChunks}
 
 -- ---- well-formed snapshots
-
--- a piece has 1 to 16,777,216 bytes
-abbrev pub IsPiece : List ℕ → Type 0
-IsPiece p = (1 ≤ length p) × (length p ≤ blobs.data_limit)
 
 -- each piece of a fixed archive has the length that size and chunk size ask where it begins, and the last ends at the size
 abbrev pub fills_size : ℕ → ℕ → ℕ → List (List ℕ) → Bool
@@ -90,15 +74,6 @@ pieces_in x = flat_map (λ f. pieces_of f.content) x.files
 -- each piece is there under its digest
 abbrev pub HoldsPieces : Files → Snapshot → Type 0
 HoldsPieces m x = All (λ p. get m (chunk_name (sha256 p)) ≡ Some (blobs.blob p)) (pieces_in x)
-
--- 32 bytes
-abbrev pub IsDigest : List ℕ → Type 0
-IsDigest digest = (length digest ≡ 32) × All (λ b. b < 256) digest
-
--- under a chunk's name is the blob of a piece with that digest
-abbrev pub HasWholeChunks : Files → Type 0
-HasWholeChunks m = (digest bytes : List ℕ) → IsDigest digest → get m (chunk_name digest) ≡ Some bytes →
-    (p : List ℕ) × IsPiece p × (bytes ≡ blobs.blob p) × (sha256 p ≡ digest)
 
 -- The map stands for the list. Other names don't matter.
 pub record StandsFor (m : Files) (snapshots : List Snapshot) : Type 0 where

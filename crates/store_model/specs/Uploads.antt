@@ -1,17 +1,11 @@
 -- What a writer's commands test of its files.
-use Rattle.std.specs.Prelude.{ℕ, ◌+◌, Bool, not, ◌||◌, List, ◌++◌, length, nat_lt, Result, codes}
+use Rattle.std.specs.Prelude.{ℕ, ◌+◌, Bool, not, ◌||◌, List, length, nat_lt, Result}
 use Rattle.std.specs.List.{list_any}
 use Rattle.std.specs.Str.{bytes_eq}
-use Rattle.store_types.specs.declared.names.SnapshotKey.{SnapshotKey}
 use Rattle.store_types.specs.declared.refusal.Refusal.{Refusal}
 use Rattle.store_types.specs.declared.refusal.Refusal.TheVariants.{Exists, TooMany}
 use Rattle.store_types.specs.Chain.Refusing.{◌>>=◌, unless}
-use Rattle.store_types.specs.Names.{key_text}
 use Rattle.store_model.specs.Store.{Writer}
-
--- a snapshot's file as a path in the datastore
-abbrev pub file_path : SnapshotKey → List ℕ → List ℕ
-file_path key name = key_text key ++ codes "/" ++ name
 
 -- the writer has an uploaded or an open file of that name
 abbrev pub has_file : List ℕ → Writer → Bool

@@ -1,8 +1,13 @@
+ghost use Rattle.std.specs.Prelude.{None, Some, if◌then◌else◌};
+
 use crate::asserts::{same, same_at};
 use crate::fixtures::{ROOT, key, named};
 use blob_codec::encode;
-use disk_trait::{Disk, DiskError, FailingDisk, MemoryDisk};
-use snapshot_files::{FilePath, Found, finish, forget, path_of, put_file, remove_files, scan};
+use disk_trait::{Disk, DiskError, Failed, FailingDisk, MemoryDisk};
+use snapshot_files::{
+    FilePath, Found, Stored, finish, forget, manifest_path_of, path_of, put_file, remove_files,
+    scan,
+};
 use std::alloc::Global;
 use std::process::Abort;
 use std::test::Fail;
@@ -40,8 +45,8 @@ fn make<D: Disk>(disk: &mut D, alloc: Global, change: Change) -> Result<bool, Fa
     let set = named(alloc, "set.blob")?;
     let root = named(alloc, "root.didx")?;
     let outcome = match change {
-        Change::PutFile => put_file(disk, alloc, &key, &set, b"newest"),
-        Change::Finish => finish(disk, alloc, &key, b"manifest"),
+        Change::PutFile => put_file(disk, alloc, &path_of(alloc, &key, &set)?, b"newest"),
+        Change::Finish => finish(disk, alloc, &manifest_path_of(alloc, &key)?, b"manifest"),
         Change::Forget => forget(disk, alloc, &key, &[set, root]),
     };
     if outcome == Err(DiskError::Failed) {
@@ -62,8 +67,7 @@ fn put_all(disk: &mut MemoryDisk, alloc: Global, files: &[(&str, &[u8])]) -> Res
 }
 
 fn put_set(disk: &mut MemoryDisk, alloc: Global) -> Result<(), Fail> {
-    let set = named(alloc, "set.blob")?;
-    put_file(disk, alloc, &key(alloc)?, &set, b"set")?;
+    put_file(disk, alloc, &path(alloc, "set.blob")?, b"set")?;
     Ok(())
 }
 
@@ -209,6 +213,26 @@ fn remove(disk: &mut MemoryDisk, paths: &[FilePath]) -> Result<(), Fail> {
     Ok(())
 }
 
+/// A row that may have a file.
+#[derive(Drop)]
+struct MayBePut {
+    path: FilePath,
+    is_put: bool,
+}
+
+impl Stored for MayBePut {
+    ghost at = { λ row. if row.is_put then Some row.path else None };
+
+    fn path(&self) -> Option<&FilePath> {
+        if self.is_put { Some(&self.path) } else { None }
+    }
+}
+
+fn row(alloc: Global, name: &str, is_put: bool) -> Result<MayBePut, Fail> {
+    let path = path(alloc, name)?;
+    Ok(MayBePut { path, is_put })
+}
+
 #[test]
 fn files_are_removed(rt: HostRuntime) -> Result<(), Fail> {
     let alloc = rt.alloc();
@@ -217,6 +241,23 @@ fn files_are_removed(rt: HostRuntime) -> Result<(), Fail> {
     same(&rt, set.as_str(), SET);
     remove(&mut disk, &[set, path(alloc, "b.blob")?])?;
     let reads = shown(alloc, &mut disk)?;
+    same(&rt, reads.as_str(), "manifest//root///other/");
+    Ok(())
+}
+
+// What has no file is passed over; where nothing has one, the disk is not called.
+#[test]
+fn rows_with_a_file_are_removed(rt: HostRuntime) -> Result<(), Fail> {
+    let alloc = rt.alloc();
+    let mut disk = FailingDisk::stopping_after(disk_before(alloc, Change::Forget)?, 1);
+    let rows = [
+        row(alloc, "root.didx", false)?,
+        row(alloc, "set.blob", true)?,
+    ];
+    same(&rt, remove_files(&mut disk, &rows), Ok(()));
+    same(&rt, remove_files(&mut disk, &rows[..1]), Ok(()));
+    same(&rt, remove_files(&mut disk, &rows), Err(Failed));
+    let reads = shown(alloc, &mut disk.into_inner())?;
     same(&rt, reads.as_str(), "manifest//root///other/");
     Ok(())
 }
@@ -271,7 +312,7 @@ fn tell(text: &mut String, found: &Found) -> Result<(), Fail> {
 // Each snapshot with the number of files that its manifest lists, and the name that makes it damaged.
 fn found_on(alloc: Global, disk: &mut MemoryDisk) -> Result<String, Fail> {
     let mut text = String::new(alloc);
-    for found in &scan(alloc, disk)? {
+    for found in &scan(disk, alloc)? {
         tell(&mut text, found)?;
     }
     Ok(text)
@@ -362,7 +403,7 @@ fn try_scan(rt: &impl Abort, alloc: Global, k: u64, fails: bool) -> Result<(), F
     disk.put(alloc, MANIFEST, &manifest_of(alloc, 0)?)?;
     let plan = Vec::from_slice(alloc, &[k])?;
     let mut failing = FailingDisk::at_calls(disk, plan);
-    let outcome = scan(alloc, &mut failing);
+    let outcome = scan(&mut failing, alloc);
     let has_failed = matches!(&outcome, Err(DiskError::Failed));
     same_at(rt, k, has_failed, fails);
     Ok(())

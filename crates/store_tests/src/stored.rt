@@ -3,14 +3,14 @@
 use crate::asserts::{same, same_at};
 use crate::faults::{Fault, refusal};
 use crate::fixtures::{NINES, ROOT, SEVENS};
-use disk_trait::{Disk, DiskError, FailingDisk, MemoryDisk};
+use disk_trait::{Disk, FailingDisk, MemoryDisk};
 use dynamic_index::DynamicWriter;
 use fixed_index::FixedWriter;
+use snapshot_files::{IndexPart, ReadError, lengths_of, read_index, read_part};
 use std::alloc::Global;
 use std::process::Abort;
 use std::test::Fail;
 use store_types::{Digest32, Refusal};
-use stored_files::{IndexPart, lengths_of, read_index, read_part};
 use wire_commands::Reply;
 
 const FIXED: &str = "host/a/2020-01-15T06:30:03Z/disk.fidx";
@@ -56,6 +56,16 @@ enum Read {
 /// What is told: the file's size, the bytes from the offset on, and an index's entries, none for any file.
 type Told = (u64, &'static [u8], &'static [(Digest32, u64)]);
 
+/// What is read, or the refusal.
+fn told<T: Drop>(read: Result<T, ReadError>) -> Result<Result<T, Refusal>, Fail> {
+    match read {
+        Ok(value) => Ok(Ok(value)),
+        Err(ReadError::Refused(refusal)) => Ok(Err(refusal)),
+        Err(ReadError::NoMemory) => Err("no memory".into()),
+        Err(ReadError::Failed) => Err("the disk failed".into()),
+    }
+}
+
 /// The index of the kind, where the path is no longer than a path may be.
 fn index_at(
     disk: &mut MemoryDisk,
@@ -67,7 +77,7 @@ fn index_at(
     if path.len() > 255 {
         return Err("a long path".into());
     }
-    Ok(read_index(disk, alloc, path, is_fixed, offset)?)
+    told(read_index(disk, alloc, path, is_fixed, offset))
 }
 
 /// The part of any file, as that of an index without entries.
@@ -80,7 +90,7 @@ fn part_at(
     if path.len() > 255 {
         return Err("a long path".into());
     }
-    match read_part(disk, alloc, path, offset)? {
+    match told(read_part(disk, alloc, path, offset))? {
         Ok(part) => Ok(Ok(IndexPart {
             part,
             entries: Vec::new(alloc),
@@ -182,10 +192,7 @@ fn reads_are_refused(rt: HostRuntime) -> Result<(), Fail> {
     Ok(())
 }
 
-fn read_root(
-    disk: &mut FailingDisk<MemoryDisk>,
-    alloc: Global,
-) -> Result<Result<IndexPart, Refusal>, DiskError> {
+fn read_root(disk: &mut FailingDisk<MemoryDisk>, alloc: Global) -> Result<IndexPart, ReadError> {
     read_index(disk, alloc, ROOT, false, 4144)
 }
 
@@ -202,7 +209,7 @@ fn try_root(
     alloc: Global,
     disk: &mut FailingDisk<MemoryDisk>,
 ) -> Result<(), Fail> {
-    let told = read_root(disk, alloc)?.ok().ok_or("refused")?;
+    let told = read_root(disk, alloc).ok().ok_or("not read")?;
     try_told(rt, Read::Dynamic(ROOT, 4144), &told, &ROOT_READ);
     Ok(())
 }
@@ -210,7 +217,7 @@ fn try_root(
 fn try_fault(rt: &impl Abort, alloc: Global, number: u64) -> Result<(), Fail> {
     let mut disk = failing_at(alloc, number)?;
     let failed = read_root(&mut disk, alloc).err();
-    same_at(rt, number, failed, Some(DiskError::Failed));
+    same_at(rt, number, failed, Some(ReadError::Failed));
     try_root(rt, alloc, &mut disk)
 }
 

@@ -22,8 +22,8 @@ pub fn save<D: Disk>(
     ensures crash { LeavesOnly D.calls D.images disk.old disk.new (λ c. (loaded c ≡ None) ⊎ (loaded c ≡ Some (manifest.now, Some chunk.now))) }
     ensures saved { OnOk result (Now D.calls D.images disk.new (λ c. loaded c ≡ Some (manifest.now, Some chunk.now))) }
 {
-    install(alloc, disk, "chunk", chunk)?;
-    install_firm(alloc, disk, "manifest", manifest)?;
+    install(disk, alloc, "chunk", chunk)?;
+    install_firm(disk, alloc, "manifest", manifest)?;
     Ok(())
 }
 

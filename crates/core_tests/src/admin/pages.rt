@@ -1,7 +1,7 @@
 //! LIST of many snapshots, page by page.
 
 use crate::asserts::same;
-use crate::fixtures::opened_parts;
+use crate::fixtures::{at, opened_parts, told};
 use core_admin::list;
 use core_state::{Kept, Listed, Parts};
 use disk_trait::MemoryDisk;
@@ -40,7 +40,7 @@ fn assert_page(
     from: u64,
     to: u64,
 ) -> Result<(), Fail> {
-    let Reply::Listing(rows) = list(parts, alloc, after)? else {
+    let Reply::Listing(rows) = told(list(parts, alloc, at(5), after))? else {
         return Err("no listing".into());
     };
     same(rt, rows.as_slice().len() as u64, to.saturating_sub(from));

@@ -1,7 +1,10 @@
-//! Each call of the disk fails in turn.
+//! Each call of the disk fails in turn, and the store is stopped after each.
 
 use super::*;
-use disk_trait::FailingDisk;
+use disk_trait::{FailingDisk, Step};
+
+/// The manifest under its temporary name.
+const STAGED: Files = &[("host/a/2020-01-15T06:30:03Z/index.json.blob.tmp", 86)];
 
 /// With the files of the unfinished snapshot.
 const WITH_FIRST: Files = &[
@@ -20,6 +23,18 @@ const WITH_BOTH: Files = &[
     ("host/a/2020-01-15T06:30:04Z/b.blob", 12),
 ];
 
+/// With one of them under its temporary name.
+const FIRST_STAGED: Files = &[
+    ("host/a/2020-01-15T06:30:03Z/index.json.blob", 86),
+    ("host/a/2020-01-15T06:30:04Z/a.conf.blob.tmp", 21),
+];
+
+const SECOND_STAGED: Files = &[
+    ("host/a/2020-01-15T06:30:03Z/index.json.blob", 86),
+    ("host/a/2020-01-15T06:30:04Z/a.conf.blob", 21),
+    ("host/a/2020-01-15T06:30:04Z/b.blob.tmp", 12),
+];
+
 /// What a disk's call that fails leaves: how many bytes of the session's replies are told as without a fault, and what is told
 /// behind them; the status, the kinds of the entries, and the files.
 #[derive(Clone, Copy)]
@@ -31,14 +46,28 @@ struct Fault {
     files: Files,
 }
 
-/// FINISH puts the manifest and syncs, and DOWNLOAD asks for the size and reads. In the end no call is left to fail.
-static TO_THE_END_FAULTS: [Fault; 5] = [
+/// FINISH installs the manifest and syncs, and DOWNLOAD asks for the size and reads. In the end no call is left to fail.
+static TO_THE_END_FAULTS: [Fault; 7] = [
     Fault {
         told: 11,
         behind: b"\x01\0\0\0\x1a\x09\0\0\0\x1b\x02\0\0\0\0\0\0\0\x09\0\0\0\x1b\x02\0\0\0\0\0\0\0",
         status: Status::DiskFault,
         kinds: &[0, 0, 5, 5, 5, 6],
         files: NOTHING,
+    },
+    Fault {
+        told: 11,
+        behind: b"\x01\0\0\0\x1a\x09\0\0\0\x1b\x02\0\0\0\0\0\0\0\x09\0\0\0\x1b\x02\0\0\0\0\0\0\0",
+        status: Status::DiskFault,
+        kinds: &[0, 0, 5, 5, 5, 6],
+        files: STAGED,
+    },
+    Fault {
+        told: 11,
+        behind: b"\x01\0\0\0\x1a\x09\0\0\0\x1b\x02\0\0\0\0\0\0\0\x09\0\0\0\x1b\x02\0\0\0\0\0\0\0",
+        status: Status::DiskFault,
+        kinds: &[0, 0, 5, 5, 5, 6],
+        files: STAGED,
     },
     Fault {
         told: 11,
@@ -70,15 +99,29 @@ static TO_THE_END_FAULTS: [Fault; 5] = [
     },
 ];
 
-/// FINISH puts the manifest and syncs, each upload puts its file, and the end removes both. A fault of the end is not told, and
-/// the end then comes again, without a call.
-static TO_BYE_FAULTS: [Fault; 7] = [
+/// FINISH installs the manifest and syncs, each upload installs its file, and the end removes both. A fault of the end is not
+/// told, and the end then comes again, without a call.
+static TO_BYE_FAULTS: [Fault; 13] = [
     Fault {
         told: 11,
         behind: b"\x01\0\0\0\x1a\x09\0\0\0\x1b\x02\0\0\0\0\0\0\0\x09\0\0\0\x1b\x02\0\0\0\0\0\0\0\x09\0\0\0\x1b\x02\0\0\0\0\0\0\0\x01\0\0\0\0",
         status: Status::DiskFault,
         kinds: &[0, 0, 5, 5, 5, 5, 6],
         files: NOTHING,
+    },
+    Fault {
+        told: 11,
+        behind: b"\x01\0\0\0\x1a\x09\0\0\0\x1b\x02\0\0\0\0\0\0\0\x09\0\0\0\x1b\x02\0\0\0\0\0\0\0\x09\0\0\0\x1b\x02\0\0\0\0\0\0\0\x01\0\0\0\0",
+        status: Status::DiskFault,
+        kinds: &[0, 0, 5, 5, 5, 5, 6],
+        files: STAGED,
+    },
+    Fault {
+        told: 11,
+        behind: b"\x01\0\0\0\x1a\x09\0\0\0\x1b\x02\0\0\0\0\0\0\0\x09\0\0\0\x1b\x02\0\0\0\0\0\0\0\x09\0\0\0\x1b\x02\0\0\0\0\0\0\0\x01\0\0\0\0",
+        status: Status::DiskFault,
+        kinds: &[0, 0, 5, 5, 5, 5, 6],
+        files: STAGED,
     },
     Fault {
         told: 11,
@@ -95,11 +138,39 @@ static TO_BYE_FAULTS: [Fault; 7] = [
         files: FINISHED,
     },
     Fault {
+        told: 49,
+        behind: b"\x01\0\0\0\x1a\x09\0\0\0\x1b\x04\0\0\0\0\0\0\0\x01\0\0\0\0",
+        status: Status::DiskFault,
+        kinds: &[0, 0, 0, 0, 5, 5, 6],
+        files: FIRST_STAGED,
+    },
+    Fault {
+        told: 49,
+        behind: b"\x01\0\0\0\x1a\x09\0\0\0\x1b\x04\0\0\0\0\0\0\0\x01\0\0\0\0",
+        status: Status::DiskFault,
+        kinds: &[0, 0, 0, 0, 5, 5, 6],
+        files: FIRST_STAGED,
+    },
+    Fault {
         told: 54,
         behind: b"\x01\0\0\0\x1a\x01\0\0\0\0",
         status: Status::DiskFault,
         kinds: &[0, 0, 0, 0, 0, 5, 6],
         files: WITH_FIRST,
+    },
+    Fault {
+        told: 54,
+        behind: b"\x01\0\0\0\x1a\x01\0\0\0\0",
+        status: Status::DiskFault,
+        kinds: &[0, 0, 0, 0, 0, 5, 6],
+        files: SECOND_STAGED,
+    },
+    Fault {
+        told: 54,
+        behind: b"\x01\0\0\0\x1a\x01\0\0\0\0",
+        status: Status::DiskFault,
+        kinds: &[0, 0, 0, 0, 0, 5, 6],
+        files: SECOND_STAGED,
     },
     Fault {
         told: 64,
@@ -124,8 +195,13 @@ static TO_BYE_FAULTS: [Fault; 7] = [
     },
 ];
 
-/// The upload puts its file, and ABORT removes it.
-static ABORTED_FAULTS: [Fault; 3] = [
+/// An upload that is there, and under its temporary name.
+const UPLOADED: Files = &[("host/a/2020-01-15T06:30:03Z/a.conf.blob", 21)];
+
+const UPLOAD_STAGED: Files = &[("host/a/2020-01-15T06:30:03Z/a.conf.blob.tmp", 21)];
+
+/// The upload installs its file, and ABORT removes it.
+static ABORTED_FAULTS: [Fault; 5] = [
     Fault {
         told: 6,
         behind: b"\x01\0\0\0\x1a\x09\0\0\0\x1b\x01\0\0\0\0\0\0\0\x09\0\0\0\x1b\x01\0\0\0\0\0\0\0",
@@ -134,11 +210,25 @@ static ABORTED_FAULTS: [Fault; 3] = [
         files: NOTHING,
     },
     Fault {
+        told: 6,
+        behind: b"\x01\0\0\0\x1a\x09\0\0\0\x1b\x01\0\0\0\0\0\0\0\x09\0\0\0\x1b\x01\0\0\0\0\0\0\0",
+        status: Status::DiskFault,
+        kinds: &[0, 5, 5, 5, 6],
+        files: UPLOAD_STAGED,
+    },
+    Fault {
+        told: 6,
+        behind: b"\x01\0\0\0\x1a\x09\0\0\0\x1b\x01\0\0\0\0\0\0\0\x09\0\0\0\x1b\x01\0\0\0\0\0\0\0",
+        status: Status::DiskFault,
+        kinds: &[0, 5, 5, 5, 6],
+        files: UPLOAD_STAGED,
+    },
+    Fault {
         told: 11,
         behind: b"\x01\0\0\0\x1a\x09\0\0\0\x1b\x02\0\0\0\0\0\0\0",
         status: Status::DiskFault,
         kinds: &[0, 0, 5, 5, 6],
-        files: &[("host/a/2020-01-15T06:30:03Z/a.conf.blob", 21)],
+        files: UPLOADED,
     },
     Fault {
         told: 22,
@@ -155,6 +245,11 @@ const WITH_CHUNK: Files = &[(
     15,
 )];
 
+const CHUNK_STAGED: Files = &[(
+    ".chunks/ba78/ba7816bf8f01cfea414140de5dae2223b00361a396177a9cb410ff61f20015ad.tmp",
+    15,
+)];
+
 const WITH_INDEX: Files = &[
     (
         ".chunks/ba78/ba7816bf8f01cfea414140de5dae2223b00361a396177a9cb410ff61f20015ad",
@@ -163,8 +258,16 @@ const WITH_INDEX: Files = &[
     ("host/a/2020-01-15T06:30:03Z/root.didx", 4136),
 ];
 
-/// CHUNK asks whether the chunk's file is there and puts it, once; CLOSE_INDEX puts the index, and ABORT removes it.
-static STORED_FAULTS: [Fault; 5] = [
+const INDEX_STAGED: Files = &[
+    (
+        ".chunks/ba78/ba7816bf8f01cfea414140de5dae2223b00361a396177a9cb410ff61f20015ad",
+        15,
+    ),
+    ("host/a/2020-01-15T06:30:03Z/root.didx.tmp", 4136),
+];
+
+/// CHUNK asks whether the chunk's file is there and installs it, once; CLOSE_INDEX installs the index, and ABORT removes it.
+static STORED_FAULTS: [Fault; 9] = [
     Fault {
         told: 12,
         behind: b"\x01\0\0\0\x1a\x09\0\0\0\x1b\x02\0\0\0\0\0\0\0\x09\0\0\0\x1b\x02\0\0\0\0\0\0\0\x09\0\0\0\x1b\x02\0\0\0\0\0\0\0\x09\0\0\0\x1b\x02\0\0\0\0\0\0\0",
@@ -178,6 +281,20 @@ static STORED_FAULTS: [Fault; 5] = [
         status: Status::DiskFault,
         kinds: &[0, 0, 5, 5, 5, 5, 5, 6],
         files: NOTHING,
+    },
+    Fault {
+        told: 12,
+        behind: b"\x01\0\0\0\x1a\x09\0\0\0\x1b\x02\0\0\0\0\0\0\0\x09\0\0\0\x1b\x02\0\0\0\0\0\0\0\x09\0\0\0\x1b\x02\0\0\0\0\0\0\0\x09\0\0\0\x1b\x02\0\0\0\0\0\0\0",
+        status: Status::DiskFault,
+        kinds: &[0, 0, 5, 5, 5, 5, 5, 6],
+        files: CHUNK_STAGED,
+    },
+    Fault {
+        told: 12,
+        behind: b"\x01\0\0\0\x1a\x09\0\0\0\x1b\x02\0\0\0\0\0\0\0\x09\0\0\0\x1b\x02\0\0\0\0\0\0\0\x09\0\0\0\x1b\x02\0\0\0\0\0\0\0\x09\0\0\0\x1b\x02\0\0\0\0\0\0\0",
+        status: Status::DiskFault,
+        kinds: &[0, 0, 5, 5, 5, 5, 5, 6],
+        files: CHUNK_STAGED,
     },
     Fault {
         told: 27,
@@ -185,6 +302,20 @@ static STORED_FAULTS: [Fault; 5] = [
         status: Status::DiskFault,
         kinds: &[0, 0, 0, 0, 0, 5, 5, 6],
         files: WITH_CHUNK,
+    },
+    Fault {
+        told: 27,
+        behind: b"\x01\0\0\0\x1a\x09\0\0\0\x1b\x05\0\0\0\0\0\0\0",
+        status: Status::DiskFault,
+        kinds: &[0, 0, 0, 0, 0, 5, 5, 6],
+        files: INDEX_STAGED,
+    },
+    Fault {
+        told: 27,
+        behind: b"\x01\0\0\0\x1a\x09\0\0\0\x1b\x05\0\0\0\0\0\0\0",
+        status: Status::DiskFault,
+        kinds: &[0, 0, 0, 0, 0, 5, 5, 6],
+        files: INDEX_STAGED,
     },
     Fault {
         told: 32,
@@ -249,4 +380,166 @@ fn each_call_of_the_disk_fails(rt: HostRuntime) -> Result<(), Fail> {
         try_disk(&rt, alloc, &STORED, call as u64, fault)?;
     }
     Ok(())
+}
+
+/// What is left of a session whose disk stops after some call, and then is lost by a crash: beside temporary names, none but these
+/// files, each whole; the first of them, so many, are there once so many calls were made.
+#[derive(Clone, Copy)]
+struct Crash {
+    whole: Files,
+    firm: usize,
+    calls: u64,
+}
+
+/// Of the manifest, that is as its FINISH has made four calls.
+static CRASHES: [(&Session, u64, Crash); 4] = [
+    (
+        &TO_THE_END,
+        7,
+        Crash {
+            whole: FINISHED,
+            firm: 1,
+            calls: 4,
+        },
+    ),
+    (
+        &TO_BYE,
+        13,
+        Crash {
+            whole: WITH_BOTH,
+            firm: 1,
+            calls: 4,
+        },
+    ),
+    (
+        &ABORTED,
+        5,
+        Crash {
+            whole: UPLOADED,
+            firm: 0,
+            calls: 0,
+        },
+    ),
+    (
+        &STORED,
+        9,
+        Crash {
+            whole: WITH_INDEX,
+            firm: 0,
+            calls: 0,
+        },
+    ),
+];
+
+/// The disk holds none but these files and temporary ones, each whole.
+fn assert_whole(
+    rt: &impl Abort,
+    alloc: Global,
+    disk: &mut MemoryDisk,
+    whole: Files,
+) -> Result<(), Fail> {
+    for name in disk.list(alloc, "")? {
+        if name.as_str().ends_with(".tmp") {
+            continue;
+        }
+        let found = whole.iter().find(|file| file.0 == name.as_str());
+        same(rt, disk.size(name.as_str())?, found.map(|file| file.1));
+    }
+    Ok(())
+}
+
+/// The disk stops after so many calls, and a crash of each kind then leaves whole files alone.
+fn try_stop(
+    rt: &impl Abort,
+    alloc: Global,
+    session: &Session,
+    calls: u64,
+    crash: Crash,
+) -> Result<(), Fail> {
+    let disk = FailingDisk::stopping_after(MemoryDisk::new(alloc), calls);
+    let mut ports: Ports<MemSink> = [Port {
+        source: source_of(alloc, session.input)?,
+        sink: empty_sink(alloc),
+    }];
+    let left = run_on(alloc, &mut ports, disk)?.disk.into_inner();
+    for choice in 0..3 {
+        let mut found = left.crashed(alloc, choice)?;
+        assert_whole(rt, alloc, &mut found, crash.whole)?;
+        if calls >= crash.calls {
+            for (name, size) in &crash.whole[..crash.firm.min(crash.whole.len())] {
+                same(rt, found.size(name)?, Some(*size));
+            }
+        }
+    }
+    Ok(())
+}
+
+#[test]
+fn each_stop_leaves_whole_files(rt: HostRuntime) -> Result<(), Fail> {
+    let alloc = rt.alloc();
+    for row in &CRASHES {
+        let (session, count, crash) = row;
+        for calls in 0..*count {
+            try_stop(&rt, alloc, session, calls, *crash)?;
+        }
+    }
+    Ok(())
+}
+
+/// The writing calls of each act: put, sync, rename and drop, which is a removal, each by its first letter.
+static WRITINGS: [(&Session, &[&str]); 4] = [
+    (&TO_THE_END, &["", "", "psrs", "", "", ""]),
+    (&TO_BYE, &["", "", "psrs", "", "psr", "psr", "dd"]),
+    (&ABORTED, &["", "psr", "d", "", ""]),
+    (&STORED, &["", "", "psr", "", "", "psr", "d", ""]),
+];
+
+/// Two backups, a PRUNE that is dry, one of two steps, and a refused one.
+static PRUNINGS: [&str; 12] = ["", "", "psrs", "", "", "psrs", "", "", "ds", "", "", ""];
+
+fn letter_of(step: &Step) -> char {
+    match step {
+        Step::Put { .. } => 'p',
+        Step::Sync => 's',
+        Step::Rename { .. } => 'r',
+        Step::Remove { .. } => 'd',
+    }
+}
+
+/// The letters of the steps behind one count of calls, up to another.
+fn letters(alloc: Global, disk: &MemoryDisk, before: u64, now: u64) -> Result<String, AllocError> {
+    let mut letters = String::new(alloc);
+    for step in disk.steps() {
+        if before < step.at && step.at <= now {
+            letters.push(letter_of(&step.step))?;
+        }
+    }
+    Ok(letters)
+}
+
+/// Serves a session and compares the writing calls of its acts.
+fn try_writings(rt: &impl Abort, alloc: Global, input: &[u8], acts: &[&str]) -> Result<(), Fail> {
+    let mut ports: Ports<MemSink> = [Port {
+        source: source_of(alloc, input)?,
+        sink: empty_sink(alloc),
+    }];
+    let served = run_on(alloc, &mut ports, MemoryDisk::new(alloc))?;
+    same(rt, served.report.calls.len(), acts.len());
+    let mut before = 0;
+    for (now, act) in served.report.calls.iter().zip(acts) {
+        let found = letters(alloc, &served.disk, before, *now)?;
+        same(rt, found.as_str(), *act);
+        before = *now;
+    }
+    Ok(())
+}
+
+#[test]
+fn acts_have_their_writing_calls(rt: HostRuntime) -> Result<(), Fail> {
+    let alloc = rt.alloc();
+    for row in &WRITINGS {
+        let (session, acts) = row;
+        try_writings(&rt, alloc, session.input, acts)?;
+    }
+    try_writings(&rt, alloc, PRUNED, &PRUNINGS)
 }

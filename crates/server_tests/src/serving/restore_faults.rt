@@ -7,7 +7,7 @@ use super::*;
 use disk_trait::FailingDisk;
 
 /// More calls than a session makes.
-const ENOUGH: u64 = 100;
+const ENOUGH: u64 = 200;
 
 /// The replies where the disk fails in the command at this place: those before it, the fault, and its place to each behind it.
 fn told_at_fault(
@@ -58,7 +58,7 @@ fn try_each_call(rt: &impl Abort, alloc: Global, steps: Steps) -> Result<(), Fai
     for call in 0..ENOUGH {
         if !is_made(rt, alloc, steps, call)? {
             // it is none of the first
-            same(rt, call > 12, true);
+            same(rt, call > 18, true);
             return Ok(());
         }
     }

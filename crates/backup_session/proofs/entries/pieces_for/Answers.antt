@@ -11,17 +11,17 @@ use Rattle.backup_session.proofs.entries.pieces_for.Goals as goal
 pub returns-in-Err-clause-exact : goal.returns-in-Err-clause-exact
 returns-in-Err-clause-exact c =
     for_refused (entries c.args.pool.now) c.args.index.now c.args.entries.now c.in-Err.refusal
-    (ap (λ n. want_entries n (length c.args.entries.now)) (sym c.len.ensures) ∙ sym c.in-Err.ensures)
+    (ap (λ n. want_entries n (length c.args.entries.now)) (sym c.len.ensures) ∙ sym c.in-Err.ensures.value)
 
 pub returns-clause-exact : goal.returns-clause-exact
 returns-clause-exact c =
     let passed : want_entries c.len.result (length c.args.entries.now) ≡ Ok tt = search rules in
     let told = for_passed (entries c.args.pool.now) c.args.index.now c.args.entries.now tt (layout_view c.layout.result) c.end.result
     (ap (λ n. want_entries n (length c.args.entries.now)) (sym c.len.ensures) ∙ passed) c.layout.ensures c.end.ensures.value in
-    subst (λ (r : Result (List Known) Refusal). IfOk c.pieces_named.result (λ t. MatchResult t (λ pieces. r ≡ Ok (map known_of pieces.items)) (λ refusal. r ≡ Err refusal))) told c.pieces_named.ensures
+    subst (λ (r : Result (List Known) Refusal). IfOk c.pieces_named.result (λ t. MatchResult t (λ pieces. r ≡ Ok (map known_of pieces.items)) (λ refusal. r ≡ Err refusal))) told c.pieces_named.ensures.exact
 
 pub returns-clause-fits : goal.returns-clause-fits
 returns-clause-fits c =
     let passed : want_entries c.len.result (length c.args.entries.now) ≡ Ok tt = search rules in
     fits_told (λ pieces. map known_of pieces.items) (entries c.args.pool.now) c.args.index.now c.args.entries.now (layout_view c.layout.result) c.end.result c.requires
-    (entries_room _ _ tt (ap (λ n. want_entries n (length c.args.entries.now)) (sym c.len.ensures) ∙ passed)) c.layout.ensures c.end.ensures.value c.pieces_named.result c.pieces_named.ensures
+    (entries_room _ _ tt (ap (λ n. want_entries n (length c.args.entries.now)) (sym c.len.ensures) ∙ passed)) c.layout.ensures c.end.ensures.value c.pieces_named.result c.pieces_named.ensures.exact

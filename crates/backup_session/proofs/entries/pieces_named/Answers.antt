@@ -10,8 +10,8 @@ use Rattle.backup_session.proofs.Naming.{named_more, named_refused, named_none, 
 use Rattle.backup_session.proofs.Lifting.{own_default, drop_end, nothing_more}
 use Rattle.backup_session.proofs.entries.pieces_named.Goals as goal
 
-pub returns-in-Err : goal.returns-in-Err
-returns-in-Err c =
+pub returns-in-Err-clause-exact : goal.returns-in-Err-clause-exact
+returns-in-Err-clause-exact c =
     let i = c.loop-entry.entry-index in
     let es = c.args.entries.now in
     let find = known_in (entries c.args.pool.now) in
@@ -47,8 +47,8 @@ loop-entry-preserved c =
       limit = omega (arith, c.in-Ok.ensures.short);
     }
 
-pub returns : goal.returns
-returns c =
+pub returns-clause-exact : goal.returns-clause-exact
+returns-clause-exact c =
     let es = c.args.entries.now in
     let find = known_in (entries c.args.pool.now) in
     let layout = layout_view c.args.layout in

@@ -9,8 +9,8 @@ close-requires c =
     let passed : want_close c.args.begun.now.index c.args.count c.args.size c.args.csum.now ≡ Ok tt = search rules in
     (close_given c.args.begun.now.index c.args.count c.args.size c.args.csum.now tt passed).2
 
-pub returns : goal.returns
-returns c =
+pub returns-clause-exact : goal.returns-clause-exact
+returns-clause-exact c =
     let passed : want_close c.args.begun.now.index c.args.count c.args.size c.args.csum.now ≡ Ok tt = search rules in
     let given = close_given c.args.begun.now.index c.args.count c.args.size c.args.csum.now tt passed in
     let fact : List ℕ → ℕ → List ℕ → FileFact = λ name size csum. record { name = name; size = size; csum = record { 0 = csum } } in (

@@ -5,7 +5,7 @@ use Rattle.uuid.specs.Parts.{with_variant, with_version}
 use Rattle.uuid.specs.declared.Variant.TheVariants.{RFC4122}
 use Rattle.uuid.specs.declared.Version.TheVariants.{Sha1}
 use Rattle.store_model.specs.Archives.{uuid_of}
-use Rattle.store_model.specs.Uploads.{file_path}
+use Rattle.store_files.specs.Folder.{file_path}
 use Rattle.backup_session.proofs.indexes.uuid_of.Goals as goal
 
 pub returns : goal.returns

@@ -3,7 +3,7 @@ use Rattle.std.specs.Prelude.{slice_range}
 use Rattle.std.specs.Str.{bytes_eq}
 use Rattle.hex.specs.Hex.{decode_sized}
 use Rattle.store_types.specs.declared.names.Digest32.{Digest32}
-use Rattle.store_model.specs.Stands.{chunk_name}
+use Rattle.store_files.specs.Folder.{chunk_name}
 use Rattle.chunk_store.specs.Listed.{by_digits}
 use Rattle.chunk_store.proofs.Scanning.{behind_folder, ok_from}
 use Rattle.chunk_store.proofs.listing.digest_of.Goals as goal

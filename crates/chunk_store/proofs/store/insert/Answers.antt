@@ -1,13 +1,11 @@
-use Rattle.std.proofs.Common.{refl, ap}
-use Rattle.std.specs.FinMap.{get}
-use Rattle.disk_trait.specs.Runs.{leaves_as}
-use Rattle.chunk_store.proofs.DiskCalls.{none_is}
+use Rattle.std.proofs.Common.{refl}
+use Rattle.chunk_store.proofs.DiskCalls.{none_is, only_reads}
 use Rattle.chunk_store.proofs.store.insert.Goals as goal
 
 pub returns-in_err-blob-clause-crash : goal.returns-in_err-blob-clause-crash
 returns-in_err-blob-clause-crash g c =
     let d = g.D.Disk in let m = g.met.D.Disk in
-    leaves_as (none_is d.calls d.images d.honest m.told c.args.disk.now) (λ f x. (x.0, x.1, λ q ne. ap (λ b. get b q) x.2))
+    only_reads c.args.digest.now.0 _ (d.content c.args.disk.now) (none_is d.calls d.images d.honest m.told c.args.disk.now)
 
 pub returns-in_err-blob-clause-present : goal.returns-in_err-blob-clause-present
 returns-in_err-blob-clause-present g c =

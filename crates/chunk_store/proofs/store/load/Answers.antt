@@ -1,6 +1,6 @@
-use Rattle.std.proofs.Common.{◌≡◌, Some, None, sym, ap, ◌∙◌, rules, option_map}
+use Rattle.std.proofs.Common.{◌≡◌, Some, sym, ap, ◌∙◌, option_map}
 use Rattle.std.specs.FinMap.{get}
-use Rattle.store_model.specs.Stands.{chunk_name}
+use Rattle.store_files.specs.Folder.{chunk_name}
 use Rattle.chunk_store.proofs.Blobs.{piece_is}
 use Rattle.chunk_store.proofs.Maps.{held_blob}
 use Rattle.chunk_store.proofs.store.load.Goals as goal

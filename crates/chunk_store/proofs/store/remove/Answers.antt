@@ -1,6 +1,6 @@
 use Rattle.std.proofs.Common.{◌≡◌, None, sym, subst, rules}
 use Rattle.disk_trait.specs.Files.{placed}
-use Rattle.store_model.specs.Stands.{HasWholeChunks, chunk_name}
+use Rattle.store_files.specs.Folder.{HasWholeChunks, chunk_name}
 use Rattle.chunk_store.specs.Pieces.{TakesPiece}
 use Rattle.chunk_store.proofs.Maps.{takes, whole_without}
 use Rattle.chunk_store.proofs.store.remove.Goals as goal

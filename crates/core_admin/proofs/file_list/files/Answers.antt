@@ -1,103 +1,84 @@
-use Rattle.std.proofs.Common.{◌≡◌, ◌∙◌, ◌≤◌, ℕ, List, length, Some, None, Ok, Err, rules, refl, sym, ap, subst}
-use Rattle.std.proofs.lemmas.Result.{IfOk-at_ok, IfErr-at_err}
-use Rattle.std.specs.List.{All}
+use Rattle.std.proofs.Common.{◌≡◌, ◌∙◌, ℕ, true, false, List, Some, None, Ok, rules, refl, sym, ap, subst}
 use Rattle.store_types.specs.Names.{IsKey, key_of}
+use Rattle.store_types.specs.declared.names.SnapshotKey.{SnapshotKey}
 use Rattle.store_types.specs.declared.refusal.Refusal.TheVariants.{BadName, NoSnapshot, Unreadable}
+use Rattle.wire_commands.specs.declared.command.Command.TheVariants as commands
 use Rattle.wire_commands.specs.declared.reply.Reply.TheVariants.{Files, Refused}
-use Rattle.store_model.specs.Stands.{manifest_path}
-use Rattle.snapshot_files.proofs.Placing.{none_is}
-use Rattle.core_state.specs.Found.{kept_named}
-use Rattle.core_state.specs.Replies.{reply_told}
+use Rattle.store_history.specs.declared.act.Act.TheVariants.{Plain}
+use Rattle.core_state.specs.Found.{kept_named, named_kept}
 use Rattle.core_state.specs.declared.kept.Kept.{Kept}
 use Rattle.core_state.specs.declared.kept.Listed.{Listed}
-use Rattle.core_state.proofs.Acting.{does_refused, holds_same}
+use Rattle.core_state.proofs.Commanding.{read_does, read_leaves, refused_does, same_kept, stopped_does, stopped_leaves}
 use Rattle.core_state.proofs.Texts.{bad_name_has_text, no_snapshot_has_text}
-use Rattle.core_admin.specs.FilesTold.{AnswersFiles, IsFileRow, named_kept}
+use Rattle.core_admin.specs.FilesTold.{AnswersFiles}
 use Rattle.core_admin.proofs.FilesRead.{files_refused}
-use Rattle.core_admin.proofs.FilesTelling.{none_named, none_kept, as_rows, told_refused, told_rows, tells_refused, tells_rows, tells_unread, does_files}
+use Rattle.core_admin.proofs.FilesTelling.{answers_stopped, as_rows, called, files_rows, files_stop, none_kept, none_named, refuses_unread, tells_refused, tells_rows, tells_stopped, told_refused, told_rows, told_stopped}
 use Rattle.core_admin.proofs.RowTexts.{files_has_text}
 use Rattle.core_admin.proofs.TakenOut.{kept_key, named_is}
 use Rattle.core_admin.proofs.file_list.files.Goals as goal
-
--- ---- no call is made
-
-pub returns-in_err-key-clause-crash : goal.returns-in_err-key-clause-crash
-returns-in_err-key-clause-crash g c = let d = g.D.Disk in let m = g.met.D.Disk in none_is d.calls d.images d.honest m.told c.args.parts.now.disk
-
-pub returns-in_default-clause-crash : goal.returns-in_default-clause-crash
-returns-in_default-clause-crash g c = let d = g.D.Disk in let m = g.met.D.Disk in none_is d.calls d.images d.honest m.told c.args.parts.now.disk
-
-pub returns-in_default-snapshot_named-clause-crash : goal.returns-in_default-snapshot_named-clause-crash
-returns-in_default-snapshot_named-clause-crash g c = let d = g.D.Disk in let m = g.met.D.Disk in none_is d.calls d.images d.honest m.told c.args.parts.now.disk
 
 -- ---- the text names no snapshot
 
 bad_apart : (name : List ℕ) → BadName ≡ Unreadable name → ⊥
 bad_apart name e = cc
 
-pub returns-in_default-clause-text : goal.returns-in_default-clause-text
-returns-in_default-clause-text g c = bad_name_has_text
+pub returns-in_default-clause-does : goal.returns-in_default-clause-does
+returns-in_default-clause-does g c =
+    let bad : key_of c.args.snapshot.now ≡ None = search rules in
+    let parts = c.args.parts.now in
+    refused_does g.D.Disk parts parts c.args._at (Plain (commands.Files c.args.snapshot.now)) BadName _ refl refl (same_kept parts) bad_name_has_text refl
+    (λ s shows. files_refused s _ _ c.args.snapshot.now parts.catalogue.items shows.catalogue BadName (none_named c.args.snapshot.now parts.catalogue.items bad))
 
-pub returns-in_default-clause-named : goal.returns-in_default-clause-named
-returns-in_default-clause-named g c =
+pub returns-in_default-clause-by_kept : goal.returns-in_default-clause-by_kept
+returns-in_default-clause-by_kept g c =
     let bad : key_of c.args.snapshot.now ≡ None = search rules in
     subst (λ r. AnswersFiles r (Refused BadName)) (sym (none_named c.args.snapshot.now c.args.parts.now.catalogue.items bad)) refl
 
 pub returns-in_default-clause-told : goal.returns-in_default-clause-told
-returns-in_default-clause-told g c = let d = g.D.Disk in λ h.
+returns-in_default-clause-told g c = λ h.
     let bad : key_of c.args.snapshot.now ≡ None = search rules in
     let items = c.args.parts.now.catalogue.items in
-    sym (ap reply_told (told_refused (d.content c.args.parts.now.disk) c.args.snapshot.now items BadName (none_named c.args.snapshot.now items bad)))
+    (refl, told_refused ((g.D.Disk).content c.args.parts.now.disk) c.args.snapshot.now items BadName (none_named c.args.snapshot.now items bad))
 
 pub returns-in_default-clause-unreadable : goal.returns-in_default-clause-unreadable
-returns-in_default-clause-unreadable g c = let d = g.D.Disk in
+returns-in_default-clause-unreadable g c =
     let bad : key_of c.args.snapshot.now ≡ None = search rules in
     let items = c.args.parts.now.catalogue.items in
-    tells_refused d.honest d.content c.args.parts.now.disk c.args.snapshot.now items BadName (none_named c.args.snapshot.now items bad) bad_apart
-
-pub returns-in_default-clause-act : goal.returns-in_default-clause-act
-returns-in_default-clause-act g c = let d = g.D.Disk in λ lane moment s h.
-    let bad : key_of c.args.snapshot.now ≡ None = search rules in
-    let items = c.args.parts.now.catalogue.items in
-    does_refused d.honest d.content c.args.parts.now _ s _ BadName refl refl refl refl
-    (files_refused s lane moment c.args.snapshot.now items (h.shows).catalogue BadName (none_named c.args.snapshot.now items bad)) h
+    tells_refused g.D.Disk c.args.parts.now.disk c.args.snapshot.now items BadName (none_named c.args.snapshot.now items bad) bad_apart
 
 -- ---- there is no such snapshot
 
 none_apart : (name : List ℕ) → NoSnapshot ≡ Unreadable name → ⊥
 none_apart name e = cc
 
-pub returns-in_default-snapshot_named-clause-text : goal.returns-in_default-snapshot_named-clause-text
-returns-in_default-snapshot_named-clause-text g c = no_snapshot_has_text
+pub returns-in_default-snapshot_named-clause-does : goal.returns-in_default-snapshot_named-clause-does
+returns-in_default-snapshot_named-clause-does g c =
+    let parts = c.args.parts.now in
+    let named : key_of c.args.snapshot.now ≡ Some c.in-Ok.key = search rules in
+    let missing : kept_named c.in-Ok.key parts.catalogue.items ≡ None = search rules in
+    refused_does g.D.Disk parts _ c.args._at (Plain (commands.Files c.args.snapshot.now)) NoSnapshot _ refl refl (record { catalogue = refl; sessions = refl; locks = refl }) no_snapshot_has_text refl
+    (λ s shows. files_refused s _ _ c.args.snapshot.now parts.catalogue.items shows.catalogue NoSnapshot (none_kept c.args.snapshot.now parts.catalogue.items c.in-Ok.key named missing))
 
-pub returns-in_default-snapshot_named-clause-named : goal.returns-in_default-snapshot_named-clause-named
-returns-in_default-snapshot_named-clause-named g c =
+pub returns-in_default-snapshot_named-clause-by_kept : goal.returns-in_default-snapshot_named-clause-by_kept
+returns-in_default-snapshot_named-clause-by_kept g c =
     let items = c.args.parts.now.catalogue.items in
     let named : key_of c.args.snapshot.now ≡ Some c.in-Ok.key = search rules in
     let missing : kept_named c.in-Ok.key items ≡ None = search rules in
     subst (λ r. AnswersFiles r (Refused NoSnapshot)) (sym (none_kept c.args.snapshot.now items c.in-Ok.key named missing)) refl
 
 pub returns-in_default-snapshot_named-clause-told : goal.returns-in_default-snapshot_named-clause-told
-returns-in_default-snapshot_named-clause-told g c = let d = g.D.Disk in λ h.
+returns-in_default-snapshot_named-clause-told g c = λ h.
     let items = c.args.parts.now.catalogue.items in
     let named : key_of c.args.snapshot.now ≡ Some c.in-Ok.key = search rules in
     let missing : kept_named c.in-Ok.key items ≡ None = search rules in
-    sym (ap reply_told (told_refused (d.content c.args.parts.now.disk) c.args.snapshot.now items NoSnapshot (none_kept c.args.snapshot.now items c.in-Ok.key named missing)))
+    (refl, told_refused ((g.D.Disk).content c.args.parts.now.disk) c.args.snapshot.now items NoSnapshot (none_kept c.args.snapshot.now items c.in-Ok.key named missing))
 
 pub returns-in_default-snapshot_named-clause-unreadable : goal.returns-in_default-snapshot_named-clause-unreadable
-returns-in_default-snapshot_named-clause-unreadable g c = let d = g.D.Disk in
+returns-in_default-snapshot_named-clause-unreadable g c =
     let items = c.args.parts.now.catalogue.items in
     let named : key_of c.args.snapshot.now ≡ Some c.in-Ok.key = search rules in
     let missing : kept_named c.in-Ok.key items ≡ None = search rules in
-    tells_refused d.honest d.content c.args.parts.now.disk c.args.snapshot.now items NoSnapshot (none_kept c.args.snapshot.now items c.in-Ok.key named missing) none_apart
-
-pub returns-in_default-snapshot_named-clause-act : goal.returns-in_default-snapshot_named-clause-act
-returns-in_default-snapshot_named-clause-act g c = let d = g.D.Disk in λ lane moment s h.
-    let items = c.args.parts.now.catalogue.items in
-    let named : key_of c.args.snapshot.now ≡ Some c.in-Ok.key = search rules in
-    let missing : kept_named c.in-Ok.key items ≡ None = search rules in
-    does_refused d.honest d.content c.args.parts.now _ s _ NoSnapshot refl refl refl refl
-    (files_refused s lane moment c.args.snapshot.now items (h.shows).catalogue NoSnapshot (none_kept c.args.snapshot.now items c.in-Ok.key named missing)) h
+    tells_refused g.D.Disk c.args.parts.now.disk c.args.snapshot.now items NoSnapshot (none_kept c.args.snapshot.now items c.in-Ok.key named missing) none_apart
 
 -- ---- the snapshot that is named
 
@@ -107,74 +88,81 @@ rows_read-requires g c =
     subst IsKey (sym (kept_key c.deref.result.now c.in-Ok.key c.in-Some.kept.now (sym c.in-Some.ensures))) is
 
 -- the snapshot in the catalogue
-found : (text : List ℕ) (items seen : List Listed) (key : Rattle.store_types.specs.declared.names.SnapshotKey.SnapshotKey) (k : Kept) → key_of text ≡ Some key → seen ≡ items → Some k ≡ kept_named key seen → named_kept text items ≡ Ok k
+found : (text : List ℕ) (items seen : List Listed) (key : SnapshotKey) (k : Kept) → key_of text ≡ Some key → seen ≡ items → Some k ≡ kept_named key seen → named_kept text items ≡ Ok k
 found text items seen key k named same there = named_is text items key k named (ap (kept_named key) (sym same) ∙ sym there)
 
-pub returns-in-Ok-2-clause-text : goal.returns-in-Ok-2-clause-text
-returns-in-Ok-2-clause-text g c =
-    files_has_text c.in-Ok-2.rows (IfOk-at_ok (λ rows. length rows ≤ 64) c.in-Ok-2.is c.in_ok-rows.ensures.few) (IfOk-at_ok (λ rows. All IsFileRow rows) c.in-Ok-2.is c.in_ok-rows.ensures.fit)
+-- ---- its manifest isn't read
 
-pub returns-in-Ok-2-clause-named : goal.returns-in-Ok-2-clause-named
-returns-in-Ok-2-clause-named g c =
+no_end : false ≡ true → ⊥
+no_end e = cc
+
+pub returns-in_err-rows-clause-does : goal.returns-in_err-rows-clause-does
+returns-in_err-rows-clause-does g c =
+    let old = c.args.parts.now in
+    let stop = c.in_err-rows.field-0.0 in
     let named : key_of c.args.snapshot.now ≡ Some c.in-Ok.key = search rules in
-    subst (λ r. AnswersFiles r (Files c.in-Ok-2.rows)) (sym (found c.args.snapshot.now c.args.parts.now.catalogue.items c.deref.result.now c.in-Ok.key c.in-Some.kept.now named c.deref.ensures.value c.in-Some.ensures)) tt
+    let is = found c.args.snapshot.now old.catalogue.items c.deref.result.now c.in-Ok.key c.in-Some.kept.now named c.deref.ensures.value c.in-Some.ensures in
+    stopped_does g.D.Disk old _ c.args._at (Plain (commands.Files c.args.snapshot.now)) c.rows_read.result stop _ c.from_residual-in_err-rows.ensures.1 c.in_err-rows.was
+    c.rows_read.ensures.reads (record { catalogue = refl; sessions = refl; locks = refl }) c.in_err-rows.ensures.text (refuses_unread c.in-Some.kept.now stop c.in_err-rows.ensures.named)
+    (λ s h. files_stop g.D.Disk old s _ _ c.args.snapshot.now c.in-Some.kept.now h is stop (c.in_err-rows.ensures.bytes h.honest) (c.in_err-rows.ensures.value h.honest))
 
-pub returns-in-Ok-2-clause-told : goal.returns-in-Ok-2-clause-told
-returns-in-Ok-2-clause-told g c = let d = g.D.Disk in λ h.
+pub returns-in_err-rows-clause-leaves : goal.returns-in_err-rows-clause-leaves
+returns-in_err-rows-clause-leaves g c =
+    stopped_leaves g.D.Disk c.args.parts.now _ c.args._at (Plain (commands.Files c.args.snapshot.now)) c.in_err-rows.field-0.0 _ _ c.from_residual-in_err-rows.ensures.1
+    c.rows_read.ensures.reads (record { catalogue = refl; sessions = refl; locks = refl }) refl (called _ c.in-Some.kept.now c.in_err-rows.field-0.0 c.in_err-rows.ensures.named) no_end
+
+pub returns-in_err-rows-clause-by_kept : goal.returns-in_err-rows-clause-by_kept
+returns-in_err-rows-clause-by_kept g c =
     let items = c.args.parts.now.catalogue.items in
     let named : key_of c.args.snapshot.now ≡ Some c.in-Ok.key = search rules in
     let is = found c.args.snapshot.now items c.deref.result.now c.in-Ok.key c.in-Some.kept.now named c.deref.ensures.value c.in-Some.ensures in
-    ap (λ t. reply_told (as_rows t)) (sym c.in-Ok-2.is ∙ c.in_ok-rows.ensures.value h)
-    ∙ sym (ap reply_told (told_rows (d.content c.args.parts.now.disk) c.args.snapshot.now items c.in-Some.kept.now is))
+    answers_stopped c.args.snapshot.now items c.in-Some.kept.now is c.in_err-rows.field-0.0 _ c.from_residual-in_err-rows.ensures.1 c.in_err-rows.ensures.named
 
-pub returns-in-Ok-2-clause-unreadable : goal.returns-in-Ok-2-clause-unreadable
-returns-in-Ok-2-clause-unreadable g c = let d = g.D.Disk in
+pub returns-in_err-rows-clause-told : goal.returns-in_err-rows-clause-told
+returns-in_err-rows-clause-told g c = λ h.
     let items = c.args.parts.now.catalogue.items in
     let named : key_of c.args.snapshot.now ≡ Some c.in-Ok.key = search rules in
     let is = found c.args.snapshot.now items c.deref.result.now c.in-Ok.key c.in-Some.kept.now named c.deref.ensures.value c.in-Some.ensures in
-    tells_rows d.honest d.content c.args.parts.now.disk c.args.snapshot.now items c.in-Some.kept.now c.in-Ok-2.rows is (λ h. sym c.in-Ok-2.is ∙ c.in_ok-rows.ensures.value h)
+    ((c.rows_read.ensures.reads).same h, told_stopped c.args.snapshot.now items c.in-Some.kept.now is ((g.D.Disk).content c.args.parts.now.disk) c.in_err-rows.field-0.0 _ c.from_residual-in_err-rows.ensures.1 (c.in_err-rows.ensures.value h))
 
-pub returns-in-Ok-2-clause-act : goal.returns-in-Ok-2-clause-act
-returns-in-Ok-2-clause-act g c = let d = g.D.Disk in λ lane moment s h.
+pub returns-in_err-rows-clause-unreadable : goal.returns-in_err-rows-clause-unreadable
+returns-in_err-rows-clause-unreadable g c =
+    let items = c.args.parts.now.catalogue.items in
+    let named : key_of c.args.snapshot.now ≡ Some c.in-Ok.key = search rules in
+    let is = found c.args.snapshot.now items c.deref.result.now c.in-Ok.key c.in-Some.kept.now named c.deref.ensures.value c.in-Some.ensures in
+    tells_stopped g.D.Disk c.args.parts.now.disk c.args.snapshot.now items c.in-Some.kept.now c.in_err-rows.field-0.0 _ c.from_residual-in_err-rows.ensures.1 is c.in_err-rows.ensures.named c.in_err-rows.ensures.value
+
+-- ---- its rows
+
+pub returns-clause-does : goal.returns-clause-does
+returns-clause-does g c =
     let old = c.args.parts.now in
     let named : key_of c.args.snapshot.now ≡ Some c.in-Ok.key = search rules in
     let is = found c.args.snapshot.now old.catalogue.items c.deref.result.now c.in-Ok.key c.in-Some.kept.now named c.deref.ensures.value c.in-Some.ensures in
-    does_files d.honest d.content old _ s lane moment c.args.snapshot.now c.in-Some.kept.now (Ok c.in-Ok-2.rows) h
-    (holds_same d.honest d.content old _ s c.rows_read.ensures.serves.kept c.rows_read.ensures.same refl refl refl h) is (c.in_ok-rows.ensures.bytes h.honest)
-    (sym c.in-Ok-2.is ∙ c.in_ok-rows.ensures.value h.honest)
+    read_does g.D.Disk old _ c.args._at (Plain (commands.Files c.args.snapshot.now)) _ _ c.rows_read.ensures.reads (record { catalogue = refl; sessions = refl; locks = refl })
+    (files_has_text c.in_ok-rows.rows c.in_ok-rows.ensures.few c.in_ok-rows.ensures.fit) refl tt
+    (λ s h. files_rows g.D.Disk old s _ _ c.args.snapshot.now c.in-Some.kept.now h is c.in_ok-rows.rows (c.in_ok-rows.ensures.bytes h.honest) (c.in_ok-rows.ensures.value h.honest))
 
--- ---- its manifest is unreadable
+pub returns-clause-leaves : goal.returns-clause-leaves
+returns-clause-leaves g c =
+    read_leaves g.D.Disk c.args.parts.now _ c.args._at (Plain (commands.Files c.args.snapshot.now)) _ _ c.rows_read.ensures.reads (record { catalogue = refl; sessions = refl; locks = refl })
+    (record { plain = tt; change = refl; listed = refl; goes_on = refl }) (λ quiet. absurd (no_end quiet))
 
-pub returns-clause-named : goal.returns-clause-named
-returns-clause-named g c =
-    let k = c.in-Some.kept.now in
+pub returns-clause-by_kept : goal.returns-clause-by_kept
+returns-clause-by_kept g c =
     let named : key_of c.args.snapshot.now ≡ Some c.in-Ok.key = search rules in
-    let path = IfErr-at_err (λ r. r ≡ Unreadable (manifest_path k.key)) c.in-Err.is c.in_ok-rows.ensures.named in
-    subst (λ r. AnswersFiles r (Refused c.in-Err.refusal)) (sym (found c.args.snapshot.now c.args.parts.now.catalogue.items c.deref.result.now c.in-Ok.key k named c.deref.ensures.value c.in-Some.ensures))
-    (subst (λ r. AnswersFiles (Ok k) (Refused r)) (sym path) refl)
+    subst (λ r. AnswersFiles r (Files c.in_ok-rows.rows)) (sym (found c.args.snapshot.now c.args.parts.now.catalogue.items c.deref.result.now c.in-Ok.key c.in-Some.kept.now named c.deref.ensures.value c.in-Some.ensures)) tt
 
 pub returns-clause-told : goal.returns-clause-told
-returns-clause-told g c = let d = g.D.Disk in λ h.
+returns-clause-told g c = λ h.
     let items = c.args.parts.now.catalogue.items in
     let named : key_of c.args.snapshot.now ≡ Some c.in-Ok.key = search rules in
     let is = found c.args.snapshot.now items c.deref.result.now c.in-Ok.key c.in-Some.kept.now named c.deref.ensures.value c.in-Some.ensures in
-    ap (λ t. reply_told (as_rows t)) (sym c.in-Err.is ∙ c.in_ok-rows.ensures.value h)
-    ∙ sym (ap reply_told (told_rows (d.content c.args.parts.now.disk) c.args.snapshot.now items c.in-Some.kept.now is))
+    ((c.rows_read.ensures.reads).same h, told_rows ((g.D.Disk).content c.args.parts.now.disk) c.args.snapshot.now items c.in-Some.kept.now is ∙ ap as_rows (c.in_ok-rows.ensures.value h))
 
 pub returns-clause-unreadable : goal.returns-clause-unreadable
-returns-clause-unreadable g c = let d = g.D.Disk in
-    let k = c.in-Some.kept.now in
+returns-clause-unreadable g c =
     let items = c.args.parts.now.catalogue.items in
     let named : key_of c.args.snapshot.now ≡ Some c.in-Ok.key = search rules in
-    let is = found c.args.snapshot.now items c.deref.result.now c.in-Ok.key k named c.deref.ensures.value c.in-Some.ensures in
-    let path = IfErr-at_err (λ r. r ≡ Unreadable (manifest_path k.key)) c.in-Err.is c.in_ok-rows.ensures.named in
-    tells_unread d.honest d.content c.args.parts.now.disk c.args.snapshot.now items k c.in-Err.refusal is path (λ h. sym c.in-Err.is ∙ c.in_ok-rows.ensures.value h)
-
-pub returns-clause-act : goal.returns-clause-act
-returns-clause-act g c = let d = g.D.Disk in λ lane moment s h.
-    let old = c.args.parts.now in
-    let named : key_of c.args.snapshot.now ≡ Some c.in-Ok.key = search rules in
-    let is = found c.args.snapshot.now old.catalogue.items c.deref.result.now c.in-Ok.key c.in-Some.kept.now named c.deref.ensures.value c.in-Some.ensures in
-    does_files d.honest d.content old _ s lane moment c.args.snapshot.now c.in-Some.kept.now (Err c.in-Err.refusal) h
-    (holds_same d.honest d.content old _ s c.rows_read.ensures.serves.kept c.rows_read.ensures.same refl refl refl h) is (c.in_ok-rows.ensures.bytes h.honest)
-    (sym c.in-Err.is ∙ c.in_ok-rows.ensures.value h.honest)
+    let is = found c.args.snapshot.now items c.deref.result.now c.in-Ok.key c.in-Some.kept.now named c.deref.ensures.value c.in-Some.ensures in
+    tells_rows g.D.Disk c.args.parts.now.disk c.args.snapshot.now items c.in-Some.kept.now c.in_ok-rows.rows is c.in_ok-rows.ensures.value

@@ -6,17 +6,13 @@ use Rattle.core_state.specs.Listing.{listing_at}
 use Rattle.core_state.proofs.Texts.{unreadable_has_text}
 use Rattle.manifest.specs.declared.facts.FileFact.{FileFact}
 use Rattle.manifest.specs.Views.{fact_view, manifest_view}
-use Rattle.snapshot_files.proofs.Placing.{none_is}
 use Rattle.core_admin.specs.declared.file_list.ManifestFile.{ManifestFile}
 use Rattle.core_admin.specs.FileRows.{rows_by}
 use Rattle.core_admin.proofs.FilesTelling.{read_rows}
 use Rattle.core_admin.proofs.file_list.rows_read.Goals as goal
 
-pub returns-in_err-path-clause-crash : goal.returns-in_err-path-clause-crash
-returns-in_err-path-clause-crash g c = let d = g.D.Disk in let m = g.met.D.Disk in none_is d.calls d.images d.honest m.told c.args.disk.now
-
-pub returns-in_default-clause-refused : goal.returns-in_default-clause-refused
-returns-in_default-clause-refused g c = unreadable_has_text c.into_bytes.result (omega (arith, c.into_bytes.ensures.short))
+pub returns-in_default-clause-text : goal.returns-in_default-clause-text
+returns-in_default-clause-text g c = unreadable_has_text c.into_bytes.result (omega (arith, c.into_bytes.ensures.short))
 
 abbrev names_of : List StoredFile → List (List ℕ)
 names_of files = map (λ (f : StoredFile). f.name) files

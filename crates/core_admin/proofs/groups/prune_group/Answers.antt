@@ -1,72 +1,89 @@
-use Rattle.std.proofs.Common.{◌≡◌, ◌<◌, ◌∙◌, ap, sym, get_or, length, rules, arith, true, false, Some, None}
-use Rattle.std.proofs.lemmas.List.{get_or_default}
-use Rattle.store_types.specs.declared.refusal.Refusal.TheVariants.{TooMany, WrongState}
+use Rattle.std.proofs.Common.{◌≡◌, ◌∙◌, ap, refl, sym, rules, arith, true, false, Some, None, Ok, Err, IsTrue}
+use Rattle.std.proofs.lemmas.Bool.{le-leb}
 use Rattle.store_types.specs.Names.{group_of}
+use Rattle.store_types.specs.declared.refusal.Refusal.TheVariants.{BadName, TooMany}
+use Rattle.wire_commands.specs.declared.command.Command.TheVariants as commands
 use Rattle.wire_commands.specs.declared.reply.Reply.TheVariants.{Keys, Refused}
 use Rattle.store_model.specs.AdminSteps.{counts_fit}
-use Rattle.core_state.specs.declared.kept.Session.TheVariants.{Idle}
-use Rattle.core_state.specs.States.{state_of}
-use Rattle.core_state.specs.Replies.{refuses_prune, reply_told}
+use Rattle.store_history.specs.declared.act.Act.TheVariants.{JobGroup}
+use Rattle.core_state.specs.Replies.{answers_prune, reply_told}
+use Rattle.core_state.specs.Wanted.{session_at}
+use Rattle.core_state.proofs.Commanding.{busy_by_state, read_does, reads_none, refused_does, same_kept}
 use Rattle.core_state.proofs.Texts.{bad_name_has_text, too_many_has_text}
-use Rattle.core_admin.specs.Listings.{texts_in}
+use Rattle.core_admin.specs.Listings.{prune_told, texts_in}
 use Rattle.core_admin.proofs.RowTexts.{keys_has_text}
-use Rattle.core_admin.proofs.Told.{prune_busy, prune_unnamed, prune_many, prune_keys, prune_answers}
+use Rattle.core_admin.proofs.Stopping.{told_stopped}
+use Rattle.core_admin.proofs.Told.{prune_answers, prune_busy, prune_keys, prune_many, prune_refuses, prune_unnamed}
 use Rattle.core_admin.proofs.groups.prune_group.Goals as goal
 
-pub returns-in_default : goal.returns-in_default
-returns-in_default g c = let sessions = c.args.parts.now.sessions.items in
-    let within : c.args.lane < length sessions = omega (arith, c.args.parts.now.lanes) in
-    let x = get_or sessions c.args.lane Idle in
-    let same : x ≡ c.index-session.result.now = get_or_default sessions c.args.lane Idle c.index-session.result.now within ∙ sym c.index-session.ensures in
-    let busy = prune_busy c.args.name.now c.args.keep.now c.args.parts.now.catalogue.items x (λ e. c.in_default.not-Idle (sym same ∙ e)) in
-    let refusal = c.wrong_state.ensures.value ∙ ap (λ y. WrongState (state_of y)) (sym same) in
-    let told = ap (λ r. Refused r) refusal ∙ sym (ap reply_told busy) in
-    record {
-      text = c.wrong_state.ensures.text;
-      answers = ap refuses_prune c.wrong_state.ensures.value;
-      told = told;
-      act = λ s h moment dry. prune_answers c.args.parts.now s h c.args.lane moment c.args.name.now _ c.requires c.args.keep.now dry told;
-    }
+-- ---- the lane has a session
 
-pub returns-in_default-2-clause-text : goal.returns-in_default-2-clause-text
-returns-in_default-2-clause-text g c = bad_name_has_text
+pub returns-in_err-idle-clause-does : goal.returns-in_err-idle-clause-does
+returns-in_err-idle-clause-does g c =
+    let parts = c.args.parts.now in
+    let r = c.in_err-idle.field-0.0 in
+    refused_does g.D.Disk parts parts c.args.at (JobGroup (commands.Prune c.args.name.now c.args.keep.now c.args._dry)) r _ c.from_residual.ensures.1 refl (same_kept parts) c.in_err-idle.ensures.text
+    (busy_by_state (session_at parts c.args.at.lane) r (λ r. IsTrue (answers_prune (Refused r))) (λ state. refl) (c.idle.ensures.value ∙ c.in_err-idle.was))
+    (λ s shows. prune_refuses parts s shows c.args.at.lane c.args.at.moment c.args.name.now c.args.keep.now c.args._dry c.requires r
+    (prune_busy c.args.name.now c.args.keep.now parts.catalogue.items (session_at parts c.args.at.lane) r (c.idle.ensures.value ∙ c.in_err-idle.was)))
 
-pub returns-in_default-2-clause-told : goal.returns-in_default-2-clause-told
-returns-in_default-2-clause-told g c = let sessions = c.args.parts.now.sessions.items in
-    let within : c.args.lane < length sessions = omega (arith, c.args.parts.now.lanes) in
-    let idle : get_or sessions c.args.lane Idle ≡ Idle = get_or_default sessions c.args.lane Idle c.index-session.result.now within ∙ sym c.index-session.ensures ∙ c.in-Idle.is in
+pub returns-in_err-idle-clause-by_kept : goal.returns-in_err-idle-clause-by_kept
+returns-in_err-idle-clause-by_kept g c =
+    let parts = c.args.parts.now in
+    told_stopped (prune_told c.args.name.now c.args.keep.now (session_at parts c.args.at.lane) parts.catalogue.items) c.in_err-idle.field-0.0 _ c.from_residual.ensures.1
+    (prune_busy c.args.name.now c.args.keep.now parts.catalogue.items (session_at parts c.args.at.lane) c.in_err-idle.field-0.0 (c.idle.ensures.value ∙ c.in_err-idle.was))
+
+-- ---- the text names no group
+
+pub returns-in_default-clause-does : goal.returns-in_default-clause-does
+returns-in_default-clause-does g c =
     let bad : group_of c.args.name.now ≡ None = search rules in
-    sym (ap reply_told (prune_unnamed c.args.name.now c.args.keep.now c.args.parts.now.catalogue.items _ idle bad))
+    let parts = c.args.parts.now in
+    refused_does g.D.Disk parts parts c.args.at (JobGroup (commands.Prune c.args.name.now c.args.keep.now c.args._dry)) BadName _ refl refl (same_kept parts) bad_name_has_text refl
+    (λ s shows. prune_refuses parts s shows c.args.at.lane c.args.at.moment c.args.name.now c.args.keep.now c.args._dry c.requires BadName
+    (prune_unnamed c.args.name.now c.args.keep.now parts.catalogue.items (session_at parts c.args.at.lane) (c.idle.ensures.value ∙ c.in_ok-idle.was) bad))
 
-pub returns-in_default-2-clause-act : goal.returns-in_default-2-clause-act
-returns-in_default-2-clause-act g c = λ s h moment dry. prune_answers c.args.parts.now s h c.args.lane moment c.args.name.now _ c.requires c.args.keep.now dry (returns-in_default-2-clause-told g c)
+pub returns-in_default-clause-by_kept : goal.returns-in_default-clause-by_kept
+returns-in_default-clause-by_kept g c =
+    let bad : group_of c.args.name.now ≡ None = search rules in
+    sym (ap reply_told (prune_unnamed c.args.name.now c.args.keep.now c.args.parts.now.catalogue.items _ (c.idle.ensures.value ∙ c.in_ok-idle.was) bad))
 
-pub returns-then-not-counts_fit-clause-text : goal.returns-then-not-counts_fit-clause-text
-returns-then-not-counts_fit-clause-text g c = too_many_has_text c.from-limit.result (omega arith)
+-- ---- a count is above 1,000
 
-pub returns-then-not-counts_fit-clause-told : goal.returns-then-not-counts_fit-clause-told
-returns-then-not-counts_fit-clause-told g c = let sessions = c.args.parts.now.sessions.items in
-    let within : c.args.lane < length sessions = omega (arith, c.args.parts.now.lanes) in
-    let idle : get_or sessions c.args.lane Idle ≡ Idle = get_or_default sessions c.args.lane Idle c.index-session.result.now within ∙ sym c.index-session.ensures ∙ c.in-Idle.is in
+pub returns-then-not-counts_fit-clause-does : goal.returns-then-not-counts_fit-clause-does
+returns-then-not-counts_fit-clause-does g c =
     let named : group_of c.args.name.now ≡ Some c.in-Ok.group = search rules in
     let many : counts_fit c.args.keep.now ≡ false = search rules in
     let limit : c.from-limit.result ≡ 1000 = search rules in
-    ap (λ n. Refused (TooMany n)) limit ∙ sym (ap reply_told (prune_many c.args.name.now c.args.keep.now c.args.parts.now.catalogue.items _ c.in-Ok.group idle named many))
+    let parts = c.args.parts.now in
+    refused_does g.D.Disk parts parts c.args.at (JobGroup (commands.Prune c.args.name.now c.args.keep.now c.args._dry)) (TooMany c.from-limit.result) _ refl refl (same_kept parts)
+    (too_many_has_text c.from-limit.result (omega arith)) refl
+    (λ s shows. prune_refuses parts s shows c.args.at.lane c.args.at.moment c.args.name.now c.args.keep.now c.args._dry c.requires (TooMany c.from-limit.result)
+    (prune_many c.args.name.now c.args.keep.now parts.catalogue.items (session_at parts c.args.at.lane) c.in-Ok.group (c.idle.ensures.value ∙ c.in_ok-idle.was) named many ∙ ap (λ n. Err (TooMany n)) (sym limit)))
 
-pub returns-then-not-counts_fit-clause-act : goal.returns-then-not-counts_fit-clause-act
-returns-then-not-counts_fit-clause-act g c = λ s h moment dry. prune_answers c.args.parts.now s h c.args.lane moment c.args.name.now _ c.requires c.args.keep.now dry (returns-then-not-counts_fit-clause-told g c)
+pub returns-then-not-counts_fit-clause-by_kept : goal.returns-then-not-counts_fit-clause-by_kept
+returns-then-not-counts_fit-clause-by_kept g c =
+    let named : group_of c.args.name.now ≡ Some c.in-Ok.group = search rules in
+    let many : counts_fit c.args.keep.now ≡ false = search rules in
+    let limit : c.from-limit.result ≡ 1000 = search rules in
+    ap (λ n. Refused (TooMany n)) limit ∙ sym (ap reply_told (prune_many c.args.name.now c.args.keep.now c.args.parts.now.catalogue.items _ c.in-Ok.group (c.idle.ensures.value ∙ c.in_ok-idle.was) named many))
 
-pub returns-clause-text : goal.returns-clause-text
-returns-clause-text g c = keys_has_text c.in_ok-texts.texts c.in_ok-texts.ensures.few c.in_ok-texts.ensures.short
+-- ---- the group's snapshots
 
-pub returns-clause-told : goal.returns-clause-told
-returns-clause-told g c = let sessions = c.args.parts.now.sessions.items in
-    let within : c.args.lane < length sessions = omega (arith, c.args.parts.now.lanes) in
-    let idle : get_or sessions c.args.lane Idle ≡ Idle = get_or_default sessions c.args.lane Idle c.index-session.result.now within ∙ sym c.index-session.ensures ∙ c.in-Idle.is in
+pub returns-clause-by_kept : goal.returns-clause-by_kept
+returns-clause-by_kept g c =
     let named : group_of c.args.name.now ≡ Some c.in-Ok.group = search rules in
     let fit : counts_fit c.args.keep.now ≡ true = search rules in
     let texts : c.in_ok-texts.texts ≡ texts_in c.in-Ok.group c.args.parts.now.catalogue.items = c.in_ok-texts.ensures.value ∙ ap (texts_in c.in-Ok.group) c.deref.ensures.value in
-    ap (λ t. Keys t) texts ∙ sym (ap reply_told (prune_keys c.args.name.now c.args.keep.now c.args.parts.now.catalogue.items _ c.in-Ok.group idle named fit))
+    ap (λ t. Keys t) texts ∙ sym (ap reply_told (prune_keys c.args.name.now c.args.keep.now c.args.parts.now.catalogue.items _ c.in-Ok.group (c.idle.ensures.value ∙ c.in_ok-idle.was) named fit))
 
-pub returns-clause-act : goal.returns-clause-act
-returns-clause-act g c = λ s h moment dry. prune_answers c.args.parts.now s h c.args.lane moment c.args.name.now _ c.requires c.args.keep.now dry (returns-clause-told g c)
+pub returns-clause-does : goal.returns-clause-does
+returns-clause-does g c =
+    let named : group_of c.args.name.now ≡ Some c.in-Ok.group = search rules in
+    let fit : counts_fit c.args.keep.now ≡ true = search rules in
+    let parts = c.args.parts.now in
+    let texts : c.in_ok-texts.texts ≡ texts_in c.in-Ok.group parts.catalogue.items = c.in_ok-texts.ensures.value ∙ ap (texts_in c.in-Ok.group) c.deref.ensures.value in
+    read_does g.D.Disk parts parts c.args.at (JobGroup (commands.Prune c.args.name.now c.args.keep.now c.args._dry)) _ ⊥ (reads_none g.D.Disk _ _ ⊥ refl (λ f. f)) (same_kept parts)
+    (keys_has_text c.in_ok-texts.texts c.in_ok-texts.ensures.few c.in_ok-texts.ensures.short) (le-leb _ 4096 c.in_ok-texts.ensures.few) tt
+    (λ s h. prune_answers parts s h.shows c.args.at.lane c.args.at.moment c.args.name.now c.args.keep.now c.args._dry c.requires (Keys c.in_ok-texts.texts)
+    (prune_keys c.args.name.now c.args.keep.now parts.catalogue.items (session_at parts c.args.at.lane) c.in-Ok.group (c.idle.ensures.value ∙ c.in_ok-idle.was) named fit ∙ ap (λ t. Ok (Keys t)) (sym texts)))

@@ -7,7 +7,7 @@ use Rattle.store_types.specs.Names.{IsKey, key_text}
 use Rattle.core_state.specs.declared.kept.Listed.{Listed}
 use Rattle.core_state.specs.Named.{is_named_snapshot}
 use Rattle.core_state.proofs.NamedLemmas.{is_key, list_all-at}
-use Rattle.core_state.proofs.PathLengths.{key_short}
+use Rattle.snapshot_files.proofs.PathLengths.{key_short}
 use Rattle.core_admin.specs.Listings.{IsShort, is_in}
 use Rattle.core_admin.proofs.Filtering.{found_pushed, found_passed, found_enough, found_all}
 use Rattle.core_admin.proofs.groups.texts_in.Goals as goal

@@ -1,6 +1,6 @@
 use Rattle.std.proofs.Common.{◌≡◌, ap, length, refl, rules, arith}
 use Rattle.store_types.specs.Names.{key_text}
-use Rattle.core_state.proofs.PathLengths.{key_short}
+use Rattle.snapshot_files.proofs.PathLengths.{key_short}
 use Rattle.core_admin.proofs.listing.row_of.Goals as goal
 
 pub returns-clause-listable : goal.returns-clause-listable

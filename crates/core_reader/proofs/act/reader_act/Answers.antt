@@ -1,132 +1,58 @@
-use Rattle.std.specs.Prelude.{slice_index_or}
-use Rattle.std.proofs.Common.{◌∙◌, is_some, refl, sym, ap, subst}
-use Rattle.store_history.specs.History.{act_outcome}
-use Rattle.core_state.specs.History.{world}
-use Rattle.core_state.specs.declared.kept.Session.TheVariants.{Idle}
-use Rattle.core_state.proofs.Answered.{refused_stands, done_stands}
-use Rattle.core_state.proofs.Chunks.{adds_same}
-use Rattle.core_state.proofs.Answering.{refused_answered, done_answered, refused_told, where_some, where_none, refused_same}
-use Rattle.core_state.proofs.Caused.{refused_caused, done_caused}
-use Rattle.core_state.proofs.Recorded.{refused_timely, settled_timely}
-use Rattle.core_state.proofs.Reserves.{refused_keeps, done_keeps}
-use Rattle.core_state.proofs.Unchanging.{refused_parts, refused_unchanged, done_unchanged}
-use Rattle.core_state.proofs.Reserves.{refused_keeps, done_keeps, closing_kind, closing_before}
+use Rattle.std.proofs.Common.{refl, sym, subst}
+use Rattle.core_state.specs.Begins.{IsReady}
+use Rattle.core_state.specs.Unreadables.{TellsUnreadable}
+use Rattle.core_state.specs.Wanted.{session_at}
+use Rattle.core_state.proofs.Applying.{refused_applies, refused_keeps_all, done_applies, done_keeps_all}
 use Rattle.core_state.proofs.Unreadables.{tells_refused, tells_done}
 use Rattle.core_reader.specs.Asked.{asked_file}
-use Rattle.core_reader.specs.Damages.{needed}
+use Rattle.core_reader.specs.Damages.{TellsDamaged, needed}
 use Rattle.core_reader.proofs.Damaging.{damages_refused, damages_done}
-use Rattle.core_reader.proofs.ActLemmas.{readers_formed, readers_step, readers_safe}
+use Rattle.core_reader.proofs.ActLemmas.{readers_formed, readers_step}
 use Rattle.core_reader.proofs.act.reader_act.Goals as goal
 
-pub returns-in-Answered-clause-history : goal.returns-in-Answered-clause-history
-returns-in-Answered-clause-history g c = let d = g.D.Disk in λ h s.
-    refused_stands d.honest d.content d.calls g.C.Clock.readings _ _ h c.args.lane c.args.act _ s c.requires.lane
-    (readers_formed c.args.act c.requires.kind) (readers_step c.args.act c.requires.kind) c.in-Answered.ensures.begun
+pub returns-in-Answered-clause-applies : goal.returns-in-Answered-clause-applies
+returns-in-Answered-clause-applies g c =
+    refused_applies g.D.Disk g.C.Clock _ _ c.args.lane c.args.act _ c.requires.lane (readers_formed c.args.act c.requires.kind) (readers_step c.args.act c.requires.kind)
+    c.in-Answered.ensures.begun c.in-Answered.ensures.text c.in-Answered.ensures.memory
 
-pub returns-in-At-clause-history : goal.returns-in-At-clause-history
-returns-in-At-clause-history g c = let d = g.D.Disk in λ h s.
-    done_stands d.honest d.content d.calls g.C.Clock.readings _ c.begin.new.core _ _ h c.args.lane c.in-At.moment c.args.act
-    (λ st. act_outcome h.remote (record (world h) { store = st }) c.args.lane c.in-At.moment c.args.act) _ _ s c.requires.lane
-    (readers_formed c.args.act c.requires.kind) (readers_step c.args.act c.requires.kind) refl
-    (record { ready = c.in-At.ensures.begun; journal = refl; clock = refl; fault = refl; later = c.perform-outcome.ensures.calls })
-    (λ _. c.perform-outcome.ensures.act h.remote (world h) c.in-At.moment)
-    (adds_same d.honest d.content c.begin.new.core.parts c.perform-outcome.new.parts c.args.act _ c.perform-outcome.ensures.content) c.settle.ensures
-    (λ _ _. readers_safe _ c.args.act c.requires.kind)
-
-pub returns-in-Answered-clause-answers : goal.returns-in-Answered-clause-answers
-returns-in-Answered-clause-answers g c = let d = g.D.Disk in
-    refused_answered d.calls d.faults g.C.Clock.readings _ _ c.args.lane _ c.in-Answered.ensures.begun c.in-Answered.ensures.text
-
-pub returns-in-Answered-clause-told : goal.returns-in-Answered-clause-told
-returns-in-Answered-clause-told g c = refused_told g.D.Disk.calls g.C.Clock.readings _ _ c.args.lane _ c.in-Answered.ensures.begun
-
-pub returns-in-At-clause-answers : goal.returns-in-At-clause-answers
-returns-in-At-clause-answers g c = let d = g.D.Disk in
-    done_answered d.honest d.calls d.faults g.C.Clock.readings _ c.begin.new.core _ _ c.args.lane c.in-At.moment _ _ c.in-At.ensures.begun refl refl
-    c.perform-outcome.ensures.serves c.perform-outcome.ensures.text c.settle.ensures
-
-pub returns-in-At-clause-told : goal.returns-in-At-clause-told
-returns-in-At-clause-told g c = ap is_some c.settle.ensures.reply_is
-
-pub returns-in-Answered-clause-halted : goal.returns-in-Answered-clause-halted
-returns-in-Answered-clause-halted g c = where_some _ _ (refused_same g.D.Disk.calls g.C.Clock.readings _ _ c.args.lane _ c.in-Answered.ensures.begun)
-
-pub returns-in-At-clause-halted : goal.returns-in-At-clause-halted
-returns-in-At-clause-halted g c = where_none _ _ c.in-At.ensures.begun.no_fault
-
-pub returns-in-Answered-clause-cause : goal.returns-in-Answered-clause-cause
-returns-in-Answered-clause-cause g c = let d = g.D.Disk in
-    refused_caused d.calls d.faults g.C.Clock.readings _ _ c.args.lane c.args.act _ c.in-Answered.ensures.begun
-
-pub returns-in-At-clause-cause : goal.returns-in-At-clause-cause
-returns-in-At-clause-cause g c = let d = g.D.Disk in
-    done_caused d.honest d.calls d.faults g.C.Clock.readings _ c.begin.new.core _ _ c.args.lane c.in-At.moment c.args.act _ _ c.in-At.ensures.begun
-    c.perform-outcome.ensures.serves c.perform-outcome.ensures.answers c.settle.ensures
-
-pub returns-in-Answered-clause-unchanged : goal.returns-in-Answered-clause-unchanged
-returns-in-Answered-clause-unchanged g c = let d = g.D.Disk in
-    refused_unchanged d.honest d.content d.calls g.C.Clock.readings _ _ c.args.lane _ c.in-Answered.ensures.begun
-
-pub returns-in-At-clause-unchanged : goal.returns-in-At-clause-unchanged
-returns-in-At-clause-unchanged g c = let d = g.D.Disk in
-    done_unchanged d.honest d.content d.calls g.C.Clock.readings _ c.begin.new.core _ _ c.args.lane c.in-At.moment _ _ c.in-At.ensures.begun
-    c.perform-outcome.ensures.unchanged c.settle.ensures
+pub returns-in-Answered-clause-keeps : goal.returns-in-Answered-clause-keeps
+returns-in-Answered-clause-keeps g c =
+    refused_keeps_all g.D.Disk g.C.Clock _ _ c.args.lane c.args.act _ (readers_step c.args.act c.requires.kind) c.in-Answered.ensures.begun c.in-Answered.ensures.memory
 
 pub returns-in-Answered-clause-unreadable : goal.returns-in-Answered-clause-unreadable
-returns-in-Answered-clause-unreadable g c = let d = g.D.Disk in
-    tells_refused d.honest d.content d.calls g.C.Clock.readings _ _ c.args.lane _ _ _ c.in-Answered.ensures.begun
-
-pub returns-in-At-clause-unreadable : goal.returns-in-At-clause-unreadable
-returns-in-At-clause-unreadable g c = let d = g.D.Disk in
-    tells_done d.honest d.content d.calls g.C.Clock.readings _ c.begin.new.core _ _ c.args.lane c.in-At.moment
-    (λ p. asked_file c.args.act (slice_index_or p.sessions.items c.args.lane Idle) p.catalogue.items) _ _ c.in-At.ensures.begun
-    c.perform-outcome.ensures.unreadable c.settle.ensures
+returns-in-Answered-clause-unreadable g c = tells_refused g.D.Disk g.C.Clock.readings _ _ c.args.lane _ _ _ c.in-Answered.ensures.begun
 
 pub returns-in-Answered-clause-damaged : goal.returns-in-Answered-clause-damaged
-returns-in-Answered-clause-damaged g c = let d = g.D.Disk in
-    damages_refused d.honest d.content d.calls g.C.Clock.readings _ _ c.args.lane _ _ _ c.in-Answered.ensures.begun
+returns-in-Answered-clause-damaged g c = damages_refused g.D.Disk g.C.Clock.readings _ _ c.args.lane _ _ _ c.in-Answered.ensures.begun
+
+pub returns-in-At-clause-applies : goal.returns-in-At-clause-applies
+returns-in-At-clause-applies g c =
+    done_applies g.D.Disk g.C.Clock _ c.begin.new.core _ _ c.args.lane c.in-At.at c.args.act _ _ c.requires.lane (readers_formed c.args.act c.requires.kind) (readers_step c.args.act c.requires.kind)
+    c.in-At.ensures.begun (record { journal = refl; clock = refl; fault = refl; remote = refl }) c.perform-ended.ensures.does c.perform-ended.ensures.leaves c.settle.ensures
+
+pub returns-in-At-clause-keeps : goal.returns-in-At-clause-keeps
+returns-in-At-clause-keeps g c =
+    done_keeps_all g.D.Disk g.C.Clock _ c.begin.new.core _ _ c.args.lane c.in-At.at c.args.act _ _ (readers_step c.args.act c.requires.kind)
+    c.in-At.ensures.begun c.in-At.ensures.filled (record { journal = refl; clock = refl; fault = refl; remote = refl }) c.perform-ended.ensures.does c.perform-ended.ensures.leaves c.settle.ensures
+
+pub returns-in-At-clause-unreadable : goal.returns-in-At-clause-unreadable
+returns-in-At-clause-unreadable g c =
+    let d = g.D.Disk in
+    let old = c.args.core.now.parts in
+    let at = c.in-At.at in
+    let begun = c.in-At.ensures.begun in
+    let ready = subst (λ l. IsReady g.C.Clock.readings c.args.core.now c.begin.new.core l at.moment) (sym begun.lane_is) begun.ready in
+    subst (λ l. TellsUnreadable d old.disk (asked_file c.args.act (session_at old l) old.catalogue.items) c.settle.result.entry.kind c.settle.result.reply) begun.lane_is
+    (tells_done d g.C.Clock.readings c.args.core.now c.begin.new.core _ _ at.lane at.moment (λ p. asked_file c.args.act (session_at p at.lane) p.catalogue.items) _ _ ready
+    c.perform-ended.ensures.unreadable c.settle.ensures)
 
 pub returns-in-At-clause-damaged : goal.returns-in-At-clause-damaged
-returns-in-At-clause-damaged g c = let d = g.D.Disk in
-    damages_done d.honest d.content d.calls g.C.Clock.readings _ c.begin.new.core _ _ c.args.lane c.in-At.moment
-    (λ p. needed c.args.act (slice_index_or p.sessions.items c.args.lane Idle) p.catalogue.items) _ _ c.in-At.ensures.begun
-    c.perform-outcome.ensures.damaged c.settle.ensures
-
-pub returns-in-Answered-clause-content : goal.returns-in-Answered-clause-content
-returns-in-Answered-clause-content g c = let d = g.D.Disk in λ h.
-    ap (λ p. d.content p.disk) (refused_parts d.calls g.C.Clock.readings _ _ c.args.lane _ c.in-Answered.ensures.begun)
-
-pub returns-in-At-clause-content : goal.returns-in-At-clause-content
-returns-in-At-clause-content g c = let d = g.D.Disk in λ h.
-    let before = (c.in-At.ensures.begun.begun).parts in
-    ap (λ p. d.content p.disk) c.settle.ensures.parts ∙ c.perform-outcome.ensures.content (subst (λ p. d.honest p.disk) (sym before) h) ∙ ap (λ p. d.content p.disk) before
-
-pub returns-in-Answered-clause-catalogue : goal.returns-in-Answered-clause-catalogue
-returns-in-Answered-clause-catalogue g c = ap (λ p. p.catalogue.items) (refused_parts g.D.Disk.calls g.C.Clock.readings _ _ c.args.lane _ c.in-Answered.ensures.begun)
-
-pub returns-in-At-clause-catalogue : goal.returns-in-At-clause-catalogue
-returns-in-At-clause-catalogue g c =
-    ap (λ p. p.catalogue.items) c.settle.ensures.parts ∙ c.perform-outcome.ensures.catalogue ∙ ap (λ p. p.catalogue.items) (c.in-At.ensures.begun.begun).parts
-
-pub returns-in-Answered-clause-memory : goal.returns-in-Answered-clause-memory
-returns-in-Answered-clause-memory g c = λ closing. c.in-Answered.ensures.memory closing
-
-pub returns-in-At-clause-memory : goal.returns-in-At-clause-memory
-returns-in-At-clause-memory g c = let b = c.in-At.ensures.begun.begun in λ closing.
-    closing_kind g.D.Disk.calls _ _ c.args.lane c.in-At.moment _ _ (c.perform-outcome.ensures.closed (closing_before c.args.core.now c.begin.new.core c.args.lane c.args.act b.parts closing)) c.settle.ensures
-
-pub returns-in-Answered-clause-reserve : goal.returns-in-Answered-clause-reserve
-returns-in-Answered-clause-reserve g c = refused_keeps g.D.Disk.calls g.C.Clock.readings _ _ c.args.lane _ _ c.in-Answered.ensures.begun
-
-pub returns-in-At-clause-reserve : goal.returns-in-At-clause-reserve
-returns-in-At-clause-reserve g c = let b = c.in-At.ensures.begun.begun in
-    done_keeps g.D.Disk.calls g.C.Clock.readings _ c.begin.new.core _ _ c.args.lane c.in-At.moment c.args.act _ _ c.in-At.ensures.begun refl
-    c.in-At.ensures.filled
-    (λ closing. c.perform-outcome.ensures.closed (closing_before c.args.core.now c.begin.new.core c.args.lane c.args.act b.parts closing)) c.settle.ensures
-
-pub returns-in-Answered-clause-timely : goal.returns-in-Answered-clause-timely
-returns-in-Answered-clause-timely g c = refused_timely g.D.Disk.calls g.C.Clock.readings _ _ c.args.lane _ c.in-Answered.ensures.begun
-
-pub returns-in-At-clause-timely : goal.returns-in-At-clause-timely
-returns-in-At-clause-timely g c =
-    settled_timely g.D.Disk.calls g.C.Clock.readings _ _ _ c.args.lane c.in-At.moment _ _ (c.in-At.ensures.begun.begun).clock c.settle.ensures
+returns-in-At-clause-damaged g c =
+    let d = g.D.Disk in
+    let old = c.args.core.now.parts in
+    let at = c.in-At.at in
+    let begun = c.in-At.ensures.begun in
+    let ready = subst (λ l. IsReady g.C.Clock.readings c.args.core.now c.begin.new.core l at.moment) (sym begun.lane_is) begun.ready in
+    subst (λ l. TellsDamaged d old.disk (needed c.args.act (session_at old l) old.catalogue.items) c.settle.result.entry.kind c.settle.result.reply) begun.lane_is
+    (damages_done d g.C.Clock.readings c.args.core.now c.begin.new.core _ _ at.lane at.moment (λ p. needed c.args.act (session_at p at.lane) p.catalogue.items) _ _ ready
+    c.perform-ended.ensures.damaged c.settle.ensures)

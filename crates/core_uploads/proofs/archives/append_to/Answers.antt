@@ -1,18 +1,18 @@
-use Rattle.std.proofs.Common.{ap}
-use Rattle.core_state.specs.Replies.{refuses_append}
-use Rattle.core_uploads.proofs.AppendLemmas.{appends_other, appends}
+use Rattle.std.proofs.Common.{◌∙◌, ap, sym}
+use Rattle.core_state.specs.Named.{is_named}
+use Rattle.core_state.proofs.NamedLemmas.{writer_named}
+use Rattle.core_uploads.proofs.AppendLemmas.{append_stopped, append_done}
 use Rattle.core_uploads.proofs.archives.append_to.Goals as goal
 
-pub returns-in-Writer-clause-plain : goal.returns-in-Writer-clause-plain
-returns-in-Writer-clause-plain c = λ ss x is begun.
-    appends c.args.number c.args.entries.now ss x c.args.session.now c.in-Writer.w c.grow.new.session c.grow.result is begun c.in-Writer.is c.grow.ensures.plain
+pub grow-requires : goal.grow-requires
+grow-requires c = (writer_named c.in-Writer.w (sym (ap is_named c.in-Writer.is) ∙ c.requires.named)).1
 
-pub returns-in_default-clause-text : goal.returns-in_default-clause-text
-returns-in_default-clause-text c = c.wrong_state.ensures.text
+pub returns-in_err-grow-in-Writer : goal.returns-in_err-grow-in-Writer
+returns-in_err-grow-in-Writer c = λ moment.
+    append_stopped moment c.args.number c.args.entries.now c.args.session.now c.in-Writer.w c.requires.named c.in-Writer.is c.grow.new.session c.grow.result
+    c.grow.ensures.does c.grow.ensures.settled c.grow.ensures.plain _ _ c.from_residual.ensures.1 c.in_err-grow-in-Writer.was c.in_err-grow-in-Writer.ensures.text c.grow.ensures.uncalled
 
-pub returns-in_default-clause-answers : goal.returns-in_default-clause-answers
-returns-in_default-clause-answers c = ap refuses_append c.wrong_state.ensures.value
-
-pub returns-in_default-clause-plain : goal.returns-in_default-clause-plain
-returns-in_default-clause-plain c = λ ss x is begun.
-    appends_other c.args.number c.args.entries.now ss x c.args.session.now c.args.session.now c.wrong_state.result is c.in_default.not-Writer c.wrong_state.ensures.value
+pub returns : goal.returns
+returns c = λ moment.
+    append_done moment c.args.number c.args.entries.now c.args.session.now c.in-Writer.w c.requires.named c.in-Writer.is c.grow.new.session c.grow.result
+    c.grow.ensures.does c.grow.ensures.settled c.grow.ensures.plain _ c.in_ok-grow-in-Writer.was

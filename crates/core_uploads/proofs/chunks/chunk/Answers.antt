@@ -1,75 +1,128 @@
-use Rattle.std.proofs.Common.{arith, ◌<◌, ◌∙◌, ap, refl, sym, subst, length, Ok, Err}
-use Rattle.std.specs.FinMap.{get}
-use Rattle.chunk_store.proofs.Maps.{with_other}
-use Rattle.core_state.specs.Named.{is_named}
-use Rattle.core_state.proofs.Acting.{does_refused}
-use Rattle.core_state.proofs.NamedLemmas.{list_all-set, list_all-at}
-use Rattle.core_state.proofs.Sessions.{at_lane, writer_found}
-use Rattle.core_state.proofs.Texts.{done_has_text}
+use Rattle.std.proofs.Common.{◌≡◌, ◌<◌, ◌∙◌, ap, refl, sym, subst, length, if◌then◌else◌, set, Ok, Err, arith}
+use Rattle.wire_commands.specs.declared.reply.Reply.TheVariants.{Done}
+use Rattle.store_history.specs.declared.act.Act.TheVariants.{Chunk}
 use Rattle.store_history.specs.Acts.{IsCheckedChunk}
 use Rattle.store_history.specs.History.{data_in}
+use Rattle.store_files.specs.Folder.{chunk_name}
+use Rattle.core_state.specs.Changes.{IsFirm, LeavesChange, after, stays, stores}
+use Rattle.core_state.specs.Named.{is_named}
+use Rattle.core_state.proofs.Commanding.{changed_leaves, failed_does, failed_leaves, is_writing, reads_none, refused_does, refused_leaves, same_kept, unwritten_does, unwritten_leaves, writer_shown, writes_does, writes_leaves}
+use Rattle.core_state.proofs.NamedLemmas.{list_all-set, list_all-at}
+use Rattle.core_state.proofs.Texts.{done_has_text}
 use Rattle.core_uploads.proofs.ChunkLemmas.{not_writing, unchecked}
-use Rattle.core_uploads.proofs.ChunkStep.{named_taken, does_taken, does_known, adds_taken, found_again}
+use Rattle.core_uploads.proofs.ChunkStep.{adds_taken, chunk_change, knows, may_note, named_taken, takes}
+use Rattle.core_uploads.proofs.KeepLemmas.{found_stays, found_writer}
+use Rattle.core_uploads.proofs.SteppedLemmas.{false_true}
 use Rattle.core_uploads.proofs.chunks.chunk.Goals as goal
 
-pub returns-in_default-clause-act : goal.returns-in_default-clause-act
-returns-in_default-clause-act g c = let d = g.D.Disk in λ may s h.
-    let old = c.args.parts.now in
-    let here = at_lane old.sessions.items s c.args.lane c.index-session.result.now (h.shows).sessions ((h.shows).sound).lanes c.requires.lane c.index-session.ensures in
-    does_refused d.honest d.content old _ s _ c.wrong_state.result refl refl refl refl
-    (not_writing s c.args.lane (data_in c.args.checked) c.index-session.result.now here c.in_default.not-Writer ∙ ap (λ r. Err r) (sym c.wrong_state.ensures.value)) h
+-- ---- the lane has no writer
 
-pub returns-in-Err-clause-act : goal.returns-in-Err-clause-act
-returns-in-Err-clause-act g c = let d = g.D.Disk in λ may s h.
-    let old = c.args.parts.now in
-    let here = at_lane old.sessions.items s c.args.lane c.index-session.result.now (h.shows).sessions ((h.shows).sound).lanes c.requires.lane c.index-session.ensures in
-    let f = writer_found s c.args.lane c.index-session.result.now c.in-Writer.w here c.in-Writer.is in
-    let does = does_refused d.honest d.content old _ s _ c.in-Err.refusal refl refl refl refl
-    (unchecked s c.args.lane (data_in c.args.checked) f.0 c.in-Err.refusal f.1 (ap data_in c.in-Err.is)) h in
-    (c.refused.ensures.value ∙ does.0, does.1)
+pub returns-in_err-w-clause-does : goal.returns-in_err-w-clause-does
+returns-in_err-w-clause-does g c =
+    unwritten_does g.D.Disk c.args.parts.now c.args.at (Chunk c.args.digest.now c.args.checked) _ _ c.from_residual.ensures.1 c.requires.lane
+    c.in_err-w.ensures.value c.in_err-w.ensures.text (λ state. refl) (λ s none. not_writing s c.args.at.lane (data_in c.args.checked) _ none)
 
-pub returns-then-knows-clause-text : goal.returns-then-knows-clause-text
-returns-then-knows-clause-text g c = done_has_text
+pub returns-in_err-w-clause-leaves : goal.returns-in_err-w-clause-leaves
+returns-in_err-w-clause-leaves g c =
+    unwritten_leaves g.D.Disk c.args.parts.now c.args.at (Chunk c.args.digest.now c.args.checked) _ _ c.from_residual.ensures.1 c.in_err-w.ensures.value (λ closing. absurd (false_true closing))
 
-pub returns-then-knows-clause-act : goal.returns-then-knows-clause-act
-returns-then-knows-clause-act g c = let d = g.D.Disk in λ may s h.
+-- ---- the check refused it
+
+pub returns-in-Err-clause-does : goal.returns-in-Err-clause-does
+returns-in-Err-clause-does g c =
+    refused_does g.D.Disk c.args.parts.now _ c.args.at (Chunk c.args.digest.now c.args.checked) c.refused.result _ refl refl (same_kept c.args.parts.now) c.refused.ensures.text c.refused.ensures.kind
+    (λ s shows.
+    let (v, at, is) = writer_shown c.args.parts.now s c.args.at.lane _ shows c.requires.lane c.in_ok-w.ensures.value in
+    unchecked s c.args.at.lane (data_in c.args.checked) v c.refused.result at (ap data_in c.in-Err.is ∙ ap (λ r. Err r) (sym c.refused.ensures.value)))
+
+pub returns-in-Err-clause-leaves : goal.returns-in-Err-clause-leaves
+returns-in-Err-clause-leaves g c =
+    refused_leaves g.D.Disk c.args.parts.now _ c.args.at (Chunk c.args.digest.now c.args.checked) c.refused.result _ refl refl (same_kept c.args.parts.now) (λ closing. false_true closing)
+
+-- ---- the session knows it
+
+pub returns-then-knows-clause-does : goal.returns-then-knows-clause-does
+returns-then-knows-clause-does g c = let d = g.D.Disk in
     let old = c.args.parts.now in
-    let here = at_lane old.sessions.items s c.args.lane c.index-session.result.now (h.shows).sessions ((h.shows).sound).lanes c.requires.lane c.index-session.ensures in
-    let f = writer_found s c.args.lane c.index-session.result.now c.in-Writer.w here c.in-Writer.is in
-    does_known d.honest d.content old _ s c.args.lane f.0 c.in-Writer.w c.index-session.result.now c.args.digest.now c.args.checked c.in-Ok.bytes c.knows.result
-    c.requires.lane f.1 f.2 c.index-session.ensures c.in-Writer.is c.in-Ok.is c.requires.checked c.knows.ensures.value c.if-knows.true may refl refl refl refl h
+    writes_does d old old c.args.at (Chunk c.args.digest.now c.args.checked) Done ⊥ (reads_none d old.disk old.disk ⊥ refl (λ f. f)).serves done_has_text refl tt
+    (λ safe s h.
+    let (v, at, is) = writer_shown old s c.args.at.lane _ h.shows c.requires.lane c.in_ok-w.ensures.value in
+    knows d old s c.args.at.lane v _ c.args.digest.now c.args.checked c.in-Ok.bytes c.knows.result c.requires.lane at is c.in_ok-w.ensures.value c.in-Ok.is c.requires.checked c.knows.ensures.value c.if-knows.true safe h)
+
+pub returns-then-knows-clause-leaves : goal.returns-then-knows-clause-leaves
+returns-then-knows-clause-leaves g c = let d = g.D.Disk in
+    let old = c.args.parts.now in
+    changed_leaves d old old c.args.at (Chunk c.args.digest.now c.args.checked) Done refl tt
+    (chunk_change _ _ c.args.digest.now c.args.checked c.in-Ok.bytes c.knows.result old.catalogue.items (is_writing _ _ c.in_ok-w.ensures.value) c.in-Ok.is c.knows.ensures.value
+    ∙ ap (λ b. if b then stays else stores (chunk_name c.args.digest.now.0) c.in-Ok.bytes) c.if-knows.true)
+    refl refl (λ ends. absurd (false_true ends))
+
+-- ---- it is put
+
+pub take_chunk-requires-clause-unknown : goal.take_chunk-requires-clause-unknown
+take_chunk-requires-clause-unknown g c =
+    let old = c.args.parts.now in
+    let within : c.args.at.lane < length old.sessions.items = omega (arith, old.lanes, old.sessions.ok.0, c.requires.lane) in
+    may_note c.args.digest.now.0 old.sessions.items c.args.at.lane c.index_mut-session.result.now _ c.knows.result old.named within c.index_mut-session.ensures.value c.in_ok-w.ensures.value
+    c.knows.ensures.value c.if-knows.false c.knows.ensures.pool
 
 pub take_chunk-requires-clause-checked : goal.take_chunk-requires-clause-checked
 take_chunk-requires-clause-checked g c =
     subst (λ bytes. IsCheckedChunk c.args.digest.now (Ok bytes)) (sym c.as_slice.ensures) (subst (IsCheckedChunk c.args.digest.now) c.in-Ok.is c.requires.checked)
 
-pub invariant_of-parts-2-clause-named : goal.invariant_of-parts-2-clause-named
-invariant_of-parts-2-clause-named g c =
+pub invariant_of-parts-clause-named : goal.invariant_of-parts-clause-named
+invariant_of-parts-clause-named g c =
     let old = c.args.parts.now in
-    let within : c.args.lane < length old.sessions.items = omega (arith, old.lanes, old.sessions.ok.0, c.requires.lane) in
-    list_all-set is_named old.sessions.items c.args.lane c.take_chunk.new.session old.named
-    (named_taken c.take_chunk.result c.args.digest.now.0 _ c.index_mut.result.now c.take_chunk.new.session c.take_chunk.ensures.ok c.take_chunk.ensures.err
-    (list_all-at is_named old.sessions.items c.args.lane c.index_mut.result.now old.named within c.index_mut.ensures.value))
+    let within : c.args.at.lane < length old.sessions.items = omega (arith, old.lanes, old.sessions.ok.0, c.requires.lane) in
+    list_all-set is_named old.sessions.items c.args.at.lane c.take_chunk.new.session old.named
+    (named_taken c.take_chunk.result c.args.digest.now.0 _ c.index_mut-session.result.now c.take_chunk.new.session c.take_chunk.ensures.ok c.take_chunk.ensures.err
+    (list_all-at is_named old.sessions.items c.args.at.lane c.index_mut-session.result.now old.named within c.index_mut-session.ensures.value))
 
-pub returns-clause-text : goal.returns-clause-text
-returns-clause-text g c = done_has_text
-
-pub returns-clause-others : goal.returns-clause-others
-returns-clause-others g c = let d = g.D.Disk in λ ok h q before after apart.
-    ap (λ m. get m q) (c.in_ok-take_chunk.ensures.put h) ∙ with_other (d.content c.args.parts.now.disk) c.args.digest.now.0 c.as_slice.result.now q apart
-
-pub returns-clause-chunks : goal.returns-clause-chunks
-returns-clause-chunks g c = let d = g.D.Disk in
-    adds_taken d.honest d.content c.args.parts.now c.take_chunk.new.disk c.args.digest.now c.args.checked c.as_slice.result.now c.take_chunk.ensures.bytes (c.in-Ok.is ∙ ap (λ b. Ok b) (sym c.as_slice.ensures)) c.requires.checked
-    c.in_ok-take_chunk.ensures.put
-
-pub returns-clause-act : goal.returns-clause-act
-returns-clause-act g c = let d = g.D.Disk in λ may s h.
+pub returns-in_err-take_chunk-clause-does : goal.returns-in_err-take_chunk-clause-does
+returns-in_err-take_chunk-clause-does g c = let d = g.D.Disk in
     let old = c.args.parts.now in
-    let within : c.args.lane < length old.sessions.items = omega (arith, old.lanes, old.sessions.ok.0, c.requires.lane) in
-    let here = at_lane old.sessions.items s c.args.lane c.index-session.result.now (h.shows).sessions ((h.shows).sound).lanes c.requires.lane c.index-session.ensures in
-    let f = writer_found s c.args.lane c.index-session.result.now c.in-Writer.w here c.in-Writer.is in
-    let again = found_again old.sessions.items c.args.lane c.index-session.result.now c.index_mut.result.now within c.index-session.ensures c.index_mut.ensures.value in
-    does_taken d.honest d.content old _ s c.args.lane f.0 c.in-Writer.w c.index_mut.result.now c.take_chunk.new.session c.args.digest.now c.args.checked c.as_slice.result.now
-    c.requires.lane f.1 f.2 (again ∙ c.in-Writer.is) c.in_ok-take_chunk.ensures.ok c.take_chunk.ensures.bytes (c.in-Ok.is ∙ ap (λ b. Ok b) (sym c.as_slice.ensures)) c.requires.checked
-    c.take_chunk.ensures.serves.kept c.in_ok-take_chunk.ensures.put refl refl refl may h
+    let puts = c.take_chunk.ensures.puts in
+    let sessions = ap (set old.sessions.items c.args.at.lane) c.in_err-take_chunk.ensures.err ∙ found_stays old.sessions.items c.args.at.lane c.index_mut-session.result.now c.index_mut-session.ensures.value in
+    failed_does d old _ c.args.at (Chunk c.args.digest.now c.args.checked) c.take_chunk.result _ _ c.from_residual-in_err-take_chunk.ensures.1 c.in_err-take_chunk.was puts.serves puts.same
+    (record { catalogue = refl; sessions = sessions; locks = refl })
+
+pub returns-in_err-take_chunk-clause-leaves : goal.returns-in_err-take_chunk-clause-leaves
+returns-in_err-take_chunk-clause-leaves g c = let d = g.D.Disk in
+    let old = c.args.parts.now in
+    let puts = c.take_chunk.ensures.puts in
+    let bytes : c.as_slice.result.now ≡ c.in-Ok.bytes = c.as_slice.ensures in
+    let change = chunk_change _ _ c.args.digest.now c.args.checked c.in-Ok.bytes c.knows.result old.catalogue.items (is_writing _ _ c.in_ok-w.ensures.value) c.in-Ok.is c.knows.ensures.value
+    ∙ ap (λ b. if b then stays else stores (chunk_name c.args.digest.now.0) c.in-Ok.bytes) c.if-knows.false ∙ ap (stores (chunk_name c.args.digest.now.0)) (sym bytes) in
+    let sessions = ap (set old.sessions.items c.args.at.lane) c.in_err-take_chunk.ensures.err ∙ found_stays old.sessions.items c.args.at.lane c.index_mut-session.result.now c.index_mut-session.ensures.value in
+    failed_leaves d old _ c.args.at (Chunk c.args.digest.now c.args.checked) c.take_chunk.result _ _ c.from_residual-in_err-take_chunk.ensures.1 c.in_err-take_chunk.was puts.same puts.unmoved
+    (subst (LeavesChange d old.disk c.take_chunk.new.disk) (sym change) puts.crash)
+    (record { catalogue = refl; sessions = sessions; locks = refl }) refl (λ short closing. false_true closing)
+
+pub returns-clause-does : goal.returns-clause-does
+returns-clause-does g c = let d = g.D.Disk in
+    let old = c.args.parts.now in
+    let within : c.args.at.lane < length old.sessions.items = omega (arith, old.lanes, old.sessions.ok.0, c.requires.lane) in
+    let is = found_writer old.sessions.items c.args.at.lane c.index_mut-session.result.now _ within c.index_mut-session.ensures.value c.in_ok-w.ensures.value in
+    let puts = c.take_chunk.ensures.puts in
+    let was = c.in-Ok.is ∙ ap (λ b. Ok b) (sym c.as_slice.ensures) in
+    writes_does d old _ c.args.at (Chunk c.args.digest.now c.args.checked) Done _ puts.serves done_has_text refl tt
+    (λ safe s h.
+    let (v, at, shows) = writer_shown old s c.args.at.lane _ h.shows c.requires.lane c.in_ok-w.ensures.value in
+    takes d old _ s c.args.at.lane v _ c.index_mut-session.result.now c.take_chunk.new.session c.args.digest.now c.args.checked c.as_slice.result.now
+    c.requires.lane at shows is c.in_ok-take_chunk.ensures.ok c.take_chunk.ensures.bytes was c.requires.checked puts.serves.kept c.in_ok-take_chunk.ensures.puts.put refl refl refl safe h)
+
+pub returns-clause-leaves : goal.returns-clause-leaves
+returns-clause-leaves g c = let d = g.D.Disk in
+    let old = c.args.parts.now in
+    let puts = c.take_chunk.ensures.puts in
+    let bytes : c.as_slice.result.now ≡ c.in-Ok.bytes = c.as_slice.ensures in
+    let was = c.in-Ok.is ∙ ap (λ b. Ok b) (sym c.as_slice.ensures) in
+    let change = chunk_change _ _ c.args.digest.now c.args.checked c.in-Ok.bytes c.knows.result old.catalogue.items (is_writing _ _ c.in_ok-w.ensures.value) c.in-Ok.is c.knows.ensures.value
+    ∙ ap (λ b. if b then stays else stores (chunk_name c.args.digest.now.0) c.in-Ok.bytes) c.if-knows.false ∙ ap (stores (chunk_name c.args.digest.now.0)) (sym bytes) in
+    writes_leaves d old _ c.args.at (Chunk c.args.digest.now c.args.checked) Done tt refl
+    (λ h. c.in_ok-take_chunk.ensures.puts.put h ∙ ap (λ k. after k (d.content old.disk)) (sym change))
+    (subst (LeavesChange d old.disk c.take_chunk.new.disk) (sym change) puts.crash)
+    (subst (IsFirm d old.disk c.take_chunk.new.disk) (sym change) tt)
+    refl (λ admin. absurd (false_true admin))
+    (adds_taken d old c.take_chunk.new.disk c.args.digest.now c.args.checked c.as_slice.result.now c.take_chunk.ensures.bytes was c.requires.checked c.in_ok-take_chunk.ensures.puts.put)
+    (λ ends. absurd (false_true ends))

@@ -1,53 +1,31 @@
-use Rattle.std.proofs.Common.{◌<◌, ◌∙◌, Err, ap, refl, sym, length, arith}
-use Rattle.core_state.specs.Closing.{is_writer}
-use Rattle.core_state.specs.Replies.{refuses_close}
-use Rattle.core_state.proofs.Acting.{does_refused}
-use Rattle.core_state.proofs.Sessions.{at_lane, writer_found}
-use Rattle.core_state.proofs.Texts.{done_has_text}
-use Rattle.core_state.proofs.Unchanging.{leaves_same}
-use Rattle.core_writer.proofs.AbortLemmas.{not_writing, aborts, does_abort, no_writer, refused_done}
-use Rattle.core_uploads.proofs.OtherNames.{others_unmoved, session_is}
-use Rattle.core_writer.proofs.Elsewhere.{removed_elsewhere}
+use Rattle.std.proofs.Common.{refl}
+use Rattle.wire_commands.specs.declared.command.Command.TheVariants.{Abort}
+use Rattle.store_history.specs.declared.act.Act.TheVariants.{Plain}
+use Rattle.core_state.proofs.Commanding.{unwritten_does, unwritten_leaves, writer_shown}
+use Rattle.core_writer.proofs.AbortLemmas.{not_writing, abort_failed_does, abort_failed_leaves, abort_does, abort_leaves}
 use Rattle.core_writer.proofs.ending.abort.Goals as goal
 
-pub returns-in_default-clause-text : goal.returns-in_default-clause-text
-returns-in_default-clause-text g c = c.wrong_state.ensures.text
+pub returns-in_err-writer-clause-does : goal.returns-in_err-writer-clause-does
+returns-in_err-writer-clause-does g c =
+    unwritten_does g.D.Disk c.args.parts.now c.args.at (Plain Abort) _ _ c.from_residual.ensures.1 c.requires c.in_err-writer.ensures.value c.in_err-writer.ensures.text
+    (λ state. refl) (λ s. not_writing s c.args.at.lane c.args.at.moment _)
 
-pub returns-in_default-clause-answers : goal.returns-in_default-clause-answers
-returns-in_default-clause-answers g c = ap refuses_close c.wrong_state.ensures.value
+pub returns-in_err-writer-clause-leaves : goal.returns-in_err-writer-clause-leaves
+returns-in_err-writer-clause-leaves g c =
+    unwritten_leaves g.D.Disk c.args.parts.now c.args.at (Plain Abort) _ _ c.from_residual.ensures.1 c.in_err-writer.ensures.value (λ writes. writes)
 
-pub returns-in_default-clause-unchanged : goal.returns-in_default-clause-unchanged
-returns-in_default-clause-unchanged g c = let d = g.D.Disk in leaves_same d.honest d.content c.args.parts.now _ c.wrong_state.result refl (record { catalogue = refl; sessions = refl; locks = refl })
+pub returns-in_err-end-clause-does : goal.returns-in_err-end-clause-does
+returns-in_err-end-clause-does g c =
+    abort_failed_does g.D.Disk c.args.parts.now _ c.args.at c.end.result _ _ c.from_residual-in_err-end.ensures.1 c.in_err-end.was c.end.ensures.does
 
-pub returns-in_default-clause-others : goal.returns-in_default-clause-others
-returns-in_default-clause-others g c = let d = g.D.Disk in others_unmoved d.honest d.content c.args.parts.now _ c.args.lane _ refl
+pub returns-in_err-end-clause-leaves : goal.returns-in_err-end-clause-leaves
+returns-in_err-end-clause-leaves g c =
+    abort_failed_leaves g.D.Disk c.args.parts.now _ c.args.at c.end.result _ _ c.from_residual-in_err-end.ensures.1 c.in_err-end.was c.end.ensures.leaves
 
-pub returns-in_default-clause-closed : goal.returns-in_default-clause-closed
-returns-in_default-clause-closed g c = λ writes.
-    let old = c.args.parts.now in
-    let within : c.args.lane < length old.sessions.items = omega (arith, old.lanes, old.sessions.ok.0, c.requires) in
-    let here = session_is old.sessions.items c.args.lane c.index-session.result.now within c.index-session.ensures in
-    absurd (no_writer c.index-session.result.now c.in_default.not-Writer (sym (ap is_writer here) ∙ writes))
+pub returns-clause-does : goal.returns-clause-does
+returns-clause-does g c =
+    abort_does g.D.Disk c.args.parts.now _ c.args.at c.end.result c.in_ok-end.was c.end.ensures.does
+    (λ s h. let f = writer_shown c.args.parts.now s c.args.at.lane _ h.shows c.requires c.in_ok-writer.ensures.value in (f.0, f.1))
 
-pub returns-in_default-clause-removed : goal.returns-in_default-clause-removed
-returns-in_default-clause-removed g c = λ is. absurd (refused_done c.wrong_state.result is)
-
-pub returns-in_default-clause-act : goal.returns-in_default-clause-act
-returns-in_default-clause-act g c = let d = g.D.Disk in λ moment s h.
-    let old = c.args.parts.now in
-    let here = at_lane old.sessions.items s c.args.lane c.index-session.result.now (h.shows).sessions ((h.shows).sound).lanes c.requires c.index-session.ensures in
-    does_refused d.honest d.content old _ s _ c.wrong_state.result refl refl refl refl
-    (not_writing s c.args.lane moment c.index-session.result.now here c.in_default.not-Writer ∙ ap (λ r. Err r) (sym c.wrong_state.ensures.value)) h
-
-pub returns-clause-text : goal.returns-clause-text
-returns-clause-text g c = done_has_text
-
-pub returns-clause-others : goal.returns-clause-others
-returns-clause-others g c = λ ok h q before after. c.in_ok-end.ensures.removed h q ∙ removed_elsewhere _ _ q before
-
-pub returns-clause-act : goal.returns-clause-act
-returns-clause-act g c = let d = g.D.Disk in λ moment s h.
-    let old = c.args.parts.now in
-    let here = at_lane old.sessions.items s c.args.lane c.index-session.result.now (h.shows).sessions ((h.shows).sound).lanes c.requires c.index-session.ensures in
-    let f = writer_found s c.args.lane c.index-session.result.now _ here c.in-Writer.is in
-    does_abort d.honest d.content _ s c.args.lane _ (aborts s c.args.lane moment f.0 f.1) (c.in_ok-end.ensures.act s h)
+pub returns-clause-leaves : goal.returns-clause-leaves
+returns-clause-leaves g c = abort_leaves g.D.Disk c.args.parts.now _ c.args.at c.end.result c.in_ok-end.was c.end.ensures.leaves

@@ -1,6 +1,6 @@
 use Rattle.std.proofs.Common.{◌≡◌, length, ap, rules, arith}
 use Rattle.store_types.specs.Names.{IsKey, key_text}
-use Rattle.core_state.proofs.PathLengths.{key_short}
+use Rattle.snapshot_files.proofs.PathLengths.{key_short}
 use Rattle.core_writer.proofs.opening.base_text.Goals as goal
 
 pub returns-in_ok-print-in-Some-clause-short : goal.returns-in_ok-print-in-Some-clause-short

@@ -9,7 +9,7 @@ use Rattle.core_writer.proofs.opening.take_locks.Goals as goal
 
 pub base_text-requires : goal.base_text-requires
 base_text-requires c = λ x is.
-    is_key x.now (latest_named (group_of_key c.args.key.now) c.args.catalogue.now x.now c.requires ((may_open _ _ _ _ c.in-Ok.ensures.value).latest ∙ ap (option_map (λ k. k.now)) is))
+    is_key x.now (latest_named (group_of_key c.args.key.now) c.args.catalogue.now x.now c.requires ((may_open _ _ _ _ c.in_ok-base.ensures.value).latest ∙ ap (option_map (λ k. k.now)) is))
 
 some_none : (n : ℕ) → (let o : Option ℕ = Some n in o ≡ None) → ⊥
 some_none n e = cc
@@ -20,4 +20,4 @@ not_held t e holder is held free =
     some_none e.lane (sym (ap (λ (r : Result (Unit {0}) LaneHolds). option_map (λ (x : LaneHolds). x.lane) (result_err r)) is) ∙ held ∙ free)
 
 pub unreachable-requires : goal.unreachable-requires
-unreachable-requires c = not_held _ _ _ c.in-Err-2.is c.in_ok-writer_take.ensures.held (may_open _ _ _ _ c.in-Ok.ensures.value).free
+unreachable-requires c = not_held _ _ _ c.in-Err.is c.in_ok-writer_take.ensures.held (may_open _ _ _ _ c.in_ok-base.ensures.value).free

@@ -1,6 +1,6 @@
 use Rattle.std.proofs.Common.{refl}
 use Rattle.core_state.specs.History.{event_of}
-use Rattle.core_state.proofs.Recorded.{reaches_more}
+use Rattle.core_state.proofs.Reaching.{reaches_more}
 use Rattle.core_state.proofs.Reserves.{reserved_room}
 use Rattle.lane.proofs.Acting.{leaves, want_kind, may_tell}
 use Rattle.lane.proofs.Entries.{one_entered}
@@ -13,20 +13,20 @@ pub returns-clause-did : goal.returns-clause-did
 returns-clause-did g c = λ first began. record {
   event = event_of c.args.act c.apply-reply.result (g.D.Disk.calls c.apply-reply.new.core.parts.disk);
   asks = refl;
-  lane_is = (c.apply-reply.ensures.answers).lane_is;
+  lane_is = ((c.apply-reply.ensures.applies).answers).lane_is;
   tells = c.in-Some.is;
   last = refl;
-  kind_is = want_kind c.args.act c.apply-reply.result (record { reply = c.in-Some.reply; last = (c.apply-reply.result).last }) c.apply-reply.ensures.short (c.apply-reply.ensures.answers).last refl;
-  history = reaches_more (g.D.Disk).honest (g.D.Disk).content (g.D.Disk).calls g.C.Clock.readings first began _ _ _ c.apply-reply.ensures.history c.apply-reply.ensures.records;
+  kind_is = want_kind c.args.act c.apply-reply.result (record { reply = c.in-Some.reply; last = (c.apply-reply.result).last }) c.apply-reply.ensures.short ((c.apply-reply.ensures.applies).answers).last refl;
+  history = reaches_more g.D.Disk g.C.Clock first began _ _ _ _ _ c.requires.lane c.apply-reply.ensures.applies c.apply-reply.ensures.keeps;
 }
 
 pub returns-clause-tells : goal.returns-clause-tells
-returns-clause-tells g c = may_tell g.D.Disk.faults c.args.core.now c.apply-reply.new.core c.args.act c.apply-reply.result (record { reply = c.in-Some.reply; last = (c.apply-reply.result).last }) c.requires.no_end c.apply-reply.ensures.cause c.in-Some.is
-    (want_kind c.args.act c.apply-reply.result (record { reply = c.in-Some.reply; last = (c.apply-reply.result).last }) c.apply-reply.ensures.short (c.apply-reply.ensures.answers).last refl)
+returns-clause-tells g c = may_tell g.D.Disk c.args.core.now c.apply-reply.new.core c.args.act c.apply-reply.result (record { reply = c.in-Some.reply; last = (c.apply-reply.result).last }) c.requires.no_end (c.apply-reply.ensures.applies).cause c.in-Some.is
+    (want_kind c.args.act c.apply-reply.result (record { reply = c.in-Some.reply; last = (c.apply-reply.result).last }) c.apply-reply.ensures.short ((c.apply-reply.ensures.applies).answers).last refl)
 
 pub returns-clause-room : goal.returns-clause-room
-returns-clause-room g c = leaves c.args.act c.args.core.now _ c.args.lane c.apply-reply.result c.requires.no_end c.apply-reply.ensures.reserve
+returns-clause-room g c = leaves c.args.act c.args.core.now _ c.args.lane c.apply-reply.result c.requires.no_end (c.apply-reply.ensures.keeps).reserve
 
 pub returns-clause-entered : goal.returns-clause-entered
-returns-clause-entered g c = one_entered g.D.Disk.calls g.D.Disk.faults _ _ c.args.lane c.apply-reply.result _ c.apply-reply.ensures.answers
-    (want_kind c.args.act c.apply-reply.result (record { reply = c.in-Some.reply; last = (c.apply-reply.result).last }) c.apply-reply.ensures.short (c.apply-reply.ensures.answers).last refl)
+returns-clause-entered g c = one_entered g.D.Disk _ _ c.args.lane c.apply-reply.result _ (c.apply-reply.ensures.applies).answers
+    (want_kind c.args.act c.apply-reply.result (record { reply = c.in-Some.reply; last = (c.apply-reply.result).last }) c.apply-reply.ensures.short ((c.apply-reply.ensures.applies).answers).last refl)

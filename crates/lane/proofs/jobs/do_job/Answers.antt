@@ -19,7 +19,7 @@ loop-act-preserved g c =
           (before.0 first began begun is) before.2.over c.in-Some.ensures (told.did first began) told.tells c.take.ensures,
       begun_on job _ c.in-Some.act _ c.in-Some.ensures c.take.ensures,
       keeps_on c.args.core.now _ _ c.args.lane job _ c.loop-act.last c.in-Some.act c.ask-told.result before.2 c.in-Some.ensures told.tells told.room told.remote c.take.ensures,
-      more_entered g.D.Disk.faults c.args.core.now c.loop-act.core c.ask-told.new.core c.args.lane _ _ (c.ask-told.result.last ≡ true) before.3 told.entered (λ last. inr (inr last)),
+      more_entered g.D.Disk c.args.core.now c.loop-act.core c.ask-told.new.core c.args.lane _ _ (c.ask-told.result.last ≡ true) before.3 told.entered (λ last. inr (inr last)),
     )
 
 pub loop-act-init : goal.loop-act-init
@@ -27,7 +27,7 @@ loop-act-init g c = (
   λ first began begun is. job_begins _ c.args.lane c.args.command.now c.in-Ok.job c.in-Ok.ensures begun is,
   job_is_begun c.args.command.now c.in-Ok.job c.requires.job c.in-Ok.ensures,
   going_first c.args.core.now c.args.lane c.in-Ok.job,
-  none_entered g.D.Disk.faults c.args.core.now c.args.lane _ (λ is. cc),
+  none_entered g.D.Disk c.args.core.now c.args.lane _ (λ is. cc),
 )
 
 pub loop-act-smaller : goal.loop-act-smaller

@@ -12,10 +12,10 @@ use Rattle.lane.proofs.jobs.do_job.Given as goal
 abbrev pub invariant-loop-act : goal.invariant-loop-act
 invariant-loop-act g l = let d = g.D.Disk in
     ((first : Core g.row.D.Denot g.row.E.Denot g.row.C.Denot) (began : History) (begun : Asking) → job_of l.command ≡ Some begun
-    → HasStepped (Reaches d.honest d.content d.calls g.C.Clock.readings first began l.fn.core) (Reaches d.honest d.content d.calls g.C.Clock.readings first began l.core) l.lane begun l.job l.last)
+    → HasStepped (Reaches d g.C.Clock.readings first began l.fn.core) (Reaches d g.C.Clock.readings first began l.core) l.lane begun l.job l.last)
     × IsBegun l.job
     × KeepsGoing l.fn.core l.core l.lane l.job l.last
-    × HasEntered d.faults l.fn.core l.core l.lane (l.last ≡ true)
+    × HasEntered d l.fn.core l.core l.lane (l.last ≡ true)
 
 abbrev pub decreases-loop-act : goal.decreases-loop-act
 decreases-loop-act g l = rank l.job

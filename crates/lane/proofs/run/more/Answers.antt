@@ -34,13 +34,13 @@ returns-in-NoMemory-clause-causes g c =
     (causes_later _ _ _ _ _ _ _ _ c.in-NoMemory.ensures.cause (omega arith) (c.short-ending.ensures.causes (g.S.Source.faults c.take.new.source) c.take.new.self.taken))
 
 pub returns-in-More-clause-entered : goal.returns-in-More-clause-entered
-returns-in-More-clause-entered g c = none_entered g.D.Disk.faults c.args.core.now c.args.lane _ no_ending
+returns-in-More-clause-entered g c = none_entered g.D.Disk c.args.core.now c.args.lane _ no_ending
 
 pub returns-in-End-clause-entered : goal.returns-in-End-clause-entered
-returns-in-End-clause-entered g c = none_entered g.D.Disk.faults c.args.core.now c.args.lane _ (read_ending c.take.new.self c.ended.result c.ended.ensures.ending)
+returns-in-End-clause-entered g c = none_entered g.D.Disk c.args.core.now c.args.lane _ (read_ending c.take.new.self c.ended.result c.ended.ensures.ending)
 
 pub returns-in-Fault-clause-entered : goal.returns-in-Fault-clause-entered
-returns-in-Fault-clause-entered g c = none_entered g.D.Disk.faults c.args.core.now c.args.lane _ (other_ending c.untold.result endings.SourceFault None c.untold.ensures (λ is. cc))
+returns-in-Fault-clause-entered g c = none_entered g.D.Disk c.args.core.now c.args.lane _ (other_ending c.untold.result endings.SourceFault None c.untold.ensures (λ is. cc))
 
 pub returns-in-TooLong-clause-entered : goal.returns-in-TooLong-clause-entered
-returns-in-TooLong-clause-entered g c = none_entered g.D.Disk.faults c.args.core.now c.args.lane _ (other_ending c.untold-in-TooLong.result endings.SourceTooLong None c.untold-in-TooLong.ensures (λ is. cc))
+returns-in-TooLong-clause-entered g c = none_entered g.D.Disk c.args.core.now c.args.lane _ (other_ending c.untold-in-TooLong.result endings.SourceTooLong None c.untold-in-TooLong.ensures (λ is. cc))

@@ -1,6 +1,6 @@
 use Rattle.std.proofs.Common.{◌≡◌, Some, inl, inr, refl, ap, ◌∙◌, arith}
 use Rattle.store_model.specs.declared.ending.Ending.TheVariants as endings
-use Rattle.core_state.proofs.Recorded.{reaches_first}
+use Rattle.core_state.proofs.Reaching.{reaches_first}
 use Rattle.core_state.proofs.Reserves.{whole_reserved}
 use Rattle.lane.specs.Progress.{Start}
 use Rattle.lane.proofs.Turning.{starts}
@@ -10,9 +10,9 @@ use Rattle.lane.proofs.run.run_alone.Goals as goal
 
 pub loop-last-init : goal.loop-last-init
 loop-last-init g c = (
-  λ h r none. starts _ h _ _ _ _ _ (reaches_first (g.D.Disk).honest (g.D.Disk).content (g.D.Disk).calls g.C.Clock.readings c.args.core.now h r) none c.new.ensures.cutter c.new.ensures.taken,
+  λ h r none. starts _ h _ _ _ _ _ (reaches_first g.D.Disk g.C.Clock.readings c.args.core.now h r) none c.new.ensures.cutter c.new.ensures.taken,
   record { reserved = whole_reserved c.args.core.now c.args.lane c.requires.room; source_later = omega arith; sink_later = omega arith; same = refl },
-  none_entered g.D.Disk.faults c.args.core.now c.args.lane ⊥ (λ f. f),
+  none_entered g.D.Disk c.args.core.now c.args.lane ⊥ (λ f. f),
 )
 
 pub returns-in-Some-clause-ran : goal.returns-in-Some-clause-ran
@@ -27,8 +27,8 @@ returns-in-Some-clause-causes g c =
 
 pub returns-in-Some-clause-entered : goal.returns-in-Some-clause-entered
 returns-in-Some-clause-entered g c =
-    more_entered g.D.Disk.faults c.args.core.now c.turn.new.core c.close-ending.new.core c.args.lane (Some c.in-Some.last.ending ≡ Some endings.NoMemory) ⊥ (c.close-ending.result ≡ endings.NoMemory)
-    (more_entered g.D.Disk.faults c.args.core.now c.loop-last.core c.turn.new.core c.args.lane ⊥ _ _ c.loop-last.invariant.2 c.in-Some.ensures.entered (λ is. inr is))
+    more_entered g.D.Disk c.args.core.now c.turn.new.core c.close-ending.new.core c.args.lane (Some c.in-Some.last.ending ≡ Some endings.NoMemory) ⊥ (c.close-ending.result ≡ endings.NoMemory)
+    (more_entered g.D.Disk c.args.core.now c.loop-last.core c.turn.new.core c.args.lane ⊥ _ _ c.loop-last.invariant.2 c.in-Some.ensures.entered (λ is. inr is))
     c.close-ending.ensures.entered (λ is. inl (ap (λ e. Some e) (c.close-ending.ensures.memory is)))
 
 pub loop-last-preserved : goal.loop-last-preserved
@@ -42,5 +42,5 @@ loop-last-preserved g c =
         sink_later = omega (arith, before.1.sink_later, did.causes.sink_later);
         same = did.remote ∙ before.1.same;
       },
-      more_entered g.D.Disk.faults c.args.core.now c.loop-last.core c.turn.new.core c.args.lane ⊥ _ ⊥ before.2 did.entered (λ f. absurd f),
+      more_entered g.D.Disk c.args.core.now c.loop-last.core c.turn.new.core c.args.lane ⊥ _ ⊥ before.2 did.entered (λ f. absurd f),
     )

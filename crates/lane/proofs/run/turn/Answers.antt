@@ -28,10 +28,10 @@ returns-in-NoMemory-clause-causes g c =
     (sym c.untold.ensures) (c.short-ending.ensures.causes (g.S.Source.faults c.args.port.now.source) c.args.progress.now.input.taken)
 
 pub returns-in-Bye-clause-entered : goal.returns-in-Bye-clause-entered
-returns-in-Bye-clause-entered g c = none_entered g.D.Disk.faults c.args.core.now c.args.lane _ clean
+returns-in-Bye-clause-entered g c = none_entered g.D.Disk c.args.core.now c.args.lane _ clean
   where
     clean : Some endings.Clean ≡ Some endings.NoMemory → ⊥
     clean e = cc
 
 pub returns-in-Broken-clause-entered : goal.returns-in-Broken-clause-entered
-returns-in-Broken-clause-entered g c = none_entered g.D.Disk.faults c.args.core.now c.args.lane _ (other_ending c.broken.result (endings.Broken c.args.progress.now.input.front) _ c.broken.ensures (λ is. cc))
+returns-in-Broken-clause-entered g c = none_entered g.D.Disk c.args.core.now c.args.lane _ (other_ending c.broken.result (endings.Broken c.args.progress.now.input.front) _ c.broken.ensures (λ is. cc))

@@ -17,14 +17,14 @@ returns-in-Ok-open_on-clause-leaves g c = let d = g.D.Disk in let s = g.S.Source
     let readings = g.C.Clock.readings c.args.clock in
     let opened = c.in-Ok-open_on.ensures in
     let status = back.status ∙ ap (λ v. status_by v.items report.ending) (sym back.order) in
-    let order = handed_back d.faults _ core _ _ _ c.args.disk c.handed_back.result.disk c.run_alone-report.ensures.entered opened.entries opened.calls opened.fault
+    let order = handed_back d _ core _ _ _ c.args.disk c.handed_back.result.disk c.run_alone-report.ensures.entered opened.entries opened.calls opened.fault
     (ap (λ v. v.items) back.order) (ap (λ v. v.items) back.calls) opened.disk back.disk in
-    let both = has_both d.honest d.content d.calls g.C.Clock.readings _ core readings (d.content c.args.disk) (d.calls c.args.disk)
+    let both = has_both d g.C.Clock.readings _ core readings (d.content c.args.disk) (d.calls c.args.disk)
     (s.left c.args.port.now.source) (s.left c.run_alone-report.new.port.source) (k.taken c.args.port.now.sink) (k.taken c.run_alone-report.new.port.sink)
     (c.handed_back.result.order).items ((c.handed_back.result.report).calls).items report c.handed_back.result.disk
     (c.run_alone-report.ensures.ran (began (opening_at (d.content c.args.disk) (d.calls c.args.disk)) None readings) (opened.records None) refl)
-    (ap (λ v. v.items) back.order) (ap (λ v. v.items) back.calls) back.disk in
-    leaves_one d.honest d.content d.calls d.faults s.left s.faults k.taken k.faults readings c.args.disk c.args.remote c.handed_back.result c.args.port.now c.run_alone-report.new.port _ report
+    (ap d.content opened.disk) (ap (λ v. v.items) back.order) (ap (λ v. v.items) back.calls) back.disk in
+    leaves_one d s.left s.faults k.taken k.faults readings c.args.disk c.args.remote c.handed_back.result c.args.port.now c.run_alone-report.new.port _ report
     (ap (λ v. v.items) back.lanes ∙ c.push_reserved.ensures.items ∙ ap (λ xs. xs ++ report ∷ []) c.in-Ok.ensures.items)
     (record {
       told = both.told;

@@ -1,6 +1,6 @@
 use Rattle.std.proofs.Common.{◌≡◌, suc, ◌-◌, ◌<◌, length, take, ap, ◌∙◌, arith}
 use Rattle.dynamic_index.specs.Pieces.{last_end}
-use Rattle.restore_reader.specs.Session.{ends_of}
+use Rattle.store_files.specs.Entries.{ends_of}
 use Rattle.restore_reader.proofs.Apart.{end_at}
 use Rattle.restore_reader.proofs.ranges.end_before.Goals as goal
 

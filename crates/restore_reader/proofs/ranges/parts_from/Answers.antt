@@ -3,7 +3,7 @@ use Rattle.std.proofs.lemmas.List.{drop_more}
 use Rattle.store_types.specs.declared.names.Digest32.{Digest32}
 use Rattle.store_files.specs.DynamicIndex.{steps_fit}
 use Rattle.restore_reader.specs.declared.ranges.Part.{Part}
-use Rattle.restore_reader.specs.Session.{ended_of, ends_of}
+use Rattle.store_files.specs.Entries.{ended_of, ends_of}
 use Rattle.restore_reader.specs.Plan.{part_in, parts_in}
 use Rattle.restore_reader.proofs.Apart.{rest_steps, parts_behind, parts_more, parts_done}
 use Rattle.restore_reader.proofs.ranges.parts_from.Goals as goal

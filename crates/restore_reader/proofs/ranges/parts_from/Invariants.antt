@@ -1,6 +1,6 @@
 use Rattle.std.proofs.Common.{◌≡◌, ◌++◌, drop, IsTrue}
 use Rattle.store_files.specs.DynamicIndex.{steps_fit}
-use Rattle.restore_reader.specs.Session.{ends_of}
+use Rattle.store_files.specs.Entries.{ends_of}
 use Rattle.restore_reader.specs.Plan.{parts_in}
 use Rattle.restore_reader.proofs.ranges.parts_from.Given as goal
 

@@ -1,7 +1,7 @@
 use Rattle.std.proofs.Common.{◌≡◌, ◌-◌, ap, ◌∙◌, arith}
 use Rattle.std.proofs.lemmas.List.{take_rest}
 use Rattle.std.proofs.lemmas.Result.{IfOk-weaker}
-use Rattle.restore_reader.specs.Session.{ends_of}
+use Rattle.store_files.specs.Entries.{ends_of}
 use Rattle.restore_reader.specs.Cutting.{total_of}
 use Rattle.restore_reader.specs.Plan.{parts_in}
 use Rattle.restore_reader.proofs.Apart.{steps_at, parts_at, total_in}

@@ -1,13 +1,12 @@
-use Rattle.std.proofs.Common.{◌≡◌, ◌∷◌, refl, ap, sym, subst, ◌∙◌, List, ℕ, map, inl}
-use Rattle.std.specs.FinMap.{get}
+use Rattle.std.proofs.Common.{◌∷◌, refl, ap, subst, ◌∙◌, rules, Result, Ok, List, ℕ, inl}
 use Rattle.disk_trait.specs.Files.{Files}
+use Rattle.disk_trait.specs.declared.disk.DiskError.{DiskError}
 use Rattle.disk_trait.specs.Disk.{Steps, Now, After}
 use Rattle.disk_trait.specs.Runs.{leaves_as}
-use Rattle.store_model.specs.Uploads.{file_path}
-use Rattle.store_model.specs.Stands.{manifest_path}
+use Rattle.store_files.specs.Folder.{manifest_path}
 use Rattle.snapshot_files.specs.Forgotten.{Forgets, ForgetsFirm, without}
 use Rattle.snapshot_files.proofs.Placing.{none_is}
-use Rattle.snapshot_files.proofs.Losing.{without_these, without_others}
+use Rattle.snapshot_files.proofs.StandingLemmas.{moves_forgotten, moves_none}
 use Rattle.snapshot_files.proofs.forgetting.forget.Goals as goal
 
 pub returns-in_err-manifest-clause-crash : goal.returns-in_err-manifest-clause-crash
@@ -57,24 +56,28 @@ returns-clause-removed g c =
     ∙ ap (λ (q : List ℕ). without (q ∷ c.deref.result.now) read) (c.as_str.ensures.text ∙ c.in_ok-manifest.ensures)
     ∙ ap (λ (ps : List (List ℕ)). without (manifest_path c.args.key.now ∷ ps) read) (c.deref.ensures.value ∙ c.in_ok-paths.ensures)
 
-pub returns-clause-gone : goal.returns-clause-gone
-returns-clause-gone g c =
-    let d = g.D.Disk in
-    let read : Files = d.content c.args.disk.now in
-    let names : List (List ℕ) = manifest_path c.args.key.now ∷ map (file_path c.args.key.now) c.args.files.now in
-    λ h path has.
-    ap (λ (m : Files). get m path) (c.in_ok-forget_at.ensures.removed h
-    ∙ ap (λ (q : List ℕ). without (q ∷ c.deref.result.now) read) (c.as_str.ensures.text ∙ c.in_ok-manifest.ensures)
-    ∙ ap (λ (ps : List (List ℕ)). without (manifest_path c.args.key.now ∷ ps) read) (c.deref.ensures.value ∙ c.in_ok-paths.ensures))
-    ∙ without_these names read path has
+pub returns-in_err-manifest-clause-stands : goal.returns-in_err-manifest-clause-stands
+returns-in_err-manifest-clause-stands g c =
+    let d = g.D.Disk in let m = g.met.D.Disk in λ snapshots are.
+    moves_none d c.args.disk.now c.args.disk.now c.from_residual.result snapshots _ (search rules) (none_is d.calls d.images d.honest m.told c.args.disk.now)
 
-pub returns-clause-others : goal.returns-clause-others
-returns-clause-others g c =
+pub returns-in_err-paths-clause-stands : goal.returns-in_err-paths-clause-stands
+returns-in_err-paths-clause-stands g c =
+    let d = g.D.Disk in let m = g.met.D.Disk in λ snapshots are.
+    moves_none d c.args.disk.now c.args.disk.now c.from_residual-in_err-paths.result snapshots _ (search rules) (none_is d.calls d.images d.honest m.told c.args.disk.now)
+
+pub returns-in_err-forget_at-clause-stands : goal.returns-in_err-forget_at-clause-stands
+returns-in_err-forget_at-clause-stands g c =
+    let d = g.D.Disk in λ snapshots are.
+    moves_forgotten d c.args.disk.now c.forget_at.new.disk c.from_residual-in_err-forget_at.result snapshots c.args.key.now c.args.files.now c.as_str.result.now c.deref.result.now c.requires are
+    (c.as_str.ensures.text ∙ c.in_ok-manifest.ensures) (c.deref.ensures.value ∙ c.in_ok-paths.ensures)
+    c.forget_at.ensures.crash (search rules) (search rules)
+
+pub returns-clause-stands : goal.returns-clause-stands
+returns-clause-stands g c =
     let d = g.D.Disk in
-    let read : Files = d.content c.args.disk.now in
-    let names : List (List ℕ) = manifest_path c.args.key.now ∷ map (file_path c.args.key.now) c.args.files.now in
-    λ h path other.
-    ap (λ (m : Files). get m path) (c.in_ok-forget_at.ensures.removed h
-    ∙ ap (λ (q : List ℕ). without (q ∷ c.deref.result.now) read) (c.as_str.ensures.text ∙ c.in_ok-manifest.ensures)
-    ∙ ap (λ (ps : List (List ℕ)). without (manifest_path c.args.key.now ∷ ps) read) (c.deref.ensures.value ∙ c.in_ok-paths.ensures))
-    ∙ without_others names read path other
+    let done : Result (Unit {0}) DiskError = Ok tt in
+    λ snapshots are.
+    moves_forgotten d c.args.disk.now c.forget_at.new.disk done snapshots c.args.key.now c.args.files.now c.as_str.result.now c.deref.result.now c.requires are
+    (c.as_str.ensures.text ∙ c.in_ok-manifest.ensures) (c.deref.ensures.value ∙ c.in_ok-paths.ensures)
+    c.forget_at.ensures.crash c.in_ok-forget_at.ensures.removed c.in_ok-forget_at.ensures.firm

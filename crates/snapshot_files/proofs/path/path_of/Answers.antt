@@ -1,6 +1,6 @@
 use Rattle.std.proofs.Common.{◌≡◌, rules}
 use Rattle.std.specs.Prelude.{string_bytes}
-use Rattle.store_model.specs.Uploads.{file_path}
+use Rattle.store_files.specs.Folder.{file_path}
 use Rattle.snapshot_files.proofs.PathLengths.{path_short}
 use Rattle.snapshot_files.proofs.path.path_of.Goals as goal
 

@@ -1,5 +1,5 @@
 use Rattle.std.proofs.Common.{◌≡◌, map, take}
-use Rattle.store_model.specs.Uploads.{file_path}
+use Rattle.store_files.specs.Folder.{file_path}
 use Rattle.snapshot_files.proofs.path.paths_of.Given as goal
 
 abbrev pub invariant-loop-name : goal.invariant-loop-name

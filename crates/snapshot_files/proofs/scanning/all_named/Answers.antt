@@ -1,19 +1,17 @@
-use Rattle.std.proofs.Common.{◌++◌, ◌∷◌, [], ◌∙◌, List, ℕ, map, take, string_bytes, arith, ap, sym, subst, inl}
+use Rattle.std.proofs.Common.{◌++◌, ◌∷◌, [], ◌∙◌, List, ℕ, map, take, string_bytes, arith, ap, sym, subst, inl, rules}
 use Rattle.std.specs.List.{All, filter_map, cons_option}
-use Rattle.std.proofs.lemmas.List.{take_more, take_all, map_push}
+use Rattle.std.proofs.lemmas.List.{take_more, map_push}
 use Rattle.std.proofs.lemmas.List.Elements.{All-nil, filter_map-append}
 use Rattle.disk_trait.specs.Files.{Files}
-use Rattle.disk_trait.specs.Runs.{both_serve, none_serves}
 use Rattle.snapshot_files.specs.Scanned.{HasNames, found_named}
-use Rattle.snapshot_files.proofs.ReadingCalls.{reads_none, reads_then}
+use Rattle.snapshot_files.proofs.OnlyReading.{reads_none, reads_then, reads_by}
 use Rattle.snapshot_files.proofs.scanning.all_named.Goals as goal
 
 pub loop-name-init : goal.loop-name-init
 loop-name-init g c =
-    let d = g.D.Disk in let m = g.met.D.Disk in
+    let d = g.D.Disk in
     record {
-      serves = none_serves d.honest d.faults c.args.disk.now ⊥ (λ h. absurd h);
-      reads = reads_none d.honest d.content d.calls d.images m.told c.args.disk.now;
+      reads = reads_none d c.args.disk.now ⊥ (λ h. h);
       found = λ h. c.new-all.ensures.items;
       names = subst (All HasNames) (sym c.new-all.ensures.items) (All-nil HasNames);
     }
@@ -30,10 +28,9 @@ loop-name-preserved g c =
     let more = take_more xs i x (omega arith) ∙ ap (λ y. take i xs ++ y ∷ []) (sym c.name-item.is) in
     let names = ap (map string_bytes) more ∙ map_push string_bytes (take i xs) x in
     record {
-      serves = both_serve d.honest d.faults _ _ _ ⊥ _ ⊥ inv.serves c.find_into.ensures.serves inl;
-      reads = reads_then d.honest d.content d.calls d.images _ _ _ inv.reads c.find_into.ensures.reads;
+      reads = reads_then d _ _ _ ⊥ _ ⊥ inv.reads c.find_into.ensures.reads inl;
       found = λ h.
-          c.in_ok-find_into.ensures.found (inv.reads.kept.0 h)
+          c.in_ok-find_into.ensures.found ((inv.reads).serves.kept.0 h)
           ∙ ap (λ (n : List ℕ). old ++ cons_option (found_named (d.content c.loop-name.disk) n) []) c.as_str.ensures.value
           ∙ ap (λ (m : Files). old ++ cons_option (found_named m (string_bytes x)) []) (inv.reads.same h)
           ∙ ap (λ l. l ++ cons_option (found_named now (string_bytes x)) []) (inv.found h)
@@ -44,4 +41,4 @@ loop-name-preserved g c =
 pub returns-in_err-find_into-clause-reads : goal.returns-in_err-find_into-clause-reads
 returns-in_err-find_into-clause-reads g c =
     let d = g.D.Disk in
-    reads_then d.honest d.content d.calls d.images _ _ _ c.loop-name.invariant.reads c.find_into.ensures.reads
+    reads_by d _ _ _ ⊥ _ _ c.loop-name.invariant.reads c.find_into.ensures.reads (search rules)

@@ -1,34 +1,24 @@
-use Rattle.std.proofs.Common.{◌∙◌, ap, sym}
+use Rattle.std.proofs.Common.{◌∙◌, ap, sym, rules}
 use Rattle.std.specs.Prelude.{option_map}
 use Rattle.disk_trait.specs.Files.{Files}
 use Rattle.manifest.specs.Views.{manifest_view}
 use Rattle.store_model.specs.Load.{read_manifest}
 use Rattle.snapshot_files.specs.Scanned.{unreadable_by}
-use Rattle.snapshot_files.proofs.ReadingCalls.{reads_none, reads_call, reads_then}
+use Rattle.snapshot_files.proofs.OnlyReading.{reads_call, reads_by}
 use Rattle.snapshot_files.proofs.FoundLemmas.{found_is}
 use Rattle.snapshot_files.proofs.scanning.found_named.Goals as goal
-
-pub returns-in_err-key-clause-reads : goal.returns-in_err-key-clause-reads
-returns-in_err-key-clause-reads g c =
-    let d = g.D.Disk in let m = g.met.D.Disk in
-    reads_none d.honest d.content d.calls d.images m.told c.args.disk.now
-
-pub returns-in_default-clause-reads : goal.returns-in_default-clause-reads
-returns-in_default-clause-reads g c =
-    let d = g.D.Disk in let m = g.met.D.Disk in
-    reads_none d.honest d.content d.calls d.images m.told c.args.disk.now
 
 pub returns-in_err-unreadable-clause-reads : goal.returns-in_err-unreadable-clause-reads
 returns-in_err-unreadable-clause-reads g c =
     let d = g.D.Disk in
-    reads_then d.honest d.content d.calls d.images c.args.disk.now c.read.new.self c.unreadable_of.new.disk
-    (reads_call d.honest d.content d.calls d.images c.args.disk.now c.read.new.self c.read.ensures.serves.kept c.read.ensures.same c.read.ensures.crash) c.unreadable_of.ensures.reads
+    let one = reads_call d c.args.disk.now c.read.new.self _ c.read.ensures.serves c.read.ensures.crash c.read.ensures.same in
+    reads_by d c.args.disk.now c.read.new.self c.unreadable_of.new.disk _ _ _ one c.unreadable_of.ensures.reads (search rules)
 
 pub returns-clause-reads : goal.returns-clause-reads
 returns-clause-reads g c =
     let d = g.D.Disk in
-    reads_then d.honest d.content d.calls d.images c.args.disk.now c.read.new.self c.unreadable_of.new.disk
-    (reads_call d.honest d.content d.calls d.images c.args.disk.now c.read.new.self c.read.ensures.serves.kept c.read.ensures.same c.read.ensures.crash) c.unreadable_of.ensures.reads
+    let one = reads_call d c.args.disk.now c.read.new.self _ c.read.ensures.serves c.read.ensures.crash c.read.ensures.same in
+    reads_by d c.args.disk.now c.read.new.self c.unreadable_of.new.disk _ _ _ one c.unreadable_of.ensures.reads (search rules)
 
 pub returns-clause-found : goal.returns-clause-found
 returns-clause-found g c =

@@ -1,53 +1,54 @@
-use Rattle.std.proofs.Common.{◌≡◌, ◌↔◌, ◌∙◌, List, ℕ, string_bytes, ap}
+use Rattle.std.proofs.Common.{◌≡◌, ◌∙◌, string_bytes, ap, rules}
 use Rattle.std.specs.Prelude.{codes}
 use Rattle.disk_trait.specs.Files.{Files}
 use Rattle.snapshot_files.specs.Scanned.{names_under}
-use Rattle.snapshot_files.proofs.ReadingCalls.{reads_call, reads_then}
+use Rattle.snapshot_files.proofs.OnlyReading.{reads_by, reads_by3, reads_call}
 use Rattle.snapshot_files.proofs.Joined.{three}
 use Rattle.snapshot_files.proofs.scanning.names_in_folders.Goals as goal
 
 pub returns-in_err-hosts-clause-reads : goal.returns-in_err-hosts-clause-reads
 returns-in_err-hosts-clause-reads g c =
     let d = g.D.Disk in
-    reads_then d.honest d.content d.calls d.images c.args.disk.now c.list.new.self c.list-2.new.self
-    (reads_call d.honest d.content d.calls d.images c.args.disk.now c.list.new.self c.list.ensures.serves.kept c.list.ensures.same c.list.ensures.crash)
-    (reads_call d.honest d.content d.calls d.images c.list.new.self c.list-2.new.self c.list-2.ensures.serves.kept c.list-2.ensures.same c.list-2.ensures.crash)
+    reads_by d c.args.disk.now c.list.new.self c.list-2.new.self _ _ _
+    (reads_call d c.args.disk.now c.list.new.self _ c.list.ensures.serves c.list.ensures.crash c.list.ensures.same)
+    (reads_call d c.list.new.self c.list-2.new.self _ c.list-2.ensures.serves c.list-2.ensures.crash c.list-2.ensures.same)
+    (search rules)
 
 pub returns-in_err-machines-clause-reads : goal.returns-in_err-machines-clause-reads
 returns-in_err-machines-clause-reads g c =
     let d = g.D.Disk in
-    reads_then d.honest d.content d.calls d.images c.args.disk.now c.list-2.new.self c.list-3.new.self
-    (reads_then d.honest d.content d.calls d.images c.args.disk.now c.list.new.self c.list-2.new.self
-    (reads_call d.honest d.content d.calls d.images c.args.disk.now c.list.new.self c.list.ensures.serves.kept c.list.ensures.same c.list.ensures.crash)
-    (reads_call d.honest d.content d.calls d.images c.list.new.self c.list-2.new.self c.list-2.ensures.serves.kept c.list-2.ensures.same c.list-2.ensures.crash))
-    (reads_call d.honest d.content d.calls d.images c.list-2.new.self c.list-3.new.self c.list-3.ensures.serves.kept c.list-3.ensures.same c.list-3.ensures.crash)
+    reads_by3 d c.args.disk.now c.list.new.self c.list-2.new.self c.list-3.new.self _ _ _ _
+    (reads_call d c.args.disk.now c.list.new.self _ c.list.ensures.serves c.list.ensures.crash c.list.ensures.same)
+    (reads_call d c.list.new.self c.list-2.new.self _ c.list-2.ensures.serves c.list-2.ensures.crash c.list-2.ensures.same)
+    (reads_call d c.list-2.new.self c.list-3.new.self _ c.list-3.ensures.serves c.list-3.ensures.crash c.list-3.ensures.same)
+    (search rules)
 
 pub returns-in_err-append-clause-reads : goal.returns-in_err-append-clause-reads
 returns-in_err-append-clause-reads g c =
     let d = g.D.Disk in
-    reads_then d.honest d.content d.calls d.images c.args.disk.now c.list-2.new.self c.list-3.new.self
-    (reads_then d.honest d.content d.calls d.images c.args.disk.now c.list.new.self c.list-2.new.self
-    (reads_call d.honest d.content d.calls d.images c.args.disk.now c.list.new.self c.list.ensures.serves.kept c.list.ensures.same c.list.ensures.crash)
-    (reads_call d.honest d.content d.calls d.images c.list.new.self c.list-2.new.self c.list-2.ensures.serves.kept c.list-2.ensures.same c.list-2.ensures.crash))
-    (reads_call d.honest d.content d.calls d.images c.list-2.new.self c.list-3.new.self c.list-3.ensures.serves.kept c.list-3.ensures.same c.list-3.ensures.crash)
+    reads_by3 d c.args.disk.now c.list.new.self c.list-2.new.self c.list-3.new.self _ _ _ _
+    (reads_call d c.args.disk.now c.list.new.self _ c.list.ensures.serves c.list.ensures.crash c.list.ensures.same)
+    (reads_call d c.list.new.self c.list-2.new.self _ c.list-2.ensures.serves c.list-2.ensures.crash c.list-2.ensures.same)
+    (reads_call d c.list-2.new.self c.list-3.new.self _ c.list-3.ensures.serves c.list-3.ensures.crash c.list-3.ensures.same)
+    (search rules)
 
 pub returns-in_err-append-2-clause-reads : goal.returns-in_err-append-2-clause-reads
 returns-in_err-append-2-clause-reads g c =
     let d = g.D.Disk in
-    reads_then d.honest d.content d.calls d.images c.args.disk.now c.list-2.new.self c.list-3.new.self
-    (reads_then d.honest d.content d.calls d.images c.args.disk.now c.list.new.self c.list-2.new.self
-    (reads_call d.honest d.content d.calls d.images c.args.disk.now c.list.new.self c.list.ensures.serves.kept c.list.ensures.same c.list.ensures.crash)
-    (reads_call d.honest d.content d.calls d.images c.list.new.self c.list-2.new.self c.list-2.ensures.serves.kept c.list-2.ensures.same c.list-2.ensures.crash))
-    (reads_call d.honest d.content d.calls d.images c.list-2.new.self c.list-3.new.self c.list-3.ensures.serves.kept c.list-3.ensures.same c.list-3.ensures.crash)
+    reads_by3 d c.args.disk.now c.list.new.self c.list-2.new.self c.list-3.new.self _ _ _ _
+    (reads_call d c.args.disk.now c.list.new.self _ c.list.ensures.serves c.list.ensures.crash c.list.ensures.same)
+    (reads_call d c.list.new.self c.list-2.new.self _ c.list-2.ensures.serves c.list-2.ensures.crash c.list-2.ensures.same)
+    (reads_call d c.list-2.new.self c.list-3.new.self _ c.list-3.ensures.serves c.list-3.ensures.crash c.list-3.ensures.same)
+    (search rules)
 
 pub returns-clause-reads : goal.returns-clause-reads
 returns-clause-reads g c =
     let d = g.D.Disk in
-    reads_then d.honest d.content d.calls d.images c.args.disk.now c.list-2.new.self c.list-3.new.self
-    (reads_then d.honest d.content d.calls d.images c.args.disk.now c.list.new.self c.list-2.new.self
-    (reads_call d.honest d.content d.calls d.images c.args.disk.now c.list.new.self c.list.ensures.serves.kept c.list.ensures.same c.list.ensures.crash)
-    (reads_call d.honest d.content d.calls d.images c.list.new.self c.list-2.new.self c.list-2.ensures.serves.kept c.list-2.ensures.same c.list-2.ensures.crash))
-    (reads_call d.honest d.content d.calls d.images c.list-2.new.self c.list-3.new.self c.list-3.ensures.serves.kept c.list-3.ensures.same c.list-3.ensures.crash)
+    reads_by3 d c.args.disk.now c.list.new.self c.list-2.new.self c.list-3.new.self _ _ _ _
+    (reads_call d c.args.disk.now c.list.new.self _ c.list.ensures.serves c.list.ensures.crash c.list.ensures.same)
+    (reads_call d c.list.new.self c.list-2.new.self _ c.list-2.ensures.serves c.list-2.ensures.crash c.list-2.ensures.same)
+    (reads_call d c.list-2.new.self c.list-3.new.self _ c.list-3.ensures.serves c.list-3.ensures.crash c.list-3.ensures.same)
+    (search rules)
 
 pub returns-clause-names : goal.returns-clause-names
 returns-clause-names g c =

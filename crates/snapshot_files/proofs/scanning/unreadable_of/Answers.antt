@@ -1,31 +1,10 @@
 use Rattle.std.proofs.Common.{◌≡◌, ◌≤◌, ◌∙◌, ℕ, List, Some, None, length, map, arith, rules, sym, ap}
 use Rattle.disk_trait.specs.Files.{Files}
 use Rattle.manifest.specs.declared.facts.FileFact.{FileFact}
-use Rattle.store_model.specs.Uploads.{file_path}
+use Rattle.store_files.specs.Folder.{file_path}
 use Rattle.snapshot_files.specs.Scanned.{first_missing}
-use Rattle.snapshot_files.proofs.ReadingCalls.{reads_none}
 use Rattle.snapshot_files.proofs.Damage.{by_missing}
 use Rattle.snapshot_files.proofs.scanning.unreadable_of.Goals as goal
-
-pub returns-in_err-manifest_name_of-clause-reads : goal.returns-in_err-manifest_name_of-clause-reads
-returns-in_err-manifest_name_of-clause-reads g c =
-    let d = g.D.Disk in let m = g.met.D.Disk in
-    reads_none d.honest d.content d.calls d.images m.told c.args.disk.now
-
-pub returns-in_default-clause-reads : goal.returns-in_default-clause-reads
-returns-in_default-clause-reads g c =
-    let d = g.D.Disk in let m = g.met.D.Disk in
-    reads_none d.honest d.content d.calls d.images m.told c.args.disk.now
-
-pub returns-in_err-manifest_name_of-2-clause-reads : goal.returns-in_err-manifest_name_of-2-clause-reads
-returns-in_err-manifest_name_of-2-clause-reads g c =
-    let d = g.D.Disk in let m = g.met.D.Disk in
-    reads_none d.honest d.content d.calls d.images m.told c.args.disk.now
-
-pub returns-then-files-gt-LISTED_LIMIT-clause-reads : goal.returns-then-files-gt-LISTED_LIMIT-clause-reads
-returns-then-files-gt-LISTED_LIMIT-clause-reads g c =
-    let d = g.D.Disk in let m = g.met.D.Disk in
-    reads_none d.honest d.content d.calls d.images m.told c.args.disk.now
 
 pub returns-in_default-2-clause-unreadable : goal.returns-in_default-2-clause-unreadable
 returns-in_default-2-clause-unreadable g c =

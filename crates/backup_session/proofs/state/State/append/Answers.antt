@@ -14,8 +14,8 @@ use Rattle.backup_session.proofs.StateSteps.{no_number, number_at, append_by, ap
 use Rattle.backup_session.proofs.Lifting.{other_default}
 use Rattle.backup_session.proofs.state.State.append.Goals as goal
 
-pub returns-in_default : goal.returns-in_default
-returns-in_default c =
+pub returns-in_default-clause-does : goal.returns-in_default-clause-does
+returns-in_default-clause-does c =
     let s = c.self.inside in
     let number = c.args.number in
     let items = s.begun.items in
@@ -25,8 +25,8 @@ returns-in_default c =
     let absent = no_number number items (place_none passes items (sym (c.place_of.ensures ∙ ap (position passes) c.deref.ensures.value) ∙ none)) in
     (subst (λ w. steps.append w number c.args.entries.now ≡ Err NoFile) c.self.view_is (append_by v number c.args.entries.now None absent), refl)
 
-pub returns-in-Err : goal.returns-in-Err
-returns-in-Err c =
+pub returns-in-Err-clause-does : goal.returns-in-Err-clause-does
+returns-in-Err-clause-does c =
     let s = c.self.inside in
     let number = c.args.number in
     let items = s.begun.items in
@@ -40,8 +40,8 @@ returns-in-Err c =
     c.in-Err.refusal c.in-Err.is c.in_ok-pieces.ensures.exact in
     (subst (λ w. steps.append w number es ≡ Err c.in-Err.refusal) c.self.view_is (append_refused v number es (open_of b) c.in-Err.refusal there told), refl)
 
-pub returns : goal.returns
-returns c =
+pub returns-clause-does : goal.returns-clause-does
+returns-clause-does c =
     let s = c.self.inside in
     let number = c.args.number in
     let items = s.begun.items in

@@ -24,8 +24,8 @@ invariant_of-self-2 c = record {
   manifest = c.self.invariant.manifest;
 }
 
-pub returns-in_default : goal.returns-in_default
-returns-in_default c =
+pub returns-in_default-clause-does : goal.returns-in_default-clause-does
+returns-in_default-clause-does c =
     let s = c.self.inside in
     let number = c.args.number in
     let items = s.begun.items in
@@ -35,8 +35,8 @@ returns-in_default c =
     let absent = no_number number items (place_none passes items (sym (c.place_of.ensures ∙ ap (position passes) c.deref.ensures.value) ∙ none)) in
     (subst (λ w. steps.close_index w number c.args.count c.args.size c.args.csum.now ≡ Err NoFile) c.self.view_is (close_none v number c.args.count c.args.size c.args.csum.now absent), refl)
 
-pub returns-in-Err : goal.returns-in-Err
-returns-in-Err c =
+pub returns-in-Err-clause-does : goal.returns-in-Err-clause-does
+returns-in-Err-clause-does c =
     let s = c.self.inside in
     let number = c.args.number in
     let items = s.begun.items in
@@ -47,14 +47,14 @@ returns-in-Err c =
     let there = number_at number items c.in-Some.place b first (sym c.index.ensures) in
     let test = steps.want_close b.index c.args.count c.args.size c.args.csum.now in
     let told = MatchResult-at_err (λ closed. (test ≡ Ok tt) × (closed.0.items ≡ text_of b.index) × (closed.1 ≡ steps.fact_of (open_of b))) (λ refusal. test ≡ Err refusal)
-    c.in-Err.refusal c.in-Err.is c.in_ok-file.ensures in (
+    c.in-Err.refusal c.in-Err.is c.in_ok-file.ensures.exact in (
       subst (λ w. steps.close_index w number c.args.count c.args.size c.args.csum.now ≡ Err c.in-Err.refusal) c.self.view_is
           (close_refused v number c.args.count c.args.size c.args.csum.now (open_of b) c.in-Err.refusal there told),
       refl,
     )
 
-pub returns : goal.returns
-returns c =
+pub returns-clause-does : goal.returns-clause-does
+returns-clause-does c =
     let s = c.self.inside in
     let number = c.args.number in
     let items = s.begun.items in
@@ -65,7 +65,7 @@ returns c =
     let there = number_at number items c.in-Some.place b first (sym c.index.ensures) in
     let test = steps.want_close b.index c.args.count c.args.size c.args.csum.now in
     let told = MatchResult-at_ok (λ closed. (test ≡ Ok tt) × (closed.0.items ≡ text_of b.index) × (closed.1 ≡ steps.fact_of (open_of b))) (λ refusal. test ≡ Err refusal)
-    c.in-Ok.file c.in-Ok.is c.in_ok-file.ensures in
+    c.in-Ok.file c.in-Ok.is c.in_ok-file.ensures.exact in
     let files = c.in_ok-insert.ensures.ok ∙ ap (λ f. steps.insert_fact f s.files.items) told.2 in
     record {
       stepped =

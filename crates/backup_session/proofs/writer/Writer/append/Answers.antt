@@ -14,4 +14,4 @@ returns-clause-plain c =
     let s = c.self.inside in
     plainly (λ u. u) settled c.args.self.now (session_of s.pending c.append.new.self) (λ v. steps.append v number entries) (λ w. plain.append w number entries)
     (append-agrees number entries) c.append.result
-    (lifted (λ u. u) (λ v. steps.append v number entries) s.state c.append.new.self s.pending c.args.self.now c.self.view_is c.requires c.append.result c.append.ensures)
+    (lifted (λ u. u) (λ v. steps.append v number entries) s.state c.append.new.self s.pending c.args.self.now c.self.view_is c.requires c.append.result c.append.ensures.does)

@@ -17,7 +17,7 @@ returns-in-Ok-clause-plain c = λ w shows.
     let number = c.args.number in
     let closed = c.in-Ok.closed in
     let step = λ (v : Writing). steps.close_index v number c.args.count c.args.size c.args.csum.now in
-    let told = MatchResult-at_ok (λ a. LeavesPending old new a.1 (step old) a.0.items) (λ refusal. (step old ≡ Err refusal) × (new ≡ old)) closed c.in-Ok.is c.in_ok-closed.ensures in
+    let told = MatchResult-at_ok (λ a. LeavesPending old new a.1 (step old) a.0.items) (λ refusal. (step old ≡ Err refusal) × (new ≡ old)) closed c.in-Ok.is c.in_ok-closed.ensures.does in
     plainly (λ (t : List ℕ). t) (held s.writer) s (held (before closed.1 new) (after closed.1 new)) step (λ x. plain.close_index x number c.args.count c.args.size c.args.csum.now)
     (close_index-agrees number c.args.count c.args.size c.args.csum.now) {E = ℕ} (Ok (Ok closed.0.items))
     (held_leaves step c.self.inside.pending old new s closed.1 closed.0.items c.self.view_is c.requires told) w shows
@@ -29,7 +29,7 @@ returns-in-Err-clause-plain c = λ w shows.
     let new = c.close_index.new.self in
     let number = c.args.number in
     let step = λ (v : Writing). steps.close_index v number c.args.count c.args.size c.args.csum.now in
-    let told = MatchResult-at_err (λ a. LeavesPending old new a.1 (step old) a.0.items) (λ refusal. (step old ≡ Err refusal) × (new ≡ old)) c.in-Err.refusal c.in-Err.is c.in_ok-closed.ensures in
+    let told = MatchResult-at_err (λ a. LeavesPending old new a.1 (step old) a.0.items) (λ refusal. (step old ≡ Err refusal) × (new ≡ old)) c.in-Err.refusal c.in-Err.is c.in_ok-closed.ensures.does in
     plainly (λ (t : List ℕ). t) (held s.writer) s s step (λ x. plain.close_index x number c.args.count c.args.size c.args.csum.now)
     (close_index-agrees number c.args.count c.args.size c.args.csum.now) {E = ℕ} (Ok (Err c.in-Err.refusal))
     (ap step (sym (writer_is c.self.inside.pending old s c.self.view_is c.requires)) ∙ told.0, refl) w shows

@@ -1,6 +1,7 @@
 use Rattle.std.proofs.Common.{◌≡◌, length, ap, ◌∙◌, arith}
 use Rattle.dynamic_index.specs.Pieces.{last_end}
-use Rattle.restore_reader.specs.Session.{Noted, ends_of}
+use Rattle.restore_reader.specs.Session.{Noted}
+use Rattle.store_files.specs.Entries.{ends_of}
 use Rattle.restore_reader.proofs.Apart.{last_of_all}
 use Rattle.restore_reader.proofs.index.Index.size.Goals as goal
 

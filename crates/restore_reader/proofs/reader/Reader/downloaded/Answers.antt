@@ -1,5 +1,5 @@
 use Rattle.std.proofs.lemmas.Result.{on_ok_weaker}
-use Rattle.restore_reader.specs.Session.{ends_of}
+use Rattle.store_files.specs.Entries.{ends_of}
 use Rattle.restore_reader.proofs.Plainly.{noted_also}
 use Rattle.restore_reader.proofs.reader.Reader.downloaded.Goals as goal
 

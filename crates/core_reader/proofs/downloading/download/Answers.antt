@@ -1,0 +1,190 @@
+use Rattle.std.proofs.Common.{◌≡◌, ◌∙◌, ap, refl, Some, None, Result, string_bytes, length, arith, ◌<◌, rules}
+use Rattle.std.specs.Result.{result_ok}
+use Rattle.store_types.specs.declared.refusal.Refusal.{Refusal}
+use Rattle.wire_commands.specs.declared.command.Command.TheVariants.{Download}
+use Rattle.wire_commands.specs.declared.reply.Reply.{Reply}
+use Rattle.store_history.specs.declared.act.Act.TheVariants.{Plain}
+use Rattle.store_files.specs.Entries.{ends_of}
+use Rattle.snapshot_files.specs.Indexes.{shown_index}
+use Rattle.core_state.specs.Named.{is_named}
+use Rattle.core_state.specs.Unreadables.{Asked, from_offset}
+use Rattle.core_state.specs.Wanted.{session_at}
+use Rattle.core_state.proofs.Commanding.{read_does, read_leaves, reads_none, same_kept, stopped_does, writes_does}
+use Rattle.core_state.proofs.NamedLemmas.{list_all-set, list_all-at}
+use Rattle.core_reader.proofs.Downloads.{asked_index_given, asked_index_refused, asked_part_given, asked_part_refused, file_answers, file_is, file_refuses, file_stops, file_text_of, file_untold, sessions_stay}
+use Rattle.core_reader.proofs.Noted.{named_after}
+use Rattle.core_reader.proofs.Telling.{index_got, index_stop, noted_leaves, part_answers, part_got, part_plain, part_stop, read_answers, read_at, read_stops, short_does, short_leaves, stops_does, stops_leaves, tells_given, tells_stopped, tells_unread}
+use Rattle.core_reader.proofs.downloading.download.Goals as goal
+
+-- ---- the act
+
+pub returns-in_err-asked-clause-does : goal.returns-in_err-asked-clause-does
+returns-in_err-asked-clause-does g c =
+    let d = g.D.Disk in
+    let old = c.args.parts.now in
+    let file = c.args.file.now in
+    let offset = c.args.offset in
+    let f = session_at old c.args.at.lane in
+    let catalogue = old.catalogue.items in
+    let value = c.in_err-asked.ensures.value offset in
+    stopped_does d old old c.args.at (Plain (Download file offset)) c.asked_file.result _ _ c.from_residual.ensures.1 c.in_err-asked.was
+    (reads_none d old.disk old.disk _ refl c.asked_file.ensures.unfailed) (same_kept old)
+    (file_stops file offset f catalogue _ _ (file_text_of file offset f catalogue) value)
+    (file_stops file offset f catalogue _ _ (file_answers file offset f catalogue) value)
+    (λ s h. file_stops file offset f catalogue _ _ (file_refuses old s c.args.at.lane c.args.at.moment file offset h.shows c.requires) value)
+
+pub returns-in_err-asked-clause-unreadable : goal.returns-in_err-asked-clause-unreadable
+returns-in_err-asked-clause-unreadable g c =
+    let old = c.args.parts.now in
+    let file = c.args.file.now in
+    let offset = c.args.offset in
+    let f = session_at old c.args.at.lane in
+    let catalogue = old.catalogue.items in
+    tells_unread g.D.Disk old.disk _ _ _ c.from_residual.ensures.1
+    (file_stops file offset f catalogue _ _ (file_untold file offset f catalogue) (c.in_err-asked.ensures.value offset))
+
+-- ---- a part
+
+pub returns-in_err-part-clause-does : goal.returns-in_err-part-clause-does
+returns-in_err-part-clause-does g c =
+    let d = g.D.Disk in
+    let old = c.args.parts.now in
+    let a = c.in_ok-asked.asked in
+    let path : c.as_str.result.now ≡ string_bytes a.path = c.as_str.ensures.value in
+    let asked = file_is c.args.file.now c.args.offset (session_at old c.args.at.lane) old.catalogue.items (string_bytes a.path) a.whole (c.in_ok-asked.ensures.value c.args.offset) in
+    stops_does d old _ c.args.at (Plain (Download c.args.file.now c.args.offset)) c.read_part.result _ c.in_err-part.was _ c.from_residual-in_err-part.ensures.1
+    c.read_part.ensures.reads (record { catalogue = refl; sessions = refl; locks = refl }) c.in_err-part.ensures.text (read_answers c.as_str.result.now _ c.in_err-part.ensures.kind)
+    (λ s h. read_stops {A = Reply} (λ part. part) _ _ _ (c.in_err-part.ensures.exact h.honest)
+    (λ r gives. asked_part_refused d old s c.args.at.lane c.args.at.moment c.args.file.now (string_bytes a.path) c.args.offset a.whole c.requires asked h c.as_str.result.now r path gives))
+
+pub returns-in_err-part-clause-leaves : goal.returns-in_err-part-clause-leaves
+returns-in_err-part-clause-leaves g c =
+    stops_leaves g.D.Disk c.args.parts.now _ c.args.at (Plain (Download c.args.file.now c.args.offset)) c.read_part.result _ c.in_err-part.was _ c.as_str.result.now c.from_residual-in_err-part.ensures.1
+    c.read_part.ensures.reads (record { catalogue = refl; sessions = refl; locks = refl }) refl c.in_err-part.ensures.kind (λ e. cc)
+
+pub returns-in_err-part-clause-unreadable : goal.returns-in_err-part-clause-unreadable
+returns-in_err-part-clause-unreadable g c =
+    let old = c.args.parts.now in
+    let a = c.in_ok-asked.asked in
+    let path : c.as_str.result.now ≡ string_bytes a.path = c.as_str.ensures.value in
+    let none : a.whole ≡ None = search rules in
+    let it : Asked = record { path = string_bytes a.path; way = from_offset a.whole c.args.offset } in
+    tells_stopped g.D.Disk old.disk {A = Reply} (λ part. part) _ it c.read_part.result _ c.in_err-part.was _ c.from_residual-in_err-part.ensures.1 (ap (λ (x : Result Asked Refusal). result_ok x) (c.in_ok-asked.ensures.value c.args.offset))
+    (read_at (string_bytes a.path) c.as_str.result.now _ path c.in_err-part.ensures.kind)
+    (λ h. part_stop (g.D.Disk.content old.disk) (string_bytes a.path) c.as_str.result.now c.args.offset a.whole _ path none (c.in_err-part.ensures.exact h))
+
+pub returns-in_default-clause-does : goal.returns-in_default-clause-does
+returns-in_default-clause-does g c =
+    let d = g.D.Disk in
+    let old = c.args.parts.now in
+    let a = c.in_ok-asked.asked in
+    let path : c.as_str.result.now ≡ string_bytes a.path = c.as_str.ensures.value in
+    let none : a.whole ≡ None = search rules in
+    let asked = file_is c.args.file.now c.args.offset (session_at old c.args.at.lane) old.catalogue.items (string_bytes a.path) a.whole (c.in_ok-asked.ensures.value c.args.offset) in
+    read_does d old _ c.args.at (Plain (Download c.args.file.now c.args.offset)) c.in_ok-part.part _ c.read_part.ensures.reads (record { catalogue = refl; sessions = refl; locks = refl })
+    c.in_ok-part.ensures.text (part_answers _ c.in_ok-part.ensures.kind) (part_plain _ c.in_ok-part.ensures.kind)
+    (λ s h. asked_part_given d old s c.args.at.lane c.args.at.moment c.args.file.now (string_bytes a.path) c.args.offset a.whole c.requires asked h c.as_str.result.now c.in_ok-part.part path none (c.in_ok-part.ensures.exact h.honest))
+
+pub returns-in_default-clause-leaves : goal.returns-in_default-clause-leaves
+returns-in_default-clause-leaves g c =
+    read_leaves g.D.Disk c.args.parts.now _ c.args.at (Plain (Download c.args.file.now c.args.offset)) c.in_ok-part.part _ c.read_part.ensures.reads (record { catalogue = refl; sessions = refl; locks = refl })
+    (record { plain = part_plain _ c.in_ok-part.ensures.kind; change = refl; listed = refl; goes_on = refl }) (λ e. cc)
+
+pub returns-in_default-clause-unreadable : goal.returns-in_default-clause-unreadable
+returns-in_default-clause-unreadable g c =
+    let old = c.args.parts.now in
+    let a = c.in_ok-asked.asked in
+    let path : c.as_str.result.now ≡ string_bytes a.path = c.as_str.ensures.value in
+    let none : a.whole ≡ None = search rules in
+    let it : Asked = record { path = string_bytes a.path; way = from_offset a.whole c.args.offset } in
+    tells_given g.D.Disk old.disk _ it c.in_ok-part.part (ap (λ (x : Result Asked Refusal). result_ok x) (c.in_ok-asked.ensures.value c.args.offset)) c.in_ok-part.ensures.kind
+    (λ h. part_got (g.D.Disk.content old.disk) (string_bytes a.path) c.as_str.result.now c.args.offset a.whole c.in_ok-part.part path none (c.in_ok-part.ensures.exact h))
+
+-- ---- an index
+
+pub returns-in_err-index-clause-does : goal.returns-in_err-index-clause-does
+returns-in_err-index-clause-does g c =
+    let d = g.D.Disk in
+    let old = c.args.parts.now in
+    let a = c.in_ok-asked.asked in
+    let path : c.as_str-2.result.now ≡ string_bytes a.path = c.as_str-2.ensures.value in
+    let some : a.whole ≡ Some c.in-Some.is_fixed = search rules in
+    let asked = file_is c.args.file.now c.args.offset (session_at old c.args.at.lane) old.catalogue.items (string_bytes a.path) a.whole (c.in_ok-asked.ensures.value c.args.offset) in
+    stops_does d old _ c.args.at (Plain (Download c.args.file.now c.args.offset)) c.read_index.result _ c.in_err-index.was _ c.from_residual-in_err-index.ensures.1
+    c.read_index.ensures.reads (record { catalogue = refl; sessions = refl; locks = refl }) c.in_err-index.ensures.text (read_answers c.as_str-2.result.now _ c.in_err-index.ensures.kind)
+    (λ s h. read_stops shown_index _ _ _ (c.in_err-index.ensures.exact h.honest)
+    (λ r gives. asked_index_refused d old s c.args.at.lane c.args.at.moment c.args.file.now (string_bytes a.path) c.args.offset a.whole c.requires asked h c.as_str-2.result.now c.in-Some.is_fixed r path some gives))
+
+pub returns-in_err-index-clause-leaves : goal.returns-in_err-index-clause-leaves
+returns-in_err-index-clause-leaves g c =
+    stops_leaves g.D.Disk c.args.parts.now _ c.args.at (Plain (Download c.args.file.now c.args.offset)) c.read_index.result _ c.in_err-index.was _ c.as_str-2.result.now c.from_residual-in_err-index.ensures.1
+    c.read_index.ensures.reads (record { catalogue = refl; sessions = refl; locks = refl }) refl c.in_err-index.ensures.kind (λ e. cc)
+
+pub returns-in_err-index-clause-unreadable : goal.returns-in_err-index-clause-unreadable
+returns-in_err-index-clause-unreadable g c =
+    let old = c.args.parts.now in
+    let a = c.in_ok-asked.asked in
+    let path : c.as_str-2.result.now ≡ string_bytes a.path = c.as_str-2.ensures.value in
+    let some : a.whole ≡ Some c.in-Some.is_fixed = search rules in
+    let it : Asked = record { path = string_bytes a.path; way = from_offset a.whole c.args.offset } in
+    tells_stopped g.D.Disk old.disk {A = Reply} (λ part. part) _ it c.read_index.result _ c.in_err-index.was _ c.from_residual-in_err-index.ensures.1 (ap (λ (x : Result Asked Refusal). result_ok x) (c.in_ok-asked.ensures.value c.args.offset))
+    (read_at (string_bytes a.path) c.as_str-2.result.now _ path c.in_err-index.ensures.kind)
+    (λ h. index_stop (g.D.Disk.content old.disk) (string_bytes a.path) c.as_str-2.result.now c.args.offset c.in-Some.is_fixed a.whole _ path some (c.in_err-index.ensures.exact h))
+
+-- ---- memory is wanting for the note
+
+pub returns-in_err-note-clause-does : goal.returns-in_err-note-clause-does
+returns-in_err-note-clause-does g c =
+    short_does g.D.Disk c.args.parts.now _ c.args.at (Plain (Download c.args.file.now c.args.offset)) _ _ c.from_residual-in_err-note.ensures.1 c.read_index.ensures.reads
+    (record { catalogue = refl; sessions = sessions_stay _ _ _ _ c.in_err-note.ensures.err c.index_mut.ensures.value; locks = refl })
+
+pub returns-in_err-note-clause-leaves : goal.returns-in_err-note-clause-leaves
+returns-in_err-note-clause-leaves g c =
+    short_leaves g.D.Disk c.args.parts.now _ c.args.at (Plain (Download c.args.file.now c.args.offset)) _ _ c.from_residual-in_err-note.ensures.1 c.read_index.ensures.reads
+    (record { catalogue = refl; sessions = sessions_stay _ _ _ _ c.in_err-note.ensures.err c.index_mut.ensures.value; locks = refl }) refl (λ e. cc)
+
+pub returns-in_err-note-clause-unreadable : goal.returns-in_err-note-clause-unreadable
+returns-in_err-note-clause-unreadable g c = tells_unread g.D.Disk (c.args.parts.now).disk _ _ _ c.from_residual-in_err-note.ensures.1 tt
+
+-- ---- it is noted
+
+pub returns-clause-does : goal.returns-clause-does
+returns-clause-does g c =
+    let d = g.D.Disk in
+    let old = c.args.parts.now in
+    let a = c.in_ok-asked.asked in
+    let index = c.in_ok-index.index in
+    let path : c.as_str-2.result.now ≡ string_bytes a.path = c.as_str-2.ensures.value in
+    let some : a.whole ≡ Some c.in-Some.is_fixed = search rules in
+    let asked = file_is c.args.file.now c.args.offset (session_at old c.args.at.lane) old.catalogue.items (string_bytes a.path) a.whole (c.in_ok-asked.ensures.value c.args.offset) in
+    writes_does d old _ c.args.at (Plain (Download c.args.file.now c.args.offset)) index.part _ c.read_index.ensures.reads.serves
+    c.in_ok-index.ensures.text (part_answers _ c.in_ok-index.ensures.kind) (part_plain _ c.in_ok-index.ensures.kind)
+    (λ safe s h. asked_index_given d old s c.args.at.lane c.args.at.moment c.args.file.now (string_bytes a.path) c.args.offset a.whole c.requires asked h _ (shown_index index) c.in-Some.is_fixed c.as_str-2.result.now a.name
+    c.index_mut.result.now c.note.new.session path c.in_ok-asked.ensures.name some (c.in_ok-index.ensures.exact h.honest) c.index_mut.ensures.value
+    (λ snapshots r x shows there ends. c.in_ok-note.ensures.plain snapshots r x shows there (ap ends_of c.deref.ensures.value ∙ ends))
+    c.read_index.ensures.reads.same refl refl refl)
+
+pub returns-clause-leaves : goal.returns-clause-leaves
+returns-clause-leaves g c =
+    noted_leaves g.D.Disk c.args.parts.now _ c.args.at c.args.file.now c.args.offset c.in_ok-index.index.part _ (part_plain _ c.in_ok-index.ensures.kind) c.read_index.ensures.reads refl
+
+pub returns-clause-unreadable : goal.returns-clause-unreadable
+returns-clause-unreadable g c =
+    let old = c.args.parts.now in
+    let a = c.in_ok-asked.asked in
+    let index = c.in_ok-index.index in
+    let path : c.as_str-2.result.now ≡ string_bytes a.path = c.as_str-2.ensures.value in
+    let some : a.whole ≡ Some c.in-Some.is_fixed = search rules in
+    let it : Asked = record { path = string_bytes a.path; way = from_offset a.whole c.args.offset } in
+    tells_given g.D.Disk old.disk _ it index.part (ap (λ (x : Result Asked Refusal). result_ok x) (c.in_ok-asked.ensures.value c.args.offset)) c.in_ok-index.ensures.kind
+    (λ h. index_got (g.D.Disk.content old.disk) (string_bytes a.path) c.as_str-2.result.now c.args.offset c.in-Some.is_fixed a.whole (shown_index index) path some (c.in_ok-index.ensures.exact h))
+
+-- ---- the session
+
+pub invariant_of-parts-2-clause-named : goal.invariant_of-parts-2-clause-named
+invariant_of-parts-2-clause-named g c =
+    let old = c.args.parts.now in
+    let within : c.args.at.lane < length old.sessions.items = omega (arith, old.lanes, old.sessions.ok.0, c.requires) in
+    list_all-set is_named old.sessions.items c.args.at.lane c.note.new.session old.named
+    (named_after c.note.result c.index_mut.result.now c.note.new.session c.in_ok-asked.asked.name (ends_of c.deref.result.now) c.note.ensures.ok c.note.ensures.err
+    (list_all-at is_named old.sessions.items c.args.at.lane c.index_mut.result.now old.named within c.index_mut.ensures.value))

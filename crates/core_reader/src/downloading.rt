@@ -1,0 +1,132 @@
+//! DOWNLOAD.
+
+ghost use Rattle.std.specs.Prelude.{◌≡◌, ◌<◌, ◌≤◌, ℕ, List, IfOk, IsErrOf, OnOk, OnErr, Some, length, string_bytes};
+ghost use Rattle.wire_commands.specs.declared.command.Command.TheVariants.{Download};
+ghost use Rattle.store_history.specs.declared.act.Act.TheVariants.{Plain};
+ghost use Rattle.store_files.specs.Archive.{Archive, Snapshot, archive, ends_from};
+ghost use Rattle.store_files.specs.Entries.{FitsIndex, ends_of};
+ghost use Rattle.store_model.specs.Store.{Reader as PlainReader, reader as reader_of};
+ghost use Rattle.store_model.specs.ReaderSteps.{content_at, note as noted};
+ghost use Rattle.core_state.specs.Commands.{ActDoes, ActLeaves};
+ghost use Rattle.core_state.specs.Shown.{files_named, shown_session};
+ghost use Rattle.core_state.specs.Stops.{Gives};
+ghost use Rattle.core_state.specs.Unreadables.{Asked, from_offset};
+ghost use Rattle.core_state.specs.Wanted.{session_at};
+ghost use Rattle.core_state.specs.declared.stop.Stop.TheVariants.{DiskFailed};
+ghost use Rattle.core_reader.specs.Asked.{ActUnreadable, file_asked, noting, whole_for};
+
+use crate::lookups::path_in_snapshot;
+use core_state::{Parts, Place, Session, Stop};
+use disk_trait::Disk;
+use restore_reader::Reader;
+use snapshot_files::{read_index, read_part};
+use std::alloc::{AllocError, Global};
+use store_types::{Digest32, FileName, Refusal};
+use wire_commands::Reply;
+
+/// Notes where the pieces of an archive end that the reader downloaded, unless one of the name was noted. At want of
+/// memory nothing has changed.
+fn note(
+    session: &mut Session,
+    alloc: Global,
+    name: FileName,
+    entries: &[(Digest32, u64)],
+) -> Result<(), AllocError>
+    requires { FitsIndex (ends_of entries.now) }
+    ensures ok { OnOk result (session.new ≡ noting name (ends_of entries.now) session.old) }
+    ensures err { OnErr result (session.new ≡ session.old) }
+    ensures plain { OnOk result ((snapshots : List Snapshot) (r : PlainReader) (a : Archive) → session.old ≡ shown_session snapshots (reader_of r) → content_at (files_named r.key snapshots) name ≡ Some (archive a) →
+        ends_of entries.now ≡ ends_from 0 a.pieces → session.new ≡ shown_session snapshots (reader_of (noted name (archive a) r))) }
+{
+    let Session::Reader(reader) = session else {
+        return Ok(());
+    };
+    reader.downloaded(alloc, name, entries)
+}
+
+/// Whether the file is read whole, as an index that was not downloaded before, and then whether as a fixed one.
+fn whole_index(reader: &Reader, name: &FileName) -> Option<bool>
+    ensures { result ≡ whole_for reader.now name.now }
+{
+    if reader.is_downloaded(name) {
+        return None;
+    }
+    if name.is_fixed() {
+        return Some(true);
+    }
+    if name.is_dynamic() {
+        return Some(false);
+    }
+    None
+}
+
+/// A file that is asked for.
+#[derive(Drop)]
+struct AskedFile {
+    name: FileName,
+    /// Where it stands.
+    path: String,
+    /// Of an index that is read whole, whether as a fixed one.
+    whole: Option<bool>,
+}
+
+/// The file of the reader's snapshot, by what is kept. The disk is not called.
+fn asked_file<D>(parts: &Parts<D>, alloc: Global, lane: u32, file: &[u8]) -> Result<AskedFile, Stop>
+    requires { lane < 64 }
+    ensures value { (offset : ℕ) → Gives (λ a. record { path = string_bytes a.path; way = from_offset a.whole offset }) result
+        (file_asked file.now offset (session_at parts.now lane) parts.now.catalogue.items) }
+    ensures name { IfOk result (λ a. a.name ≡ file.now) }
+    ensures short { IfOk result (λ a. length (string_bytes a.path) ≤ 255) }
+    ensures unfailed { IsErrOf result DiskFailed → ⊥ }
+{
+    let reader = parts.reader(lane)?;
+    let Ok(name) = FileName::check(alloc, file)? else {
+        return Err(Stop::Refused(Refusal::BadName));
+    };
+    let Some(path) = path_in_snapshot(&parts.catalogue, reader.key(), &name) else {
+        return Err(Stop::Refused(Refusal::NoFile));
+    };
+    let path = String::from_str(alloc, path.as_str())?;
+    let whole = whole_index(reader, &name);
+    Ok(AskedFile { name, path, whole })
+}
+
+/// A part of a file of the reader's snapshot.
+///
+/// The refusals, in the order in which they are tested: the lane has no reader; the text is no file's name; the snapshot
+/// has no such file; the offset, in bytes, is beyond the file's size. A file that isn't there, or gives fewer bytes than
+/// its size says, is refused as unreadable, and so is an index that is none. Where a part of an index is given for the
+/// first time, the index is read whole, and where its pieces end is noted.
+pub fn download<D: Disk>(
+    parts: &mut Parts<D>,
+    alloc: Global,
+    at: Place,
+    file: &[u8],
+    offset: u64,
+) -> Result<Reply, Stop>
+    requires { at.lane < 64 }
+    ensures does { ActDoes D.Disk parts.old parts.new at (Plain (Download file.now offset)) result }
+    ensures leaves { ActLeaves D.Disk parts.old parts.new at (Plain (Download file.now offset)) result }
+    // it is unreadable exactly where nothing stands there, or where what is read whole is no index, as far as the disk tells
+    ensures unreadable { ActUnreadable D.Disk parts.old at (Plain (Download file.now offset)) result }
+{
+    let asked = asked_file(parts, alloc, at.lane, file)?;
+    let Some(is_fixed) = asked.whole else {
+        let part = read_part(&mut parts.disk, alloc, asked.path.as_str(), offset)?;
+        return Ok(part);
+    };
+    let index = read_index(
+        &mut parts.disk,
+        alloc,
+        asked.path.as_str(),
+        is_fixed,
+        offset,
+    )?;
+    note(
+        &mut parts.sessions[at.lane as usize],
+        alloc,
+        asked.name,
+        &index.entries,
+    )?;
+    Ok(index.part)
+}

@@ -1,0 +1,298 @@
+use Rattle.store_files.specs.Folder.{HasWholeChunks}
+use Rattle.core_state.specs.Chunks.{HoldsOnly, IsSafe}
+-- The two records of a command, lifted once over the beginning and the entry of an act.
+use Rattle.std.proofs.Common.{◌≡◌, ◌<◌, ◌≤◌, ℕ, true, false, length, is_some, Option, Some, None, Result, Ok, Err, IfOk, IfSome, IsSome, IsErrOf, inl, ⊎_elim, arith, refl, sym, ap, subst, ◌∙◌}
+use Rattle.disk_trait.specs.Disk.{Serves}
+use Rattle.disk_trait.specs.Effects.{LeavesBy}
+use Rattle.disk_trait.specs.Files.{Files}
+use Rattle.disk_trait.specs.declared.disk.Disk.{Ghosts}
+use Rattle.disk_trait.specs.declared.disk.DiskError.TheVariants as disks
+use Rattle.port_traits.specs.declared.clock.Clock as clocks
+use Rattle.store_types.specs.declared.refusal.Refusal.{Refusal}
+use Rattle.store_types.specs.declared.refusal.Refusal.TheVariants as refusals
+use Rattle.store_types.specs.declared.refusal.Refusal.TheVariants.{DiskFault}
+use Rattle.wire_commands.specs.declared.reply.Reply.{Reply}
+use Rattle.wire_commands.specs.declared.reply.Reply.TheVariants as replies
+use Rattle.store_history.specs.declared.act.Act.{Act}
+use Rattle.store_history.specs.declared.act.Act.TheVariants.{Chunk, Short, End}
+use Rattle.store_history.specs.declared.act.Answer.{Answer}
+use Rattle.store_history.specs.Acts.{IsWellFormed, class_of, stepping, wanting, ending}
+use Rattle.store_history.specs.History.{act_outcome}
+use Rattle.core_state.specs.declared.kept.Session.{Session}
+use Rattle.core_state.specs.declared.entering.Admitted.TheVariants.{Answered}
+use Rattle.core_state.specs.declared.entering.Place.{Place}
+use Rattle.core_state.specs.declared.state.Core.{Core}
+use Rattle.core_state.specs.declared.stop.Stop.{Stop}
+use Rattle.core_state.specs.declared.stop.Stop.TheVariants.{Refused, NoMemory, DiskFailed}
+use Rattle.core_state.specs.Answers.{IsTold}
+use Rattle.core_state.specs.Applies.{ActApplies, ActKeeps, IsClearFor, IsDone}
+use Rattle.core_state.specs.Begins.{AdmittedHasText, IsAdmitted, IsNotShort, IsReady, IsShort, ReadsClock, Refuses, short, halted}
+use Rattle.core_state.specs.Changes.{Change, IsFirm, LeavesChange, after, by_reply, by_stop, stays}
+use Rattle.core_state.specs.Catalogue.{listed_by}
+use Rattle.core_state.specs.Closing.{HasClosed, closes, closes_by, is_closing}
+use Rattle.core_state.specs.Commands.{ActDoes, ActLeaves, IsNoRefusal, change_at}
+use Rattle.core_state.specs.Entering.{held_by}
+use Rattle.core_state.specs.History.{History, event_of, pieces_of, then_event, world}
+use Rattle.core_state.specs.Settles.{Settles, reply_by}
+use Rattle.core_state.specs.Stops.{told}
+use Rattle.core_state.specs.Wanted.{session_at}
+use Rattle.core_state.proofs.Answered.{refused_stands, short_stands, done_stands}
+use Rattle.core_state.proofs.Answering.{refused_answered, short_answered, done_answered, refused_told, short_told, where_some, where_none, refused_same}
+use Rattle.core_state.proofs.Caused.{refused_caused, short_caused, done_caused, step_caused, want_caused}
+use Rattle.core_state.proofs.Chunks.{clear_safe}
+use Rattle.core_state.proofs.Commanding.{same_leaves, unlisted}
+use Rattle.core_state.proofs.Recorded.{records_more, refused_timely, settled_timely, short_timely, step_kind, tells_reply, wanting_kind}
+use Rattle.core_state.proofs.Reserves.{refused_keeps, done_keeps, closing_kind, closing_before, no_end_keeps}
+use Rattle.core_state.proofs.Unchanging.{refused_parts, refused_unchanged, done_unchanged}
+
+-- between the beginning of an act and its entry the parts change alone
+pub record SameRest {D E C : Type 0} (mid acted : Core D E C) : Type 0 where
+  pub journal : acted.journal ≡ mid.journal
+  pub clock : acted.clock ≡ mid.clock
+  pub fault : acted.fault ≡ mid.fault
+  pub remote : acted.remote ≡ mid.remote
+
+-- ---- the change by the reply
+
+-- what was done has its change
+done_change : (change : Change) (reply : Reply) → IsNoRefusal reply → by_reply change (Some reply) ≡ change
+done_change change (replies.Refused refusal) plain = absurd plain
+done_change change reply plain = refl
+
+refused_stays : (change : Change) (refusal : Refusal) → (refusal ≡ DiskFault → ⊥) → by_reply change (Some (replies.Refused refusal)) ≡ stays
+refused_stays change DiskFault other = absurd (other refl)
+refused_stays change refusal other = refl
+
+-- a record of the command speaks of what was done, where the reply is no refusal
+done_told : (P : Type 0) (result : Result Reply Stop) → IfOk result (λ _. P) → IsNoRefusal (reply_by (told result)) → P
+done_told P (Ok reply) p plain = p
+done_told P (Err (Refused refusal)) p plain = absurd plain
+done_told P (Err NoMemory) p plain = absurd plain
+done_told P (Err DiskFailed) p plain = absurd plain
+
+pub no_fault : (result : Result Reply Stop) → (Some (reply_by (told result)) ≡ Some (replies.Refused DiskFault) → ⊥) → IsErrOf result DiskFailed → ⊥
+no_fault result fine failed = fine (ap (λ r. Some (reply_by (told r))) failed)
+
+failed_as : (result : Result Reply Stop) → IsErrOf (told result) disks.Failed → IsErrOf result DiskFailed
+failed_as (Ok reply) e = cc
+failed_as (Err (Refused refusal)) e = cc
+failed_as (Err NoMemory) e = cc
+failed_as (Err DiskFailed) e = refl
+
+if_plain : (reply : Option Reply) (told_as : Reply) → reply ≡ Some told_as → IfSome reply IsNoRefusal → IsNoRefusal told_as
+if_plain reply told_as is p = subst (λ r. IfSome r IsNoRefusal) is p
+
+module _ {D : Type 0} (d : Ghosts D) where
+  pub serves_told : (old new : D) (result : Result Reply Stop) → Serves d.honest d.faults old new (IsErrOf result DiskFailed) → Serves d.honest d.faults old new (IsErrOf (told result) disks.Failed)
+  serves_told old new result serves = record { kept = serves.kept; count = serves.count; cause = λ e. serves.cause (failed_as result e) }
+
+  content_told : (old new : D) (change : Change) (result : Result Reply Stop) → IfOk result IsNoRefusal → (Some (reply_by (told result)) ≡ Some (replies.Refused DiskFault) → ⊥)
+      → d.content new ≡ after (by_stop change result) (d.content old) → d.content new ≡ after (by_reply change (Some (reply_by (told result)))) (d.content old)
+  content_told old new change (Ok reply) plain fine is = is ∙ ap (λ c. after c (d.content old)) (sym (done_change change reply plain))
+  content_told old new change (Err (Refused refusal)) plain fine is = is ∙ ap (λ c. after c (d.content old)) (sym (refused_stays change refusal (λ e. fine (ap (λ r. Some (replies.Refused r)) e))))
+  content_told old new change (Err NoMemory) plain fine is = is
+  content_told old new change (Err DiskFailed) plain fine is = absurd (fine refl)
+
+  crash_told : (old new : D) (change : Change) (result : Result Reply Stop) → IfOk result IsNoRefusal → LeavesChange d old new (by_stop change result) → LeavesChange d old new (by_reply change (Some (reply_by (told result))))
+  crash_told old new change (Ok reply) plain leaves = subst (LeavesChange d old new) (sym (done_change change reply plain)) leaves
+  crash_told old new change (Err (Refused refusal)) plain leaves = same_leaves d old new (by_reply change (Some (replies.Refused refusal))) leaves
+  crash_told old new change (Err NoMemory) plain leaves = leaves
+  crash_told old new change (Err DiskFailed) plain leaves = leaves
+
+  -- the count of calls doesn't fall
+  pub later : (old new : D) (step : Files → Files → Type 0) → LeavesBy d old new step → d.calls old ≤ d.calls new
+  later old new step leaves = ⊎_elim (λ same. let e = ap d.calls same in omega (arith, e)) (λ steps. steps.later) leaves
+
+-- ---- by the class
+
+true_false : true ≡ false → ⊥
+true_false e = cc
+
+class_told : (act : Act) (answer : Answer) → (class_of act ≡ ending → ⊥) → IsSome answer.reply → IsTold act answer
+class_told End answer other is = absurd (other refl)
+class_told act answer other is = is
+
+-- an act that never ends a session
+pub closes_none : (fault : Option ℕ) (act : Act) (x : Session) → closes act x ≡ false → closes_by fault act x ≡ true → ⊥
+closes_none None act x off on = true_false (sym on ∙ off)
+closes_none (Some first) act x off on = true_false (sym on)
+
+step_no_end : (act : Act) → class_of act ≡ stepping → class_of act ≡ ending → ⊥
+step_no_end act step ends = apart (sym step ∙ ends)
+  where
+    apart : stepping ≡ ending → ⊥
+    apart e = cc
+
+want_no_end : (act : Act) → class_of act ≡ wanting → class_of act ≡ ending → ⊥
+want_no_end act want ends = apart (sym want ∙ ends)
+  where
+    apart : wanting ≡ ending → ⊥
+    apart e = cc
+
+-- whatever is said of an act that is done
+pub undone : {P : Type 0} (answer : Answer) (refusal : Refusal) → answer.reply ≡ Some (replies.Refused refusal) → IsDone answer → P
+undone answer refusal is done = absurd (subst (λ r. IfSome r IsNoRefusal) is done)
+
+want_no_step : (act : Act) → class_of act ≡ wanting → class_of act ≡ stepping → ⊥
+want_no_step act want step = apart (sym want ∙ step)
+  where
+    apart : wanting ≡ stepping → ⊥
+    apart e = cc
+
+-- where the act puts a chunk no other piece's stands there
+safe_for : (m : Files) (h : History) (act : Act) (answer : Answer) (calls : ℕ) → IsWellFormed act → IsClearFor act (then_event h (event_of act answer calls))
+    → HasWholeChunks m → HoldsOnly m (pieces_of h) → IsSafe m act
+safe_for m h (Chunk digest checked) answer calls formed clear whole only = clear_safe m h (event_of (Chunk digest checked) answer calls) formed clear whole only
+safe_for m h act answer calls formed clear whole only = tt
+
+module _ {D E C : Type 0} (d : Ghosts D) (clock : clocks.Ghosts C) where
+  -- refused before it is done
+  pub refused_applies : (old new : Core D E C) (lane : ℕ) (act : Act) (answer : Answer) → lane < 64 → IsWellFormed act → class_of act ≡ stepping
+      → Refuses d clock.readings old new lane answer → AdmittedHasText (Answered answer) → (is_closing old lane act ≡ true → IsNotShort (Answered answer)) → ActApplies d clock old new lane act answer
+  refused_applies old new lane act answer lt formed step refuses text memory =
+      let answers = refused_answered d clock.readings old new lane answer refuses text in
+      let timely = refused_timely d clock.readings old new lane answer refuses in
+      let cause = refused_caused d clock.readings old new lane act answer refuses in record {
+        history = λ h s clear. refused_stands d clock.readings old new h lane act answer s lt formed step refuses memory;
+        records = λ h. records_more d clock.readings old new lane act answer h answers timely (step_kind d old new act answer step cause) (tells_reply d old new act answer cause answers.text);
+        answers = answers;
+        timely = timely;
+        told = class_told act answer (step_no_end act step) (refused_told d clock.readings old new lane answer refuses);
+        cause = step_caused d old new act answer step cause;
+      }
+
+  refused_remote : (old new : Core D E C) (lane : ℕ) (answer : Answer) → Refuses d clock.readings old new lane answer → new.remote ≡ old.remote
+  refused_remote old new lane answer (short is) = (is.entered).remote ∙ (is.begun).remote
+  refused_remote old new lane answer (halted is) = (is.entered).remote ∙ (is.begun).remote
+
+  -- the refusal is none of the disk's in this act
+  refused_as : (old new : Core D E C) (lane : ℕ) (answer : Answer) → Refuses d clock.readings old new lane answer
+      → (refusal : Refusal) × (answer.reply ≡ Some (replies.Refused refusal)) × (refusal ≡ DiskFault → ⊥)
+  refused_as old new lane answer (short is) = (refusals.NoMemory, (is.entered).reply_is, λ e. cc)
+  refused_as old new lane answer (halted is) = (refusals.Halted is.first, (is.entered).reply_is, λ e. cc)
+
+  refused_kept : (old new : Core D E C) (lane : ℕ) (act : Act) (answer : Answer) → (class_of act ≡ ending → ⊥)
+      → Refuses d clock.readings old new lane answer → (is_closing old lane act ≡ true → IsNotShort (Answered answer)) → ActKeeps d old new lane act answer
+  refused_kept old new lane act answer other refuses memory =
+      let parts = refused_parts d clock.readings old new lane answer refuses in
+      let same = ap (λ p. p.disk) parts in
+      let (refusal, is, fine) = refused_as old new lane answer refuses in
+      let none : by_reply (change_at old.parts lane act) answer.reply ≡ stays = ap (by_reply (change_at old.parts lane act)) is ∙ refused_stays (change_at old.parts lane act) refusal fine in record {
+        unchanged = refused_unchanged d clock.readings old new lane answer refuses;
+        quiet = λ _. same;
+        reads = λ _ h. ap d.content same;
+        content = λ _ _ h. ap d.content same ∙ ap (λ c. after c (d.content (old.parts).disk)) (sym none);
+        crash = inl same;
+        firm = λ _. undone answer refusal is;
+        listed = ap (λ p. p.catalogue.items) parts ∙ sym (ap (λ r. listed_by act r answer.place (session_at old.parts lane) (old.parts).catalogue.items) is
+            ∙ unlisted act refusal answer.place (session_at old.parts lane) (old.parts).catalogue.items);
+        admin = λ _. (ap (λ p. p.sessions.items) parts, ap (λ p. p.locks) parts);
+        ended = λ _. undone answer refusal is;
+        halted = where_some _ _ (refused_same d clock.readings old new lane answer refuses);
+        remote = refused_remote old new lane answer refuses;
+        memory = memory;
+        reserve = no_end_keeps old new lane act answer other (refused_keeps d clock.readings old new lane _ answer refuses);
+      }
+
+  pub refused_keeps_all : (old new : Core D E C) (lane : ℕ) (act : Act) (answer : Answer) → class_of act ≡ stepping
+      → Refuses d clock.readings old new lane answer → (is_closing old lane act ≡ true → IsNotShort (Answered answer)) → ActKeeps d old new lane act answer
+  refused_keeps_all old new lane act answer step refuses memory = refused_kept old new lane act answer (step_no_end act step) refuses memory
+
+  -- want of memory that was met outside the core
+  pub short_applies : (old new : Core D E C) (lane : ℕ) (act : Act) (answer : Answer) → lane < 64 → IsWellFormed act → class_of act ≡ wanting
+      → IsShort d clock.readings old new lane answer → ActApplies d clock old new lane act answer
+  short_applies old new lane act answer lt formed want is =
+      let answers = short_answered d clock.readings old new lane answer is in
+      let timely = short_timely d clock.readings old new lane answer is in
+      let cause = short_caused d clock.readings old new lane act answer is in record {
+        history = λ h s clear. short_stands d clock.readings old new h lane act answer s lt formed (want_no_end act want) (λ step closing. want_no_step act want step) is;
+        records = λ h. records_more d clock.readings old new lane act answer h answers timely (wanting_kind old act answer want (ap (λ x. x.kind) (is.entered).entry)) (tells_reply d old new act answer cause answers.text);
+        answers = answers;
+        timely = timely;
+        told = class_told act answer (want_no_end act want) (short_told d clock.readings old new lane answer is);
+        cause = want_caused d clock.readings old new lane act answer want is;
+      }
+
+  pub short_keeps_all : (old new : Core D E C) (lane : ℕ) (answer : Answer) → IsShort d clock.readings old new lane answer → ActKeeps d old new lane Short answer
+  short_keeps_all old new lane answer is =
+      refused_kept old new lane Short answer (want_no_end Short refl) (short is) (λ closing. absurd (closes_none old.fault Short (session_at old.parts lane) refl closing))
+
+  -- ---- done on these parts, and entered
+
+  done_at : (old mid acted new : Core D E C) (at : Place) (act : Act) (result : Result Reply Stop) (answer : Answer) → at.lane < 64 → IsWellFormed act → class_of act ≡ stepping
+      → IsReady clock.readings old mid at.lane at.moment → SameRest mid acted → ActDoes d mid.parts acted.parts at act result → ActLeaves d mid.parts acted.parts at act result
+      → Settles d acted new at.lane at.moment (told result) answer → ActApplies d clock old new at.lane act answer
+  done_at old mid acted new at act result answer lt formed step ready rest does leaves settles =
+      let answers = done_answered d clock.readings old mid acted new at.lane at.moment (told result) answer ready rest.journal rest.fault (serves_told d (mid.parts).disk (acted.parts).disk result does.serves) does.text settles in
+      let timely = settled_timely d clock.readings old acted new at.lane at.moment (told result) answer
+      (subst (λ k. ReadsClock clock.readings old.clock k old.last at.moment) (sym rest.clock) (ready.begun).clock) settles in
+      let cause = done_caused d clock.readings old mid acted new at.lane at.moment act (told result) answer ready (serves_told d (mid.parts).disk (acted.parts).disk result does.serves) does.answers settles in record {
+        history = λ h s clear.
+            done_stands d clock.readings old mid acted new h at.lane at.moment act (λ st. act_outcome h.remote (record (world h) { store = st }) at.lane at.moment act) (told result) answer s lt formed step refl
+            (record { ready = ready; journal = rest.journal; clock = rest.clock; fault = rest.fault; later = later d (mid.parts).disk (acted.parts).disk _ leaves.crash }) (λ safe. does.step safe h.remote (world h)) leaves.adds leaves.closed settles
+            (λ whole only. safe_for (d.content (mid.parts).disk) h act answer (d.calls (new.parts).disk) formed clear whole only);
+        records = λ h. records_more d clock.readings old new at.lane act answer h answers timely (step_kind d old new act answer step cause) (tells_reply d old new act answer cause answers.text);
+        answers = answers;
+        timely = timely;
+        told = class_told act answer (step_no_end act step) (ap is_some settles.reply_is);
+        cause = step_caused d old new act answer step cause;
+      }
+
+  ready_at : (old mid : Core D E C) (lane : ℕ) (at : Place) → IsAdmitted clock.readings old mid lane at → IsReady clock.readings old mid at.lane at.moment
+  ready_at old mid lane at admitted = subst (λ l. IsReady clock.readings old mid l at.moment) (sym admitted.lane_is) admitted.ready
+
+  pub done_applies : (old mid acted new : Core D E C) (lane : ℕ) (at : Place) (act : Act) (result : Result Reply Stop) (answer : Answer) → lane < 64 → IsWellFormed act → class_of act ≡ stepping
+      → IsAdmitted clock.readings old mid lane at → SameRest mid acted → ActDoes d mid.parts acted.parts at act result → ActLeaves d mid.parts acted.parts at act result
+      → Settles d acted new at.lane at.moment (told result) answer → ActApplies d clock old new lane act answer
+  done_applies old mid acted new lane at act result answer lt formed step admitted rest does leaves settles =
+      subst (λ l. ActApplies d clock old new l act answer) admitted.lane_is
+      (done_at old mid acted new at act result answer (subst (λ l. l < 64) (sym admitted.lane_is) lt) formed step (ready_at old mid lane at admitted) rest does leaves settles)
+
+  kept_at : (old mid acted new : Core D E C) (at : Place) (act : Act) (result : Result Reply Stop) (answer : Answer) → (class_of act ≡ ending → ⊥)
+      → IsReady clock.readings old mid at.lane at.moment → at.number ≡ length (mid.journal).entries.items
+      → (is_closing old at.lane act ≡ false → (3 ≤ held_by mid.journal at.lane) × (0 < (mid.journal).spare)) → SameRest mid acted
+      → ActDoes d mid.parts acted.parts at act result → ActLeaves d mid.parts acted.parts at act result
+      → Settles d acted new at.lane at.moment (told result) answer → ActKeeps d old new at.lane act answer
+  kept_at old mid acted new at act result answer other ready number filled rest does leaves settles =
+      let before = (ready.begun).parts in
+      let reply = settles.reply_is in
+      let closed : is_closing old at.lane act ≡ true → HasClosed acted.parts at.lane (told result) = λ closing. leaves.closed (closing_before old mid at.lane act before closing) in record {
+        unchanged = done_unchanged d clock.readings old mid acted new at.lane at.moment (told result) answer ready leaves.unchanged settles;
+        quiet = λ quiet. ap (λ p. p.disk) settles.parts ∙ leaves.quiet quiet ∙ ap (λ p. p.disk) before;
+        reads = λ only h. ap (λ p. d.content p.disk) settles.parts ∙ leaves.reads only (subst (λ p. d.honest p.disk) (sym before) h) ∙ ap (λ p. d.content p.disk) before;
+        content = λ _ fine h. ap (λ p. d.content p.disk) settles.parts ∙ content_at before reply (λ e. fine (reply ∙ e)) h;
+        crash = subst (λ p. LeavesChange d (old.parts).disk p.disk (by_reply (change_at old.parts at.lane act) answer.reply)) (sym settles.parts)
+            (subst (λ r. LeavesChange d (old.parts).disk (acted.parts).disk (by_reply (change_at old.parts at.lane act) r)) (sym reply)
+            (subst (λ p. LeavesChange d p.disk (acted.parts).disk (by_reply (change_at p at.lane act) (Some (reply_by (told result))))) before
+            (crash_told d (mid.parts).disk (acted.parts).disk (change_at mid.parts at.lane act) result does.plain leaves.crash)));
+        firm = λ _ done. subst (λ p. IsFirm d (old.parts).disk p.disk (change_at old.parts at.lane act)) (sym settles.parts)
+            (subst (λ p. IsFirm d p.disk (acted.parts).disk (change_at p at.lane act)) before
+            (done_told _ result leaves.firm (if_plain answer.reply _ reply done)));
+        listed = ap (λ p. p.catalogue.items) settles.parts ∙ leaves.listed
+            ∙ ap (λ p. listed_by act (Some (reply_by (told result))) at.number (session_at p at.lane) p.catalogue.items) before
+            ∙ ap (λ n. listed_by act (Some (reply_by (told result))) n (session_at old.parts at.lane) (old.parts).catalogue.items) (number ∙ sym (settles.place ∙ ap (λ j. length j.entries.items) rest.journal))
+            ∙ ap (λ r. listed_by act r answer.place (session_at old.parts at.lane) (old.parts).catalogue.items) (sym reply);
+        admin = λ is. (ap (λ p. p.sessions.items) settles.parts ∙ (leaves.admin is).0 ∙ ap (λ p. p.sessions.items) before, ap (λ p. p.locks) settles.parts ∙ (leaves.admin is).1 ∙ ap (λ p. p.locks) before);
+        ended = λ ends done. ap (λ p. session_at p at.lane) settles.parts ∙ done_told _ result (leaves.ended ends) (if_plain answer.reply _ reply done);
+        halted = where_none _ _ ready.no_fault;
+        remote = settles.remote ∙ rest.remote ∙ (ready.begun).remote;
+        memory = λ closing. closing_kind d acted new at.lane at.moment (told result) answer (closed closing) settles;
+        reserve = no_end_keeps old new at.lane act answer other (done_keeps d clock.readings old mid acted new at.lane at.moment act (told result) answer ready rest.journal filled closed settles);
+      }
+    where
+      content_at : mid.parts ≡ old.parts → answer.reply ≡ Some (reply_by (told result)) → (Some (reply_by (told result)) ≡ Some (replies.Refused DiskFault) → ⊥) → d.honest (old.parts).disk
+          → d.content (acted.parts).disk ≡ after (by_reply (change_at old.parts at.lane act) answer.reply) (d.content (old.parts).disk)
+      content_at before reply fine h =
+          subst (λ p. d.content (acted.parts).disk ≡ after (by_reply (change_at p at.lane act) answer.reply) (d.content p.disk)) before
+          (subst (λ r. d.content (acted.parts).disk ≡ after (by_reply (change_at mid.parts at.lane act) r) (d.content (mid.parts).disk)) (sym reply)
+          (content_told d (mid.parts).disk (acted.parts).disk (change_at mid.parts at.lane act) result does.plain fine
+          (leaves.content (no_fault result fine) (subst (λ p. d.honest p.disk) (sym before) h))))
+
+  pub done_keeps_all : (old mid acted new : Core D E C) (lane : ℕ) (at : Place) (act : Act) (result : Result Reply Stop) (answer : Answer) → class_of act ≡ stepping
+      → IsAdmitted clock.readings old mid lane at → (is_closing old lane act ≡ false → (3 ≤ held_by mid.journal lane) × (0 < (mid.journal).spare)) → SameRest mid acted
+      → ActDoes d mid.parts acted.parts at act result → ActLeaves d mid.parts acted.parts at act result
+      → Settles d acted new at.lane at.moment (told result) answer → ActKeeps d old new lane act answer
+  done_keeps_all old mid acted new lane at act result answer step admitted filled rest does leaves settles =
+      subst (λ l. ActKeeps d old new l act answer) admitted.lane_is
+      (kept_at old mid acted new at act result answer (step_no_end act step) (ready_at old mid lane at admitted) admitted.number_is
+      (subst (λ l. is_closing old l act ≡ false → (3 ≤ held_by mid.journal l) × (0 < (mid.journal).spare)) (sym admitted.lane_is) filled) rest does leaves settles)

@@ -1,0 +1,64 @@
+-- What an act promises of the core: the two records of its command, behind the turn.
+use Rattle.std.specs.Prelude.{◌≡◌, ℕ, true, Some, None, IfSome}
+use Rattle.disk_trait.specs.declared.disk.Disk.{Ghosts}
+use Rattle.port_traits.specs.declared.clock.Clock as clocks
+use Rattle.store_types.specs.declared.refusal.Refusal.TheVariants.{DiskFault}
+use Rattle.wire_commands.specs.declared.reply.Reply.TheVariants.{Refused}
+use Rattle.store_history.specs.declared.act.Act.{Act}
+use Rattle.store_history.specs.declared.act.Act.TheVariants.{Chunk}
+use Rattle.store_history.specs.declared.act.Answer.{Answer}
+use Rattle.core_state.specs.declared.kept.Session.TheVariants.{Idle}
+use Rattle.core_state.specs.declared.state.Core.{Core}
+use Rattle.core_state.specs.Answers.{IsAnswered, IsCaused, IsTold}
+use Rattle.core_state.specs.Catalogue.{Lists}
+use Rattle.core_state.specs.Changes.{IsFirm, LeavesChange, after, by_reply}
+use Rattle.core_state.specs.Closing.{is_closing}
+use Rattle.core_state.specs.Commands.{IsNoRefusal, change_at, ends_session, is_admins, is_quiet, reads_only}
+use Rattle.core_state.specs.History.{History, IsClear, StandsFor, then_event, event_of}
+use Rattle.core_state.specs.Records.{IsTimely, Records}
+use Rattle.core_state.specs.Reserved.{Keeps}
+use Rattle.core_state.specs.Unchanged.{SameContent, Unchanged}
+use Rattle.core_state.specs.Wanted.{session_at}
+
+-- the act was done: it has no reply, or one that is no refusal
+abbrev pub IsDone : Answer → Type 0
+IsDone answer = IfSome answer.reply IsNoRefusal
+
+-- a CHUNK asks that no two pieces of the history have one digest
+abbrev pub IsClearFor : Act → History → Type 0
+IsClearFor (Chunk digest checked) h = IsClear h
+IsClearFor _ h = Unit {0}
+
+-- The core stands for each history that it stood for with this act's event more, of a CHUNK where no two of the pieces of that one have one
+-- digest. On any disk it keeps the event behind those that it kept, and its answer has a cause.
+pub record ActApplies {D E C : Type 0} (d : Ghosts D) (clock : clocks.Ghosts C) (old new : Core D E C) (lane : ℕ) (act : Act) (answer : Answer) : Type 0 where
+  pub history : (h : History) → StandsFor d clock.readings old h → IsClearFor act (then_event h (event_of act answer (d.calls (new.parts).disk)))
+      → StandsFor d clock.readings new (then_event h (event_of act answer (d.calls (new.parts).disk)))
+  pub records : (h : History) → Records clock.readings old h → Records clock.readings new (then_event h (event_of act answer (d.calls (new.parts).disk)))
+  pub answers : IsAnswered d old new lane answer
+  pub timely : IsTimely clock.readings old new answer
+  pub told : IsTold act answer
+  pub cause : IsCaused d old new act answer
+
+-- What the act leaves of the core, on any disk but for what is said of an honest one.
+pub record ActKeeps {D E C : Type 0} (d : Ghosts D) (old new : Core D E C) (lane : ℕ) (act : Act) (answer : Answer) : Type 0 where
+  -- a refused act has changed nothing
+  pub unchanged : IfSome answer.reply (Unchanged d old.parts new.parts)
+  pub quiet : is_quiet act ≡ true → (new.parts).disk ≡ (old.parts).disk
+  -- an honest disk reads as before, whatever it held, in any case
+  pub reads : reads_only act ≡ true → SameContent d (old.parts).disk (new.parts).disk
+  -- what an honest disk reads, whatever it held, unless it failed in this act or before
+  pub content : old.fault ≡ None → (answer.reply ≡ Some (Refused DiskFault) → ⊥) → d.honest (old.parts).disk
+      → d.content (new.parts).disk ≡ after (by_reply (change_at old.parts lane act) answer.reply) (d.content (old.parts).disk)
+  pub crash : LeavesChange d (old.parts).disk (new.parts).disk (by_reply (change_at old.parts lane act) answer.reply)
+  pub firm : old.fault ≡ None → IsDone answer → IsFirm d (old.parts).disk (new.parts).disk (change_at old.parts lane act)
+  pub listed : Lists old new lane act answer
+  pub admin : is_admins act ≡ true → ((new.parts).sessions.items ≡ (old.parts).sessions.items) × ((new.parts).locks ≡ (old.parts).locks)
+  -- the lane has no session any more
+  pub ended : ends_session act ≡ true → IsDone answer → session_at new.parts lane ≡ Idle
+  -- after the disk failed no call of it is made
+  pub halted : IfSome old.fault (λ _. (new.parts).disk ≡ (old.parts).disk)
+  pub remote : new.remote ≡ old.remote
+  -- an ABORT or a CLOSE_READER that ends a session wants no memory
+  pub memory : is_closing old lane act ≡ true → (answer.entry).kind ≡ 2 → ⊥
+  pub reserve : Keeps act old new lane answer

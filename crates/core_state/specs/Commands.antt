@@ -1,0 +1,105 @@
+-- What a command over the parts promises of its act: two records, functions of the act, so that a command's clause is the instance at
+-- its constructor.
+use Rattle.std.specs.Prelude.{◌≡◌, ℕ, Bool, true, false, List, Option, Some, Result, IfOk, IsErrOf, IsTrue}
+use Rattle.disk_trait.specs.Disk.{Serves}
+use Rattle.disk_trait.specs.declared.disk.Disk.{Ghosts}
+use Rattle.store_files.specs.Archive.{Snapshot}
+use Rattle.wire_commands.specs.HasText.{ReplyHasText}
+use Rattle.wire_commands.specs.declared.reply.Reply.{Reply}
+use Rattle.wire_commands.specs.declared.reply.Reply.TheVariants.{Refused}
+use Rattle.wire_commands.specs.declared.command.Command.TheVariants.{OpenWriter, NewFixed, NewDynamic, Append, CloseIndex, OpenReader, CloseReader, List as ListAll, Files as FilesOf, Forget, Group, Finish, Abort}
+use Rattle.store_history.specs.declared.act.Act.{Act}
+use Rattle.store_history.specs.declared.act.Act.TheVariants.{Plain, Blob, Chunk, JobGroup, Short, End}
+use Rattle.store_history.specs.History.{World, act_outcome}
+use Rattle.core_state.specs.declared.entering.Place.{Place}
+use Rattle.core_state.specs.declared.kept.Session.TheVariants.{Idle}
+use Rattle.core_state.specs.declared.parts.Parts.{Parts}
+use Rattle.core_state.specs.declared.stop.Stop.{Stop}
+use Rattle.core_state.specs.declared.stop.Stop.TheVariants.{DiskFailed}
+use Rattle.core_state.specs.Catalogue.{listed_by}
+use Rattle.core_state.specs.Changes.{Change, IsFirm, LeavesChange, after, by_stop, change_of}
+use Rattle.core_state.specs.Chunks.{Adds, IsSafe}
+use Rattle.core_state.specs.Closing.{HasClosed, closes}
+use Rattle.core_state.specs.Holds.{Acts}
+use Rattle.core_state.specs.Replies.{may_answer}
+use Rattle.core_state.specs.Settles.{reply_by}
+use Rattle.core_state.specs.Stops.{told}
+use Rattle.core_state.specs.Unchanged.{SameContent, Unchanged}
+use Rattle.core_state.specs.Wanted.{session_at}
+
+-- the acts that make no call of the disk
+abbrev pub is_quiet : Act → Bool
+is_quiet (Plain (OpenWriter snapshot)) = true
+is_quiet (Plain (NewFixed file size chunk_size)) = true
+is_quiet (Plain (NewDynamic file)) = true
+is_quiet (Plain (Append number entries)) = true
+is_quiet (Plain (OpenReader snapshot)) = true
+is_quiet (Plain CloseReader) = true
+is_quiet (Plain (ListAll rest)) = true
+is_quiet (Plain (Group group)) = true
+is_quiet (JobGroup command) = true
+is_quiet Short = true
+is_quiet _ = false
+
+-- the acts that change nothing on the disk
+abbrev pub reads_only : Act → Bool
+reads_only (Blob name checked) = false
+reads_only (Chunk digest checked) = false
+reads_only (Plain (CloseIndex number count size csum)) = false
+reads_only (Plain Finish) = false
+reads_only (Plain Abort) = false
+reads_only (Plain (Forget snapshot)) = false
+reads_only End = false
+reads_only _ = true
+
+-- the acts on the store as a whole, which leave sessions and locks as they are
+abbrev pub is_admins : Act → Bool
+is_admins (Plain (ListAll rest)) = true
+is_admins (Plain (FilesOf snapshot)) = true
+is_admins (Plain (Forget snapshot)) = true
+is_admins (Plain (Group group)) = true
+is_admins (JobGroup command) = true
+is_admins _ = false
+
+-- the acts after which the lane has no session, once they are done
+abbrev pub ends_session : Act → Bool
+ends_session (Plain Finish) = true
+ends_session (Plain Abort) = true
+ends_session (Plain CloseReader) = true
+ends_session End = true
+ends_session _ = false
+
+abbrev pub IsNoRefusal : Reply → Type 0
+IsNoRefusal (Refused refusal) = ⊥
+IsNoRefusal _ = Unit {0}
+
+-- the act's change of the disk, by what the core keeps before it
+abbrev pub change_at : {D : Type 0} → Parts D → ℕ → Act → Change
+change_at old lane act = change_of act (session_at old lane) old.catalogue.items
+
+-- The act is the plain store's. What is answered, on any disk, is one of the act's replies, and has a spelling; a refusal is a stop.
+pub record ActDoes {D : Type 0} (d : Ghosts D) (old new : Parts D) (at : Place) (act : Act) (result : Result Reply Stop) : Type 0 where
+  pub serves : Serves d.honest d.faults old.disk new.disk (IsErrOf result DiskFailed)
+  pub text : IfOk (told result) ReplyHasText
+  pub answers : IfOk (told result) (λ reply. IsTrue (may_answer act reply))
+  pub plain : IfOk result IsNoRefusal
+  pub step : IsSafe (d.content old.disk) act → (remote : Option (List Snapshot)) (w : World)
+      → Acts d old new (λ s. act_outcome remote (record w { store = s }) at.lane at.moment act) (told result)
+
+-- What the act leaves, on any disk but for what is said of an honest one.
+pub record ActLeaves {D : Type 0} (d : Ghosts D) (old new : Parts D) (at : Place) (act : Act) (result : Result Reply Stop) : Type 0 where
+  -- refused it has changed nothing
+  pub unchanged : Unchanged d old new (reply_by (told result))
+  pub quiet : is_quiet act ≡ true → new.disk ≡ old.disk
+  -- an honest disk reads as before, whatever it held, in any case
+  pub reads : reads_only act ≡ true → SameContent d old.disk new.disk
+  -- what an honest disk reads, whatever it held, unless it failed
+  pub content : (IsErrOf result DiskFailed → ⊥) → d.honest old.disk → d.content new.disk ≡ after (by_stop (change_at old at.lane act) result) (d.content old.disk)
+  pub crash : LeavesChange d old.disk new.disk (by_stop (change_at old at.lane act) result)
+  pub firm : IfOk result (λ _. IsFirm d old.disk new.disk (change_at old at.lane act))
+  pub listed : new.catalogue.items ≡ listed_by act (Some (reply_by (told result))) at.number (session_at old at.lane) old.catalogue.items
+  pub admin : is_admins act ≡ true → (new.sessions.items ≡ old.sessions.items) × (new.locks ≡ old.locks)
+  pub adds : Adds d old new act (told result)
+  -- an act that ends the session wants no memory
+  pub closed : closes act (session_at old at.lane) ≡ true → HasClosed new at.lane (told result)
+  pub ended : ends_session act ≡ true → IfOk result (λ _. session_at new at.lane ≡ Idle)

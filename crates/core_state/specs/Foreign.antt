@@ -1,0 +1,16 @@
+-- Names in the datastore folder that are none of the store's.
+use Rattle.std.specs.Prelude.{◌≡◌, ◌≢◌, ℕ, List}
+use Rattle.std.specs.FinMap.{get}
+use Rattle.disk_trait.specs.declared.disk.Disk.{Ghosts}
+use Rattle.file_install.specs.Install.{temporary}
+use Rattle.store_types.specs.declared.names.SnapshotKey.{SnapshotKey}
+use Rattle.store_files.specs.Folder.{chunk_name, file_path}
+
+-- no file of a snapshot stands there, no chunk, and no temporary file of one
+pub record IsForeign (q : List ℕ) : Type 0 where
+  pub file : (key : SnapshotKey) (name : List ℕ) → (q ≢ file_path key name) × (q ≢ temporary (file_path key name))
+  pub chunk : (digest : List ℕ) → (q ≢ chunk_name digest) × (q ≢ temporary (chunk_name digest))
+
+-- what stands at such names stays
+abbrev pub KeepsForeign : {D : Type 0} → Ghosts D → D → D → Type 0
+KeepsForeign d old new = (q : List ℕ) → IsForeign q → get (d.content new) q ≡ get (d.content old) q

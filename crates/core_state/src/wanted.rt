@@ -1,0 +1,51 @@
+//! What a command wants of its lane.
+
+use crate::kept::{Session, Writing};
+use crate::parts::Parts;
+use restore_reader::Reader;
+use store_types::Refusal;
+
+impl<D> Parts<D> {
+    ghost use Rattle.std.specs.Prelude.{◌≡◌, ◌<◌, Ok, Err, IfErr, MatchResult};
+    ghost use Rattle.wire_commands.specs.HasText.{ReplyHasText};
+    ghost use Rattle.wire_commands.specs.declared.reply.Reply.TheVariants.{Refused};
+    ghost use Rattle.core_state.specs.Wanted.{reader_in, session_at, want_idle, want_writer};
+
+    /// The lane's reader. It is refused where the lane has none.
+    pub fn reader(&self, lane: u32) -> Result<&Reader, Refusal>
+        requires { lane < 64 }
+        ensures value { MatchResult result (λ r. reader_in (session_at self.now lane) ≡ Ok r.now)
+            (λ refusal. reader_in (session_at self.now lane) ≡ Err refusal) }
+        ensures text { IfErr result (λ refusal. ReplyHasText (Refused refusal)) }
+    {
+        match &self.sessions[lane as usize] {
+            Session::Reader(reader) => Ok(reader),
+            session => Err(Refusal::WrongState(session.state())),
+        }
+    }
+
+    /// The lane's writer. It is refused where the lane has none.
+    pub fn writer(&self, lane: u32) -> Result<&Writing, Refusal>
+        requires { lane < 64 }
+        ensures value { MatchResult result (λ w. want_writer (session_at self.now lane) ≡ Ok w.now)
+            (λ refusal. want_writer (session_at self.now lane) ≡ Err refusal) }
+        ensures text { IfErr result (λ refusal. ReplyHasText (Refused refusal)) }
+    {
+        match &self.sessions[lane as usize] {
+            Session::Writer(writing) => Ok(writing),
+            session => Err(Refusal::WrongState(session.state())),
+        }
+    }
+
+    /// The lane has no session. It is refused where it has one.
+    pub fn idle(&self, lane: u32) -> Result<(), Refusal>
+        requires { lane < 64 }
+        ensures value { want_idle (session_at self.now lane) ≡ result }
+        ensures text { IfErr result (λ refusal. ReplyHasText (Refused refusal)) }
+    {
+        match &self.sessions[lane as usize] {
+            Session::Idle => Ok(()),
+            session => Err(Refusal::WrongState(session.state())),
+        }
+    }
+}

@@ -1,6 +1,0 @@
-use Rattle.core_uploads.proofs.AppendRefusals.{plain_has_text}
-use Rattle.core_uploads.proofs.archives.refused_append.Goals as goal
-
-pub returns-in_default-clause-text : goal.returns-in_default-clause-text
-returns-in_default-clause-text c =
-    plain_has_text c.args.refusal c.requires c.in_default.not-TooMany c.in_default.not-UnknownChunk c.in_default.not-BadOffset c.in_default.not-WrongSize

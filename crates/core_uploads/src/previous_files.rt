@@ -1,0 +1,139 @@
+//! PREVIOUS.
+
+ghost use Rattle.std.specs.Prelude.{◌≡◌, ◌<◌, ◌≤◌, List, map, option_map, Ok, Err, MatchResult, IfOk, IfErr, OnOk, OnErr, IsErrOf, IsTrue, Some};
+ghost use Rattle.disk_trait.specs.Effects.{OnlyReads};
+ghost use Rattle.dynamic_index.specs.Writing.{known_of};
+ghost use Rattle.wire_commands.specs.HasText.{ReplyHasText};
+ghost use Rattle.wire_commands.specs.declared.command.Command.TheVariants as commands;
+ghost use Rattle.wire_commands.specs.declared.reply.Reply.TheVariants.{Refused};
+ghost use Rattle.snapshot_files.specs.Parts.{IsPart, RefusesPart};
+ghost use Rattle.snapshot_files.specs.Reads.{ErrorHasText, Gives, IfRefused};
+ghost use Rattle.store_history.specs.declared.act.Act.TheVariants.{Plain};
+ghost use Rattle.core_state.specs.Commands.{ActDoes, ActLeaves};
+ghost use Rattle.core_state.specs.Replies.{refuses_previous};
+ghost use Rattle.core_state.specs.Settles.{kind_by, reply_by};
+ghost use Rattle.core_state.specs.Stops.{told};
+ghost use Rattle.core_state.specs.Unreadables.{TellsUnreadable, whole_by};
+ghost use Rattle.core_state.specs.Wanted.{session_at};
+ghost use Rattle.core_uploads.specs.Previous.{ArePieces, MayKnow, asked_of_base, base_file as base_file_of, previous_by, shown_given, with_known};
+
+use crate::names::file_name;
+use core_state::{Listed, Parts, Place, Session, Stop, path_named, snapshot_named};
+use disk_trait::Disk;
+use snapshot_files::{FilePath, IndexPart, ReadError, lengths_of, read_index, read_part};
+use std::alloc::{AllocError, Global};
+use store_types::{Digest32, FileName, Refusal, SnapshotKey};
+use wire_commands::Reply;
+
+/// A part of a file of the base; and of each piece of an index the digest and the length in bytes.
+#[derive(Drop)]
+struct Given {
+    part: Reply,
+    pieces: Vec<(Digest32, u32)>,
+}
+
+/// Where the base's file of that name stands.
+#[tactic(auto, unfolding(crate::specs::Previous::base_file), using(core_state::proofs::Texts::no_snapshot_has_text, core_state::proofs::Texts::no_file_has_text))]
+fn base_file<'a>(
+    catalogue: &'a [Listed],
+    base: Option<&SnapshotKey>,
+    name: &FileName,
+) -> Result<&'a FilePath, Refusal>
+    ensures text { IfErr result (λ refusal. ReplyHasText (Refused refusal)) }
+    ensures kind { IfErr result (λ refusal. IsTrue (refuses_previous refusal)) }
+    ensures value { MatchResult result (λ path. base_file_of (option_map (λ k. k.now) base.entry) name.now catalogue.now ≡ Ok path.now)
+        (λ refusal. base_file_of (option_map (λ k. k.now) base.entry) name.now catalogue.now ≡ Err refusal) }
+{
+    let key = base.ok_or(Refusal::NoSnapshot)?;
+    let kept = snapshot_named(catalogue, key).ok_or(Refusal::NoSnapshot)?;
+    path_named(kept.files.as_slice(), name).ok_or(Refusal::NoFile)
+}
+
+/// A part of an index that is read whole, and its pieces.
+fn read_whole<D: Disk>(
+    disk: &mut D,
+    alloc: Global,
+    path: &FilePath,
+    is_fixed: bool,
+    offset: u64,
+) -> Result<Given, ReadError>
+    ensures reads { OnlyReads D.Disk disk.old disk.new (IsErrOf result ReadError.Failed) }
+    ensures exact { D.honest disk.old → Gives shown_given result (previous_by (Some is_fixed) (D.content disk.old) path.now offset) }
+    ensures kind { MatchResult result (λ g. IsPart g.part) (IfRefused (RefusesPart path.now)) }
+    ensures text { MatchResult result (λ g. ReplyHasText g.part) ErrorHasText }
+    ensures pieces { IfOk result (λ g. ArePieces (map known_of g.pieces.items)) }
+{
+    let index = read_index(disk, alloc, path.as_str(), is_fixed, offset)?;
+    let IndexPart { part, entries } = index;
+    let pieces = lengths_of(alloc, &entries)?;
+    Ok(Given { part, pieces })
+}
+
+/// A part of a file, and its pieces where it is an index.
+fn read_file<D: Disk>(
+    disk: &mut D,
+    alloc: Global,
+    path: &FilePath,
+    name: &FileName,
+    offset: u64,
+) -> Result<Given, ReadError>
+    ensures reads { OnlyReads D.Disk disk.old disk.new (IsErrOf result ReadError.Failed) }
+    ensures exact { D.honest disk.old → Gives shown_given result (previous_by (whole_by name.now) (D.content disk.old) path.now offset) }
+    ensures kind { MatchResult result (λ g. IsPart g.part) (IfRefused (RefusesPart path.now)) }
+    ensures text { MatchResult result (λ g. ReplyHasText g.part) ErrorHasText }
+    ensures pieces { IfOk result (λ g. ArePieces (map known_of g.pieces.items)) }
+{
+    if name.is_index() {
+        return read_whole(disk, alloc, path, name.is_fixed(), offset);
+    }
+    let part = read_part(disk, alloc, path.as_str(), offset)?;
+    Ok(Given {
+        part,
+        pieces: Vec::new(alloc),
+    })
+}
+
+/// The session's writer may name the pieces from now on. At want of memory the session is as before.
+fn note(session: &mut Session, alloc: Global, pieces: &[(Digest32, u32)]) -> Result<(), AllocError>
+    requires writes { MayKnow session.old }
+    requires pieces { ArePieces (map known_of pieces.now) }
+    ensures ok { OnOk result (session.new ≡ with_known (map known_of pieces.now) session.old) }
+    ensures err { OnErr result (session.new ≡ session.old) }
+{
+    match session {
+        Session::Writer(w) => w.session.previous(alloc, pieces),
+        _ => unreachable!(),
+    }
+}
+
+/// A part of a file of the snapshot that the lane's writer has as base. It reads the disk, and writes nothing.
+///
+/// The part is what is left of the file's text from the offset, in bytes, and no more than 4,194,304 bytes. The writer
+/// may name the pieces of an index from then on, whatever the offset. The refusals, in the order in which they are
+/// tested: the lane has no writer; the text is no file's name; the writer has no base; the base has no such file;
+/// nothing stands where it was put; the offset is beyond its size; the file gives fewer bytes than its size says, or is
+/// no index of its name's kind. After a refusal, and at want of memory, the writer may name what it might name before.
+pub fn previous<D: Disk>(
+    parts: &mut Parts<D>,
+    alloc: Global,
+    at: Place,
+    name: &[u8],
+    offset: u64,
+) -> Result<Reply, Stop>
+    requires { at.lane < 64 }
+    ensures does { ActDoes D.Disk parts.old parts.new at (Plain (commands.Previous name.now offset)) result }
+    ensures leaves { ActLeaves D.Disk parts.old parts.new at (Plain (commands.Previous name.now offset)) result }
+    // it is unreadable exactly where it is, as far as the disk tells
+    ensures unreadable { TellsUnreadable D.Disk parts.old.disk (asked_of_base name.now offset (session_at parts.old at.lane) parts.old.catalogue.items) (kind_by (told result)) (Some (reply_by (told result))) }
+{
+    parts.writer(at.lane)?;
+    let name = file_name(alloc, name)?;
+    let Session::Writer(w) = &parts.sessions[at.lane as usize] else {
+        unreachable!();
+    };
+    let path = base_file(&parts.catalogue, w.session.base(), &name)?;
+    let given = read_file(&mut parts.disk, alloc, path, &name, offset)?;
+    let session = &mut parts.sessions[at.lane as usize];
+    note(session, alloc, &given.pieces)?;
+    Ok(given.part)
+}

@@ -1,0 +1,67 @@
+//! Parts of files.
+
+ghost use Rattle.std.specs.Prelude.{◌≡◌, ◌≤◌, ℕ, List, IfOk, MatchResult, IsErrOf, length};
+ghost use Rattle.disk_trait.specs.Effects.{OnlyReads};
+ghost use Rattle.store_types.specs.declared.refusal.Refusal.TheVariants.{Unreadable as UnreadableAt};
+ghost use Rattle.wire_commands.specs.HasText.{ReplyHasText};
+ghost use Rattle.wire_commands.specs.declared.reply.Reply.TheVariants.{Refused};
+ghost use Rattle.snapshot_files.specs.Parts.{IsPart, RefusesPart, part_at};
+ghost use Rattle.snapshot_files.specs.Reads.{ErrorHasText, Gives, IfRefused};
+
+use crate::read_error::ReadError;
+use disk_trait::Disk;
+use std::alloc::{AllocError, Global};
+use store_types::{Bytes, PART_LIMIT, Refusal};
+use wire_commands::Reply;
+
+/// What was put at the path isn't there as it was.
+pub fn unreadable(alloc: Global, path: &str) -> Result<Refusal, AllocError>
+    requires { length path.now ≤ 255 }
+    ensures value { IfOk result (λ refusal. refusal ≡ UnreadableAt path.now) }
+    ensures text { IfOk result (λ refusal. ReplyHasText (Refused refusal)) }
+{
+    let name = Bytes::from_slice(alloc, path.as_bytes())?;
+    Ok(Refusal::Unreadable { name })
+}
+
+/// So many zero bytes.
+fn zeros(alloc: Global, count: usize) -> Result<Vec<u8>, AllocError>
+    ensures { IfOk result (λ bytes. length bytes.items ≡ count) }
+{
+    let mut bytes = Vec::with_capacity(alloc, count)?;
+    bytes.resize(count, 0)?;
+    Ok(bytes)
+}
+
+/// What is left of a file from an offset in bytes, and no more than 4,194,304 bytes.
+///
+/// The refusals, in the order in which they are tested: nothing is there; the offset is beyond the file's size, which
+/// the refusal has; the file gives fewer bytes than its size says.
+pub fn read_part<D: Disk>(
+    disk: &mut D,
+    alloc: Global,
+    path: &str,
+    offset: u64,
+) -> Result<Reply, ReadError>
+    requires { length path.now ≤ 255 }
+    ensures reads { OnlyReads D.Disk disk.old disk.new (IsErrOf result ReadError.Failed) }
+    ensures exact { D.honest disk.old → Gives (λ part. part) result (part_at (D.content disk.old) path.now offset) }
+    ensures kind { MatchResult result IsPart (IfRefused (RefusesPart path.now)) }
+    ensures text { MatchResult result ReplyHasText ErrorHasText }
+{
+    let Some(total) = disk.size(path)? else {
+        return Err(ReadError::Refused(unreadable(alloc, path)?));
+    };
+    if offset > total {
+        return Err(ReadError::Refused(Refusal::BadRange { size: total }));
+    }
+    let wanted = PART_LIMIT.min(total - offset) as usize;
+    let mut bytes = zeros(alloc, wanted)?;
+    match disk.read_part(path, offset, &mut bytes)? {
+        Some(count) if count == wanted => Ok(Reply::Part {
+            total,
+            bytes: Bytes::from_vec(bytes),
+        }),
+        _ => Err(ReadError::Refused(unreadable(alloc, path)?)),
+    }
+}

@@ -1,5 +1,0 @@
-mod Texts
-mod PartLemmas
-mod Entries
-mod Indexed
-pub mod Archives
