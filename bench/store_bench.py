@@ -2,24 +2,17 @@
 
 A session goes to the store through a named pipe, part by part. A part has ended when all its commands are answered.
 """
-import fcntl, hashlib, json, os, random, struct, subprocess, sys, time, zlib
+import fcntl, hashlib, os, random, struct, subprocess, sys, time
 
 TOP = os.path.dirname(os.path.dirname(os.path.abspath(__file__)))
+sys.path.insert(0, os.path.join(TOP, "examples"))
+from session import APPEND_LIMIT, append_digests, blob, bye, chunk_as, close_index, entries_of, finish, frame, listed
+from session import new_dynamic, open_writer, previous, put_manifest, sha256
+
 MIB = 1 << 20
 INDEX = "root.didx"
-ENTRIES_AN_APPEND = 4096
-OPEN_WRITER, PREVIOUS, NEW_DYNAMIC, CHUNK, APPEND, CLOSE_INDEX, BLOB, FINISH = 10, 11, 13, 14, 15, 16, 17, 18
-OPEN_READER, DOWNLOAD, GET_CHUNK, RANGE, CLOSE_READER, BYE = 20, 21, 22, 23, 24, 63
-# (snapshots that follow one another, and their times)
-SNAPSHOTS = [("host/bench/2020-01-15T06:30:03Z", 1579069803), ("host/bench/2020-01-15T06:30:04Z", 1579069804)]
-
-
-def text(value):
-    return bytes([len(value)]) + value.encode()
-
-
-def blob(data):
-    return bytes([66, 171, 56, 7, 190, 131, 112, 161]) + struct.pack("<I", zlib.crc32(data)) + data
+# (snapshots that follow one another)
+SNAPSHOTS = ["host/bench/2020-01-15T06:30:03Z", "host/bench/2020-01-15T06:30:04Z"]
 
 
 class Part:
@@ -28,8 +21,8 @@ class Part:
     def __init__(self, path):
         self.path, self.commands = path, 0
 
-    def add(self, out, code, fields=b""):
-        out.write(struct.pack("<IB", 1 + len(fields), code) + fields)
+    def add(self, out, body):
+        out.write(frame(body))
         self.commands += 1
 
 
@@ -50,26 +43,23 @@ def make_pieces(folder, first, count):
 
 def make_backup(path, snapshot, pieces, sent, over_base):
     """A backup of the pieces in order, of which these are sent; where it has a base, behind PREVIOUS of its index."""
-    part, (name, seconds) = Part(path), snapshot
+    part = Part(path)
     with open(path, "wb") as out:
-        part.add(out, OPEN_WRITER, text(name))
+        part.add(out, open_writer(snapshot))
         if over_base:
-            part.add(out, PREVIOUS, text(INDEX) + struct.pack("<Q", 0))
-        part.add(out, NEW_DYNAMIC, text(INDEX))
+            part.add(out, previous(INDEX))
+        part.add(out, new_dynamic(INDEX))
         for piece, digest in sent:
             with open(piece, "rb") as it:
-                part.add(out, CHUNK, digest + blob(it.read()))
-        digests = [digest for _, digest in pieces]
-        for first in range(0, len(digests), ENTRIES_AN_APPEND):
-            some = range(first, min(first + ENTRIES_AN_APPEND, len(digests)))
-            part.add(out, APPEND, struct.pack("<BH", 0, len(some)) + b"".join(digests[i] + struct.pack("<Q", i * MIB) for i in some))
-        csum = hashlib.sha256(b"".join(struct.pack("<Q", (i + 1) * MIB) + it for i, it in enumerate(digests))).digest()
-        size = len(digests) * MIB
-        part.add(out, CLOSE_INDEX, struct.pack("<BQQ", 0, len(digests), size) + csum)
-        listed = [{"crypt-mode": "none", "csum": csum.hex(), "filename": INDEX, "size": size}]
-        manifest = {"backup-id": "bench", "backup-time": seconds, "backup-type": "host", "files": listed}
-        part.add(out, BLOB, text("index.json.blob") + blob(json.dumps(manifest, separators=(",", ":")).encode()))
-        part.add(out, FINISH)
+                part.add(out, chunk_as(digest, blob(it.read())))
+        begins = [(digest, place * MIB) for place, (_, digest) in enumerate(pieces)]
+        for first in range(0, len(begins), APPEND_LIMIT):
+            part.add(out, append_digests(0, begins[first : first + APPEND_LIMIT]))
+        csum = sha256(entries_of([(begin + MIB, digest) for digest, begin in begins]))
+        size = len(pieces) * MIB
+        part.add(out, close_index(0, len(pieces), size, csum))
+        part.add(out, put_manifest(snapshot, listed(INDEX, size, csum)))
+        part.add(out, finish())
     return part
 
 
@@ -149,7 +139,7 @@ class Store:
 
     def end(self):
         """Ends the session, and gives the store's greatest resident memory in bytes."""
-        self.input.write(struct.pack("<IB", 1, BYE))
+        self.input.write(frame(bye()))
         self.input.close()
         _, status, used = os.wait4(self.run.pid, 0)
         self.run.returncode = status
