@@ -255,25 +255,21 @@ TABLES = {
     },
     "server_tests/src/serving/disk_faults.rt": {
         "TO_THE_END_FAULTS": [
-            frames(disk_fault(), halted(2), halted(2)),
-            frames(disk_fault(), halted(2), halted(2)),
-            frame(disk_fault()),
-            frame(disk_fault()),
+            *4 * [frames(disk_fault(), halted(2), halted(2))],
+            *2 * [frame(disk_fault())],
         ],
         "TO_BYE_FAULTS": [
-            frames(disk_fault(), halted(2), halted(2), halted(2), done()),
-            frames(disk_fault(), halted(2), halted(2), halted(2), done()),
-            frames(disk_fault(), halted(4), done()),
-            frames(disk_fault(), done()),
+            *4 * [frames(disk_fault(), halted(2), halted(2), halted(2), done())],
+            *3 * [frames(disk_fault(), halted(4), done())],
+            *3 * [frames(disk_fault(), done())],
         ],
         "ABORTED_FAULTS": [
-            frames(disk_fault(), halted(1), halted(1)),
+            *3 * [frames(disk_fault(), halted(1), halted(1))],
             frames(disk_fault(), halted(2)),
         ],
         "STORED_FAULTS": [
-            frames(disk_fault(), halted(2), halted(2), halted(2), halted(2)),
-            frames(disk_fault(), halted(2), halted(2), halted(2), halted(2)),
-            frames(disk_fault(), halted(5)),
+            *4 * [frames(disk_fault(), halted(2), halted(2), halted(2), halted(2))],
+            *3 * [frames(disk_fault(), halted(5))],
             frame(disk_fault()),
         ],
     },
