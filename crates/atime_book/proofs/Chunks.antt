@@ -60,9 +60,6 @@ pub record ReadsOn (moment : ℕ) (before : Option (List ℕ)) (es : List (Diges
   pub passes : pass_from moment before rest ≡ pass_from moment None all
   pub follows : Follows before es
 
-pub reads_begin : (moment : ℕ) (all : List Touch) → ReadsOn moment None [] all all
-reads_begin moment all = record { joined = refl; passes = refl; follows = λ k e. tt }
-
 both : (a b c : Bool) → a ≡ true → b ≡ true → (a && b && c) ≡ c
 both a b c p q = ap (λ x. x && b && c) p ∙ ap (λ x. x && c) q
 

@@ -1,5 +1,5 @@
 -- An ordered map's entries, and the touches that they are.
-use Rattle.std.proofs.Common.{◌≡◌, ℕ, suc, length, Bool, true, false, cond, refl, sym, ap, ◌∙◌, subst, ◌≤◌, IfSome, List, [], ◌∷◌, Option, Some, None}
+use Rattle.std.proofs.Common.{◌≡◌, ℕ, suc, length, true, cond, refl, sym, ap, ◌∙◌, List, [], ◌∷◌, Option, Some, None}
 use Rattle.std.specs.Str.{bytes_eq}
 use Rattle.std.specs.Cmp.Lexicographic.{texts_ties}
 use Rattle.std.specs.Map.{lookup}
@@ -8,7 +8,7 @@ use Rattle.std.specs.declared.cmp.Ordering.{Ordering}
 use Rattle.store_types.specs.declared.names.Digest32.{Digest32}
 use Rattle.store_types.specs.Names.{text_cmp}
 use Rattle.store_files.specs.Book.{Book}
-use Rattle.atime_book.specs.Touches.{touches_of, last_in, last_of, TouchedAt, SweptAt, NoneAfter}
+use Rattle.atime_book.specs.Touches.{touches_of, last_in, TouchedAt, SweptAt}
 
 abbrev pub digest_cmp : Digest32 → Digest32 → Ordering
 digest_cmp a b = text_cmp a.0 b.0
@@ -49,11 +49,3 @@ swept_at moment k old new updates = record { read = refl; last = updated k None 
 pub length-touches_of : (es : List (Digest32 × ℕ)) → length (touches_of es) ≡ length es
 length-touches_of [] = refl
 length-touches_of (e ∷ es) = ap suc (length-touches_of es)
-
-chosen : (b : Bool) (when m : ℕ) (o : Option ℕ) → when ≤ m → IfSome o (λ w. w ≤ m) → IfSome (cond b (Some when) o) (λ w. w ≤ m)
-chosen true when m o le all = le
-chosen false when m o le all = all
-
-pub none_after_more : (old new : Book) (digest : List ℕ) (when m : ℕ) → TouchedAt old new digest when → when ≤ m → NoneAfter old m → NoneAfter new m
-none_after_more old new digest when m is le all =
-    λ d. subst (λ o. IfSome o (λ w. w ≤ m)) (sym (is.last d)) (chosen (bytes_eq digest d) when m (last_of old d) le (all d))

@@ -116,7 +116,3 @@ pub behind_more : {A : Type 0} (before : List A) (a : A) (r : Result (List A) Re
     → ((r >>= λ others. Ok (a ∷ others)) >>= λ rest. Ok (before ++ rest)) ≡ (r >>= λ rest. Ok ((before ++ a ∷ []) ++ rest))
 behind_more before a (Ok others) = ap (λ ks. Ok ks) (sym (append_assoc before (a ∷ []) others))
 behind_more before a (Err e) = refl
-
-pub behind_none : {A : Type 0} (r : Result (List A) Refusal) → r ≡ (r >>= λ rest. Ok ([] ++ rest))
-behind_none (Ok others) = refl
-behind_none (Err e) = refl

@@ -1,5 +1,8 @@
 -- What a call that may be refused, or may want memory, gives and leaves.
-use Rattle.std.specs.Prelude.{◌≡◌, ℕ, List, None, Result, Ok, Err, MatchResult, IsSome}
+use Rattle.std.specs.Prelude.{◌≡◌, ℕ, List, map, length, None, Result, Ok, Err, MatchResult, IfOk, IsSome, Vec}
+use Rattle.std.specs.declared.alloc.Global.{Global}
+use Rattle.sha2.specs.Sha256.{sha256}
+use Rattle.store_types.specs.declared.names.Digest32.{Digest32}
 use Rattle.store_types.specs.declared.refusal.Refusal.{Refusal}
 use Rattle.store_types.specs.declared.refusal.Refusal.TheVariants.{BadName}
 use Rattle.store_types.specs.Chain.Refusing.{◌>>=◌, unless}
@@ -9,8 +12,12 @@ use Rattle.manifest.specs.declared.facts.Manifest.{Manifest}
 use Rattle.manifest.specs.Views.{manifest_view}
 use Rattle.store_model.specs.Store.{Writer}
 use Rattle.store_model.specs.Uploads.{want_room}
-use Rattle.backup_session.specs.Session.{Writing, Session}
-use Rattle.backup_session.specs.Shown.{Shows}
+use Rattle.store_model.specs.WriterCalls as calls
+use Rattle.store_model.specs.WriterSteps.{with_pool}
+use Rattle.dynamic_index.specs.Writing.{Known, known_of}
+use Rattle.backup_session.specs.Session.{Writing, Session, IsPool, length_at, settled}
+use Rattle.backup_session.specs.Shown.{Shows, known_of as known_piece}
+use Rattle.backup_session.specs.Steps as steps
 
 -- the step answers so, and the call leaves what this makes of the writer afterwards
 pub record Leaves {S B : Type 0} (leave : Writing → S) (new : S) (step : Result (Writing × B) Refusal) (answer : B) : Type 0 where
@@ -34,6 +41,31 @@ IsPendingAt s result = MatchResult result (λ told. MatchResult told (λ a. IsSo
 -- the answer is the manifest, or the refusal
 abbrev pub TellsManifest : Result listing.Manifest Refusal → Result Manifest Refusal → Type 0
 TellsManifest step told = MatchResult told (λ m. step ≡ Ok (manifest_view m)) (λ refusal. step ≡ Err refusal)
+
+-- so it is where memory is not wanting
+abbrev pub GivesManifest : {E : Type 0} → Result listing.Manifest Refusal → Result (Result Manifest Refusal) E → Type 0
+GivesManifest step result = IfOk result (λ checked. TellsManifest step checked)
+
+-- the answer is the length of the piece that the entry names, or the refusal
+abbrev pub TellsPiece : Digest32 × ℕ → Result Known Refusal → Result ℕ Refusal → Type 0
+TellsPiece entry step told = MatchResult told (λ len. step ≡ Ok (known_of (entry.0, len))) (λ refusal. step ≡ Err refusal)
+
+-- the answer is the pieces, or the refusal
+abbrev pub TellsPieces : Result (List Known) Refusal → Result (Vec (Digest32 × ℕ) Global) Refusal → Type 0
+TellsPieces step told = MatchResult told (λ pieces. step ≡ Ok (map known_of pieces.items)) (λ refusal. step ≡ Err refusal)
+
+-- ---- pieces that may be named
+
+abbrev pub NotesPieces : Session → Session → List Known → Type 0
+NotesPieces old new pieces = new ≡ settled (steps.previous old.writer pieces)
+
+abbrev pub NotesPiece : Session → Session → List ℕ → ℕ → Type 0
+NotesPiece old new digest len = new ≡ settled (steps.chunk old.writer digest len)
+
+-- what was noted just now is forgotten, and the session is as before it was
+abbrev pub ForgetsAgain : Session → Session → List ℕ → Type 0
+ForgetsAgain old new digest =
+    (before : Writing) → (len : ℕ) → IsPool before.pool → length_at before.pool digest ≡ None → old ≡ settled (steps.chunk before digest len) → new ≡ settled before
 
 -- ---- beside a plain writer
 
@@ -59,3 +91,10 @@ TellsPlainly show leave new step told =
 abbrev pub DoesPlainly : {A B E : Type 0} → (A → B) → (Writing → Session) → Session → Session → Result (Result A Refusal) E → (Writer → Result (Writer × B) Refusal) → Type 0
 DoesPlainly show leave old new result step =
     (w : Writer) → Shows old.writer w → MatchResult result (TellsPlainly show leave new (step w)) (λ _. Unit {0})
+
+-- of each plain writer that the session shows: the plain pieces may be named too
+abbrev pub ShowsPieces : Session → Session → List Known → Type 0
+ShowsPieces old new pieces = (w : Writer) → (shown : List (List ℕ)) → Shows old.writer w → pieces ≡ map known_piece shown → Shows new.writer (with_pool shown w)
+
+abbrev pub ShowsPiece : Session → Session → List ℕ → ℕ → Type 0
+ShowsPiece old new digest len = (w : Writer) → (piece : List ℕ) → Shows old.writer w → digest ≡ sha256 piece → len ≡ length piece → Shows new.writer (calls.chunk w piece)

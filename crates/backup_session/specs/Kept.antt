@@ -1,6 +1,7 @@
 -- What a session keeps in memory.
-use Rattle.std.specs.Prelude.{◌≡◌, ℕ, ◌<◌, ◌≤◌, false, List, [], ◌∷◌, map, length, Option, Some, None, Result, Ok, Err, IsOk, MatchResult}
-use Rattle.std.specs.List.{remove}
+use Rattle.std.specs.Prelude.{◌≡◌, ℕ, ◌<◌, ◌≤◌, Bool, false, List, [], ◌∷◌, map, length, Option, Some, None, Result, Ok, Err, IsOk, MatchResult}
+use Rattle.std.specs.List.{list_any, remove}
+use Rattle.std.specs.Str.{bytes_eq}
 use Rattle.store_types.specs.Names.{IsKey, name_lt}
 use Rattle.store_types.specs.declared.refusal.Refusal.{Refusal}
 use Rattle.blob_codec.specs.Blob.{data_of}
@@ -14,6 +15,14 @@ open_of b = record { number = b.number; name = b.name; index = b.index }
 
 abbrev pub opens_of : List Begun → List Open
 opens_of begun = map open_of begun
+
+-- one of these indexes has the name
+abbrev pub among_begun : List ℕ → List Begun → Bool
+among_begun name begun = list_any (λ b. bytes_eq b.name name) begun
+
+-- at the place stands a file more than before
+abbrev pub IsInsertedAt : List FileFact → List FileFact → ℕ → Type 0
+IsInsertedAt old new place = (place < length new) × (remove new place ≡ old)
 
 -- a length that is kept is a piece's
 abbrev pub HasLengths : Pool → Type 0

@@ -4,4 +4,5 @@ pub mod Steps
 pub mod Shown
 pub mod Answers
 pub mod Kept
+pub mod Calls
 pub mod Finish

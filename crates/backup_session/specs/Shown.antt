@@ -68,3 +68,7 @@ pub record IsOpen (b : Begun) : Type 0 where
 pub record Shows (s : Writing) (w : Writer) : Type 0 where
   pub same : s ≡ shown w
   pub begun : AllByRecursion IsOpen w.begun
+
+-- it is so of each writer that the session stands for
+abbrev pub ForShown : Writing → (Writer → Type 0) → Type 0
+ForShown s P = (w : Writer) → Shows s w → P w

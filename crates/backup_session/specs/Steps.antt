@@ -2,6 +2,7 @@
 use Rattle.std.specs.Prelude.{ℕ, ◌+◌, Bool, not, ◌||◌, List, [], ◌∷◌, ◌++◌, map, length, ◌==◌, nat_lt, pos, if◌then◌else◌, Option, Some, None, Result, Ok}
 use Rattle.std.specs.Option.{option_map}
 use Rattle.std.specs.List.{list_any, find}
+use Rattle.std.specs.FinMap.{FinMap, entries as entries_of}
 use Rattle.std.specs.Str.{bytes_eq}
 use Rattle.sha2.specs.Sha256.{sha256}
 use Rattle.store_types.specs.declared.names.Digest32.{Digest32}
@@ -10,24 +11,29 @@ use Rattle.store_types.specs.declared.refusal.Refusal.{Refusal}
 use Rattle.store_types.specs.declared.refusal.Refusal.TheVariants.{BadName, NoFile, Exists, TooMany}
 use Rattle.store_types.specs.Chain.Refusing.{◌>>=◌, unless, or_else}
 use Rattle.store_types.specs.FileNames.{is_fixed_name, is_dynamic_name, is_blob_name, manifest_name}
-use Rattle.store_types.specs.Names.{name_lt}
+use Rattle.store_types.specs.Names.{name_lt, text_cmp}
 use Rattle.manifest.specs.declared.facts.FileFact.{FileFact}
 use Rattle.dynamic_index.specs.Writing.{Known}
 use Rattle.dynamic_index.specs.Writing as dynamic_indexes
 use Rattle.fixed_index.specs.Writing as fixed_indexes
-use Rattle.store_model.specs.Archives.{uuid_of, want_sizes, want_number, free_number, change_first, without_first, want_entries, pieces_named, want_facts}
+use Rattle.store_model.specs.Archives.{uuid_of, want_sizes, want_number, free_number, change_first, without_first, want_entries, piece_named, pieces_named, want_facts}
+use Rattle.backup_session.specs.declared.index.Layout.{Layout}
 use Rattle.backup_session.specs.declared.index.OpenIndex.{OpenIndex}
 use Rattle.backup_session.specs.declared.index.OpenIndex.TheVariants.{Dynamic, Fixed}
-use Rattle.backup_session.specs.Indexes.{layout_of, count_of, end_of, size_of, csum_of, text_of, with_pieces}
-use Rattle.backup_session.specs.Session.{Pool, length_at, with_length, with_lengths, Open, Writing}
+use Rattle.backup_session.specs.Indexes.{layout_view, layout_of, count_of, end_of, size_of, csum_of, text_of, with_pieces}
+use Rattle.backup_session.specs.Session.{Pool, length_at, with_length, with_lengths, without_length, Open, Writing}
 
 abbrev pub opened : SnapshotKey → ℕ → Option SnapshotKey → Writing
 opened key start base = record { key = key; start = start; base = base; pool = []; begun = []; files = []; manifest = None }
 
 -- ---- names
 
+-- one of these files has the name
+abbrev pub among_files : List ℕ → List FileFact → Bool
+among_files name files = list_any (λ f. bytes_eq f.name name) files
+
 abbrev pub has_file : List ℕ → List FileFact → List Open → Bool
-has_file name files begun = list_any (λ f. bytes_eq f.name name) files || list_any (λ b. bytes_eq b.name name) begun
+has_file name files begun = among_files name files || list_any (λ b. bytes_eq b.name name) begun
 
 -- the name is free among these files and open indexes, and there is room for one more file
 abbrev pub want_room : List ℕ → List FileFact → List Open → Result (Unit {0}) Refusal
@@ -93,15 +99,31 @@ previous w pieces = record w { pool = with_lengths w.pool pieces }
 abbrev pub chunk : Writing → List ℕ → ℕ → Writing
 chunk w digest len = record w { pool = with_length w.pool digest len }
 
+-- the chunk may not be named any more
+abbrev pub without_chunk : Writing → List ℕ → Writing
+without_chunk w digest = record w { pool = without_length w.pool digest }
+
 abbrev pub has_number : ℕ → Open → Bool
 has_number number b = b.number == number
 
 abbrev pub begun_at : ℕ → Writing → Option Open
 begun_at number w = find (has_number number) w.begun
 
+-- the name of the open index of the number
+abbrev pub name_at : ℕ → Writing → Option (List ℕ)
+name_at number w = option_map (λ b. b.name) (begun_at number w)
+
 -- what the pool knows under a digest
 abbrev pub known_in : Pool → Digest32 → Option Known
 known_in pool digest = option_map (λ len. (digest.0, len)) (length_at pool digest.0)
+
+-- the piece that the entry at a place names, where it begins at the end reached so far
+abbrev pub piece_in : FinMap text_cmp ℕ → Layout → ℕ → ℕ → Digest32 × ℕ → Result Known Refusal
+piece_in pool layout place end entry = piece_named (known_in (entries_of pool)) (λ k. k.1) (layout_view layout) place end entry
+
+-- the pieces that the entries name, of which the first begins at the start
+abbrev pub pieces_in : FinMap text_cmp ℕ → Layout → ℕ → List (Digest32 × ℕ) → Result (List Known) Refusal
+pieces_in pool layout start entries = pieces_named (known_in (entries_of pool)) (λ k. k.1) (layout_view layout) 0 start entries
 
 -- the pieces of an APPEND to an index
 unfoldable pub pieces_for : Pool → OpenIndex → List (Digest32 × ℕ) → Result (List Known) Refusal

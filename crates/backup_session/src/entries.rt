@@ -1,12 +1,13 @@
 //! The entries of an APPEND.
 
-ghost use Rattle.std.specs.Prelude.{◌≡◌, ◌≤◌, ◌*◌, length, map, Ok, Err, IfErr, IfOk, MatchResult};
-ghost use Rattle.std.specs.FinMap.{entries as entries_of};
-ghost use Rattle.store_model.specs.Archives.{piece_named as piece_by, pieces_named as pieces_by, want_entries as entries_fit};
+ghost use Rattle.std.specs.Prelude.{◌≡◌, ◌≤◌, ◌*◌, length, map, IfErr, IfOk};
+ghost use Rattle.std.specs.FinMap.{entries as pairs};
+ghost use Rattle.store_model.specs.Archives.{want_entries as entries_fit};
 ghost use Rattle.dynamic_index.specs.Writing.{known_of};
 ghost use Rattle.wire_commands.specs.HasText.{FitsRefusal};
-ghost use Rattle.backup_session.specs.Indexes.{layout_view, FitsPieces};
-ghost use Rattle.backup_session.specs.Steps.{known_in, pieces_for as pieces_of};
+ghost use Rattle.backup_session.specs.Answers.{TellsPiece, TellsPieces};
+ghost use Rattle.backup_session.specs.Indexes.{FitsPieces};
+ghost use Rattle.backup_session.specs.Steps.{piece_in, pieces_in, pieces_for as pieces_of};
 ghost use Rattle.backup_session.specs.Kept.{HasLengths};
 
 use crate::index::{Layout, OpenIndex};
@@ -37,10 +38,8 @@ fn piece_named(
     end: u64,
     entry: &(Digest32, u64),
 ) -> Result<u32, Refusal>
-    requires { HasLengths (entries_of pool.now) }
-    ensures exact { MatchResult result
-        (λ length. piece_by (known_in (entries_of pool.now)) (λ k. k.1) (layout_view layout) place end entry.now ≡ Ok (known_of ((entry.now).0, length)))
-        (λ refusal. piece_by (known_in (entries_of pool.now)) (λ k. k.1) (layout_view layout) place end entry.now ≡ Err refusal) }
+    requires { HasLengths (pairs pool.now) }
+    ensures exact { TellsPiece entry.now (piece_in pool.now layout place end entry.now) result }
     ensures short { IfOk result (λ length. length ≤ 16_777_216) }
     ensures text { IfErr result FitsRefusal }
 {
@@ -72,10 +71,8 @@ fn pieces_named(
 ) -> Result<Result<Vec<(Digest32, u32)>, Refusal>, AllocError>
     requires count { length entries.now ≤ 4096 }
     requires start { start ≤ 1_048_576 * 16_777_216 }
-    requires lengths { HasLengths (entries_of pool.now) }
-    ensures exact { IfOk result (λ told. MatchResult told
-        (λ pieces. pieces_by (known_in (entries_of pool.now)) (λ k. k.1) (layout_view layout) 0 start entries.now ≡ Ok (map known_of pieces.items))
-        (λ refusal. pieces_by (known_in (entries_of pool.now)) (λ k. k.1) (layout_view layout) 0 start entries.now ≡ Err refusal)) }
+    requires lengths { HasLengths (pairs pool.now) }
+    ensures exact { IfOk result (TellsPieces (pieces_in pool.now layout start entries.now)) }
     ensures text { IfOk result (λ told. IfErr told FitsRefusal) }
 {
     let mut pieces = Vec::new(alloc);
@@ -102,11 +99,9 @@ pub fn pieces_for(
     index: &OpenIndex,
     entries: &[(Digest32, u64)],
 ) -> Result<Result<Vec<(Digest32, u32)>, Refusal>, AllocError>
-    requires { HasLengths (entries_of pool.now) }
-    ensures exact { IfOk result (λ told. MatchResult told
-        (λ pieces. pieces_of (entries_of pool.now) index.now entries.now ≡ Ok (map known_of pieces.items))
-        (λ refusal. pieces_of (entries_of pool.now) index.now entries.now ≡ Err refusal)) }
-    ensures fits { IfOk result (λ told. IfOk told (λ pieces. FitsPieces index.now (map known_of pieces.items))) }
+    requires { HasLengths (pairs pool.now) }
+    ensures exact { IfOk result (TellsPieces (pieces_of (pairs pool.now) index.now entries.now)) }
+    ensures fits { IfOk result (λ t. IfOk t (λ ps. FitsPieces index.now (map known_of ps.items))) }
     ensures text { IfOk result (λ told. IfErr told FitsRefusal) }
 {
     if let Err(refusal) = want_entries(index.len(), entries.len()) {

@@ -1,11 +1,8 @@
 //! The uploaded files.
 
-ghost use Rattle.std.specs.Prelude.{◌≡◌, ◌<◌, ◌||◌, length, position, Some, None, if◌then◌else◌, IfOk, OnOk, OnErr};
-ghost use Rattle.std.specs.List.{list_any, remove};
-ghost use Rattle.std.specs.Str.{bytes_eq};
-ghost use Rattle.store_types.specs.FileNames.{manifest_name};
+ghost use Rattle.std.specs.Prelude.{◌≡◌, ◌||◌, position, None, IfOk, OnOk, OnErr};
 ghost use Rattle.store_types.specs.Names.{name_lt};
-ghost use Rattle.backup_session.specs.Kept.{opens_of, text_of};
+ghost use Rattle.backup_session.specs.Kept.{opens_of, among_begun, text_of, IsInsertedAt};
 ghost use Rattle.backup_session.specs.Steps as steps;
 
 use crate::state::Begun;
@@ -15,19 +12,19 @@ use std::alloc::{AllocError, Global};
 use store_types::{Bytes, Digest32, FileName, Refusal};
 
 fn is_uploaded(files: &[FileFact], name: &FileName) -> bool
-    ensures { result ≡ list_any (λ f. bytes_eq f.name name.now) files.now }
+    ensures { result ≡ steps.among_files name.now files.now }
 {
     files.iter().any(|file| file.name == *name)
 }
 
 fn is_open(begun: &[Begun], name: &FileName) -> bool
-    ensures { result ≡ list_any (λ b. bytes_eq b.name name.now) begun.now }
+    ensures { result ≡ among_begun name.now begun.now }
 {
     begun.iter().any(|b| b.name == *name)
 }
 
 fn has_file(files: &[FileFact], begun: &[Begun], name: &FileName) -> bool
-    ensures { result ≡ (list_any (λ f. bytes_eq f.name name.now) files.now || list_any (λ b. bytes_eq b.name name.now) begun.now) }
+    ensures { result ≡ (steps.among_files name.now files.now || among_begun name.now begun.now) }
 {
     is_uploaded(files, name) || is_open(begun, name)
 }
@@ -56,7 +53,7 @@ fn first_after(files: &[FileFact], name: &FileName) -> Option<usize>
 /// Places a file before the first with a greater name, and gives its place. At want of memory nothing has changed.
 pub fn insert(files: &mut Vec<FileFact>, file: FileFact) -> Result<usize, AllocError>
     ensures ok { OnOk result (files.new.items ≡ steps.insert_fact file files.old.items) }
-    ensures place { IfOk result (λ place. (place < length files.new.items) × (remove files.new.items place ≡ files.old.items)) }
+    ensures place { IfOk result (IsInsertedAt files.old.items files.new.items) }
     ensures err { OnErr result (files.new.items ≡ files.old.items) }
 {
     let after = first_after(files, &file.name);
@@ -78,7 +75,7 @@ pub fn blob_fact(name: FileName, text: &[u8]) -> FileFact
 
 /// The text of a manifest, which stays in memory.
 pub fn kept_text(alloc: Global, name: &FileName, text: &[u8]) -> Result<Option<Bytes>, AllocError>
-    ensures { IfOk result (λ kept. kept ≡ (if bytes_eq name.now manifest_name then Some text.now else None)) }
+    ensures { IfOk result (λ kept. kept ≡ steps.manifest_with name.now text.now None) }
 {
     if name.is_manifest() {
         Ok(Some(Bytes::from_slice(alloc, text)?))

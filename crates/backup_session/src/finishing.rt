@@ -5,7 +5,7 @@ ghost use Rattle.store_model.specs.Manifests.{mismatch_refusal};
 ghost use Rattle.manifest.specs.Checking.{FitsField};
 ghost use Rattle.manifest.specs.Views.{mismatch_view};
 ghost use Rattle.wire_commands.specs.HasText.{FitsRefusal};
-ghost use Rattle.backup_session.specs.Answers.{TellsManifest};
+ghost use Rattle.backup_session.specs.Answers.{GivesManifest};
 ghost use Rattle.backup_session.specs.Finish.{manifest_from};
 ghost use Rattle.backup_session.specs.Kept.{Ascends};
 
@@ -39,7 +39,7 @@ pub fn checked_manifest(
     bytes: &[u8],
 ) -> Result<Result<Manifest, Refusal>, AllocError>
     requires { Ascends files.now }
-    ensures value { IfOk result (λ checked. TellsManifest (manifest_from key.now files.now bytes.now) checked) }
+    ensures value { GivesManifest (manifest_from key.now files.now bytes.now) result }
     ensures fits { IfOk result (λ checked. IfErr checked FitsRefusal) }
 {
     let manifest = match read(alloc, bytes)? {

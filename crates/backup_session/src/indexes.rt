@@ -1,13 +1,14 @@
 //! The open indexes.
 
-ghost use Rattle.std.specs.Prelude.{◌≡◌, ◌==◌, position, IfErr, IfOk, MatchResult, Ok, Err};
+ghost use Rattle.std.specs.Prelude.{◌≡◌, ◌==◌, position, IfErr, IfOk};
 ghost use Rattle.std.specs.List.{list_any};
 ghost use Rattle.store_types.specs.Names.{IsKey};
 ghost use Rattle.store_model.specs.Archives.{uuid_of as uuid_by, want_sizes as sizes_fit, want_size as size_reached, want_number as number_left, free_number as least_free};
 ghost use Rattle.wire_commands.specs.HasText.{FitsRefusal};
-ghost use Rattle.backup_session.specs.Indexes.{layout_view, text_of};
-ghost use Rattle.backup_session.specs.Kept.{opens_of, open_of, left_of, IsClosing};
-ghost use Rattle.backup_session.specs.Steps.{numbers, want_close as close_test, fact_of};
+ghost use Rattle.backup_session.specs.Calls.{TellsClosed};
+ghost use Rattle.backup_session.specs.Indexes.{layout_view};
+ghost use Rattle.backup_session.specs.Kept.{opens_of, left_of, IsClosing};
+ghost use Rattle.backup_session.specs.Steps.{numbers, want_close as close_test};
 
 use crate::index::{Layout, OpenIndex};
 use crate::state::Begun;
@@ -118,9 +119,7 @@ pub fn closed(
     size: u64,
     csum: &Digest32,
 ) -> Result<Result<(Vec<u8>, FileFact), Refusal>, AllocError>
-    ensures exact { IfOk result (λ told. MatchResult told
-        (λ closed. (close_test begun.now.index count size csum.now ≡ Ok tt) × (closed.0.items ≡ text_of begun.now.index) × (closed.1 ≡ fact_of (open_of begun.now)))
-        (λ refusal. close_test begun.now.index count size csum.now ≡ Err refusal)) }
+    ensures exact { IfOk result (TellsClosed begun.now count size csum.now) }
     ensures text { IfOk result (λ told. IfErr told FitsRefusal) }
 {
     if let Err(refusal) = want_close(&begun.index, count, size, csum) {

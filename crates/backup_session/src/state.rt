@@ -9,11 +9,12 @@ ghost use Rattle.blob_codec.specs.Blob.{data_of};
 ghost use Rattle.dynamic_index.specs.Writing.{known_of};
 ghost use Rattle.fixed_index.specs.Writing.{FitsSizes};
 ghost use Rattle.wire_commands.specs.HasText.{FitsRefusal};
-ghost use Rattle.backup_session.specs.Answers.{Does, TellsManifest};
+ghost use Rattle.backup_session.specs.Answers.{GivesManifest};
+ghost use Rattle.backup_session.specs.Calls.{StateDoes, StateBeginsFixed, StateCloses, StateTakesBlob};
 ghost use Rattle.backup_session.specs.Finish.{finish_check as steps_finish};
-ghost use Rattle.backup_session.specs.Kept.{after, IsClosing, HoldsBlob, HoldsBack};
+ghost use Rattle.backup_session.specs.Kept.{after, IsClosing, HoldsBlob};
 ghost use Rattle.backup_session.specs.Steps as steps;
-ghost use Rattle.backup_session.specs.Session.{IsPool, IsLength, length_at, without_length};
+ghost use Rattle.backup_session.specs.Session.{IsPool, IsLength, length_at};
 
 use crate::entries::pieces_for;
 use crate::files::{blob_fact, insert, keep_text, kept_text, want_room};
@@ -120,7 +121,7 @@ impl State {
 
     /// The name of the first open index of the number.
     pub fn index_name(&self, number: u8) -> Option<&FileName>
-        ensures { option_map (λ name. name.now) result ≡ option_map (λ b. b.name) (steps.begun_at number self.now) }
+        ensures { option_map (λ name. name.now) result ≡ steps.name_at number self.now }
     {
         let Some(place) = place_of(&self.begun, number) else {
             return None;
@@ -171,14 +172,14 @@ impl State {
         name: &FileName,
         size: u64,
         chunk_size: u64,
-        ctime: u64,
+        time: u64,
     ) -> Result<OpenIndex, AllocError>
         requires sizes { FitsSizes size chunk_size }
-        requires ctime { ctime ≤ last_moment }
-        ensures { IfOk result (λ index. index ≡ steps.fixed_at self.now.key name.now size chunk_size ctime) }
+        requires ctime { time ≤ last_moment }
+        ensures { IfOk result (λ i. i ≡ steps.fixed_at self.now.key name.now size chunk_size time) }
     {
         let uuid = uuid_of(alloc, &self.key, name)?;
-        let index = FixedWriter::new(alloc, uuid, ctime as i64, size, chunk_size);
+        let index = FixedWriter::new(alloc, uuid, time as i64, size, chunk_size);
         Ok(OpenIndex::Fixed(index))
     }
 
@@ -201,7 +202,7 @@ impl State {
     fn begin(&mut self, name: FileName, index: OpenIndex) -> Result<u8, AllocError>
         requires { length self.old.begun < 16 }
         ensures ok { OnOk result (self.new ≡ steps.begin self.old name index) }
-        ensures number { IfOk result (λ number. number ≡ least_free (steps.numbers self.old.begun)) }
+        ensures number { IfOk result (λ n. n ≡ least_free (steps.numbers self.old.begun)) }
         ensures err { OnErr result (self.new ≡ self.old) }
     {
         let number = free_number(&self.begun);
@@ -222,7 +223,7 @@ impl State {
         chunk_size: u64,
     ) -> Result<Result<u8, Refusal>, AllocError>
         requires { ctime ≤ last_moment }
-        ensures { Does (λ n. n) (λ w. w) self.old self.new result (steps.new_fixed self.old name size chunk_size ctime) }
+        ensures { StateBeginsFixed self.old self.new name size chunk_size ctime result }
     {
         if let Err(refusal) = self.want_fixed(&name, size, chunk_size) {
             return Ok(Err(refusal));
@@ -239,7 +240,7 @@ impl State {
         ctime: u64,
     ) -> Result<Result<u8, Refusal>, AllocError>
         requires { ctime ≤ last_moment }
-        ensures { Does (λ n. n) (λ w. w) self.old self.new result (steps.new_dynamic self.old name ctime) }
+        ensures { StateDoes self.old self.new result (λ w. steps.new_dynamic w name ctime) }
     {
         if let Err(refusal) = self.want_dynamic(&name) {
             return Ok(Err(refusal));
@@ -272,7 +273,7 @@ impl State {
 
     /// Takes the length of a digest out.
     pub fn forget(&mut self, digest: &Digest32)
-        ensures { self.new ≡ record self.old { pool = without_length self.old.pool digest.now.0 } }
+        ensures { self.new ≡ steps.without_chunk self.old digest.now.0 }
     {
         self.pool.remove(digest);
     }
@@ -283,7 +284,7 @@ impl State {
         number: u8,
         entries: &[(Digest32, u64)],
     ) -> Result<Result<(), Refusal>, AllocError>
-        ensures does { Does (λ u. u) (λ w. w) self.old self.new result (steps.append self.old number entries.now) }
+        ensures does { StateDoes self.old self.new result (λ w. steps.append w number entries.now) }
         ensures text { IfOk result (λ told. IfErr told FitsRefusal) }
     {
         let Some(place) = place_of(&self.begun, number) else {
@@ -305,7 +306,7 @@ impl State {
         size: u64,
         csum: &Digest32,
     ) -> Result<Result<(Vec<u8>, Pending), Refusal>, AllocError>
-        ensures does { HoldsBack (λ a. a.0.items) (λ a. a.1) self.old self.new result (steps.close_index self.old number count size csum.now) }
+        ensures does { StateCloses self.old self.new number count size csum.now result }
         ensures text { IfOk result (λ told. IfErr told FitsRefusal) }
     {
         let Some(place) = place_of(&self.begun, number) else {
@@ -340,7 +341,7 @@ impl State {
         text: &[u8],
     ) -> Result<Result<Pending, Refusal>, AllocError>
         requires { IsOk (data_of text.now) }
-        ensures { HoldsBack (λ p. tt) (λ p. p) self.old self.new result (steps.blob self.old name text.now) }
+        ensures { StateTakesBlob self.old self.new name text.now result }
     {
         if let Err(refusal) = self.want_blob(&name) {
             return Ok(Err(refusal));
@@ -379,7 +380,7 @@ impl State {
 
     /// The manifest among the files, where no index is open and it lists the others.
     pub fn finish_check(&self, alloc: Global) -> Result<Result<Manifest, Refusal>, AllocError>
-        ensures does { IfOk result (λ checked. TellsManifest (steps_finish self.now) checked) }
+        ensures does { GivesManifest (steps_finish self.now) result }
         ensures fits { IfOk result (λ checked. IfErr checked FitsRefusal) }
         ensures blob { HoldsBlob self.now.manifest }
     {

@@ -1,21 +1,20 @@
 //! A writer's calls.
 
-ghost use Rattle.std.specs.Prelude.{◌≡◌, ◌≤◌, ℕ, List, length as len, map, is_some, option_map, None, IsSome, IsOk, IfOk, IfErr, OnOk, OnErr};
+ghost use Rattle.std.specs.Prelude.{◌≡◌, ◌≤◌, length as len, map, is_some, option_map, None, IsSome, IsOk, IfOk, IfErr, OnOk, OnErr};
 ghost use Rattle.std.specs.List.{AllByRecursion};
-ghost use Rattle.sha2.specs.Sha256.{sha256};
 ghost use Rattle.store_types.specs.Names.{IsKey};
 ghost use Rattle.store_types.specs.Times.{last_moment};
-ghost use Rattle.blob_codec.specs.Blob.{blob as blob_text, data_of};
+ghost use Rattle.blob_codec.specs.Blob.{data_of};
 ghost use Rattle.dynamic_index.specs.Writing.{known_of};
-ghost use Rattle.store_model.specs.Store.{Writer as PlainWriter};
 ghost use Rattle.store_model.specs.Manifests.{finish_check as plain_finish};
-ghost use Rattle.store_model.specs.WriterSteps.{new_writer, with_pool};
+ghost use Rattle.store_model.specs.WriterSteps.{new_writer};
 ghost use Rattle.store_model.specs.WriterCalls as plain;
 ghost use Rattle.wire_commands.specs.HasText.{FitsRefusal};
-ghost use Rattle.backup_session.specs.Answers.{Does, DoesPlainly, IsPendingAt, TellsManifest, takes_blob};
+ghost use Rattle.backup_session.specs.Answers.{IsPendingAt, GivesManifest, NotesPiece, NotesPieces, ForgetsAgain, takes_blob, ShowsPiece, ShowsPieces};
+ghost use Rattle.backup_session.specs.Calls.{Settles, Mirrors, BeginsFixed, BeginsFixedPlainly, Closes, ClosesPlainly, TakesBlob, TakesBlobPlainly};
 ghost use Rattle.backup_session.specs.Finish.{finish_check as steps_finish};
-ghost use Rattle.backup_session.specs.Session.{Writing, IsPool, IsLength, length_at, without_length, settled, held, kept};
-ghost use Rattle.backup_session.specs.Shown.{Shows, known_of as known_piece};
+ghost use Rattle.backup_session.specs.Session.{IsPool, IsLength, length_at, settled, kept};
+ghost use Rattle.backup_session.specs.Shown.{Shows, ForShown};
 ghost use Rattle.backup_session.specs.Steps as steps;
 
 use crate::state::{Pending, State};
@@ -99,7 +98,7 @@ impl Writer {
     /// The name of the open index of a number.
     #[tactic(auto, using(crate::proofs::Asked::index_is))]
     pub fn index_name(&self, number: u8) -> Option<&FileName>
-        ensures { option_map (λ name. name.now) result ≡ option_map (λ b. b.name) (steps.begun_at number self.now.writer) }
+        ensures { option_map (λ name. name.now) result ≡ steps.name_at number self.now.writer }
     {
         self.state.index_name(number)
     }
@@ -108,7 +107,7 @@ impl Writer {
     pub fn want_blob(&self, name: &FileName) -> Result<(), Refusal>
         requires { self.now.pending ≡ None }
         ensures value { result ≡ steps.want_blob name.now self.now.writer }
-        ensures plain { (w : PlainWriter) → Shows self.now.writer w → result ≡ takes_blob name.now w }
+        ensures plain { ForShown self.now.writer (λ w. result ≡ takes_blob name.now w) }
     {
         self.state.want_blob(name)
     }
@@ -145,9 +144,9 @@ impl Writer {
     ) -> Result<Result<u8, Refusal>, AllocError>
         requires settled { self.old.pending ≡ None }
         requires ctime { ctime ≤ last_moment }
-        ensures does { Does (λ n. n) settled self.old self.new result (steps.new_fixed self.old.writer name size chunk_size ctime) }
+        ensures does { BeginsFixed self.old self.new name size chunk_size ctime result }
         ensures settled { self.new.pending ≡ None }
-        ensures plain { DoesPlainly (λ n. n) settled self.old self.new result (λ w. plain.new_fixed w name size chunk_size ctime) }
+        ensures plain { BeginsFixedPlainly self.old self.new name size chunk_size ctime result }
     {
         self.state.new_fixed(alloc, name, ctime, size, chunk_size)
     }
@@ -164,9 +163,9 @@ impl Writer {
     ) -> Result<Result<u8, Refusal>, AllocError>
         requires settled { self.old.pending ≡ None }
         requires ctime { ctime ≤ last_moment }
-        ensures does { Does (λ n. n) settled self.old self.new result (steps.new_dynamic self.old.writer name ctime) }
+        ensures does { Settles self.old self.new result (λ w. steps.new_dynamic w name ctime) }
         ensures settled { self.new.pending ≡ None }
-        ensures plain { DoesPlainly (λ n. n) settled self.old self.new result (λ w. plain.new_dynamic w name ctime) }
+        ensures plain { Mirrors self.old self.new result (λ w. plain.new_dynamic w name ctime) }
     {
         self.state.new_dynamic(alloc, name, ctime)
     }
@@ -176,11 +175,10 @@ impl Writer {
     pub fn previous(&mut self, alloc: Global, pieces: &[(Digest32, u32)]) -> Result<(), AllocError>
         requires settled { self.old.pending ≡ None }
         requires lengths { AllByRecursion IsLength (map known_of pieces.now) }
-        ensures ok { OnOk result (self.new ≡ settled (steps.previous self.old.writer (map known_of pieces.now))) }
+        ensures ok { OnOk result (NotesPieces self.old self.new (map known_of pieces.now)) }
         ensures err { OnErr result (self.new ≡ self.old) }
         ensures settled { self.new.pending ≡ None }
-        ensures plain { OnOk result ((w : PlainWriter) → (shown : List (List ℕ)) → Shows self.old.writer w → map known_of pieces.now ≡ map known_piece shown →
-            Shows self.new.writer (with_pool shown w)) }
+        ensures plain { OnOk result (ShowsPieces self.old self.new (map known_of pieces.now)) }
     {
         self.state.previous(alloc, pieces)
     }
@@ -189,11 +187,10 @@ impl Writer {
     pub fn chunk(&mut self, digest: &Digest32, length: u32) -> Result<(), AllocError>
         requires settled { self.old.pending ≡ None }
         requires length { (1 ≤ length) × (length ≤ 16_777_216) }
-        ensures ok { OnOk result (self.new ≡ settled (steps.chunk self.old.writer digest.now.0 length)) }
+        ensures ok { OnOk result (NotesPiece self.old self.new digest.now.0 length) }
         ensures err { OnErr result (self.new ≡ self.old) }
         ensures settled { self.new.pending ≡ None }
-        ensures plain { OnOk result ((w : PlainWriter) → (piece : List ℕ) → Shows self.old.writer w → digest.now.0 ≡ sha256 piece → length ≡ len piece →
-            Shows self.new.writer (plain.chunk w piece)) }
+        ensures plain { OnOk result (ShowsPiece self.old self.new digest.now.0 length) }
     {
         self.state.chunk(digest, length)
     }
@@ -201,9 +198,9 @@ impl Writer {
     /// The chunk may not be named any more. It takes no memory.
     pub fn forget(&mut self, digest: &Digest32)
         requires { self.old.pending ≡ None }
-        ensures value { self.new ≡ settled (record self.old.writer { pool = without_length self.old.writer.pool digest.now.0 }) }
+        ensures value { self.new ≡ settled (steps.without_chunk self.old.writer digest.now.0) }
         // where it might not be named before it was noted, the writer is as before
-        ensures back { (before : Writing) → (length : ℕ) → IsPool before.pool → length_at before.pool digest.now.0 ≡ None → self.old ≡ settled (steps.chunk before digest.now.0 length) → self.new ≡ settled before }
+        ensures back { ForgetsAgain self.old self.new digest.now.0 }
     {
         self.state.forget(digest)
     }
@@ -221,9 +218,9 @@ impl Writer {
         entries: &[(Digest32, u64)],
     ) -> Result<Result<(), Refusal>, AllocError>
         requires { self.old.pending ≡ None }
-        ensures does { Does (λ u. u) settled self.old self.new result (steps.append self.old.writer number entries.now) }
+        ensures does { Settles self.old self.new result (λ w. steps.append w number entries.now) }
         ensures settled { self.new.pending ≡ None }
-        ensures plain { DoesPlainly (λ u. u) settled self.old self.new result (λ w. plain.append w number entries.now) }
+        ensures plain { Mirrors self.old self.new result (λ w. plain.append w number entries.now) }
         // a refusal has a spelling
         ensures text { IfOk result (λ told. IfErr told FitsRefusal) }
     {
@@ -243,9 +240,9 @@ impl Writer {
         csum: &Digest32,
     ) -> Result<Result<Vec<u8>, Refusal>, AllocError>
         requires { self.old.pending ≡ None }
-        ensures does { Does (λ text. text.items) (held self.old.writer) self.old self.new result (steps.close_index self.old.writer number count size csum.now) }
+        ensures does { Closes self.old self.new number count size csum.now result }
         ensures pending { IsPendingAt self.new result }
-        ensures plain { DoesPlainly (λ text. text.items) (held self.old.writer) self.old self.new result (λ w. plain.close_index w number count size csum.now) }
+        ensures plain { ClosesPlainly self.old self.new number count size csum.now result }
         // a refusal has a spelling
         ensures text { IfOk result (λ told. IfErr told FitsRefusal) }
     {
@@ -271,9 +268,9 @@ impl Writer {
     ) -> Result<Result<(), Refusal>, AllocError>
         requires settled { self.old.pending ≡ None }
         requires blob { IsOk (data_of text.now) }
-        ensures does { Does (λ u. u) (held self.old.writer) self.old self.new result (steps.blob self.old.writer name text.now) }
+        ensures does { TakesBlob self.old self.new name text.now result }
         ensures pending { IsPendingAt self.new result }
-        ensures plain { (contents : List ℕ) → text.now ≡ blob_text contents → DoesPlainly (λ u. u) (held self.old.writer) self.old self.new result (λ w. plain.put_data w name contents) }
+        ensures plain { TakesBlobPlainly self.old self.new name text.now result }
     {
         match self.state.blob(alloc, name, text)? {
             Ok(pending) => {
@@ -290,10 +287,10 @@ impl Writer {
     /// cause; the first mismatch of the manifest with the snapshot's key and the files beside it.
     pub fn finish_check(&self, alloc: Global) -> Result<Result<Manifest, Refusal>, AllocError>
         requires { self.now.pending ≡ None }
-        ensures does { IfOk result (λ checked. TellsManifest (steps_finish self.now.writer) checked) }
+        ensures does { GivesManifest (steps_finish self.now.writer) result }
         // a refusal has a spelling
         ensures fits { IfOk result (λ checked. IfErr checked FitsRefusal) }
-        ensures plain { (w : PlainWriter) → Shows self.now.writer w → IfOk result (λ checked. TellsManifest (plain_finish w) checked) }
+        ensures plain { ForShown self.now.writer (λ w. GivesManifest (plain_finish w) result) }
     {
         self.state.finish_check(alloc)
     }

@@ -30,8 +30,8 @@ const ENCRYPTED_MAGIC: [u8; 8] = [123, 103, 133, 190, 34, 45, 76, 240];
 
 const ENCRYPTED_COMPRESSED_MAGIC: [u8; 8] = [230, 89, 27, 191, 11, 191, 216, 11];
 
-/// The blob of `data`, in one allocation of its size. The outer error is want of memory; the inner
-/// one is `TooLong` alone, and comes exactly where the data are over `DATA_LIMIT`.
+/// The blob of `data`. The outer error is want of memory; the inner one is `TooLong` alone, and comes exactly where the
+/// data are over `DATA_LIMIT`.
 #[tactic(auto, unfolding(crate::specs::Blob::blob))]
 pub fn encode(alloc: Global, data: &[u8]) -> Result<Result<Vec<u8>, BadBlob>, AllocError>
     ensures text { IfOk result (λ r. IfOk r (λ text. text.items ≡ blob «data».now)) }

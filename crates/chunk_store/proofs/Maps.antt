@@ -153,9 +153,3 @@ held_blob files digest text p there held named = texts text (blob p) (sym there 
   where
     texts : (a b : List ℕ) → Some a ≡ Some b → a ≡ b
     texts a b e = cc
-
-pub held_there : (files : Files) (digest p : List ℕ) → get files (chunk_name digest) ≡ None → IsHeld files p → sha256 p ≡ digest → ⊥
-held_there files digest p none held named = apart (sym none ∙ ap (λ d. get files (chunk_name d)) (sym named) ∙ held.0)
-  where
-    apart : None ≡ Some (blob p) → ⊥
-    apart e = cc

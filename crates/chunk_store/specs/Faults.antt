@@ -1,6 +1,12 @@
 -- Why a chunk isn't loaded, by what the disk answered.
+use Rattle.std.specs.Prelude.{◌≡◌, ℕ, List, Result, Ok, Err, IfOk, IfErr, MatchResult}
+use Rattle.sha2.specs.Sha256.{sha256}
+use Rattle.disk_trait.specs.declared.disk.Disk.{Ghosts}
 use Rattle.disk_trait.specs.declared.disk.DiskError.{DiskError}
 use Rattle.disk_trait.specs.declared.disk.DiskError.TheVariants as disk
+use Rattle.store_types.specs.declared.names.Digest32.{Digest32}
+use Rattle.store_types.specs.declared.refusal.ChunkFault.{ChunkFault}
+use Rattle.chunk_store.specs.Pieces.{found_at, IsHeld}
 use Rattle.chunk_store.specs.declared.chunk.LoadFault.{LoadFault}
 use Rattle.chunk_store.specs.declared.chunk.LoadFault.TheVariants.{Damaged, Failed, NoMemory}
 
@@ -12,3 +18,20 @@ load_fault disk.NoMemory = NoMemory
 abbrev pub IsNotDamaged : LoadFault → Type 0
 IsNotDamaged (Damaged digest found) = ⊥
 IsNotDamaged fault = Unit {0}
+
+-- where it is told that a chunk is damaged, it is the one that was asked for
+abbrev pub IsDamageAsked : Digest32 → LoadFault → Type 0
+IsDamageAsked digest fault = (asked : Digest32) (found : ChunkFault) → fault ≡ Damaged asked found → asked ≡ digest
+
+-- and what is told is what stands there
+abbrev pub TellsDamage : {D A : Type 0} → Ghosts D → D → Digest32 → Result A LoadFault → Type 0
+TellsDamage d disk digest result = d.honest disk → IfErr result (λ e. (asked : Digest32) (found : ChunkFault) → e ≡ Damaged asked found →
+    (asked ≡ digest) × (found_at (d.content disk) digest.0 ≡ Err found))
+
+-- the chunk is the piece with this digest
+abbrev pub LoadsPiece : {D E : Type 0} → Ghosts D → D → List ℕ → Result (List ℕ) E → Type 0
+LoadsPiece d disk digest result = d.honest disk → IfOk result (λ chunk. found_at (d.content disk) digest ≡ Ok chunk)
+
+-- a piece that stands there is loaded
+abbrev pub LoadsHeld : {D : Type 0} → Ghosts D → D → List ℕ → Result (List ℕ) LoadFault → Type 0
+LoadsHeld d disk digest result = d.honest disk → (p : List ℕ) → IsHeld (d.content disk) p → sha256 p ≡ digest → MatchResult result (λ chunk. chunk ≡ p) IsNotDamaged

@@ -1,11 +1,13 @@
 -- The chunk names that files have, as digests.
-use Rattle.std.specs.Prelude.{◌↔◌, ℕ, Bool, true, ◌&&◌, List, [], ◌∷◌, if◌then◌else◌, Option, Some, None, drop, IsSome, IsTrue, Result, Ok, Err}
-use Rattle.std.specs.List.{All, Contains}
+use Rattle.std.specs.Prelude.{◌↔◌, ℕ, Bool, true, ◌&&◌, List, [], ◌∷◌, if◌then◌else◌, Option, Some, None, drop, IsSome, IsTrue, Result, Ok, Err, IfOk, String, Vec, string_bytes}
+use Rattle.std.specs.List.{All, Contains, filter_map}
 use Rattle.std.specs.Str.{bytes_eq}
+use Rattle.std.specs.declared.alloc.Global.{Global}
 use Rattle.std.specs.FinMap.{get}
 use Rattle.hex.specs.Hex.{decode_sized}
 use Rattle.hex.specs.declared.error.FromHexError.{FromHexError}
 use Rattle.disk_trait.specs.Files.{Files}
+use Rattle.disk_trait.specs.declared.disk.Disk.{Ghosts}
 use Rattle.store_types.specs.declared.names.Digest32.{Digest32}
 use Rattle.store_types.specs.Names.{name_lt}
 use Rattle.store_files.specs.Folder.{IsDigest, chunk_name}
@@ -29,3 +31,11 @@ by_digits name (Err cause) = None
 -- the digest whose chunk has this name
 abbrev pub digest_named : List ℕ → Option Digest32
 digest_named name = by_digits name (decode_sized (drop 13 name) 32)
+
+-- the digests whose chunks have these names
+abbrev pub digests_in : List (String Global) → List Digest32
+digests_in names = filter_map (λ n. digest_named (string_bytes n)) names
+
+-- the answer is the digests of an honest disk's chunks
+abbrev pub ListsChunks : {D E : Type 0} → Ghosts D → D → Result (Vec Digest32 Global) E → Type 0
+ListsChunks d disk result = d.honest disk → IfOk result (λ digests. Lists (d.content disk) digests.items)

@@ -1,10 +1,8 @@
 //! Chunks as they are read.
 
-ghost use Rattle.std.specs.Prelude.{◌≡◌, ℕ, List, Ok, Err, MatchResult};
-ghost use Rattle.sha2.specs.Sha256.{sha256};
-ghost use Rattle.store_files.specs.Folder.{IsPiece};
+ghost use Rattle.std.specs.Prelude.{◌≡◌};
 ghost use Rattle.blob_codec.specs.Blob.{blob as blob_of};
-ghost use Rattle.chunk_store.specs.Pieces.{checked, piece_in};
+ghost use Rattle.chunk_store.specs.Pieces.{TellsChecked, TellsPiece, TakesBlob};
 ghost use Rattle.chunk_store.specs.declared.chunk.LoadFault.TheVariants.{Failed as FailedDisk, NoMemory};
 ghost use Rattle.chunk_store.specs.Faults.{load_fault};
 
@@ -81,7 +79,7 @@ impl Chunk {
 
 /// Whether these data of a blob are a piece with this digest.
 fn check_piece(digest: &Digest32, piece: &[u8]) -> Result<(), ChunkFault>
-    ensures { MatchResult result (λ _. checked digest.now.0 piece.now ≡ Ok piece.now) (λ fault. checked digest.now.0 piece.now ≡ Err fault) }
+    ensures { TellsChecked digest.now.0 piece.now result }
 {
     let found = Sha256::digest(piece);
     if piece.is_empty() || found != digest.0 {
@@ -92,9 +90,9 @@ fn check_piece(digest: &Digest32, piece: &[u8]) -> Result<(), ChunkFault>
 
 /// The chunk whose file has these bytes, or why there is none with this digest.
 pub fn check(digest: &Digest32, text: Vec<u8>) -> Result<Chunk, ChunkFault>
-    ensures value { MatchResult result (λ chunk. piece_in digest.now.0 text.items ≡ Ok chunk) (λ fault. piece_in digest.now.0 text.items ≡ Err fault) }
+    ensures value { TellsPiece digest.now.0 text.items result }
     // the blob of a piece with the digest
-    ensures blob { (p : List ℕ) → text.items ≡ blob_of p → IsPiece p → sha256 p ≡ digest.now.0 → MatchResult result (λ chunk. chunk ≡ p) (λ _. ⊥) }
+    ensures blob { TakesBlob digest.now.0 text.items result }
 {
     let Ok(piece) = decode(&text) else {
         return Err(ChunkFault::NotABlob);

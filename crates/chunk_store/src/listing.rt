@@ -1,10 +1,9 @@
 //! The digests of all chunks on a disk.
 
-ghost use Rattle.std.specs.Prelude.{◌≡◌, string_bytes, IfOk, IsErrOf};
-ghost use Rattle.std.specs.List.{filter_map};
+ghost use Rattle.std.specs.Prelude.{◌≡◌, IfOk, IsErrOf};
 ghost use Rattle.disk_trait.specs.Disk.{Ticks};
 ghost use Rattle.disk_trait.specs.Effects.{OnlyReads};
-ghost use Rattle.chunk_store.specs.Listed.{Lists, digest_named};
+ghost use Rattle.chunk_store.specs.Listed.{ListsChunks, digest_named, digests_in};
 
 use crate::name::ChunkName;
 use disk_trait::{Disk, DiskError};
@@ -26,7 +25,7 @@ fn digest_of(name: &str) -> Option<Digest32>
 }
 
 fn digests_of(alloc: Global, names: &[String]) -> Result<Vec<Digest32>, AllocError>
-    ensures { IfOk result (λ digests. digests.items ≡ filter_map (λ n. digest_named (string_bytes n)) names.now) }
+    ensures { IfOk result (λ digests. digests.items ≡ digests_in names.now) }
 {
     let mut digests = Vec::new(alloc);
     for name in names {
@@ -41,7 +40,7 @@ fn digests_of(alloc: Global, names: &[String]) -> Result<Vec<Digest32>, AllocErr
 pub fn scan<D: Disk>(disk: &mut D, alloc: Global) -> Result<Vec<Digest32>, DiskError>
     ensures reads { OnlyReads D.Disk disk.old disk.new (IsErrOf result DiskError.Failed) }
     ensures tick { Ticks D.honest D.calls disk.old disk.new }
-    ensures digests { D.honest disk.old → IfOk result (λ digests. Lists (D.content disk.old) digests.items) }
+    ensures digests { ListsChunks D.Disk disk.old result }
 {
     let names = disk.list(alloc, ".chunks/")?;
     let digests = digests_of(alloc, &names)?;

@@ -1,18 +1,14 @@
 //! A map from digests to pieces, on a disk.
 
-ghost use Rattle.std.specs.Prelude.{◌≡◌, ◌⊎◌, ℕ, List, Some, None, Ok, Err, false, is_some, IfOk, IfErr, OnOk, IsErr, IsErrOf, IsSome, MatchResult};
-ghost use Rattle.std.specs.FinMap.{get};
+ghost use Rattle.std.specs.Prelude.{◌≡◌, ◌⊎◌, IfOk, IfErr, IsErr, IsErrOf};
 ghost use Rattle.sha2.specs.Sha256.{sha256};
-ghost use Rattle.disk_trait.specs.Files.{placed};
-ghost use Rattle.disk_trait.specs.Disk.{Serves, Ticks, Steps, Same, MayGo};
-ghost use Rattle.disk_trait.specs.Effects.{OnlyReads};
+ghost use Rattle.disk_trait.specs.Disk.{Serves, Ticks, MayGo};
+ghost use Rattle.disk_trait.specs.Effects.{OnlyReads, StepsOn, KeepsFiles, DiskTells, DiskDrops, DiskNoneKeeps};
 ghost use Rattle.blob_codec.specs.Blob.{blob as blob_of};
-ghost use Rattle.store_types.specs.declared.names.Digest32.{Digest32};
-ghost use Rattle.store_types.specs.declared.refusal.ChunkFault.{ChunkFault};
-ghost use Rattle.store_files.specs.Folder.{HasWholeChunks, IsPiece, chunk_name};
+ghost use Rattle.store_files.specs.Folder.{IsPiece, chunk_name};
 ghost use Rattle.chunk_store.specs.declared.chunk.LoadFault.TheVariants.{Damaged};
-ghost use Rattle.chunk_store.specs.Faults.{IsNotDamaged};
-ghost use Rattle.chunk_store.specs.Pieces.{AddsPiece, IsChunk, IsFree, IsHeld, Stores, TakesPiece, found_at, with_chunk};
+ghost use Rattle.chunk_store.specs.Faults.{IsDamageAsked, LoadsHeld, LoadsPiece, TellsDamage};
+ghost use Rattle.chunk_store.specs.Pieces.{IsChunk, KeepsPresent, OkAdds, OkAddsBlob, OkKeepsWhole, OkStores, OkTakes, StepsStore};
 
 use crate::chunk::{Chunk, LoadFault, check};
 use crate::name::ChunkName;
@@ -27,7 +23,7 @@ use store_types::{ChunkFault, Digest32};
 /// A crash leaves nothing or the whole blob under a name that was free, with all that the disk read before; any bytes or
 /// nothing under its temporary name, and all else as it was. Until a sync, the blob may go again.
 ///
-/// Four calls of the disk: size, put, sync and rename. It takes memory for the temporary name and the disk's put alone.
+/// Tests count four calls of the disk: size, put, sync and rename.
 pub fn insert_blob<D: Disk>(
     disk: &mut D,
     alloc: Global,
@@ -37,16 +33,13 @@ pub fn insert_blob<D: Disk>(
     requires { IsChunk digest.now.0 blob.now }
     ensures serves { Serves D.honest D.faults disk.old disk.new (IsErrOf result DiskError.Failed) }
     ensures tick { Ticks D.honest D.calls disk.old disk.new }
-    ensures crash { Steps D.calls D.images disk.old disk.new (Stores digest.now.0 blob.now (D.content disk.old)) }
-    ensures stored { D.honest disk.old → OnOk result (D.content disk.new ≡ with_chunk digest.now.0 blob.now (D.content disk.old)) }
-    ensures present { D.honest disk.old → IsSome (get (D.content disk.old) (chunk_name digest.now.0)) → (D.content disk.new ≡ D.content disk.old)
-        × Steps D.calls D.images disk.old disk.new Same }
+    ensures crash { StepsStore D.Disk disk.old disk.new digest.now.0 blob.now }
+    ensures stored { OkStores D.Disk disk.old disk.new digest.now.0 blob.now result }
+    ensures present { KeepsPresent D.Disk disk.old disk.new digest.now.0 }
     // of the map
-    ensures added { D.honest disk.old → OnOk result ((p : List ℕ) → blob.now ≡ blob_of p → IsFree digest.now.0 p (D.content disk.old) →
-        AddsPiece digest.now.0 p (D.content disk.old) (D.content disk.new)) }
-    ensures whole { D.honest disk.old → OnOk result (HasWholeChunks (D.content disk.old) → HasWholeChunks (D.content disk.new)) }
-    ensures unchanged { IsErrOf result DiskError.NoMemory → (D.honest disk.old → D.content disk.new ≡ D.content disk.old)
-        × Steps D.calls D.images disk.old disk.new Same }
+    ensures added { OkAddsBlob D.Disk disk.old disk.new digest.now.0 blob.now result }
+    ensures whole { OkKeepsWhole D.Disk disk.old disk.new result }
+    ensures unchanged { IsErrOf result DiskError.NoMemory → KeepsFiles D.Disk disk.old disk.new }
 {
     let name = ChunkName::of(digest);
     if disk.size(name.as_str())?.is_some() {
@@ -67,16 +60,13 @@ pub fn insert<D: Disk>(
     requires digest { sha256 piece.now ≡ digest.now.0 }
     ensures serves { Serves D.honest D.faults disk.old disk.new (IsErrOf result DiskError.Failed) }
     ensures tick { IsErrOf result DiskError.NoMemory ⊎ Ticks D.honest D.calls disk.old disk.new }
-    ensures crash { Steps D.calls D.images disk.old disk.new (Stores digest.now.0 (blob_of piece.now) (D.content disk.old)) }
-    ensures stored { D.honest disk.old → OnOk result (D.content disk.new ≡ with_chunk digest.now.0 (blob_of piece.now) (D.content disk.old)) }
-    ensures present { D.honest disk.old → IsSome (get (D.content disk.old) (chunk_name digest.now.0)) → (D.content disk.new ≡ D.content disk.old)
-        × Steps D.calls D.images disk.old disk.new Same }
+    ensures crash { StepsStore D.Disk disk.old disk.new digest.now.0 (blob_of piece.now) }
+    ensures stored { OkStores D.Disk disk.old disk.new digest.now.0 (blob_of piece.now) result }
+    ensures present { KeepsPresent D.Disk disk.old disk.new digest.now.0 }
     // of the map
-    ensures added { D.honest disk.old → OnOk result (IsFree digest.now.0 piece.now (D.content disk.old) →
-        AddsPiece digest.now.0 piece.now (D.content disk.old) (D.content disk.new)) }
-    ensures whole { D.honest disk.old → OnOk result (HasWholeChunks (D.content disk.old) → HasWholeChunks (D.content disk.new)) }
-    ensures unchanged { IsErrOf result DiskError.NoMemory → (D.honest disk.old → D.content disk.new ≡ D.content disk.old)
-        × Steps D.calls D.images disk.old disk.new Same }
+    ensures added { OkAdds D.Disk disk.old disk.new digest.now.0 piece.now result }
+    ensures whole { OkKeepsWhole D.Disk disk.old disk.new result }
+    ensures unchanged { IsErrOf result DiskError.NoMemory → KeepsFiles D.Disk disk.old disk.new }
 {
     let Ok(blob) = encode(alloc, piece)? else {
         unreachable!();
@@ -90,14 +80,13 @@ pub fn insert<D: Disk>(
 pub fn load<D: Disk>(disk: &mut D, alloc: Global, digest: &Digest32) -> Result<Chunk, LoadFault>
     ensures reads { OnlyReads D.Disk disk.old disk.new (IsErrOf result LoadFault.Failed) }
     ensures tick { Ticks D.honest D.calls disk.old disk.new }
-    ensures piece { D.honest disk.old → IfOk result (λ chunk. found_at (D.content disk.old) digest.now.0 ≡ Ok chunk) }
-    ensures damaged { D.honest disk.old → IfErr result (λ e. (asked : Digest32) (found : ChunkFault) → e ≡ Damaged asked found →
-        (asked ≡ digest.now) × (found_at (D.content disk.old) digest.now.0 ≡ Err found)) }
+    ensures piece { LoadsPiece D.Disk disk.old digest.now.0 result }
+    ensures damaged { TellsDamage D.Disk disk.old digest.now result }
     // a piece that stands there is loaded
-    ensures held { D.honest disk.old → (p : List ℕ) → IsHeld (D.content disk.old) p → sha256 p ≡ digest.now.0 → MatchResult result (λ chunk. chunk ≡ p) IsNotDamaged }
+    ensures held { LoadsHeld D.Disk disk.old digest.now.0 result }
     // on any disk
     ensures checked { IfOk result (λ chunk. IsPiece chunk × (sha256 chunk ≡ digest.now.0)) }
-    ensures asked { IfErr result (λ e. (asked : Digest32) (found : ChunkFault) → e ≡ Damaged asked found → asked ≡ digest.now) }
+    ensures asked { IfErr result (IsDamageAsked digest.now) }
     ensures unchanged { IsErrOf result LoadFault.NoMemory → D.faults disk.new ≡ D.faults disk.old }
 {
     let name = ChunkName::of(digest);
@@ -125,14 +114,13 @@ fn damaged(digest: &Digest32, found: ChunkFault) -> LoadFault
 pub fn remove<D: Disk>(disk: &mut D, digest: &Digest32) -> Result<bool, Failed>
     ensures serves { Serves D.honest D.faults disk.old disk.new (IsErr result) }
     ensures tick { Ticks D.honest D.calls disk.old disk.new }
-    ensures crash { Steps D.calls D.images disk.old disk.new (MayGo (chunk_name digest.now.0)) }
-    ensures there { D.honest disk.old → IfOk result (λ done. done ≡ is_some (get (D.content disk.old) (chunk_name digest.now.0))) }
-    ensures removed { D.honest disk.old → OnOk result (D.content disk.new ≡ placed (D.content disk.old) (chunk_name digest.now.0) None) }
+    ensures crash { StepsOn D.Disk disk.old disk.new (MayGo (chunk_name digest.now.0)) }
+    ensures there { DiskTells D.Disk disk.old (chunk_name digest.now.0) result }
+    ensures removed { DiskDrops D.Disk disk.old disk.new (chunk_name digest.now.0) result }
     // of the map
-    ensures taken { D.honest disk.old → OnOk result (TakesPiece digest.now.0 (D.content disk.old) (D.content disk.new)) }
-    ensures whole { D.honest disk.old → OnOk result (HasWholeChunks (D.content disk.old) → HasWholeChunks (D.content disk.new)) }
-    ensures unchanged { IfOk result (λ done. done ≡ false → (D.honest disk.old → D.content disk.new ≡ D.content disk.old)
-        × Steps D.calls D.images disk.old disk.new Same × (D.faults disk.new ≡ D.faults disk.old)) }
+    ensures taken { OkTakes D.Disk disk.old disk.new digest.now.0 result }
+    ensures whole { OkKeepsWhole D.Disk disk.old disk.new result }
+    ensures unchanged { DiskNoneKeeps D.Disk disk.old disk.new result }
 {
     let name = ChunkName::of(digest);
     let is_removed = disk.remove(name.as_str())?;

@@ -10,7 +10,7 @@ use Rattle.store_types.proofs.KeyTexts.{no_slash}
 use Rattle.store_types.proofs.OrderLaws.{same_keys}
 use Rattle.store_files.specs.Archive.{Snapshot}
 use Rattle.store_model.specs.Store as model
-use Rattle.store_model.specs.Store.{Store, session, snapshot_named, snapshot_holder, holds_snapshot, without_snapshot, in_group}
+use Rattle.store_model.specs.Store.{Store, session, snapshot_named, snapshot_holder, holds_snapshot, without_snapshot}
 use Rattle.store_files.specs.Folder.{file_path}
 use Rattle.store_model.specs.Stands.{group_limit}
 use Rattle.store_model.proofs.Paths.{chunk_apart}

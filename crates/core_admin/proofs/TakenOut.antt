@@ -3,7 +3,7 @@ use Rattle.disk_trait.specs.declared.disk.Disk.{Ghosts}
 use Rattle.std.proofs.Common.{◌≡◌, ◌<◌, ⊎_elim, ℕ, true, not, map, List, [], ◌∷◌, Option, Some, None, Result, Ok, Err, refl, sym, ap, ◌∙◌, arith}
 use Rattle.std.proofs.lemmas.List.Elements.{All-cons, All-map, All-filter}
 use Rattle.std.specs.FinMap.{get}
-use Rattle.std.specs.List.{All, Contains, filter}
+use Rattle.std.specs.List.{Contains, filter}
 use Rattle.std.specs.Option.{option_map}
 use Rattle.std.specs.Str.{bytes_eq}
 use Rattle.disk_trait.specs.Files.{Files}

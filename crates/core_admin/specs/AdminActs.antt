@@ -1,9 +1,16 @@
 -- The acts on the store as a whole, and what they ask for.
-use Rattle.std.specs.Prelude.{List, Option, None}
+use Rattle.std.specs.Prelude.{ℕ, Bool, List, Option, None, Result}
+use Rattle.disk_trait.specs.declared.disk.Disk.{Ghosts}
+use Rattle.store_types.specs.declared.names.Keep.{Keep}
 use Rattle.wire_commands.specs.declared.command.Command.TheVariants.{List as ListAll, Files, Forget, Prune, Group}
+use Rattle.wire_commands.specs.declared.reply.Reply.{Reply}
 use Rattle.store_history.specs.declared.act.Act.{Act}
 use Rattle.store_history.specs.declared.act.Act.TheVariants.{Plain, JobGroup}
+use Rattle.core_state.specs.declared.entering.Place.{Place}
 use Rattle.core_state.specs.declared.kept.Listed.{Listed}
+use Rattle.core_state.specs.declared.parts.Parts.{Parts}
+use Rattle.core_state.specs.declared.stop.Stop.{Stop}
+use Rattle.core_state.specs.Commands.{ActDoes, ActLeaves}
 use Rattle.core_state.specs.Unreadables.{Asked}
 use Rattle.core_admin.specs.FilesTold.{asked_files}
 
@@ -19,3 +26,11 @@ IsAdmins _ = ⊥
 abbrev pub asked_of_admin : Act → List Listed → Option Asked
 asked_of_admin (Plain (Files snapshot)) catalogue = asked_files snapshot catalogue
 asked_of_admin act catalogue = None
+
+-- ---- the two of the first step of a PRUNE, which changes nothing
+
+abbrev pub PruneDoes : {D : Type 0} → Ghosts D → Parts D → Place → List ℕ → Keep → Bool → Result Reply Stop → Type 0
+PruneDoes d parts at group keep dry result = ActDoes d parts parts at (JobGroup (Prune group keep dry)) result
+
+abbrev pub PruneLeaves : {D : Type 0} → Ghosts D → Parts D → Place → List ℕ → Keep → Bool → Result Reply Stop → Type 0
+PruneLeaves d parts at group keep dry result = ActLeaves d parts parts at (JobGroup (Prune group keep dry)) result

@@ -1,15 +1,22 @@
 -- What an act's own tests answer by what the core keeps, on any disk.
-use Rattle.std.specs.Prelude.{◌≡◌, List}
+use Rattle.std.specs.Prelude.{◌≡◌, ℕ, List, Result, IfOk, IfSome}
 use Rattle.lock_book.specs.Locks.{Locks}
 use Rattle.wire_commands.specs.declared.command.Command.TheVariants.{List as ListAll, Files as FilesOf, Forget, Prune, Group}
 use Rattle.wire_commands.specs.declared.reply.Reply.{Reply}
 use Rattle.store_history.specs.declared.act.Act.{Act}
 use Rattle.store_history.specs.declared.act.Act.TheVariants.{Plain, JobGroup}
-use Rattle.core_state.specs.Replies.{reply_told}
+use Rattle.store_history.specs.declared.act.Answer.{Answer}
+use Rattle.core_state.specs.declared.entering.Place.{Place}
 use Rattle.core_state.specs.declared.kept.Listed.{Listed}
 use Rattle.core_state.specs.declared.kept.Session.{Session}
-use Rattle.core_admin.specs.FilesTold.{AnswersFiles}
+use Rattle.core_state.specs.declared.parts.Parts.{Parts}
+use Rattle.core_state.specs.declared.state.Core.{Core}
+use Rattle.core_state.specs.declared.stop.Stop.{Stop}
 use Rattle.core_state.specs.Found.{named_kept}
+use Rattle.core_state.specs.Replies.{reply_told}
+use Rattle.core_state.specs.Stops.{told}
+use Rattle.core_state.specs.Wanted.{session_at}
+use Rattle.core_admin.specs.FilesTold.{AnswersFiles}
 use Rattle.core_admin.specs.Forgotten.{forget_told}
 use Rattle.core_admin.specs.Listings.{list_told, group_told, prune_told}
 
@@ -23,3 +30,12 @@ AnswersBy (Plain (Group group)) session catalogue locks reply = reply ≡ reply_
 AnswersBy (JobGroup (Prune group keep dry)) session catalogue locks reply = reply ≡ reply_told (prune_told group keep session catalogue)
 AnswersBy (JobGroup _) session catalogue locks reply = ⊥
 AnswersBy _ session catalogue locks reply = Unit {0}
+
+-- a command is answered so, by what the core keeps before it
+abbrev pub ActAnswersBy : {D : Type 0} → Parts D → Place → Act → Result Reply Stop → Type 0
+ActAnswersBy old at act result = IfOk (told result) (AnswersBy act (session_at old at.lane) old.catalogue.items old.locks)
+
+-- the core answers so an act that was done
+abbrev pub CoreAnswersBy : {D E C : Type 0} → Core D E C → ℕ → Act → Answer → Type 0
+CoreAnswersBy old lane act answer =
+    (answer.entry).kind ≡ 0 → IfSome answer.reply (AnswersBy act (session_at old.parts lane) (old.parts).catalogue.items (old.parts).locks)

@@ -1,12 +1,14 @@
 -- FILES, by what the core keeps and what the disk holds.
-use Rattle.std.specs.Prelude.{◌≡◌, ◌<◌, ◌≤◌, ◌^◌, ℕ, List, map, length, take, Option, Some, None, Result, Ok, Err}
+use Rattle.std.specs.Prelude.{◌≡◌, ◌<◌, ◌≤◌, ◌^◌, ℕ, List, map, length, take, Option, Some, None, option_map, Result, Ok, Err}
 use Rattle.std.specs.FinMap.{get}
 use Rattle.blob_codec.specs.Laws.{AreBytes}
 use Rattle.disk_trait.specs.Files.{Files as Content}
+use Rattle.disk_trait.specs.declared.disk.Disk.{Ghosts}
 use Rattle.store_types.specs.declared.refusal.Refusal.{Refusal}
 use Rattle.store_types.specs.declared.refusal.Refusal.TheVariants.{Unreadable}
 use Rattle.store_types.specs.Chain.Refusing.{◌>>=◌, or_else}
 use Rattle.store_files.specs.Manifest.{Manifest}
+use Rattle.manifest.specs.Views.{manifest_view}
 use Rattle.wire_commands.specs.declared.rows.FileRow.{FileRow}
 use Rattle.wire_commands.specs.declared.reply.Reply.{Reply}
 use Rattle.wire_commands.specs.declared.reply.Reply.TheVariants.{Files, Refused}
@@ -14,11 +16,14 @@ use Rattle.store_model.specs.Stands.{file_limit}
 use Rattle.store_files.specs.Folder.{manifest_path}
 use Rattle.core_state.specs.declared.kept.Kept.{Kept}
 use Rattle.core_state.specs.declared.kept.Listed.{Listed}
+use Rattle.core_state.specs.declared.parts.Parts.{Parts}
 use Rattle.core_state.specs.declared.stop.Stop.{Stop}
 use Rattle.core_state.specs.declared.stop.Stop.TheVariants as stops
 use Rattle.core_state.specs.Found.{named_kept}
 use Rattle.core_state.specs.Listing.{listing_at}
+use Rattle.core_state.specs.Stops.{Gives}
 use Rattle.core_state.specs.Unreadables.{Asked, as_listing}
+use Rattle.core_admin.specs.declared.file_list.ManifestFile.{ManifestFile}
 use Rattle.core_admin.specs.FileRows.{rows_by}
 
 abbrev pub asked_at : Result Kept Refusal → Option Asked
@@ -43,6 +48,19 @@ files_told m text catalogue = do
   rows ← rows_read m kept
   Ok (Files rows)
 
+-- the manifest that was read, if any, is what stands at the path
+abbrev pub ListsThere : Content → List ℕ → Option ManifestFile → Type 0
+ListsThere m path read = option_map (λ (r : ManifestFile). (r.bytes.items, manifest_view r.listed)) read ≡ listing_at m path
+
+-- the rows of the snapshot's files are given, or their refusal
+abbrev pub GivesRows : Content → Kept → Result (List FileRow) Stop → Type 0
+GivesRows m k result = Gives (λ rows. rows) result (rows_read m k)
+
+-- an honest disk reads as before, and is told by what the manifest on it lists
+abbrev pub TellsFiles : {D : Type 0} → Ghosts D → Parts D → Parts D → List ℕ → Result Reply Stop → Type 0
+TellsFiles d old new text result =
+    d.honest old.disk → (d.content new.disk ≡ d.content old.disk) × Gives (λ reply. reply) result (files_told (d.content old.disk) text old.catalogue.items)
+
 -- what stands at the path, if anything, is bytes
 abbrev pub HasBytes : Content → List ℕ → Type 0
 HasBytes m path = (text : List ℕ) → get m path ≡ Some text → AreBytes text
@@ -53,6 +71,10 @@ IfTold (Ok x) P = P
 IfTold (Err (stops.Refused refusal)) P = P
 IfTold (Err stops.NoMemory) P = Unit {0}
 IfTold (Err stops.DiskFailed) P = Unit {0}
+
+-- where they are, what stands as the snapshot's manifest is bytes
+abbrev pub TellsOfBytes : {A : Type 0} → Content → Kept → Result A Stop → Type 0
+TellsOfBytes m k result = IfTold result (HasBytes m (manifest_path k.key))
 
 -- On any disk: rows, or that the manifest is unreadable, where there is such a snapshot; else the refusal.
 abbrev pub AnswersFiles : Result Kept Refusal → Reply → Type 0

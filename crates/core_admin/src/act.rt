@@ -1,15 +1,12 @@
 //! An act on the store as a whole.
 
-ghost use Rattle.std.specs.Prelude.{◌≡◌, ◌<◌, Some, IfOk, IfSome};
+ghost use Rattle.std.specs.Prelude.{◌<◌};
 ghost use Rattle.core_state.specs.Applies.{ActApplies, ActKeeps};
 ghost use Rattle.core_state.specs.Commands.{ActDoes, ActLeaves};
 ghost use Rattle.core_state.specs.Reserved.{HasRoom};
-ghost use Rattle.core_state.specs.Settles.{kind_by, reply_by};
-ghost use Rattle.core_state.specs.Stops.{told};
-ghost use Rattle.core_state.specs.Unreadables.{TellsUnreadable};
-ghost use Rattle.core_state.specs.Wanted.{session_at};
+ghost use Rattle.core_state.specs.Unreadables.{ActUnreadable, CoreUnreadable};
 ghost use Rattle.core_admin.specs.AdminActs.{IsAdmins, asked_of_admin};
-ghost use Rattle.core_admin.specs.AnsweredBy.{AnswersBy};
+ghost use Rattle.core_admin.specs.AnsweredBy.{ActAnswersBy, CoreAnswersBy};
 
 use crate::file_list::files;
 use crate::forgetting::forget;
@@ -26,8 +23,8 @@ fn perform<D: Disk>(parts: &mut Parts<D>, alloc: Global, at: Place, act: Act) ->
     requires kind { IsAdmins act }
     ensures does { ActDoes D.Disk parts.old parts.new at act result }
     ensures leaves { ActLeaves D.Disk parts.old parts.new at act result }
-    ensures by_kept { IfOk (told result) (AnswersBy act (session_at parts.old at.lane) parts.old.catalogue.items parts.old.locks) }
-    ensures unreadable { TellsUnreadable D.Disk parts.old.disk (asked_of_admin act parts.old.catalogue.items) (kind_by (told result)) (Some (reply_by (told result))) }
+    ensures by_kept { ActAnswersBy parts.old at act result }
+    ensures unreadable { ActUnreadable D.Disk (λ _. asked_of_admin act) parts.old at result }
 {
     match act {
         Act::Plain(Command::List { after }) => list(parts, alloc, at, after.as_slice()),
@@ -58,9 +55,9 @@ pub fn admin_act<D: Disk, E, C: Clock>(
     ensures applies { ActApplies D.Disk C.Clock core.old core.new lane act result }
     ensures keeps { ActKeeps D.Disk core.old core.new lane act result }
     // on any disk its own tests answer what the core keeps; of FILES, whether there is such a snapshot
-    ensures by_kept { result.entry.kind ≡ 0 → IfSome result.reply (AnswersBy act (session_at core.old.parts lane) core.old.parts.catalogue.items core.old.parts.locks) }
+    ensures by_kept { CoreAnswersBy core.old lane act result }
     // a manifest is unreadable exactly where it is, as far as the disk tells
-    ensures unreadable { TellsUnreadable D.Disk core.old.parts.disk (asked_of_admin act core.old.parts.catalogue.items) result.entry.kind result.reply }
+    ensures unreadable { CoreUnreadable D.Disk (λ _. asked_of_admin act) core.old lane result }
 {
     match begin(core, alloc, lane, &act) {
         Admitted::Answered(answer) => answer,

@@ -1,7 +1,6 @@
 //! FILES.
 
-ghost use Rattle.std.specs.Prelude.{◌≡◌, ◌≤◌, ℕ, List, map, option_map, length, Some, IfOk, IfErr, IfSome, IsErrOf};
-ghost use Rattle.std.specs.FinMap.{get};
+ghost use Rattle.std.specs.Prelude.{◌≡◌, ◌≤◌, option_map, length, IfOk, IfErr, IfSome, IsErrOf};
 ghost use Rattle.std.specs.List.{All, find};
 ghost use Rattle.std.specs.Str.{bytes_eq};
 ghost use Rattle.disk_trait.specs.Effects.{OnlyReads};
@@ -9,21 +8,17 @@ ghost use Rattle.blob_codec.specs.Laws.{AreBytes};
 ghost use Rattle.store_types.specs.Names.{IsKey};
 ghost use Rattle.store_types.specs.declared.refusal.Refusal.TheVariants.{Unreadable};
 ghost use Rattle.store_files.specs.Folder.{manifest_path};
-ghost use Rattle.manifest.specs.Views.{fact_view, manifest_view};
-ghost use Rattle.wire_commands.specs.declared.command.Command.TheVariants as commands;
-ghost use Rattle.store_model.specs.AdminSteps.{file_row};
+ghost use Rattle.manifest.specs.Views.{manifest_view};
+ghost use Rattle.wire_commands.specs.declared.command.Command.TheVariants.{Files};
 ghost use Rattle.store_history.specs.declared.act.Act.TheVariants.{Plain};
-ghost use Rattle.core_state.specs.Commands.{ActDoes, ActLeaves};
-ghost use Rattle.core_state.specs.Listing.{listing_at, listing_in};
-ghost use Rattle.core_state.specs.Settles.{kind_by, reply_by};
-ghost use Rattle.core_state.specs.Stops.{Gives, IfRefused, StopHasText, told};
-ghost use Rattle.core_state.specs.Unreadables.{TellsUnreadable};
-ghost use Rattle.core_state.specs.Wanted.{session_at};
+ghost use Rattle.core_state.specs.Commands.{PlainDoes, PlainLeaves};
+ghost use Rattle.core_state.specs.Listing.{listing_in};
+ghost use Rattle.core_state.specs.Stops.{IfRefused, StopHasText};
+ghost use Rattle.core_state.specs.Unreadables.{ActUnreadable};
 ghost use Rattle.core_state.specs.declared.stop.Stop.TheVariants.{DiskFailed};
-ghost use Rattle.core_admin.specs.AdminActs.{asked_of_admin};
-ghost use Rattle.core_admin.specs.AnsweredBy.{AnswersBy};
-ghost use Rattle.core_admin.specs.FileRows.{fact_by, rows_by};
-ghost use Rattle.core_admin.specs.FilesTold.{HasBytes, IfTold, IsFileRow, files_told, rows_read as rows_of_kept};
+ghost use Rattle.core_admin.specs.AnsweredBy.{ActAnswersBy};
+ghost use Rattle.core_admin.specs.FileRows.{row_shown, rows_shown, sized_row};
+ghost use Rattle.core_admin.specs.FilesTold.{GivesRows, HasBytes, IsFileRow, ListsThere, TellsFiles, TellsOfBytes, asked_files};
 
 use core_state::{Kept, Parts, Place, Stop, StoredFile, snapshot_named};
 use disk_trait::{Disk, DiskError};
@@ -64,7 +59,7 @@ fn read_listing<D: Disk>(
     path: &str,
 ) -> Result<Option<ManifestFile>, DiskError>
     ensures reads { OnlyReads D.Disk disk.old disk.new (IsErrOf result DiskError.Failed) }
-    ensures value { D.honest disk.old → IfOk result (λ read. option_map (λ r. (r.bytes.items, manifest_view r.listed)) read ≡ listing_at (D.content disk.old) path.now) }
+    ensures value { D.honest disk.old → IfOk result (ListsThere (D.content disk.old) path.now) }
     // what stands there is bytes
     ensures bytes { D.honest disk.old → IfOk result (λ _. HasBytes (D.content disk.old) path.now) }
 {
@@ -79,7 +74,7 @@ fn read_listing<D: Disk>(
 
 /// What is listed of the file of this name.
 fn fact_named<'a>(listed: &'a [FileFact], name: &FileName) -> Option<&'a FileFact>
-    ensures { option_map (λ fact. fact.now) result ≡ find (λ fact. bytes_eq fact.name name.now) listed.now }
+    ensures { option_map (λ f. f.now) result ≡ find (λ f. bytes_eq f.name name.now) listed.now }
 {
     listed.iter().find(|fact| fact.name == *name)
 }
@@ -91,7 +86,7 @@ fn row_with(
     size: u64,
     csum: Digest32,
 ) -> Result<FileRow, AllocError>
-    ensures value { IfOk result (λ row. row ≡ file_row (record { name = name.now; size = size; csum = csum })) }
+    ensures value { IfOk result (λ row. row ≡ sized_row name.now size csum) }
     ensures fits { IfOk result IsFileRow }
 {
     let file = Bytes::from_slice(alloc, name.as_slice())?;
@@ -105,7 +100,7 @@ fn row_of(
     bytes: &[u8],
     listed: &[FileFact],
 ) -> Result<Option<FileRow>, AllocError>
-    ensures value { IfOk result (λ row. row ≡ option_map file_row (fact_by bytes.now (map fact_view listed.now) name.now)) }
+    ensures value { IfOk result (λ row. row ≡ row_shown bytes.now listed.now name.now) }
     ensures fits { IfOk result (λ row. IfSome row IsFileRow) }
 {
     if name.is_manifest() {
@@ -126,7 +121,7 @@ fn rows_of(
     listed: &[FileFact],
 ) -> Result<Rows<FileRow>, AllocError>
     requires { length files.now ≤ 64 }
-    ensures value { IfOk result (λ rows. rows ≡ rows_by bytes.now (map fact_view listed.now) (map (λ f. f.name) files.now)) }
+    ensures value { IfOk result (λ rows. rows ≡ rows_shown bytes.now listed.now files.now) }
     ensures few { IfOk result (λ rows. length rows ≤ 64) }
     ensures fit { IfOk result (λ rows. All IsFileRow rows) }
 {
@@ -143,10 +138,10 @@ fn rows_of(
 fn rows_read<D: Disk>(disk: &mut D, alloc: Global, kept: &Kept) -> Result<Rows<FileRow>, Stop>
     requires { IsKey kept.now.key }
     ensures reads { OnlyReads D.Disk disk.old disk.new (IsErrOf result DiskFailed) }
-    ensures value { D.honest disk.old → Gives (λ rows. rows) result (rows_of_kept (D.content disk.old) kept.now) }
-    ensures bytes { D.honest disk.old → IfTold result (HasBytes (D.content disk.old) (manifest_path kept.now.key)) }
+    ensures value { D.honest disk.old → GivesRows (D.content disk.old) kept.now result }
+    ensures bytes { D.honest disk.old → TellsOfBytes (D.content disk.old) kept.now result }
     // on any disk
-    ensures named { IfErr result (IfRefused (λ refusal. refusal ≡ Unreadable (manifest_path kept.now.key))) }
+    ensures named { IfErr result (IfRefused (λ r. r ≡ Unreadable (manifest_path kept.now.key))) }
     ensures text { IfErr result StopHasText }
     ensures few { IfOk result (λ rows. length rows ≤ 64) }
     ensures fit { IfOk result (λ rows. All IsFileRow rows) }
@@ -174,15 +169,14 @@ pub fn files<D: Disk>(
     _at: Place,
     snapshot: &[u8],
 ) -> Result<Reply, Stop>
-    ensures does { ActDoes D.Disk parts.old parts.new _at (Plain (commands.Files snapshot.now)) result }
-    ensures leaves { ActLeaves D.Disk parts.old parts.new _at (Plain (commands.Files snapshot.now)) result }
+    ensures does { PlainDoes D.Disk parts.old parts.new _at (Files snapshot.now) result }
+    ensures leaves { PlainLeaves D.Disk parts.old parts.new _at (Files snapshot.now) result }
     // on any disk: rows, or that the manifest is unreadable, exactly where there is such a snapshot
-    ensures by_kept { IfOk (told result) (AnswersBy (Plain (commands.Files snapshot.now)) (session_at parts.old _at.lane) parts.old.catalogue.items parts.old.locks) }
+    ensures by_kept { ActAnswersBy parts.old _at (Plain (Files snapshot.now)) result }
     // any honest disk reads as before, and is told by what its manifest lists
-    ensures told { D.honest parts.old.disk → (D.content parts.new.disk ≡ D.content parts.old.disk)
-        × Gives (λ reply. reply) result (files_told (D.content parts.old.disk) snapshot.now parts.old.catalogue.items) }
+    ensures told { TellsFiles D.Disk parts.old parts.new snapshot.now result }
     // it is unreadable exactly where it is, as far as the disk tells
-    ensures unreadable { TellsUnreadable D.Disk parts.old.disk (asked_of_admin (Plain (commands.Files snapshot.now)) parts.old.catalogue.items) (kind_by (told result)) (Some (reply_by (told result))) }
+    ensures unreadable { ActUnreadable D.Disk (λ _. asked_files snapshot.now) parts.old _at result }
 {
     let Ok(key) = SnapshotKey::parse(alloc, snapshot)? else {
         return Err(Stop::Refused(Refusal::BadName));

@@ -1,14 +1,12 @@
 //! FORGET.
 
 ghost use Rattle.std.specs.Prelude.{◌≡◌, ◌<◌, IfOk};
-ghost use Rattle.wire_commands.specs.declared.command.Command.TheVariants as commands;
+ghost use Rattle.wire_commands.specs.declared.command.Command.TheVariants.{Forget};
 ghost use Rattle.store_history.specs.declared.act.Act.TheVariants.{Plain};
 ghost use Rattle.core_state.specs.Catalogue.{without_listed};
 ghost use Rattle.core_state.specs.Changes.{names_beside as names_of_kept};
-ghost use Rattle.core_state.specs.Commands.{ActDoes, ActLeaves};
-ghost use Rattle.core_state.specs.Stops.{told};
-ghost use Rattle.core_state.specs.Wanted.{session_at};
-ghost use Rattle.core_admin.specs.AnsweredBy.{AnswersBy};
+ghost use Rattle.core_state.specs.Commands.{PlainDoes, PlainLeaves};
+ghost use Rattle.core_admin.specs.AnsweredBy.{ActAnswersBy};
 
 use core_state::{Kept, Listed, Parts, Place, Stop, StoredFile, snapshot_named};
 use disk_trait::Disk;
@@ -49,10 +47,10 @@ pub fn forget<D: Disk>(
     snapshot: &[u8],
 ) -> Result<Reply, Stop>
     requires { at.lane < 64 }
-    ensures does { ActDoes D.Disk parts.old parts.new at (Plain (commands.Forget snapshot.now)) result }
-    ensures leaves { ActLeaves D.Disk parts.old parts.new at (Plain (commands.Forget snapshot.now)) result }
+    ensures does { PlainDoes D.Disk parts.old parts.new at (Forget snapshot.now) result }
+    ensures leaves { PlainLeaves D.Disk parts.old parts.new at (Forget snapshot.now) result }
     // on any disk
-    ensures by_kept { IfOk (told result) (AnswersBy (Plain (commands.Forget snapshot.now)) (session_at parts.old at.lane) parts.old.catalogue.items parts.old.locks) }
+    ensures by_kept { ActAnswersBy parts.old at (Plain (Forget snapshot.now)) result }
 {
     parts.idle(at.lane)?;
     let Ok(key) = SnapshotKey::parse(alloc, snapshot)? else {

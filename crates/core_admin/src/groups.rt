@@ -2,14 +2,13 @@
 
 ghost use Rattle.std.specs.Prelude.{◌≡◌, ◌<◌, ◌≤◌, length, IfOk, IsTrue};
 ghost use Rattle.std.specs.List.{All, list_all};
-ghost use Rattle.wire_commands.specs.declared.command.Command.TheVariants as commands;
+ghost use Rattle.wire_commands.specs.declared.command.Command.TheVariants.{Group, Prune};
 ghost use Rattle.store_model.specs.AdminSteps.{counts_fit as fit_counts};
 ghost use Rattle.store_history.specs.declared.act.Act.TheVariants.{JobGroup, Plain};
-ghost use Rattle.core_state.specs.Commands.{ActDoes, ActLeaves};
+ghost use Rattle.core_state.specs.Commands.{PlainDoes, PlainLeaves};
 ghost use Rattle.core_state.specs.Named.{is_named_snapshot};
-ghost use Rattle.core_state.specs.Stops.{told};
-ghost use Rattle.core_state.specs.Wanted.{session_at};
-ghost use Rattle.core_admin.specs.AnsweredBy.{AnswersBy};
+ghost use Rattle.core_admin.specs.AdminActs.{PruneDoes, PruneLeaves};
+ghost use Rattle.core_admin.specs.AnsweredBy.{ActAnswersBy};
 ghost use Rattle.core_admin.specs.Listings.{IsShort, texts_in as texts_of_kept};
 
 use core_state::{Listed, Parts, Place, Stop};
@@ -51,10 +50,10 @@ pub fn group<D: Disk>(
     _at: Place,
     name: &[u8],
 ) -> Result<Reply, Stop>
-    ensures does { ActDoes D.Disk parts.now parts.now _at (Plain (commands.Group name.now)) result }
-    ensures leaves { ActLeaves D.Disk parts.now parts.now _at (Plain (commands.Group name.now)) result }
+    ensures does { PlainDoes D.Disk parts.now parts.now _at (Group name.now) result }
+    ensures leaves { PlainLeaves D.Disk parts.now parts.now _at (Group name.now) result }
     // on any disk
-    ensures by_kept { IfOk (told result) (AnswersBy (Plain (commands.Group name.now)) (session_at parts.now _at.lane) parts.now.catalogue.items parts.now.locks) }
+    ensures by_kept { ActAnswersBy parts.now _at (Plain (Group name.now)) result }
 {
     let Ok(group) = GroupKey::parse(alloc, name)? else {
         return Err(Stop::Refused(Refusal::BadName));
@@ -88,10 +87,10 @@ pub fn prune_group<D: Disk>(
     _dry: bool,
 ) -> Result<Reply, Stop>
     requires { at.lane < 64 }
-    ensures does { ActDoes D.Disk parts.now parts.now at (JobGroup (commands.Prune name.now keep.now _dry)) result }
-    ensures leaves { ActLeaves D.Disk parts.now parts.now at (JobGroup (commands.Prune name.now keep.now _dry)) result }
+    ensures does { PruneDoes D.Disk parts.now at name.now keep.now _dry result }
+    ensures leaves { PruneLeaves D.Disk parts.now at name.now keep.now _dry result }
     // on any disk
-    ensures by_kept { IfOk (told result) (AnswersBy (JobGroup (commands.Prune name.now keep.now _dry)) (session_at parts.now at.lane) parts.now.catalogue.items parts.now.locks) }
+    ensures by_kept { ActAnswersBy parts.now at (JobGroup (Prune name.now keep.now _dry)) result }
 {
     parts.idle(at.lane)?;
     let Ok(group) = GroupKey::parse(alloc, name)? else {

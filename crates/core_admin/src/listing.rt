@@ -1,16 +1,16 @@
 //! LIST.
 
-ghost use Rattle.std.specs.Prelude.{◌≡◌, ◌<◌, ◌≤◌, ℕ, length, option_map, IfOk, IfErr, IsTrue};
+ghost use Rattle.std.specs.Prelude.{◌≡◌, ◌<◌, ◌≤◌, length, IfOk, IfErr, IsTrue};
 ghost use Rattle.std.specs.List.{All, list_all};
 ghost use Rattle.store_types.specs.Names.{IsKey};
-ghost use Rattle.wire_commands.specs.declared.command.Command.TheVariants as commands;
+ghost use Rattle.wire_commands.specs.declared.command.Command.TheVariants.{List as ListAll};
 ghost use Rattle.store_model.specs.AdminSteps.{want_after};
 ghost use Rattle.store_history.specs.declared.act.Act.TheVariants.{Plain};
-ghost use Rattle.core_state.specs.Commands.{ActDoes, ActLeaves};
+ghost use Rattle.core_state.specs.Commands.{PlainDoes, PlainLeaves};
+ghost use Rattle.core_state.specs.Found.{lent_key};
 ghost use Rattle.core_state.specs.Named.{is_named_snapshot};
-ghost use Rattle.core_state.specs.Stops.{Gives, told};
-ghost use Rattle.core_state.specs.Wanted.{session_at};
-ghost use Rattle.core_admin.specs.AnsweredBy.{AnswersBy};
+ghost use Rattle.core_state.specs.Stops.{Gives};
+ghost use Rattle.core_admin.specs.AnsweredBy.{ActAnswersBy};
 ghost use Rattle.core_admin.specs.Listings.{IsListable, IsNamesStop, is_behind as stands_behind, row_of as row_of_kept, rows_behind as rows_of_kept};
 
 use core_state::{Kept, Listed, Parts, Place, Stop};
@@ -35,7 +35,7 @@ fn key_after(alloc: Global, text: &[u8]) -> Result<Option<SnapshotKey>, Stop>
 
 /// The snapshot stands behind this one, if any, in the order of snapshots.
 fn is_behind(after: Option<&SnapshotKey>, kept: &Kept) -> bool
-    ensures { result ≡ stands_behind (option_map (λ k. k.now) after.entry) kept.now }
+    ensures { result ≡ stands_behind (lent_key after.entry) kept.now }
 {
     match after {
         None => true,
@@ -65,7 +65,7 @@ fn rows_behind(
     after: Option<&SnapshotKey>,
 ) -> Result<Rows<ListRow>, AllocError>
     requires { IsTrue (list_all is_named_snapshot catalogue.now) }
-    ensures value { IfOk result (λ rows. rows ≡ rows_of_kept (option_map (λ k. k.now) after.entry) catalogue.now) }
+    ensures value { IfOk result (λ rows. rows ≡ rows_of_kept (lent_key after.entry) catalogue.now) }
     ensures few { IfOk result (λ rows. length rows ≤ 1024) }
     ensures listable { IfOk result (λ rows. All IsListable rows) }
 {
@@ -91,10 +91,10 @@ pub fn list<D: Disk>(
     _at: Place,
     after: &[u8],
 ) -> Result<Reply, Stop>
-    ensures does { ActDoes D.Disk parts.now parts.now _at (Plain (commands.List after.now)) result }
-    ensures leaves { ActLeaves D.Disk parts.now parts.now _at (Plain (commands.List after.now)) result }
+    ensures does { PlainDoes D.Disk parts.now parts.now _at (ListAll after.now) result }
+    ensures leaves { PlainLeaves D.Disk parts.now parts.now _at (ListAll after.now) result }
     // on any disk
-    ensures by_kept { IfOk (told result) (AnswersBy (Plain (commands.List after.now)) (session_at parts.now _at.lane) parts.now.catalogue.items parts.now.locks) }
+    ensures by_kept { ActAnswersBy parts.now _at (Plain (ListAll after.now)) result }
 {
     let after = key_after(alloc, after)?;
     let rows = rows_behind(alloc, &parts.catalogue, after.as_ref())?;

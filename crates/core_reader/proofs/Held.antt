@@ -3,7 +3,7 @@ use Rattle.std.proofs.Common.{◌≡◌, ℕ, List, [], ◌∷◌, ◌++◌, Opt
 use Rattle.std.proofs.lemmas.List.Elements.{All-nil, All-cons, All-head, All-tail, All-append}
 use Rattle.std.proofs.lemmas.Slice.Eq.{bytes_eq-Decides}
 use Rattle.std.specs.FinMap.{get}
-use Rattle.std.specs.List.{All, find, flat_map}
+use Rattle.std.specs.List.{All, flat_map}
 use Rattle.std.specs.Str.{bytes_eq}
 use Rattle.sha2.specs.Sha256.{sha256}
 use Rattle.disk_trait.specs.Files.{Files}

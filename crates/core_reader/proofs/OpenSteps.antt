@@ -9,7 +9,7 @@ use Rattle.store_files.specs.Archive.{Snapshot}
 use Rattle.wire_commands.specs.declared.reply.Reply.TheVariants.{Done}
 use Rattle.wire_commands.specs.declared.command.Command.TheVariants.{OpenReader}
 use Rattle.store_model.specs.Store as model
-use Rattle.store_model.specs.Store.{Store, Outcome, none, writer, reader, session, with_session, want_idle, want_reader, snapshot_named}
+use Rattle.store_model.specs.Store.{Store, none, writer, reader, session, with_session, want_idle, snapshot_named}
 use Rattle.store_model.specs.ReaderSteps.{open_reader}
 use Rattle.store_model.specs.Steps.{outcome}
 use Rattle.core_state.specs.Holds.{IsSound, IsReader, IsOnDisk}

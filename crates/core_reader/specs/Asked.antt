@@ -1,30 +1,31 @@
 -- What a reader asks for.
-use Rattle.disk_trait.specs.declared.disk.Disk.{Ghosts}
-use Rattle.std.specs.Prelude.{ℕ, Bool, List, Option, None, Some, if◌then◌else◌, Result, Ok}
+use Rattle.std.specs.Prelude.{◌≡◌, ℕ, Bool, List, Option, None, Some, if◌then◌else◌, Result, Ok, string_bytes}
 use Rattle.std.specs.Result.{result_ok}
 use Rattle.store_types.specs.declared.refusal.Refusal.{Refusal}
 use Rattle.store_types.specs.declared.refusal.Refusal.TheVariants.{BadName, NoFile}
 use Rattle.store_types.specs.Chain.Refusing.{◌>>=◌, unless, or_else}
 use Rattle.store_types.specs.FileNames.{is_file_name, is_index_name}
 use Rattle.wire_commands.specs.declared.command.Command.TheVariants.{Download}
-use Rattle.wire_commands.specs.declared.reply.Reply.{Reply}
 use Rattle.store_history.specs.declared.act.Act.{Act}
 use Rattle.store_history.specs.declared.act.Act.TheVariants.{Plain}
 use Rattle.store_files.specs.DynamicIndex.{Ended}
+use Rattle.store_files.specs.Archive.{Archive, Snapshot, archive, ends_from}
+use Rattle.store_model.specs.Store.{Reader as PlainReader, reader as reader_of}
+use Rattle.store_model.specs.ReaderSteps.{content_at, note as noted}
 use Rattle.restore_reader.specs.declared.ranges.Part.{Part}
 use Rattle.restore_reader.specs.Session.{Reading}
 use Rattle.restore_reader.specs.Steps as steps
-use Rattle.core_state.specs.declared.entering.Place.{Place}
 use Rattle.core_state.specs.declared.kept.Listed.{Listed}
 use Rattle.core_state.specs.declared.kept.Session.{Session}
 use Rattle.core_state.specs.declared.kept.Session.TheVariants.{Idle, Writer, Reader}
 use Rattle.core_state.specs.declared.parts.Parts.{Parts}
 use Rattle.core_state.specs.declared.stop.Stop.{Stop}
 use Rattle.core_state.specs.Found.{path_in}
-use Rattle.core_state.specs.Settles.{kind_by, reply_by}
-use Rattle.core_state.specs.Stops.{told}
-use Rattle.core_state.specs.Unreadables.{Asked, TellsUnreadable, from_offset, whole_by}
+use Rattle.core_state.specs.Shown.{files_named, shown_session}
+use Rattle.core_state.specs.Stops.{Gives}
+use Rattle.core_state.specs.Unreadables.{Asked, from_offset, whole_by}
 use Rattle.core_state.specs.Wanted.{reader_in, session_at}
+use Rattle.core_reader.specs.declared.downloading.AskedFile.{AskedFile}
 
 -- ---- files
 
@@ -43,21 +44,36 @@ file_asked file offset session catalogue = do
   path ← or_else NoFile (path_in r.key file catalogue)
   Ok (asked_at r file offset path)
 
+-- the file that a DOWNLOAD asks for
+abbrev pub asked_download : List ℕ → ℕ → Session → List Listed → Option Asked
+asked_download file offset session catalogue = result_ok (file_asked file offset session catalogue)
+
 -- the file that an act asks for
 abbrev pub asked_file : Act → Session → List Listed → Option Asked
-asked_file (Plain (Download file offset)) session catalogue = result_ok (file_asked file offset session catalogue)
+asked_file (Plain (Download file offset)) session catalogue = asked_download file offset session catalogue
 asked_file act session catalogue = None
 
--- an act's file is told to be unreadable as it is, by how its command ended
-abbrev pub ActUnreadable : {D : Type 0} → Ghosts D → Parts D → Place → Act → Result Reply Stop → Type 0
-ActUnreadable d old at act result =
-    TellsUnreadable d old.disk (asked_file act (session_at old at.lane) old.catalogue.items) (kind_by (told result)) (Some (reply_by (told result)))
+-- a file that was found, read as a part from an offset
+abbrev pub asked_from : ℕ → AskedFile → Asked
+asked_from offset a = record { path = string_bytes a.path; way = from_offset a.whole offset }
+
+-- it is found, or the refusal is told, whatever the offset
+abbrev pub GivesFile : {D : Type 0} → Parts D → ℕ → List ℕ → Result AskedFile Stop → Type 0
+GivesFile parts lane file result =
+    (offset : ℕ) → Gives (asked_from offset) result (file_asked file offset (session_at parts lane) parts.catalogue.items)
 
 -- the reader with an archive noted, unless one of the name is
 abbrev pub noting : List ℕ → List Ended → Session → Session
 noting name entries Idle = Idle
 noting name entries (Writer w) = Writer w
 noting name entries (Reader r) = Reader (steps.downloaded r name entries)
+
+-- what a session shows of a plain reader is with the archive noted, whose pieces end there
+abbrev pub NotesPlainly : List ℕ → List Ended → Session → Session → Type 0
+NotesPlainly name ends old new =
+    (snapshots : List Snapshot) (r : PlainReader) (a : Archive) → old ≡ shown_session snapshots (reader_of r)
+    → content_at (files_named r.key snapshots) name ≡ Some (archive a) → ends ≡ ends_from 0 a.pieces
+    → new ≡ shown_session snapshots (reader_of (noted name (archive a) r))
 
 -- ---- ranges
 
@@ -68,3 +84,8 @@ range_asked file offset len session catalogue = do
   _ ← unless BadName (is_index_name file)
   _ ← or_else NoFile (path_in r.key file catalogue)
   steps.range_plan r file offset len
+
+-- they are given, or the refusal is told
+abbrev pub GivesRange : {A D : Type 0} → (A → List Part) → Parts D → ℕ → List ℕ → ℕ → ℕ → Result A Stop → Type 0
+GivesRange show parts lane file offset len result =
+    Gives show result (range_asked file offset len (session_at parts lane) parts.catalogue.items)

@@ -1,19 +1,21 @@
 -- Chunks as a reader's answers have them.
-use Rattle.std.specs.Prelude.{◌≡◌, ℕ, List, [], ◌∷◌, ◌++◌, Result, Ok, Err}
-use Rattle.std.specs.List.{Contains}
+use Rattle.std.specs.Prelude.{◌≡◌, ℕ, List, [], ◌∷◌, ◌++◌, Result, Ok, Err, Vec}
+use Rattle.std.specs.List.{All, Contains}
+use Rattle.std.specs.declared.alloc.Global.{Global}
 use Rattle.disk_trait.specs.Files.{Files}
 use Rattle.store_types.specs.declared.names.Digest32.{Digest32}
 use Rattle.store_types.specs.declared.refusal.ChunkFault.{ChunkFault}
 use Rattle.store_types.specs.declared.refusal.Refusal.{Refusal}
 use Rattle.store_types.specs.declared.refusal.Refusal.TheVariants.{Damaged}
 use Rattle.store_types.specs.Chain.Refusing.{◌>>=◌}
+use Rattle.store_files.specs.Archive.{digest_of}
 use Rattle.restore_reader.specs.declared.ranges.Part.{Part}
-use Rattle.restore_reader.specs.Cutting.{cut}
+use Rattle.restore_reader.specs.Cutting.{ArePartsOf, cut, joined}
 use Rattle.wire_commands.specs.declared.reply.Reply.TheVariants.{Refused}
 use Rattle.wire_commands.specs.HasText.{ReplyHasText}
-use Rattle.chunk_store.specs.Pieces.{found_at}
+use Rattle.chunk_store.specs.Pieces.{IsHeld, found_at}
 use Rattle.core_state.specs.declared.stop.Stop.{Stop}
-use Rattle.core_state.specs.Stops.{IfRefused}
+use Rattle.core_state.specs.Stops.{Gives, IfRefused}
 
 abbrev pub or_damaged : Digest32 → Result (List ℕ) ChunkFault → Result (List ℕ) Refusal
 or_damaged digest (Ok piece) = Ok piece
@@ -30,6 +32,25 @@ parts_at files (x ∷ xs) = do
   piece ← chunk_at files x.digest
   rest ← parts_at files xs
   Ok (cut x piece ++ rest)
+
+-- the piece is given, or its refusal
+abbrev pub GivesChunk : Files → Digest32 → Result (List ℕ) Stop → Type 0
+GivesChunk files digest result = Gives (λ chunk. chunk) result (chunk_at files digest)
+
+-- a piece with this digest that stands there is given
+abbrev pub GivesHeld : Files → Digest32 → Result (List ℕ) Stop → Type 0
+GivesHeld files digest result =
+    (p : List ℕ) → IsHeld files p → digest ≡ digest_of p → Gives (λ chunk. chunk) result (Ok p)
+
+-- the bytes of these parts are given, or the first refusal
+abbrev pub GivesParts : Files → List Part → Result (Vec ℕ Global) Stop → Type 0
+GivesParts files parts result = Gives (λ (bytes : Vec ℕ Global). bytes.items) result (parts_at files parts)
+
+-- where these are parts of pieces that stand there, their bytes are given
+abbrev pub GivesHeldParts : Files → List Part → Result (Vec ℕ Global) Stop → Type 0
+GivesHeldParts files parts result =
+    (pieces : List (List ℕ)) → ArePartsOf parts pieces → All (IsHeld files) pieces
+    → Gives (λ (bytes : Vec ℕ Global). bytes.items) result (Ok (joined parts pieces))
 
 -- it tells of the chunk with this digest
 abbrev pub IsDamageOf : Digest32 → Refusal → Type 0

@@ -12,6 +12,7 @@ use Rattle.wire_commands.specs.declared.reply.Reply.{Reply}
 use Rattle.wire_commands.specs.declared.reply.Reply.TheVariants.{Refused}
 use Rattle.store_history.specs.declared.act.Act.{Act}
 use Rattle.store_history.specs.declared.act.Act.TheVariants.{Plain}
+use Rattle.store_history.specs.declared.act.Answer.{Answer}
 use Rattle.restore_reader.specs.declared.ranges.Part.{Part}
 use Rattle.restore_reader.specs.Steps.{is_allowed}
 use Rattle.chunk_store.specs.Pieces.{found_at}
@@ -20,6 +21,7 @@ use Rattle.core_state.specs.declared.kept.Session.{Session}
 use Rattle.core_state.specs.declared.kept.Session.TheVariants.{Reader}
 use Rattle.core_state.specs.declared.entering.Place.{Place}
 use Rattle.core_state.specs.declared.parts.Parts.{Parts}
+use Rattle.core_state.specs.declared.state.Core.{Core}
 use Rattle.core_state.specs.declared.stop.Stop.{Stop}
 use Rattle.core_state.specs.Settles.{kind_by, reply_by}
 use Rattle.core_state.specs.Stops.{told}
@@ -64,3 +66,8 @@ pub record TellsDamaged {D : Type 0} (d : Ghosts D) (disk : D) (chunks : List Di
 abbrev pub ActDamaged : {D : Type 0} → Ghosts D → Parts D → Place → Act → Result Reply Stop → Type 0
 ActDamaged d old at act result =
     TellsDamaged d old.disk (needed act (session_at old at.lane) old.catalogue.items) (kind_by (told result)) (Some (reply_by (told result)))
+
+-- and by the core's answer
+abbrev pub CoreDamaged : {D E C : Type 0} → Ghosts D → Core D E C → ℕ → Act → Answer → Type 0
+CoreDamaged d old lane act answer =
+    TellsDamaged d (old.parts).disk (needed act (session_at old.parts lane) (old.parts).catalogue.items) (answer.entry).kind answer.reply

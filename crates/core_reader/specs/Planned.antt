@@ -8,8 +8,10 @@ use Rattle.store_model.specs.Store.{Reader, Store}
 use Rattle.store_model.specs.ReaderSteps.{pieces_at, range, reader_files}
 use Rattle.restore_reader.specs.declared.ranges.Part.{Part}
 use Rattle.restore_reader.specs.Cutting.{Reads}
+use Rattle.core_state.specs.declared.parts.Parts.{Parts}
 use Rattle.core_state.specs.declared.stop.Stop.{Stop}
 use Rattle.core_state.specs.declared.stop.Stop.TheVariants.{Refused, NoMemory, DiskFailed}
+use Rattle.core_state.specs.Holds.{Shows}
 
 -- the plain store gives bytes, of which these are the parts among the pieces of a file of a finished snapshot
 pub record PlansBytes (s : Store) (lane : ℕ) (file : List ℕ) (offset len : ℕ) (parts : List Part) : Type 0 where
@@ -24,6 +26,10 @@ PlansRange show s lane file offset len (Ok plan) = PlansBytes s lane file offset
 PlansRange show s lane file offset len (Err (Refused refusal)) = range s lane file offset len ≡ Err refusal
 PlansRange show s lane file offset len (Err NoMemory) = Unit {0}
 PlansRange show s lane file offset len (Err DiskFailed) = Unit {0}
+
+-- so it does of each plain store that the parts show
+abbrev pub PlansShown : {A D : Type 0} → (A → List Part) → Parts D → ℕ → List ℕ → ℕ → ℕ → Result A Stop → Type 0
+PlansShown show parts lane file offset len result = (s : Store) → Shows parts s → PlansRange show s lane file offset len result
 
 -- the refusals of a RANGE before its chunks are read
 abbrev pub refuses_plan : Refusal → Bool

@@ -1,7 +1,14 @@
 -- The acts of readers.
+use Rattle.std.specs.Prelude.{ℕ, List, Result}
+use Rattle.disk_trait.specs.declared.disk.Disk.{Ghosts}
 use Rattle.wire_commands.specs.declared.command.Command.TheVariants.{OpenReader, Download, GetChunk, Range, CloseReader}
+use Rattle.wire_commands.specs.declared.reply.Reply.{Reply}
 use Rattle.store_history.specs.declared.act.Act.{Act}
 use Rattle.store_history.specs.declared.act.Act.TheVariants.{Plain}
+use Rattle.core_state.specs.declared.entering.Place.{Place}
+use Rattle.core_state.specs.declared.parts.Parts.{Parts}
+use Rattle.core_state.specs.declared.stop.Stop.{Stop}
+use Rattle.core_state.specs.Commands.{PlainDoes, PlainLeaves}
 
 abbrev pub IsReaders : Act → Type 0
 IsReaders (Plain (OpenReader snapshot)) = Unit {0}
@@ -10,3 +17,11 @@ IsReaders (Plain (GetChunk digest)) = Unit {0}
 IsReaders (Plain (Range file offset len)) = Unit {0}
 IsReaders (Plain CloseReader) = Unit {0}
 IsReaders _ = ⊥
+
+-- ---- the two of a RANGE
+
+abbrev pub RangeDoes : {D : Type 0} → Ghosts D → Parts D → Parts D → Place → List ℕ → ℕ → ℕ → Result Reply Stop → Type 0
+RangeDoes d old new at file offset len result = PlainDoes d old new at (Range file offset len) result
+
+abbrev pub RangeLeaves : {D : Type 0} → Ghosts D → Parts D → Parts D → Place → List ℕ → ℕ → ℕ → Result Reply Stop → Type 0
+RangeLeaves d old new at file offset len result = PlainLeaves d old new at (Range file offset len) result

@@ -4,10 +4,9 @@ ghost use Rattle.std.specs.Prelude.{◌<◌};
 ghost use Rattle.core_state.specs.Applies.{ActApplies, ActKeeps};
 ghost use Rattle.core_state.specs.Commands.{ActDoes, ActLeaves};
 ghost use Rattle.core_state.specs.Reserved.{HasRoom};
-ghost use Rattle.core_state.specs.Unreadables.{TellsUnreadable};
-ghost use Rattle.core_state.specs.Wanted.{session_at};
-ghost use Rattle.core_reader.specs.Asked.{ActUnreadable, asked_file};
-ghost use Rattle.core_reader.specs.Damages.{ActDamaged, TellsDamaged, needed};
+ghost use Rattle.core_state.specs.Unreadables.{ActUnreadable, CoreUnreadable};
+ghost use Rattle.core_reader.specs.Asked.{asked_file};
+ghost use Rattle.core_reader.specs.Damages.{ActDamaged, CoreDamaged};
 ghost use Rattle.core_reader.specs.ReaderActs.{IsReaders};
 
 use crate::chunks::get_chunk;
@@ -26,7 +25,7 @@ fn perform<D: Disk>(parts: &mut Parts<D>, alloc: Global, at: Place, act: Act) ->
     requires kind { IsReaders act }
     ensures does { ActDoes D.Disk parts.old parts.new at act result }
     ensures leaves { ActLeaves D.Disk parts.old parts.new at act result }
-    ensures unreadable { ActUnreadable D.Disk parts.old at act result }
+    ensures unreadable { ActUnreadable D.Disk (asked_file act) parts.old at result }
     ensures damaged { ActDamaged D.Disk parts.old at act result }
 {
     match act {
@@ -61,8 +60,8 @@ pub fn reader_act<D: Disk, E, C: Clock>(
     requires kind { IsReaders act }
     ensures applies { ActApplies D.Disk C.Clock core.old core.new lane act result }
     ensures keeps { ActKeeps D.Disk core.old core.new lane act result }
-    ensures unreadable { TellsUnreadable D.Disk core.old.parts.disk (asked_file act (session_at core.old.parts lane) core.old.parts.catalogue.items) result.entry.kind result.reply }
-    ensures damaged { TellsDamaged D.Disk core.old.parts.disk (needed act (session_at core.old.parts lane) core.old.parts.catalogue.items) result.entry.kind result.reply }
+    ensures unreadable { CoreUnreadable D.Disk (asked_file act) core.old lane result }
+    ensures damaged { CoreDamaged D.Disk core.old lane act result }
 {
     match begin(core, alloc, lane, &act) {
         Admitted::Answered(answer) => answer,

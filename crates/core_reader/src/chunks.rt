@@ -3,7 +3,7 @@
 ghost use Rattle.std.specs.Prelude.{◌<◌};
 ghost use Rattle.wire_commands.specs.declared.command.Command.TheVariants.{GetChunk};
 ghost use Rattle.store_history.specs.declared.act.Act.TheVariants.{Plain};
-ghost use Rattle.core_state.specs.Commands.{ActDoes, ActLeaves};
+ghost use Rattle.core_state.specs.Commands.{PlainDoes, PlainLeaves};
 ghost use Rattle.core_reader.specs.Damages.{ActDamaged};
 
 use crate::loading::read_chunk;
@@ -24,8 +24,8 @@ pub fn get_chunk<D: Disk>(
     digest: &Digest32,
 ) -> Result<Reply, Stop>
     requires { at.lane < 64 }
-    ensures does { ActDoes D.Disk parts.old parts.new at (Plain (GetChunk digest.now)) result }
-    ensures leaves { ActLeaves D.Disk parts.old parts.new at (Plain (GetChunk digest.now)) result }
+    ensures does { PlainDoes D.Disk parts.old parts.new at (GetChunk digest.now) result }
+    ensures leaves { PlainLeaves D.Disk parts.old parts.new at (GetChunk digest.now) result }
     // it is damaged exactly where there is no piece with the digest, as far as the disk tells
     ensures damaged { ActDamaged D.Disk parts.old at (Plain (GetChunk digest.now)) result }
 {

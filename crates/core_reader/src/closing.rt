@@ -2,8 +2,7 @@
 
 ghost use Rattle.std.specs.Prelude.{◌<◌};
 ghost use Rattle.wire_commands.specs.declared.command.Command.TheVariants.{CloseReader};
-ghost use Rattle.store_history.specs.declared.act.Act.TheVariants.{Plain};
-ghost use Rattle.core_state.specs.Commands.{ActDoes, ActLeaves};
+ghost use Rattle.core_state.specs.Commands.{PlainDoes, PlainLeaves};
 
 use core_state::{Parts, Place, Stop, end_session};
 use disk_trait::Disk;
@@ -14,8 +13,8 @@ use wire_commands::Reply;
 /// It is refused where the lane has no reader.
 pub fn close_reader<D: Disk>(parts: &mut Parts<D>, at: Place) -> Result<Reply, Stop>
     requires { at.lane < 64 }
-    ensures does { ActDoes D.Disk parts.old parts.new at (Plain CloseReader) result }
-    ensures leaves { ActLeaves D.Disk parts.old parts.new at (Plain CloseReader) result }
+    ensures does { PlainDoes D.Disk parts.old parts.new at CloseReader result }
+    ensures leaves { PlainLeaves D.Disk parts.old parts.new at CloseReader result }
 {
     parts.reader(at.lane)?;
     end_session(parts, at.lane);

@@ -1,19 +1,12 @@
 //! DOWNLOAD.
 
-ghost use Rattle.std.specs.Prelude.{◌≡◌, ◌<◌, ◌≤◌, ℕ, List, IfOk, IsErrOf, OnOk, OnErr, Some, length, string_bytes};
+ghost use Rattle.std.specs.Prelude.{◌≡◌, ◌<◌, ◌≤◌, IfOk, IsErrOf, OnOk, OnErr, Some, length, string_bytes};
 ghost use Rattle.wire_commands.specs.declared.command.Command.TheVariants.{Download};
-ghost use Rattle.store_history.specs.declared.act.Act.TheVariants.{Plain};
-ghost use Rattle.store_files.specs.Archive.{Archive, Snapshot, archive, ends_from};
 ghost use Rattle.store_files.specs.Entries.{FitsIndex, ends_of};
-ghost use Rattle.store_model.specs.Store.{Reader as PlainReader, reader as reader_of};
-ghost use Rattle.store_model.specs.ReaderSteps.{content_at, note as noted};
-ghost use Rattle.core_state.specs.Commands.{ActDoes, ActLeaves};
-ghost use Rattle.core_state.specs.Shown.{files_named, shown_session};
-ghost use Rattle.core_state.specs.Stops.{Gives};
-ghost use Rattle.core_state.specs.Unreadables.{Asked, from_offset};
-ghost use Rattle.core_state.specs.Wanted.{session_at};
+ghost use Rattle.core_state.specs.Commands.{PlainDoes, PlainLeaves};
+ghost use Rattle.core_state.specs.Unreadables.{ActUnreadable};
 ghost use Rattle.core_state.specs.declared.stop.Stop.TheVariants.{DiskFailed};
-ghost use Rattle.core_reader.specs.Asked.{ActUnreadable, file_asked, noting, whole_for};
+ghost use Rattle.core_reader.specs.Asked.{GivesFile, NotesPlainly, asked_download, noting, whole_for};
 
 use crate::lookups::path_in_snapshot;
 use core_state::{Parts, Place, Session, Stop};
@@ -35,8 +28,7 @@ fn note(
     requires { FitsIndex (ends_of entries.now) }
     ensures ok { OnOk result (session.new ≡ noting name (ends_of entries.now) session.old) }
     ensures err { OnErr result (session.new ≡ session.old) }
-    ensures plain { OnOk result ((snapshots : List Snapshot) (r : PlainReader) (a : Archive) → session.old ≡ shown_session snapshots (reader_of r) → content_at (files_named r.key snapshots) name ≡ Some (archive a) →
-        ends_of entries.now ≡ ends_from 0 a.pieces → session.new ≡ shown_session snapshots (reader_of (noted name (archive a) r))) }
+    ensures plain { OnOk result (NotesPlainly name (ends_of entries.now) session.old session.new) }
 {
     let Session::Reader(reader) = session else {
         return Ok(());
@@ -73,8 +65,7 @@ struct AskedFile {
 /// The file of the reader's snapshot, by what is kept. The disk is not called.
 fn asked_file<D>(parts: &Parts<D>, alloc: Global, lane: u32, file: &[u8]) -> Result<AskedFile, Stop>
     requires { lane < 64 }
-    ensures value { (offset : ℕ) → Gives (λ a. record { path = string_bytes a.path; way = from_offset a.whole offset }) result
-        (file_asked file.now offset (session_at parts.now lane) parts.now.catalogue.items) }
+    ensures value { GivesFile parts.now lane file.now result }
     ensures name { IfOk result (λ a. a.name ≡ file.now) }
     ensures short { IfOk result (λ a. length (string_bytes a.path) ≤ 255) }
     ensures unfailed { IsErrOf result DiskFailed → ⊥ }
@@ -105,10 +96,10 @@ pub fn download<D: Disk>(
     offset: u64,
 ) -> Result<Reply, Stop>
     requires { at.lane < 64 }
-    ensures does { ActDoes D.Disk parts.old parts.new at (Plain (Download file.now offset)) result }
-    ensures leaves { ActLeaves D.Disk parts.old parts.new at (Plain (Download file.now offset)) result }
+    ensures does { PlainDoes D.Disk parts.old parts.new at (Download file.now offset) result }
+    ensures leaves { PlainLeaves D.Disk parts.old parts.new at (Download file.now offset) result }
     // it is unreadable exactly where nothing stands there, or where what is read whole is no index, as far as the disk tells
-    ensures unreadable { ActUnreadable D.Disk parts.old at (Plain (Download file.now offset)) result }
+    ensures unreadable { ActUnreadable D.Disk (asked_download file.now offset) parts.old at result }
 {
     let asked = asked_file(parts, alloc, at.lane, file)?;
     let Some(is_fixed) = asked.whole else {

@@ -1,14 +1,10 @@
 //! Chunks that an answer needs.
 
-ghost use Rattle.std.specs.Prelude.{◌≡◌, ◌≤◌, ℕ, List, Ok, IfOk, IfErr, IsErrOf, length};
-ghost use Rattle.std.specs.List.{All};
+ghost use Rattle.std.specs.Prelude.{◌≡◌, ◌≤◌, IfOk, IfErr, IsErrOf, length};
 ghost use Rattle.disk_trait.specs.Effects.{OnlyReads};
-ghost use Rattle.store_files.specs.Archive.{digest_of};
-ghost use Rattle.restore_reader.specs.Cutting.{ArePartsOf, cut, joined, total_of};
-ghost use Rattle.chunk_store.specs.Pieces.{IsHeld};
-ghost use Rattle.core_state.specs.Stops.{Gives};
+ghost use Rattle.restore_reader.specs.Cutting.{cut, total_of};
 ghost use Rattle.core_state.specs.declared.stop.Stop.TheVariants.{DiskFailed};
-ghost use Rattle.core_reader.specs.Chunks.{StopsAmong, StopsAt, chunk_at, parts_at};
+ghost use Rattle.core_reader.specs.Chunks.{GivesChunk, GivesHeld, GivesHeldParts, GivesParts, StopsAmong, StopsAt};
 ghost use Rattle.core_reader.specs.Damages.{digests_of};
 
 use chunk_store::{Chunk, LoadFault, load};
@@ -22,9 +18,9 @@ use store_types::{Digest32, Refusal};
 /// data are not a piece with this digest.
 pub fn read_chunk<D: Disk>(disk: &mut D, alloc: Global, digest: &Digest32) -> Result<Chunk, Stop>
     ensures reads { OnlyReads D.Disk disk.old disk.new (IsErrOf result DiskFailed) }
-    ensures value { D.honest disk.old → Gives (λ chunk. chunk) result (chunk_at (D.content disk.old) digest.now) }
+    ensures value { D.honest disk.old → GivesChunk (D.content disk.old) digest.now result }
     // a piece that stands there is given
-    ensures held { D.honest disk.old → (p : List ℕ) → IsHeld (D.content disk.old) p → digest.now ≡ digest_of p → Gives (λ chunk. chunk) result (Ok p) }
+    ensures held { D.honest disk.old → GivesHeld (D.content disk.old) digest.now result }
     // on any disk
     ensures size { IfOk result (λ chunk. length chunk ≤ 16_777_216) }
     ensures damage { IfErr result (StopsAt digest.now) }
@@ -60,10 +56,9 @@ pub fn read_parts<D: Disk>(
     room: u32,
 ) -> Result<Vec<u8>, Stop>
     ensures reads { OnlyReads D.Disk disk.old disk.new (IsErrOf result DiskFailed) }
-    ensures value { D.honest disk.old → Gives (λ bytes. bytes.items) result (parts_at (D.content disk.old) parts.now) }
+    ensures value { D.honest disk.old → GivesParts (D.content disk.old) parts.now result }
     // parts of pieces that stand there are given
-    ensures held { D.honest disk.old → (pieces : List (List ℕ)) → ArePartsOf parts.now pieces → All (IsHeld (D.content disk.old)) pieces
-        → Gives (λ bytes. bytes.items) result (Ok (joined parts.now pieces)) }
+    ensures held { D.honest disk.old → GivesHeldParts (D.content disk.old) parts.now result }
     // on any disk
     ensures size { IfOk result (λ bytes. length bytes.items ≤ total_of parts.now) }
     ensures damage { IfErr result (StopsAmong (digests_of parts.now)) }

@@ -2,8 +2,7 @@
 
 ghost use Rattle.std.specs.Prelude.{◌<◌};
 ghost use Rattle.wire_commands.specs.declared.command.Command.TheVariants.{OpenReader};
-ghost use Rattle.store_history.specs.declared.act.Act.TheVariants.{Plain};
-ghost use Rattle.core_state.specs.Commands.{ActDoes, ActLeaves};
+ghost use Rattle.core_state.specs.Commands.{PlainDoes, PlainLeaves};
 
 use core_state::{Parts, Place, Session, Stop, snapshot_named};
 use disk_trait::Disk;
@@ -23,8 +22,8 @@ pub fn open_reader<D: Disk>(
     snapshot: &[u8],
 ) -> Result<Reply, Stop>
     requires { at.lane < 64 }
-    ensures does { ActDoes D.Disk parts.old parts.new at (Plain (OpenReader snapshot.now)) result }
-    ensures leaves { ActLeaves D.Disk parts.old parts.new at (Plain (OpenReader snapshot.now)) result }
+    ensures does { PlainDoes D.Disk parts.old parts.new at (OpenReader snapshot.now) result }
+    ensures leaves { PlainLeaves D.Disk parts.old parts.new at (OpenReader snapshot.now) result }
 {
     parts.idle(at.lane)?;
     let Ok(key) = SnapshotKey::parse(alloc, snapshot)? else {

@@ -1,18 +1,14 @@
 //! RANGE.
 
-ghost use Rattle.std.specs.Prelude.{◌≡◌, ◌<◌, ◌≤◌, ℕ, IfOk, IfErr, IfSome, is_some};
+ghost use Rattle.std.specs.Prelude.{◌≡◌, ◌<◌, ◌≤◌, IfOk, IfErr, IfSome, is_some};
 ghost use Rattle.store_types.specs.FileNames.{is_index_name};
 ghost use Rattle.wire_commands.specs.declared.command.Command.TheVariants.{Range};
 ghost use Rattle.store_history.specs.declared.act.Act.TheVariants.{Plain};
-ghost use Rattle.store_model.specs.Store.{Store};
 ghost use Rattle.restore_reader.specs.Cutting.{total_of};
-ghost use Rattle.core_state.specs.Commands.{ActDoes, ActLeaves};
-ghost use Rattle.core_state.specs.Holds.{Shows};
-ghost use Rattle.core_state.specs.Stops.{Gives};
-ghost use Rattle.core_state.specs.Wanted.{session_at};
-ghost use Rattle.core_reader.specs.Asked.{range_asked};
+ghost use Rattle.core_reader.specs.Asked.{GivesRange};
 ghost use Rattle.core_reader.specs.Damages.{ActDamaged};
-ghost use Rattle.core_reader.specs.Planned.{PlansRange, StopsRange};
+ghost use Rattle.core_reader.specs.Planned.{PlansShown, StopsRange};
+ghost use Rattle.core_reader.specs.ReaderActs.{RangeDoes, RangeLeaves};
 
 use crate::loading::read_parts;
 use crate::lookups::has_file;
@@ -47,8 +43,8 @@ fn range_plan<D>(
     length: u32,
 ) -> Result<Vec<Part>, Stop>
     requires { lane < 64 }
-    ensures value { Gives (λ plan. plan.items) result (range_asked file.now offset length (session_at parts.now lane) parts.now.catalogue.items) }
-    ensures plain { (s : Store) → Shows parts.now s → PlansRange (λ plan. plan.items) s lane file.now offset length result }
+    ensures value { GivesRange (λ plan. plan.items) parts.now lane file.now offset length result }
+    ensures plain { PlansShown (λ plan. plan.items) parts.now lane file.now offset length result }
     ensures total { IfOk result (λ plan. (total_of plan.items ≤ length) × (length ≤ 4_194_304)) }
     ensures stops { IfErr result StopsRange }
 {
@@ -77,8 +73,8 @@ pub fn range<D: Disk>(
     length: u32,
 ) -> Result<Reply, Stop>
     requires { at.lane < 64 }
-    ensures does { ActDoes D.Disk parts.old parts.new at (Plain (Range file.now offset length)) result }
-    ensures leaves { ActLeaves D.Disk parts.old parts.new at (Plain (Range file.now offset length)) result }
+    ensures does { RangeDoes D.Disk parts.old parts.new at file.now offset length result }
+    ensures leaves { RangeLeaves D.Disk parts.old parts.new at file.now offset length result }
     // a chunk is damaged exactly where one of the range's has no piece with its digest, as far as the disk tells
     ensures damaged { ActDamaged D.Disk parts.old at (Plain (Range file.now offset length)) result }
 {

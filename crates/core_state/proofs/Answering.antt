@@ -116,10 +116,6 @@ pub refused_told : {D E C : Type 0} (d : Ghosts D) (readings : C → Option Read
 refused_told d readings old new lane answer (short is) = short_told d readings old new lane answer is
 refused_told d readings old new lane answer (halted is) = some_told answer.reply _ (is.entered).reply_is
 
-pub settled_told : {D E C : Type 0} (d : Ghosts D) (mid acted new : Core D E C) (lane moment : ℕ) (result : Result Reply DiskError) (answer : Answer)
-    → acted.fault ≡ mid.fault → Settles d acted new lane moment result answer → IsSome answer.reply
-settled_told d mid acted new lane moment result answer same e = some_told answer.reply _ e.reply_is
-
 -- ---- a lane's end
 
 -- no disk call was made

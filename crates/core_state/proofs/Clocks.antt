@@ -1,29 +1,14 @@
 -- The clock is read once.
-use Rattle.std.proofs.Common.{◌≡◌, ◌≤◌, ℕ, min, max, length, Option, None, IfSome, inl, refl, sym, ap, subst, ◌∙◌, arith}
-use Rattle.std.specs.Option.{option_map}
+use Rattle.std.proofs.Common.{◌≡◌, ◌≤◌, ℕ, Option, inl, refl, sym, ap, subst, ◌∙◌, arith}
 use Rattle.disk_trait.specs.declared.disk.Disk.{Ghosts}
 use Rattle.wire_commands.specs.declared.reply.Reply.{Reply}
 use Rattle.store_history.specs.declared.act.Answer.{Answer}
-use Rattle.port_traits.specs.Readings.{Readings, reading_at, readings_after}
-use Rattle.store_types.specs.Times.{last_moment}
+use Rattle.port_traits.specs.Readings.{Readings}
 use Rattle.core_state.specs.declared.entering.Place.{Place}
 use Rattle.core_state.specs.declared.state.Core.{Core}
 use Rattle.core_state.specs.Entering.{SameEntries, OthersHold, NoneLost, FillsFirst, StaysWhole, held_by}
-use Rattle.core_state.specs.Begins.{ReadsClock, IsAdmitted, IsBegun, IsNext}
-use Rattle.core_state.specs.Reserved.{HasRoom}
+use Rattle.core_state.specs.Begins.{ReadsClock, IsBegun, IsNext}
 use Rattle.core_state.specs.Settles.{IsEntered}
-
-pub reads_clock : {C : Type 0} (readings : C → Option Readings) (old new : C) (last reading moment : ℕ)
-    → IfSome (readings old) (λ r. reading ≡ reading_at r 0) → readings new ≡ option_map (readings_after 1) (readings old)
-    → moment ≡ min (max reading last) last_moment → last ≤ last_moment → ReadsClock readings old new last moment
-reads_clock readings old new last reading moment value after is le = record {
-  rule = λ c e. (
-    is ∙ ap (λ n. min (max n last) last_moment) (subst (λ o. IfSome o (λ r. reading ≡ reading_at r 0)) e value),
-    after ∙ ap (option_map (readings_after 1)) e,
-  );
-  risen = omega (arith, is, le);
-  in_time = omega (arith, is);
-}
 
 -- and nothing else has happened but to the reserve
 pub is_begun : {D E C : Type 0} (readings : C → Option Readings) (old next new : Core D E C) (lane : ℕ) (at : Place) → IsNext readings old next lane at
@@ -54,12 +39,3 @@ next_begun readings old next lane at is =
 pub entered_for : {D E C : Type 0} (d : Ghosts D) (old new : Core D E C) (lane kind : ℕ) (at : Place) (reply : Option Reply) (answer : Answer) → at.lane ≡ lane
     → IsEntered d old new at.lane at.moment kind reply answer → IsEntered d old new lane at.moment kind reply answer
 entered_for d old new lane kind at reply answer same e = subst (λ l. IsEntered d old new l at.moment kind reply answer) same e
-
--- the act may be done
-pub is_admitted : {D E C : Type 0} (readings : C → Option Readings) (old new : Core D E C) (lane : ℕ) (at : Place) → at.lane ≡ lane
-    → at.number ≡ length (new.journal).entries.items → IsBegun readings old new lane at.moment → HasRoom new lane → old.fault ≡ None → IsAdmitted readings old new lane at
-is_admitted readings old new lane at same number begun room fault = record {
-  lane_is = same;
-  number_is = number;
-  ready = record { begun = begun; room = room; no_fault = fault };
-}

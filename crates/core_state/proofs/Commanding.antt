@@ -221,11 +221,6 @@ read_refused P errors.Failed p = tt
 pub read_text : (e : ReadError) → reads.ErrorHasText e → StopHasText (stop_by_read e)
 read_text e text = read_refused (λ refusal. ReplyHasText (replies.Refused refusal)) e text
 
-pub read_gives : {A B C : Type 0} (f : A → C) (g : B → C) (wanted : Result C Refusal) (e : ReadError) → reads.Gives f (Err e) wanted → Gives g (Err (stop_by_read e)) wanted
-read_gives f g wanted (errors.Refused refusal) given = given
-read_gives f g wanted errors.NoMemory given = tt
-read_gives f g wanted errors.Failed given = tt
-
 pub read_failed : (e : ReadError) → stop_by_read e ≡ DiskFailed → e ≡ errors.Failed
 read_failed (errors.Refused refusal) is = cc
 read_failed errors.NoMemory is = cc
@@ -527,10 +522,6 @@ module _ {D : Type 0} (d : Ghosts D) where
       refused_does parts parts at act refusal result stops refl (same_kept parts) text
       (busy_by_state (session_at parts at.lane) refusal (λ r. IsTrue (may_answer act (replies.Refused r))) answers e)
       (λ s shows. is s (idle_wanted parts s at.lane refusal shows lt e))
-
-  pub busy_leaves : (parts : Parts D) (at : Place) (act : Act) (refusal : Refusal) (result : Result Reply Stop) → Stops result (Refused refusal)
-      → (closes act (session_at parts at.lane) ≡ true → ⊥) → ActLeaves d parts parts at act result
-  busy_leaves parts at act refusal result stops going = refused_leaves parts parts at act refusal result stops refl (same_kept parts) going
 
   -- short of memory before the disk is called
   pub short_does : (old new : Parts D) (at : Place) (act : Act) (result : Result Reply Stop) → Stops result NoMemory → new.disk ≡ old.disk → SameKept old new → ActDoes d old new at act result

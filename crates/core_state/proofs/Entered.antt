@@ -10,7 +10,7 @@ use Rattle.store_history.specs.declared.act.Answer.{Answer}
 use Rattle.store_history.specs.declared.act.Event.{Event}
 use Rattle.store_history.specs.Acts.{IsWellFormed, class_of}
 use Rattle.store_history.specs.History.{World, opened, after, moved, entry, moment, kind_of, sent_by}
-use Rattle.store_history.specs.Legal.{IsRight, Right, Says, IsLegal, moment_at, later, readings_left, moment_after}
+use Rattle.store_history.specs.Legal.{IsRight, Right, moment_at, later, readings_left, moment_after}
 use Rattle.store_history.proofs.Longer.{after_all_more, legal_more, timed_more, readings_more, moment_is, events_after, entries_more}
 use Rattle.core_state.specs.declared.state.Core.{Core}
 use Rattle.core_state.specs.Holds.{Shows, IsOnDisk}

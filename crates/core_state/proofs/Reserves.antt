@@ -114,10 +114,6 @@ pub closing_before : {D E C : Type 0} (old mid : Core D E C) (lane : ℕ) (act :
 closing_before old mid lane act same h =
     ap (λ p. closes act (slice_index_or p.sessions.items lane Idle)) same ∙ closes_true old.fault act (session_at old.parts lane) h
 
-pub closing_healthy : (fault : Option ℕ) (act : Act) (x : Session) → closes_by fault act x ≡ true → fault ≡ None
-closing_healthy None act x h = refl
-closing_healthy (Some n) act x h = absurd (true_false (sym h))
-
 ends_same : {D E C : Type 0} (old new : Core D E C) (lane : ℕ) → new.parts ≡ old.parts → new.fault ≡ old.fault → ends_by new lane ≡ ends_by old lane
 ends_same old new lane parts fault =
     ap (λ p. end_entries new.fault (slice_index_or p.sessions.items lane Idle)) parts ∙ ap (λ f. end_entries f (session_at old.parts lane)) fault
@@ -287,6 +283,3 @@ no_end_keeps old new lane (acts.Blob name checked) answer other h = h
 no_end_keeps old new lane (acts.Chunk digest checked) answer other h = h
 no_end_keeps old new lane acts.Short answer other h = h
 no_end_keeps old new lane acts.End answer other h = absurd (other refl)
-
-pub end_keeps : {D E C : Type 0} (old new : Core D E C) (lane : ℕ) (act : Act) (answer : Answer) → act ≡ acts.End → EndKeeps old new lane answer → Keeps act old new lane answer
-end_keeps old new lane act answer is h = subst (λ a. Keeps a old new lane answer) (sym is) h

@@ -1,9 +1,8 @@
 -- A refused act leaves all as it was.
 use Rattle.disk_trait.specs.declared.disk.Disk.{Ghosts}
-use Rattle.std.proofs.Common.{◌≡◌, ℕ, true, false, Option, Some, None, Result, Err, IfSome, refl, sym, ap, subst, ◌∙◌}
+use Rattle.std.proofs.Common.{◌≡◌, ℕ, Option, Some, None, Result, IfSome, sym, ap, subst, ◌∙◌}
 use Rattle.port_traits.specs.Readings.{Readings}
 use Rattle.disk_trait.specs.declared.disk.DiskError.{DiskError}
-use Rattle.disk_trait.specs.declared.disk.DiskError.TheVariants.{NoMemory as DiskMemory, Failed as DiskFailed}
 use Rattle.store_types.specs.declared.refusal.Refusal.{Refusal}
 use Rattle.store_types.specs.declared.refusal.Refusal.TheVariants.{NoMemory, Halted}
 use Rattle.wire_commands.specs.declared.reply.Reply.{Reply}
@@ -13,10 +12,7 @@ use Rattle.core_state.specs.declared.parts.Parts.{Parts}
 use Rattle.core_state.specs.declared.state.Core.{Core}
 use Rattle.core_state.specs.Settles.{Settles, reply_by}
 use Rattle.core_state.specs.Begins.{IsShort, Refuses, short, halted, IsReady}
-use Rattle.core_state.specs.Unchanged.{SameKept, SameContent, LeavesAll, Unchanged, is_uncalled}
-
-false_true : false ≡ true → ⊥
-false_true e = cc
+use Rattle.core_state.specs.Unchanged.{SameKept, LeavesAll, Unchanged}
 
 module _ {D : Type 0} (g : Ghosts D) where
   -- nothing has changed
@@ -34,15 +30,6 @@ module _ {D : Type 0} (g : Ghosts D) where
   same_unchanged old new (Keys snapshots) is = tt
   same_unchanged old new (Marks rows) is = tt
   same_unchanged old new (Refused r) is = leaves_same old new r (ap (λ p. p.disk) is) (record { catalogue = ap (λ p. p.catalogue.items) is; sessions = ap (λ p. p.sessions.items) is; locks = ap (λ p. p.locks) is })
-
-  -- the disk was read alone
-  pub leaves_read : (old new : Parts D) (r : Refusal) → is_uncalled r ≡ false → SameContent g old.disk new.disk → SameKept old new → LeavesAll g old new r
-  leaves_read old new r called same kept = record { kept = kept; uncalled = λ t. absurd (false_true (sym called ∙ t)); disk = λ _. same }
-
-  -- want of memory, or a fault of the disk
-  pub not_done : (old new : Parts D) (e : DiskError) → SameKept old new → (e ≡ DiskMemory → SameContent g old.disk new.disk) → Unchanged g old new (reply_by (Err e))
-  not_done old new DiskMemory kept same = record { kept = kept; uncalled = λ t. absurd (false_true t); disk = λ _. same refl }
-  not_done old new DiskFailed kept same = record { kept = kept; uncalled = λ t. absurd (false_true t); disk = λ other. absurd (other refl) }
 
 -- ---- acts
 

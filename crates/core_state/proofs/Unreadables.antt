@@ -1,6 +1,6 @@
 -- When a file is told to be unreadable.
 use Rattle.disk_trait.specs.declared.disk.Disk.{Ghosts}
-use Rattle.std.proofs.Common.{◌≡◌, ℕ, true, false, List, Option, Some, None, Result, Ok, Err, refl, sym, ap, subst, ◌∙◌, arith}
+use Rattle.std.proofs.Common.{◌≡◌, ℕ, false, List, Option, Some, None, Result, Ok, Err, refl, sym, ap, subst, ◌∙◌, arith}
 use Rattle.std.specs.Option.{option_map}
 use Rattle.port_traits.specs.Readings.{Readings}
 use Rattle.disk_trait.specs.declared.disk.DiskError.{DiskError}
@@ -9,14 +9,11 @@ use Rattle.store_types.specs.declared.refusal.Refusal.{Refusal}
 use Rattle.store_types.specs.declared.refusal.Refusal.TheVariants.{BadRange, Unreadable, NoMemory, DiskFault, Halted}
 use Rattle.wire_commands.specs.declared.reply.Reply.{Reply}
 use Rattle.wire_commands.specs.declared.reply.Reply.TheVariants.{Part, Refused}
-use Rattle.store_history.specs.declared.act.Act.{Act}
 use Rattle.store_history.specs.declared.act.Answer.{Answer}
 use Rattle.snapshot_files.specs.Parts.{IsPartOf}
 use Rattle.core_state.specs.declared.parts.Parts.{Parts}
 use Rattle.core_state.specs.declared.state.Core.{Core}
-use Rattle.core_state.specs.Answers.{HasCause, done, short, failed, halted, EndHasCause, ended, end_failed}
 use Rattle.core_state.specs.Begins.{Refuses, short as is_short, halted as is_halted, IsReady}
-use Rattle.core_state.specs.Replies.{may_answer}
 use Rattle.core_state.specs.Settles.{Settles, kind_by, reply_by}
 use Rattle.core_state.specs.Unchanged.{is_uncalled}
 use Rattle.core_state.specs.Unreadables.{Asked, part_read, TellsUnreadable}
@@ -32,9 +29,6 @@ apart_fault name e = cc
 
 apart_halted : (place : ℕ) (name : List ℕ) → Some (Refused (Halted place)) ≡ Some (Refused (Unreadable name)) → ⊥
 apart_halted place name e = cc
-
-apart_none : (name : List ℕ) → None ≡ Some (Refused (Unreadable name)) → ⊥
-apart_none name e = cc
 
 -- ---- what was read
 
@@ -127,34 +121,6 @@ module _ {D : Type 0} (d : Ghosts D) (disk : D) where
       errs r name e = ap (λ x. Err x) e
 
 -- ---- acts
-
-same_reply : (r s : Reply) → Some r ≡ Some s → r ≡ s
-same_reply r s e = cc
-
-true_false : true ≡ false → ⊥
-true_false e = cc
-
--- an act that asks for no file
-pub tells_no_file : {D E C : Type 0} (d : Ghosts D) (old new : Core D E C) (disk : D) (asked : Option Asked) (act : Act) (answer : Answer)
-    → HasCause d old new act answer → asked ≡ None → ((name : List ℕ) → may_answer act (Refused (Unreadable name)) ≡ false)
-    → TellsUnreadable d disk asked (answer.entry).kind answer.reply
-tells_no_file d old new disk asked act answer (done before kind reply is may) none never =
-    tells_other d disk asked _ answer.reply
-    (λ name e. true_false (sym may ∙ ap (may_answer act) (same_reply reply (Refused (Unreadable name)) (sym is ∙ e)) ∙ never name)) none
-tells_no_file d old new disk asked act answer (short kind is) none never =
-    tells_other d disk asked _ answer.reply (λ name e. apart_memory name (sym is ∙ e)) none
-tells_no_file d old new disk asked act answer (failed before kind is fault risen) none never =
-    tells_other d disk asked _ answer.reply (λ name e. apart_fault name (sym is ∙ e)) none
-tells_no_file d old new disk asked act answer (halted place fault kind is) none never =
-    tells_other d disk asked _ answer.reply (λ name e. apart_halted place name (sym is ∙ e)) none
-
-pub tells_end : {D E C : Type 0} (d : Ghosts D) (old new : Core D E C) (disk : D) (asked : Option Asked) (answer : Answer)
-    → EndHasCause d old new answer → asked ≡ None
-    → TellsUnreadable d disk asked (answer.entry).kind answer.reply
-tells_end d old new disk asked answer (ended kind is) none =
-    tells_other d disk asked _ answer.reply (λ name e. apart_none name (sym is ∙ e)) none
-tells_end d old new disk asked answer (end_failed before kind is fault risen) none =
-    tells_other d disk asked _ answer.reply (λ name e. apart_fault name (sym is ∙ e)) none
 
 -- an act that is refused before it is done
 pub tells_refused : {D E C : Type 0} (d : Ghosts D) (readings : C → Option Readings) (old new : Core D E C) (lane : ℕ) (disk : D) (asked : Option Asked) (answer : Answer)

@@ -1,5 +1,6 @@
 -- What an act promises of the core: the two records of its command, behind the turn.
 use Rattle.std.specs.Prelude.{◌≡◌, ℕ, true, Some, None, IfSome}
+use Rattle.disk_trait.specs.Effects.{SameContent}
 use Rattle.disk_trait.specs.declared.disk.Disk.{Ghosts}
 use Rattle.port_traits.specs.declared.clock.Clock as clocks
 use Rattle.store_types.specs.declared.refusal.Refusal.TheVariants.{DiskFault}
@@ -17,7 +18,7 @@ use Rattle.core_state.specs.Commands.{IsNoRefusal, change_at, ends_session, is_a
 use Rattle.core_state.specs.History.{History, IsClear, StandsFor, then_event, event_of}
 use Rattle.core_state.specs.Records.{IsTimely, Records}
 use Rattle.core_state.specs.Reserved.{Keeps}
-use Rattle.core_state.specs.Unchanged.{SameContent, Unchanged}
+use Rattle.core_state.specs.Unchanged.{Unchanged}
 use Rattle.core_state.specs.Wanted.{session_at}
 
 -- the act was done: it has no reply, or one that is no refusal
@@ -47,7 +48,8 @@ pub record ActKeeps {D E C : Type 0} (d : Ghosts D) (old new : Core D E C) (lane
   pub quiet : is_quiet act ≡ true → (new.parts).disk ≡ (old.parts).disk
   -- an honest disk reads as before, whatever it held, in any case
   pub reads : reads_only act ≡ true → SameContent d (old.parts).disk (new.parts).disk
-  -- what an honest disk reads, whatever it held, unless it failed in this act or before
+  -- Unless it failed in this act or before, an honest disk reads then as the act's change makes it of what it read before, whatever that
+  -- was. A refusal and want of memory change nothing.
   pub content : old.fault ≡ None → (answer.reply ≡ Some (Refused DiskFault) → ⊥) → d.honest (old.parts).disk
       → d.content (new.parts).disk ≡ after (by_reply (change_at old.parts lane act) answer.reply) (d.content (old.parts).disk)
   pub crash : LeavesChange d (old.parts).disk (new.parts).disk (by_reply (change_at old.parts lane act) answer.reply)

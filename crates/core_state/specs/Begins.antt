@@ -1,11 +1,12 @@
 -- What comes before an act.
 use Rattle.disk_trait.specs.declared.disk.Disk.{Ghosts}
-use Rattle.std.specs.Prelude.{◌≡◌, ◌≤◌, ◌<◌, ℕ, length, Option, Some, None, IfSome}
+use Rattle.std.specs.Prelude.{◌≡◌, ◌≤◌, ◌<◌, ℕ, false, length, Option, Some, None, IfSome}
 use Rattle.port_traits.specs.Readings.{Readings}
 use Rattle.store_types.specs.Times.{last_moment}
 use Rattle.store_types.specs.declared.refusal.Refusal.TheVariants.{NoMemory, Halted}
 use Rattle.wire_commands.specs.declared.reply.Reply.TheVariants.{Refused}
 use Rattle.wire_commands.specs.HasText.{ReplyHasText}
+use Rattle.store_history.specs.declared.act.Act.{Act}
 use Rattle.store_history.specs.declared.act.Answer.{Answer}
 use Rattle.store_history.specs.Legal.{moment_at, later}
 use Rattle.core_state.specs.declared.journal.Journal.{Journal}
@@ -13,6 +14,7 @@ use Rattle.core_state.specs.declared.state.Core.{Core}
 use Rattle.core_state.specs.declared.entering.Place.{Place}
 use Rattle.core_state.specs.declared.entering.Admitted.{Admitted}
 use Rattle.core_state.specs.declared.entering.Admitted.TheVariants.{At, Answered}
+use Rattle.core_state.specs.Closing.{is_closing}
 use Rattle.core_state.specs.Entering.{SameEntries, OthersHold, NoneLost, FillsFirst, StaysWhole, held_by}
 use Rattle.core_state.specs.Reserved.{HasRoom}
 use Rattle.core_state.specs.Settles.{IsEntered}
@@ -90,6 +92,10 @@ Begins d readings old new lane (Answered answer) = Refuses d readings old new la
 abbrev pub IsFilled : Journal → ℕ → Admitted → Type 0
 IsFilled j lane (At at) = (3 ≤ held_by j lane) × (0 < j.spare)
 IsFilled j lane (Answered answer) = ((answer.entry).kind ≡ 2 → ⊥) → 3 ≤ held_by j lane
+
+-- so it is for an act that ends no session
+abbrev pub FillsUp : {D E C : Type 0} → Core D E C → Core D E C → ℕ → Act → Admitted → Type 0
+FillsUp old new lane act admitted = is_closing old lane act ≡ false → IsFilled new.journal lane admitted
 
 -- it is not answered by want of memory
 abbrev pub IsNotShort : Admitted → Type 0

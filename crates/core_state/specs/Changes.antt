@@ -37,7 +37,7 @@ use Rattle.core_state.specs.Shown.{put_at}
 pub data Change : Type 0 where
   -- nothing
   stays : Change
-  -- the act is not done so
+  -- no such act is done: a FINISH without a writer that has a manifest
   undone : Change
   -- these bytes stand at this path
   installs : List ℕ → List ℕ → Change

@@ -1,4 +1,4 @@
--- Acts that end a session, and how many entries a lane's end may take.
+-- Acts that end a session, and how many entries of the order a lane's end may still make.
 use Rattle.std.specs.Prelude.{◌≡◌, ℕ, Bool, true, false, Option, Some, None, Result, Ok, Err, slice_index_or}
 use Rattle.disk_trait.specs.declared.disk.DiskError.{DiskError}
 use Rattle.disk_trait.specs.declared.disk.DiskError.TheVariants.{NoMemory, Failed}
@@ -28,7 +28,7 @@ closes (Plain Abort) session = is_writer session
 closes (Plain CloseReader) session = is_reader session
 closes _ session = false
 
--- after a fault of the disk no act ends a session
+-- after a fault of the disk an act that would end a session is refused
 abbrev pub closes_by : Option ℕ → Act → Session → Bool
 closes_by None act session = closes act session
 closes_by (Some first) act session = false
@@ -36,8 +36,9 @@ closes_by (Some first) act session = false
 abbrev pub is_closing : {D E C : Type 0} → Core D E C → ℕ → Act → Bool
 is_closing core lane act = closes_by core.fault act (session_at core.parts lane)
 
--- The end of a lane with a session may meet a fault of the disk, and then comes again. So may the act that ends the session, after
--- which the lane's end meets none.
+-- The entries that the lane's end may still make: 1, the end's own; 2 where the lane has a session and the disk has not failed, as the
+-- end may then meet a fault, which is entered too, and come again. An act that ends the session may use one of the two: after it
+-- the end meets no fault.
 abbrev pub end_entries : Option ℕ → Session → ℕ
 end_entries None Idle = 1
 end_entries None (Writer w) = 2

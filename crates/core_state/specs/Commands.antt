@@ -2,11 +2,13 @@
 -- its constructor.
 use Rattle.std.specs.Prelude.{◌≡◌, ℕ, Bool, true, false, List, Option, Some, Result, IfOk, IsErrOf, IsTrue}
 use Rattle.disk_trait.specs.Disk.{Serves}
+use Rattle.disk_trait.specs.Effects.{SameContent}
 use Rattle.disk_trait.specs.declared.disk.Disk.{Ghosts}
 use Rattle.store_files.specs.Archive.{Snapshot}
 use Rattle.wire_commands.specs.HasText.{ReplyHasText}
 use Rattle.wire_commands.specs.declared.reply.Reply.{Reply}
 use Rattle.wire_commands.specs.declared.reply.Reply.TheVariants.{Refused}
+use Rattle.wire_commands.specs.declared.command.Command.{Command}
 use Rattle.wire_commands.specs.declared.command.Command.TheVariants.{OpenWriter, NewFixed, NewDynamic, Append, CloseIndex, OpenReader, CloseReader, List as ListAll, Files as FilesOf, Forget, Group, Finish, Abort}
 use Rattle.store_history.specs.declared.act.Act.{Act}
 use Rattle.store_history.specs.declared.act.Act.TheVariants.{Plain, Blob, Chunk, JobGroup, Short, End}
@@ -24,7 +26,7 @@ use Rattle.core_state.specs.Holds.{Acts}
 use Rattle.core_state.specs.Replies.{may_answer}
 use Rattle.core_state.specs.Settles.{reply_by}
 use Rattle.core_state.specs.Stops.{told}
-use Rattle.core_state.specs.Unchanged.{SameContent, Unchanged}
+use Rattle.core_state.specs.Unchanged.{Unchanged}
 use Rattle.core_state.specs.Wanted.{session_at}
 
 -- the acts that make no call of the disk
@@ -77,11 +79,12 @@ IsNoRefusal _ = Unit {0}
 abbrev pub change_at : {D : Type 0} → Parts D → ℕ → Act → Change
 change_at old lane act = change_of act (session_at old lane) old.catalogue.items
 
--- The act is the plain store's. What is answered, on any disk, is one of the act's replies, and has a spelling; a refusal is a stop.
+-- The act is the plain store's. What is answered, on any disk, is one of the act's replies, and has a spelling.
 pub record ActDoes {D : Type 0} (d : Ghosts D) (old new : Parts D) (at : Place) (act : Act) (result : Result Reply Stop) : Type 0 where
   pub serves : Serves d.honest d.faults old.disk new.disk (IsErrOf result DiskFailed)
   pub text : IfOk (told result) ReplyHasText
   pub answers : IfOk (told result) (λ reply. IsTrue (may_answer act reply))
+  -- an Ok result is no refusal: that is a stop
   pub plain : IfOk result IsNoRefusal
   pub step : IsSafe (d.content old.disk) act → (remote : Option (List Snapshot)) (w : World)
       → Acts d old new (λ s. act_outcome remote (record w { store = s }) at.lane at.moment act) (told result)
@@ -93,13 +96,23 @@ pub record ActLeaves {D : Type 0} (d : Ghosts D) (old new : Parts D) (at : Place
   pub quiet : is_quiet act ≡ true → new.disk ≡ old.disk
   -- an honest disk reads as before, whatever it held, in any case
   pub reads : reads_only act ≡ true → SameContent d old.disk new.disk
-  -- what an honest disk reads, whatever it held, unless it failed
+  -- Unless it failed, an honest disk reads then as the act's change makes it of what it read before, whatever that was. A refusal and
+  -- want of memory change nothing.
   pub content : (IsErrOf result DiskFailed → ⊥) → d.honest old.disk → d.content new.disk ≡ after (by_stop (change_at old at.lane act) result) (d.content old.disk)
   pub crash : LeavesChange d old.disk new.disk (by_stop (change_at old at.lane act) result)
   pub firm : IfOk result (λ _. IsFirm d old.disk new.disk (change_at old at.lane act))
   pub listed : new.catalogue.items ≡ listed_by act (Some (reply_by (told result))) at.number (session_at old at.lane) old.catalogue.items
   pub admin : is_admins act ≡ true → (new.sessions.items ≡ old.sessions.items) × (new.locks ≡ old.locks)
+  -- Which chunk files there are more. It follows from `content`; that the core stands for the longer history is shown by it.
   pub adds : Adds d old new act (told result)
   -- an act that ends the session wants no memory
   pub closed : closes act (session_at old at.lane) ≡ true → HasClosed new at.lane (told result)
   pub ended : ends_session act ≡ true → IfOk result (λ _. session_at new at.lane ≡ Idle)
+
+-- ---- the two of a plain command
+
+abbrev pub PlainDoes : {D : Type 0} → Ghosts D → Parts D → Parts D → Place → Command → Result Reply Stop → Type 0
+PlainDoes d old new at command result = ActDoes d old new at (Plain command) result
+
+abbrev pub PlainLeaves : {D : Type 0} → Ghosts D → Parts D → Parts D → Place → Command → Result Reply Stop → Type 0
+PlainLeaves d old new at command result = ActLeaves d old new at (Plain command) result

@@ -6,7 +6,7 @@ use Rattle.file_install.specs.Install.{temporary}
 use Rattle.store_types.specs.declared.names.SnapshotKey.{SnapshotKey}
 use Rattle.store_files.specs.Folder.{chunk_name, file_path}
 
--- no file of a snapshot stands there, no chunk, and no temporary file of one
+-- no path below a snapshot's folder, whatever its key and the file's name, no chunk's, and no temporary one of these
 pub record IsForeign (q : List ℕ) : Type 0 where
   pub file : (key : SnapshotKey) (name : List ℕ) → (q ≢ file_path key name) × (q ≢ temporary (file_path key name))
   pub chunk : (digest : List ℕ) → (q ≢ chunk_name digest) × (q ≢ temporary (chunk_name digest))

@@ -1,5 +1,6 @@
 -- What is found in the catalogue.
 use Rattle.std.specs.Prelude.{ℕ, List, Option, None, Some, option_map, Result}
+use Rattle.std.specs.Borrow.{Bor}
 use Rattle.std.specs.List.{find}
 use Rattle.std.specs.Str.{bytes_eq}
 use Rattle.store_types.specs.declared.names.SnapshotKey.{SnapshotKey}
@@ -10,6 +11,10 @@ use Rattle.store_types.specs.Names.{key_of, same_key}
 use Rattle.core_state.specs.declared.kept.Listed.{Listed}
 use Rattle.core_state.specs.declared.kept.Kept.{Kept}
 use Rattle.core_state.specs.declared.kept.StoredFile.{StoredFile}
+
+-- the key that is lent, where one is
+abbrev pub lent_key : Option (Bor SnapshotKey) → Option SnapshotKey
+lent_key key = option_map (λ k. k.now) key
 
 -- the finished snapshot with this key
 abbrev pub kept_named : SnapshotKey → List Listed → Option Kept

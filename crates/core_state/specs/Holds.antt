@@ -16,8 +16,7 @@ use Rattle.wire_commands.specs.declared.reply.Reply.{Reply}
 use Rattle.disk_trait.specs.Files.{Files}
 use Rattle.disk_trait.specs.declared.disk.DiskError.{DiskError}
 use Rattle.disk_trait.specs.declared.disk.DiskError.TheVariants.{NoMemory, Failed as DiskFailed}
-use Rattle.disk_trait.specs.declared.disk.Failed.{Failed}
-use Rattle.store_model.specs.Store.{Store, Begun, Writer, Reader, writer, reader, session, in_group, snapshot_named, Outcome, ended}
+use Rattle.store_model.specs.Store.{Store, Begun, Writer, Reader, writer, reader, session, in_group, snapshot_named, Outcome}
 use Rattle.store_files.specs.Folder.{file_path}
 use Rattle.store_model.specs.Steps.{answered}
 use Rattle.store_model.specs.Stands.{StandsFor, IsSnapshot, names_content, names_rise, keys_rise, FitsContent, file_limit, group_limit}
@@ -129,9 +128,3 @@ Does d new s after result =
 abbrev pub Acts : {D : Type 0} → Ghosts D → Parts D → Parts D → (Store → Outcome) → Result Reply DiskError → Type 0
 Acts d old new outcome_of result =
     (s : Store) → Holds d old s → Does d new s (answered s (outcome_of s)) result
-
--- a lane's end, which takes no memory: its session has ended, or the disk failed
-abbrev pub Ends : {D : Type 0} → Ghosts D → Parts D → Parts D → ℕ → Result (Unit {0}) Failed → Type 0
-Ends d old new lane result =
-    (s : Store) → Holds d old s →
-    MatchResult result (λ _. Holds d new (ended s lane)) (λ _. Refuses d new s DiskFailed)

@@ -25,4 +25,3 @@ pub mod Stops
 pub mod Wanted
 pub mod Commands
 pub mod Applies
-pub mod Lending

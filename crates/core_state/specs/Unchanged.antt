@@ -1,5 +1,5 @@
 -- What a refused act leaves as it was.
-pub use Rattle.disk_trait.specs.Effects.{SameContent}
+use Rattle.disk_trait.specs.Effects.{SameContent}
 use Rattle.disk_trait.specs.declared.disk.Disk.{Ghosts}
 use Rattle.std.specs.Prelude.{◌≡◌, Bool, true, false}
 use Rattle.store_types.specs.declared.refusal.Refusal.{Refusal}

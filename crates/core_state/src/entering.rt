@@ -1,11 +1,11 @@
 //! How an act is begun, and how its entry is made.
 
-ghost use Rattle.std.specs.Prelude.{◌≡◌, ◌≤◌, ◌<◌, true, false, min, max, Option};
+ghost use Rattle.std.specs.Prelude.{◌≡◌, ◌≤◌, ◌<◌, true, min, max, Option};
 ghost use Rattle.store_types.specs.Times.{last_moment};
 ghost use Rattle.store_types.specs.declared.refusal.Refusal.TheVariants.{Halted};
 ghost use Rattle.wire_commands.specs.declared.reply.Reply.TheVariants.{Refused};
 ghost use Rattle.wire_commands.specs.HasText.{ReplyHasText};
-ghost use Rattle.core_state.specs.Begins.{AdmittedHasText, Begins, IsFilled, IsNext, IsNotShort, IsShort};
+ghost use Rattle.core_state.specs.Begins.{AdmittedHasText, Begins, FillsUp, IsNext, IsNotShort, IsShort};
 ghost use Rattle.core_state.specs.Closing.{is_closing};
 ghost use Rattle.core_state.specs.Reserved.{HasRoom};
 ghost use Rattle.core_state.specs.Settles.{IsEntered, Settles};
@@ -107,8 +107,7 @@ pub fn begin<D: Disk, E, C: Clock>(
     requires room { HasRoom core.old lane }
     ensures begun { Begins D.Disk C.readings core.old core.new lane result }
     ensures text { AdmittedHasText result }
-    ensures filled { is_closing core.old lane act.now ≡ false
-        → IsFilled core.new.journal lane result }
+    ensures filled { FillsUp core.old core.new lane act.now result }
     ensures memory { is_closing core.old lane act.now ≡ true → IsNotShort result }
 {
     let at = next_place(core, lane);

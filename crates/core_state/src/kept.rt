@@ -3,7 +3,7 @@
 use backup_session::Writer;
 use restore_reader::Reader;
 use snapshot_files::{FilePath, Stored};
-use store_types::{FileName, Refusal, Rows, SessionState, SnapshotKey};
+use store_types::{FileName, Rows, SessionState, SnapshotKey};
 
 /// A file of a snapshot: its name there, and its name in the datastore folder.
 #[derive(Debug, Drop)]
@@ -61,13 +61,8 @@ pub enum Session {
 }
 
 impl Session {
-    ghost use Rattle.std.specs.Prelude.{◌≡◌, Ok, Err, IfErr, MatchResult};
-    ghost use Rattle.std.specs.Borrow.{sem};
-    ghost use Rattle.wire_commands.specs.HasText.{ReplyHasText};
-    ghost use Rattle.wire_commands.specs.declared.reply.Reply.TheVariants.{Refused};
-    ghost use Rattle.core_state.specs.Lending.{LendsWriting};
+    ghost use Rattle.std.specs.Prelude.{◌≡◌};
     ghost use Rattle.core_state.specs.States.{state_of};
-    ghost use Rattle.core_state.specs.Wanted.{want_writer};
 
     /// Which session it is.
     pub fn state(&self) -> SessionState
@@ -77,20 +72,6 @@ impl Session {
             Session::Idle => SessionState::Idle,
             Session::Writer(_) => SessionState::Writer,
             Session::Reader(_) => SessionState::Reader,
-        }
-    }
-
-    /// The writer, to be changed. It is refused where there is none.
-    pub fn writer_mut(&mut self) -> Result<&mut Writing, Refusal>
-        ensures* writes_back { sem 𝓛 (LendsWriting self.entry result) }
-        ensures value { MatchResult result (λ w. want_writer self.old ≡ Ok w.now)
-            (λ refusal. want_writer self.old ≡ Err refusal) }
-        ensures text { IfErr result (λ refusal. ReplyHasText (Refused refusal)) }
-    {
-        match self {
-            Session::Idle => Err(Refusal::WrongState(SessionState::Idle)),
-            Session::Writer(writing) => Ok(writing),
-            Session::Reader(_) => Err(Refusal::WrongState(SessionState::Reader)),
         }
     }
 }

@@ -1,14 +1,9 @@
 //! Opening a datastore, and closing it.
 
-ghost use Rattle.std.specs.Prelude.{◌≡◌, ℕ, List, [], ◌≤◌, length, replicate, map, option_map, IfOk, IfErr, Option, None, vec_len};
-ghost use Rattle.std.specs.List.{list_all};
+ghost use Rattle.std.specs.Prelude.{◌≡◌, [], replicate, IfOk, IfErr, None};
 ghost use Rattle.lock_book.specs.Locks.{no_locks};
-ghost use Rattle.store_files.specs.Archive.{Snapshot};
-ghost use Rattle.store_model.specs.Stands.{StandsFor as Stands};
 ghost use Rattle.core_state.specs.Entering.{AllHeld};
-ghost use Rattle.core_state.specs.History.{StandsFor};
-ghost use Rattle.core_state.specs.Opening.{began_on};
-ghost use Rattle.core_state.specs.Records.{Records};
+ghost use Rattle.core_state.specs.Opening.{IsGivenBack, RecordsOpened, StandsOpened};
 ghost use Rattle.core_state.specs.declared.kept.Session.TheVariants.{Idle};
 
 use crate::journal::Journal;
@@ -71,11 +66,9 @@ pub fn open_on<D: Disk, E, C: Clock>(
     clock: C,
 ) -> Result<Core<D, E, C>, NotOpened<D, E, C>>
     // it stands for a history without events, where the disk stands for no snapshots
-    ensures opened { IfOk result (λ core. (R : Option (List Snapshot)) → D.honest disk
-        → Stands (D.content disk) [] → StandsFor D.Disk C.readings core (began_on D.Disk C.readings disk clock R)) }
+    ensures opened { IfOk result (StandsOpened D.Disk C.readings disk clock) }
     // on any disk it keeps a history without events
-    ensures records { IfOk result (λ core. (R : Option (List Snapshot))
-        → Records C.readings core (began_on D.Disk C.readings disk clock R)) }
+    ensures records { IfOk result (RecordsOpened D.Disk C.readings disk clock) }
     ensures reserve { IfOk result (λ core. AllHeld core.journal) }
     // whatever the disk is, nothing has happened yet
     ensures fault { IfOk result (λ core. core.fault ≡ None) }
@@ -89,8 +82,7 @@ pub fn open_on<D: Disk, E, C: Clock>(
     ensures disk { IfOk result (λ core. core.parts.disk ≡ disk) }
     ensures remote { IfOk result (λ core. core.remote ≡ remote) }
     ensures clock { IfOk result (λ core. core.clock ≡ clock) }
-    ensures not_opened { IfErr result (λ e. (e.cause ≡ OpenFault.NoMemory) × (e.disk ≡ disk)
-        × (e.remote ≡ remote) × (e.clock ≡ clock)) }
+    ensures not_opened { IfErr result (IsGivenBack disk remote clock) }
 {
     match state_of(alloc) {
         Ok((journal, sessions)) => Ok(Core {

@@ -6,16 +6,15 @@ use restore_reader::Reader;
 use store_types::Refusal;
 
 impl<D> Parts<D> {
-    ghost use Rattle.std.specs.Prelude.{◌≡◌, ◌<◌, Ok, Err, IfErr, MatchResult};
+    ghost use Rattle.std.specs.Prelude.{◌≡◌, ◌<◌, IfErr};
     ghost use Rattle.wire_commands.specs.HasText.{ReplyHasText};
     ghost use Rattle.wire_commands.specs.declared.reply.Reply.TheVariants.{Refused};
-    ghost use Rattle.core_state.specs.Wanted.{reader_in, session_at, want_idle, want_writer};
+    ghost use Rattle.core_state.specs.Wanted.{Lends, reader_in, session_at, want_idle, want_writer};
 
     /// The lane's reader. It is refused where the lane has none.
     pub fn reader(&self, lane: u32) -> Result<&Reader, Refusal>
         requires { lane < 64 }
-        ensures value { MatchResult result (λ r. reader_in (session_at self.now lane) ≡ Ok r.now)
-            (λ refusal. reader_in (session_at self.now lane) ≡ Err refusal) }
+        ensures value { Lends (reader_in (session_at self.now lane)) result }
         ensures text { IfErr result (λ refusal. ReplyHasText (Refused refusal)) }
     {
         match &self.sessions[lane as usize] {
@@ -27,8 +26,7 @@ impl<D> Parts<D> {
     /// The lane's writer. It is refused where the lane has none.
     pub fn writer(&self, lane: u32) -> Result<&Writing, Refusal>
         requires { lane < 64 }
-        ensures value { MatchResult result (λ w. want_writer (session_at self.now lane) ≡ Ok w.now)
-            (λ refusal. want_writer (session_at self.now lane) ≡ Err refusal) }
+        ensures value { Lends (want_writer (session_at self.now lane)) result }
         ensures text { IfErr result (λ refusal. ReplyHasText (Refused refusal)) }
     {
         match &self.sessions[lane as usize] {

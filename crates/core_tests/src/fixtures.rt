@@ -1,4 +1,5 @@
-//! Cores over disks in memory, snapshots, and bytes that several tests use. Digests and checksums were made elsewhere.
+//! Cores over disks in memory, snapshots, and bytes that several tests use. Digests and checksums are
+//! made by `tests/make-tables`.
 
 ghost use Rattle.std.specs.Prelude.{◌≡◌, ◌<◌, IfOk};
 ghost use Rattle.wire_commands.specs.HasText.{ReplyHasText};

@@ -24,7 +24,7 @@ use Rattle.blob_codec.proofs.RoundTrips.{blob-from_data_of}
 use Rattle.store_files.specs.Archive.{Snapshot, digest_of, piece_with}
 use Rattle.wire_commands.specs.declared.reply.Reply.TheVariants.{Done}
 use Rattle.store_model.specs.Store as model
-use Rattle.store_model.specs.Store.{Begun, Store, Writer, writer, session, with_session}
+use Rattle.store_model.specs.Store.{Store, Writer, writer, session, with_session}
 use Rattle.store_model.specs.Stands.{StandsFor}
 use Rattle.store_files.specs.Folder.{IsPiece, IsDigest, chunk_name}
 use Rattle.store_model.specs.WriterSteps.{goes_on, want_data}

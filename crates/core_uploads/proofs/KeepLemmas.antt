@@ -5,7 +5,7 @@ use Rattle.std.specs.List.{AllByRecursion}
 use Rattle.store_types.specs.declared.names.SnapshotKey.{SnapshotKey}
 use Rattle.store_files.specs.Archive.{File}
 use Rattle.store_model.specs.Store as model
-use Rattle.store_model.specs.Store.{Begun, Outcome, Store, session, with_session}
+use Rattle.store_model.specs.Store.{Begun, Store, session}
 use Rattle.store_files.specs.Folder.{file_path}
 use Rattle.backup_session.specs.Session as rows
 use Rattle.backup_session.specs.Session.{settled, held, kept}

@@ -5,3 +5,5 @@ pub mod Noted
 pub mod Stepped
 pub mod Previous
 pub mod NewIndexes
+pub mod Calls
+pub mod CommandClauses

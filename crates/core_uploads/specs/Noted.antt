@@ -1,12 +1,14 @@
 -- A chunk that a lane's writer notes, by what the core keeps.
-use Rattle.std.specs.Prelude.{◌≡◌, ℕ, List, None, Result, OnOk, IsErrOf}
+use Rattle.std.specs.Prelude.{◌≡◌, ◌-◌, ℕ, List, length, None, Result, OnOk, IsErrOf}
 use Rattle.disk_trait.specs.Disk.{Serves}
 use Rattle.disk_trait.specs.Effects.{LeavesBy, LeavesSame, SameContent}
 use Rattle.disk_trait.specs.declared.disk.Disk.{Ghosts}
 use Rattle.disk_trait.specs.declared.disk.DiskError.{DiskError}
 use Rattle.disk_trait.specs.declared.disk.DiskError.TheVariants.{NoMemory, Failed}
+use Rattle.store_types.specs.declared.names.Digest32.{Digest32}
 use Rattle.chunk_store.specs.Pieces.{Stores, with_chunk}
 use Rattle.backup_session.specs.Session.{IsPool, length_at, settled}
+use Rattle.backup_session.specs.Session as backups
 use Rattle.backup_session.specs.Steps as rows
 use Rattle.core_state.specs.declared.kept.Session.{Session}
 use Rattle.core_state.specs.declared.kept.Session.TheVariants.{Idle, Writer, Reader}
@@ -32,6 +34,16 @@ abbrev pub with_noted : List ℕ → ℕ → Session → Session
 with_noted digest len Idle = Idle
 with_noted digest len (Writer w) = Writer (noted w digest len)
 with_noted digest len (Reader r) = Reader r
+
+-- a chunk that is sent as this blob, behind whose 12 bytes of header the piece stands
+abbrev pub with_blob_noted : Digest32 → List ℕ → Session → Session
+with_blob_noted digest bytes session = with_noted digest.0 (length bytes - 12) session
+
+-- a backup's writer that had noted the chunk is as it was before it did
+abbrev pub ForgetsNoted : List ℕ → backups.Session → backups.Session → Type 0
+ForgetsNoted digest old new =
+    (before : backups.Writing) (size : ℕ) → IsPool before.pool → length_at before.pool digest ≡ None
+    → old ≡ settled (rows.chunk before digest size) → new ≡ settled before
 
 -- ---- what it leaves on the disk
 

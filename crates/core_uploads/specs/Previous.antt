@@ -1,6 +1,8 @@
 -- PREVIOUS, by what the core keeps and what the disk holds.
-use Rattle.std.specs.Prelude.{◌≡◌, ◌≤◌, ℕ, Bool, List, [], map, if◌then◌else◌, Option, None, Some, Result, Ok, Err}
+use Rattle.std.specs.Prelude.{◌≡◌, ◌≤◌, ℕ, Bool, List, [], map, if◌then◌else◌, Option, None, Some, Result, Ok, Err, MatchResult}
 use Rattle.std.specs.List.{AllByRecursion}
+use Rattle.std.specs.Borrow.{Bor}
+use Rattle.disk_trait.specs.declared.disk.Disk.{Ghosts}
 use Rattle.disk_trait.specs.Files.{Files}
 use Rattle.store_types.specs.declared.names.SnapshotKey.{SnapshotKey}
 use Rattle.store_types.specs.declared.refusal.Refusal.{Refusal}
@@ -10,6 +12,8 @@ use Rattle.store_types.specs.FileNames.{is_file_name}
 use Rattle.wire_commands.specs.declared.reply.Reply.{Reply}
 use Rattle.dynamic_index.specs.Writing.{Known, known_of}
 use Rattle.snapshot_files.specs.Indexes.{index_at, lengths_from}
+use Rattle.snapshot_files.specs.Reads.{Gives}
+use Rattle.snapshot_files.specs.declared.read_error.ReadError.{ReadError}
 use Rattle.backup_session.specs.Session.{settled}
 use Rattle.backup_session.specs.Steps as rows
 use Rattle.core_state.specs.declared.kept.Kept.{Kept}
@@ -32,6 +36,11 @@ unfoldable pub base_file : Option SnapshotKey → List ℕ → List Listed → R
 base_file base name catalogue = do
   kept ← or_else NoSnapshot (kept_by base catalogue)
   or_else NoFile (path_named name kept.files)
+
+-- it is lent, or the refusal is told
+abbrev pub LendsPath : Option SnapshotKey → List ℕ → List Listed → Result (Bor (List ℕ)) Refusal → Type 0
+LendsPath base name catalogue result =
+    MatchResult result (λ path. base_file base name catalogue ≡ Ok path.now) (λ refusal. base_file base name catalogue ≡ Err refusal)
 
 abbrev pub asked_at : List ℕ → ℕ → Result (List ℕ) Refusal → Option Asked
 asked_at name offset (Ok path) = Some (record { path = path; way = from_offset (whole_by name) offset })
@@ -56,6 +65,11 @@ previous_by (Some is_fixed) m path offset = index_at m path is_fixed offset >>= 
 
 abbrev pub shown_given : Given → Previous
 shown_given g = record { part = g.part; pieces = map known_of g.pieces.items }
+
+-- an honest disk gives it, or the refusal is told
+abbrev pub GivesPrevious : {D : Type 0} → Ghosts D → D → List ℕ → Option Bool → ℕ → Result Given ReadError → Type 0
+GivesPrevious d disk path whole offset result =
+    d.honest disk → Gives shown_given result (previous_by whole (d.content disk) path offset)
 
 -- lengths that pieces have
 abbrev pub ArePieces : List Known → Type 0

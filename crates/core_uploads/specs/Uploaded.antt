@@ -1,5 +1,6 @@
 -- A file of a writer that is put.
-use Rattle.std.specs.Prelude.{◌≡◌, ℕ, List, [], ◌∷◌, if◌then◌else◌, Result, OnOk, IsErrOf}
+use Rattle.std.specs.Prelude.{◌≡◌, ◌<◌, ℕ, List, [], ◌∷◌, length, slice_get, if◌then◌else◌, Some, Result, OnOk, IsErrOf}
+use Rattle.std.specs.List.{remove}
 use Rattle.std.specs.Str.{bytes_eq}
 use Rattle.disk_trait.specs.Disk.{Serves}
 use Rattle.disk_trait.specs.Effects.{LeavesSame, SameContent}
@@ -17,6 +18,14 @@ use Rattle.core_state.specs.Changes.{Change, LeavesChange, stays, installs}
 abbrev pub insert_stored : StoredFile → List StoredFile → List StoredFile
 insert_stored new [] = new ∷ []
 insert_stored new (f ∷ fs) = if name_lt new.name f.name then new ∷ f ∷ fs else f ∷ insert_stored new fs
+
+-- it stands at this place, and the others are those before
+abbrev pub IsInserted : StoredFile → List StoredFile → List StoredFile → ℕ → Type 0
+IsInserted file old new place = (place < length new) × (slice_get new place ≡ Some file) × (remove new place ≡ old)
+
+-- the file at this place, where one is, stands at the path
+abbrev pub IsPathAt : List StoredFile → ℕ → List ℕ → Type 0
+IsPathAt files place path = (file : StoredFile) → slice_get files place ≡ Some file → path ≡ file.path
 
 -- the manifest is not put: its text stays in memory
 abbrev pub with_put : StoredFile → List ℕ → Files → Files

@@ -1,26 +1,18 @@
 //! NEW_DYNAMIC, NEW_FIXED, APPEND and CLOSE_INDEX.
 
-ghost use Rattle.std.specs.Prelude.{◌≡◌, ◌<◌, ◌≤◌, ℕ, true, map, None, IfOk, IfErr, IsErrOf, IsTrue};
+ghost use Rattle.std.specs.Prelude.{◌≡◌, ◌<◌, ◌≤◌, true, map, None, IfOk, IfErr, IsErrOf, IsTrue};
 ghost use Rattle.store_types.specs.Times.{last_moment};
-ghost use Rattle.wire_commands.specs.declared.command.Command.TheVariants as commands;
-ghost use Rattle.store_history.specs.declared.act.Act.TheVariants.{Plain};
+ghost use Rattle.wire_commands.specs.declared.command.Command.TheVariants.{Append, NewDynamic};
 ghost use Rattle.store_model.specs.ArchiveSteps.{named as named_entry};
-ghost use Rattle.store_model.specs.Steps.{outcome};
-ghost use Rattle.store_model.specs.WriterCalls as calls;
-ghost use Rattle.backup_session.specs.Answers.{Does, DoesPlainly, IsPendingAt};
-ghost use Rattle.backup_session.specs.Session.{held, settled};
-ghost use Rattle.backup_session.specs.Steps as rows;
-ghost use Rattle.backup_session.specs.Steps.{begun_at};
-ghost use Rattle.core_state.specs.Changes.{index_put};
+ghost use Rattle.backup_session.specs.Answers.{IsPendingAt};
 ghost use Rattle.core_state.specs.Closing.{is_writer};
-ghost use Rattle.core_state.specs.Commands.{ActDoes, ActLeaves};
+ghost use Rattle.core_state.specs.Commands.{PlainDoes, PlainLeaves};
 ghost use Rattle.core_state.specs.Named.{is_named};
-ghost use Rattle.core_state.specs.Replies.{answers_append, answers_closing};
 ghost use Rattle.core_state.specs.Stops.{StopHasText};
 ghost use Rattle.core_state.specs.declared.stop.Stop.TheVariants.{DiskFailed};
-ghost use Rattle.core_uploads.specs.NewIndexes.{answers_new, new_command, new_plain, new_rows};
-ghost use Rattle.core_uploads.specs.Pending.{MakesPending};
-ghost use Rattle.core_uploads.specs.Stepped.{StepsQuietly, answer_of};
+ghost use Rattle.core_uploads.specs.Calls.{AppendsEntries, AppendsPlainly, AppendsQuietly, BeginsIndex, BeginsPlainly, BeginsQuietly, ClosesIndex, ClosesPending, ClosesPlainly};
+ghost use Rattle.core_uploads.specs.CommandClauses.{ClosingDoes, ClosingLeaves, FixedDoes, FixedLeaves};
+ghost use Rattle.core_uploads.specs.Stepped.{answer_of};
 
 use crate::files::{NewFile, keep_pending, stored_file};
 use crate::names::file_name;
@@ -50,9 +42,9 @@ fn begin(
 ) -> Result<u8, Stop>
     requires settled { session.old.pending ≡ None }
     requires in_time { moment ≤ last_moment }
-    ensures does { Does (λ n. n) settled session.old session.new (answer_of result) (new_rows index session.old.writer name moment) }
+    ensures does { BeginsIndex session.old session.new index name moment result }
     ensures settled { session.new.pending ≡ None }
-    ensures plain { DoesPlainly (λ n. n) settled session.old session.new (answer_of result) (λ w. new_plain index w name moment) }
+    ensures plain { BeginsPlainly session.old session.new index name moment result }
     ensures text { IfErr result StopHasText }
     ensures uncalled { IsErrOf result DiskFailed → ⊥ }
 {
@@ -76,7 +68,7 @@ fn begin_index(
     requires named { IsTrue (is_named session.old) }
     requires writer { is_writer session.old ≡ true }
     requires in_time { moment ≤ last_moment }
-    ensures { StepsQuietly session.old session.new (λ s lane. outcome s lane moment (new_command index name.now)) (answers_new index) result }
+    ensures { BeginsQuietly session.old session.new moment index name.now result }
 {
     match session {
         Session::Writer(w) => {
@@ -100,8 +92,8 @@ pub fn new_dynamic<D: Disk>(
 ) -> Result<Reply, Stop>
     requires lane { at.lane < 64 }
     requires in_time { at.moment ≤ last_moment }
-    ensures does { ActDoes D.Disk parts.old parts.new at (Plain (commands.NewDynamic name.now)) result }
-    ensures leaves { ActLeaves D.Disk parts.old parts.new at (Plain (commands.NewDynamic name.now)) result }
+    ensures does { PlainDoes D.Disk parts.old parts.new at (NewDynamic name.now) result }
+    ensures leaves { PlainLeaves D.Disk parts.old parts.new at (NewDynamic name.now) result }
 {
     parts.writer(at.lane)?;
     let session = &mut parts.sessions[at.lane as usize];
@@ -124,8 +116,8 @@ pub fn new_fixed<D: Disk>(
 ) -> Result<Reply, Stop>
     requires lane { at.lane < 64 }
     requires in_time { at.moment ≤ last_moment }
-    ensures does { ActDoes D.Disk parts.old parts.new at (Plain (commands.NewFixed name.now size chunk_size)) result }
-    ensures leaves { ActLeaves D.Disk parts.old parts.new at (Plain (commands.NewFixed name.now size chunk_size)) result }
+    ensures does { FixedDoes D.Disk parts.old parts.new at name.now size chunk_size result }
+    ensures leaves { FixedLeaves D.Disk parts.old parts.new at name.now size chunk_size result }
 {
     parts.writer(at.lane)?;
     let session = &mut parts.sessions[at.lane as usize];
@@ -152,9 +144,9 @@ fn grow(
     entries: &[AppendEntry],
 ) -> Result<(), Stop>
     requires { session.old.pending ≡ None }
-    ensures does { Does (λ u. u) settled session.old session.new (answer_of result) (rows.append session.old.writer number (map named_entry entries.now)) }
+    ensures does { AppendsEntries session.old session.new number entries.now result }
     ensures settled { session.new.pending ≡ None }
-    ensures plain { DoesPlainly (λ u. u) settled session.old session.new (answer_of result) (λ w. calls.append w number (map named_entry entries.now)) }
+    ensures plain { AppendsPlainly session.old session.new number entries.now result }
     ensures text { IfErr result StopHasText }
     ensures uncalled { IsErrOf result DiskFailed → ⊥ }
 {
@@ -172,7 +164,7 @@ fn append_to(
 ) -> Result<Reply, Stop>
     requires named { IsTrue (is_named session.old) }
     requires writer { is_writer session.old ≡ true }
-    ensures { (moment : ℕ) → StepsQuietly session.old session.new (λ s lane. outcome s lane moment (commands.Append number entries.now)) answers_append result }
+    ensures { AppendsQuietly session.old session.new number entries.now result }
 {
     match session {
         Session::Writer(w) => {
@@ -197,8 +189,8 @@ pub fn append<D: Disk>(
     entries: &[AppendEntry],
 ) -> Result<Reply, Stop>
     requires { at.lane < 64 }
-    ensures does { ActDoes D.Disk parts.old parts.new at (Plain (commands.Append number entries.now)) result }
-    ensures leaves { ActLeaves D.Disk parts.old parts.new at (Plain (commands.Append number entries.now)) result }
+    ensures does { PlainDoes D.Disk parts.old parts.new at (Append number entries.now) result }
+    ensures leaves { PlainLeaves D.Disk parts.old parts.new at (Append number entries.now) result }
 {
     parts.writer(at.lane)?;
     let session = &mut parts.sessions[at.lane as usize];
@@ -216,9 +208,9 @@ fn close(
     csum: &Digest32,
 ) -> Result<Vec<u8>, Stop>
     requires { session.old.pending ≡ None }
-    ensures does { Does (λ text. text.items) (held session.old.writer) session.old session.new (answer_of result) (rows.close_index session.old.writer number count size csum.now) }
+    ensures does { ClosesIndex session.old session.new number count size csum.now result }
     ensures pending { IsPendingAt session.new (answer_of result) }
-    ensures plain { DoesPlainly (λ text. text.items) (held session.old.writer) session.old session.new (answer_of result) (λ w. calls.close_index w number count size csum.now) }
+    ensures plain { ClosesPlainly session.old session.new number count size csum.now result }
     ensures text { IfErr result StopHasText }
     ensures uncalled { IsErrOf result DiskFailed → ⊥ }
 {
@@ -237,7 +229,7 @@ fn take_index(
 ) -> Result<NewFile, Stop>
     requires named { IsTrue (is_named session.old) }
     requires writer { is_writer session.old ≡ true }
-    ensures { (moment : ℕ) → MakesPending session.old session.new (λ s lane. outcome s lane moment (commands.CloseIndex number count size csum.now)) answers_closing (λ w. index_put (begun_at number w.session.writer) w) result }
+    ensures { ClosesPending session.old session.new number count size csum.now result }
 {
     match session {
         Session::Writer(w) => {
@@ -267,8 +259,8 @@ pub fn close_index<D: Disk>(
     csum: &Digest32,
 ) -> Result<Reply, Stop>
     requires { at.lane < 64 }
-    ensures does { ActDoes D.Disk parts.old parts.new at (Plain (commands.CloseIndex number count size csum.now)) result }
-    ensures leaves { ActLeaves D.Disk parts.old parts.new at (Plain (commands.CloseIndex number count size csum.now)) result }
+    ensures does { ClosingDoes D.Disk parts.old parts.new at number count size csum.now result }
+    ensures leaves { ClosingLeaves D.Disk parts.old parts.new at number count size csum.now result }
 {
     parts.writer(at.lane)?;
     let session = &mut parts.sessions[at.lane as usize];

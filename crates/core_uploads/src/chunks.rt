@@ -1,18 +1,16 @@
 //! CHUNK.
 
-ghost use Rattle.std.specs.Prelude.{◌≡◌, ◌<◌, ◌-◌, ℕ, length as len, None, Ok, Err, OnOk, OnErr, IsTrue};
+ghost use Rattle.std.specs.Prelude.{◌≡◌, ◌<◌, None, Ok, Err, OnOk, OnErr, IsTrue};
 ghost use Rattle.store_types.specs.declared.refusal.Refusal.TheVariants.{WrongDigest};
 ghost use Rattle.wire_commands.specs.HasText.{ReplyHasText};
 ghost use Rattle.wire_commands.specs.declared.reply.Reply.TheVariants.{Refused};
 ghost use Rattle.blob_codec.specs.Laws.{AreBytes};
 ghost use Rattle.chunk_store.specs.Pieces.{IsChunk};
 ghost use Rattle.store_history.specs.Acts.{IsCheckedChunk};
-ghost use Rattle.store_history.specs.declared.act.Act.TheVariants as acts;
-ghost use Rattle.backup_session.specs.Session.{Writing, IsPool, length_at, settled};
-ghost use Rattle.backup_session.specs.Steps as rows;
+ghost use Rattle.store_history.specs.declared.act.Act.TheVariants.{Chunk};
 ghost use Rattle.core_state.specs.Commands.{ActDoes, ActLeaves};
 ghost use Rattle.core_state.specs.Replies.{refuses_chunk};
-ghost use Rattle.core_uploads.specs.Noted.{MayNote, PutsChunk, with_noted};
+ghost use Rattle.core_uploads.specs.Noted.{ForgetsNoted, MayNote, PutsChunk, with_blob_noted};
 
 use crate::uploads::bad_blob;
 use backup_session::Writer;
@@ -58,8 +56,7 @@ fn put_chunk<D: Disk>(
     requires settled { session.old.pending ≡ None }
     requires chunk { IsChunk digest.now.0 bytes.now }
     ensures ok { OnOk result (session.new ≡ session.old) }
-    ensures err { OnErr result ((before : Writing) → (length : ℕ) → IsPool before.pool → length_at before.pool digest.now.0 ≡ None
-        → session.old ≡ settled (rows.chunk before digest.now.0 length) → session.new ≡ settled before) }
+    ensures err { OnErr result (ForgetsNoted digest.now.0 session.old session.new) }
     ensures puts { PutsChunk D.Disk disk.old disk.new digest.now.0 bytes.now result }
 {
     if let Err(cause) = insert_blob(disk, alloc, digest, bytes) {
@@ -80,7 +77,7 @@ fn take_chunk<D: Disk>(
     requires unknown { MayNote digest.now.0 session.old }
     requires checked { IsCheckedChunk digest.now (Ok bytes.now) }
     ensures bytes { AreBytes bytes.now }
-    ensures ok { OnOk result (session.new ≡ with_noted digest.now.0 (len bytes.now - 12) session.old) }
+    ensures ok { OnOk result (session.new ≡ with_blob_noted digest.now bytes.now session.old) }
     ensures err { OnErr result (session.new ≡ session.old) }
     ensures puts { PutsChunk D.Disk disk.old disk.new digest.now.0 bytes.now result }
 {
@@ -107,8 +104,8 @@ pub fn chunk<D: Disk>(
 ) -> Result<Reply, Stop>
     requires lane { at.lane < 64 }
     requires checked { IsCheckedChunk digest.now checked }
-    ensures does { ActDoes D.Disk parts.old parts.new at (acts.Chunk digest.now checked) result }
-    ensures leaves { ActLeaves D.Disk parts.old parts.new at (acts.Chunk digest.now checked) result }
+    ensures does { ActDoes D.Disk parts.old parts.new at (Chunk digest.now checked) result }
+    ensures leaves { ActLeaves D.Disk parts.old parts.new at (Chunk digest.now checked) result }
 {
     let w = parts.writer(at.lane)?;
     let bytes = match checked {

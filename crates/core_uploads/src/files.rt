@@ -1,13 +1,11 @@
 //! The files of a writer.
 
-ghost use Rattle.std.specs.Prelude.{◌≡◌, ◌<◌, length, position, slice_get, Some, IfOk, OnOk, OnErr, IsSome};
-ghost use Rattle.std.specs.List.{remove};
+ghost use Rattle.std.specs.Prelude.{◌≡◌, ◌<◌, length, position, IfOk, OnOk, OnErr, IsSome};
 ghost use Rattle.store_types.specs.Names.{IsKey, name_lt};
 ghost use Rattle.store_files.specs.Folder.{file_path};
 ghost use Rattle.backup_session.specs.Session.{settled, kept};
-ghost use Rattle.core_state.specs.declared.kept.StoredFile.{StoredFile};
 ghost use Rattle.core_uploads.specs.Pending.{HasPending, with_pending, without_pending};
-ghost use Rattle.core_uploads.specs.Uploaded.{PutsFile, insert_stored};
+ghost use Rattle.core_uploads.specs.Uploaded.{IsInserted, IsPathAt, PutsFile, insert_stored};
 
 use backup_session::Writer;
 use core_state::{Session, StoredFile};
@@ -48,7 +46,7 @@ fn first_after(files: &[StoredFile], name: &FileName) -> Option<usize>
 /// Places a file before the first with a greater name, and gives its place. At want of memory nothing has changed.
 fn insert(files: &mut Rows<StoredFile>, file: StoredFile) -> Result<usize, AllocError>
     ensures ok { OnOk result (files.new ≡ insert_stored file files.old) }
-    ensures place { IfOk result (λ place. (place < length files.new) × (slice_get files.new place ≡ Some file) × (remove files.new place ≡ files.old)) }
+    ensures place { IfOk result (λ place. IsInserted file files.old files.new place) }
     ensures err { OnErr result (files.new ≡ files.old) }
 {
     let after = first_after(files.as_slice(), &file.name);
@@ -60,7 +58,7 @@ fn insert(files: &mut Rows<StoredFile>, file: StoredFile) -> Result<usize, Alloc
 /// Where the file at a place stands.
 fn path_at(files: &[StoredFile], place: usize) -> &FilePath
     requires { place < length files.now }
-    ensures { (file : StoredFile) → slice_get files.now place ≡ Some file → result.now ≡ file.path }
+    ensures { IsPathAt files.now place result.now }
 {
     &files[place].path
 }

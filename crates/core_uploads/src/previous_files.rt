@@ -1,21 +1,18 @@
 //! PREVIOUS.
 
-ghost use Rattle.std.specs.Prelude.{◌≡◌, ◌<◌, ◌≤◌, List, map, option_map, Ok, Err, MatchResult, IfOk, IfErr, OnOk, OnErr, IsErrOf, IsTrue, Some};
+ghost use Rattle.std.specs.Prelude.{◌≡◌, ◌<◌, map, MatchResult, IfOk, IfErr, OnOk, OnErr, IsErrOf, IsTrue, Some};
 ghost use Rattle.disk_trait.specs.Effects.{OnlyReads};
 ghost use Rattle.dynamic_index.specs.Writing.{known_of};
 ghost use Rattle.wire_commands.specs.HasText.{ReplyHasText};
-ghost use Rattle.wire_commands.specs.declared.command.Command.TheVariants as commands;
+ghost use Rattle.wire_commands.specs.declared.command.Command.TheVariants.{Previous};
 ghost use Rattle.wire_commands.specs.declared.reply.Reply.TheVariants.{Refused};
 ghost use Rattle.snapshot_files.specs.Parts.{IsPart, RefusesPart};
-ghost use Rattle.snapshot_files.specs.Reads.{ErrorHasText, Gives, IfRefused};
-ghost use Rattle.store_history.specs.declared.act.Act.TheVariants.{Plain};
-ghost use Rattle.core_state.specs.Commands.{ActDoes, ActLeaves};
+ghost use Rattle.snapshot_files.specs.Reads.{ErrorHasText, IfRefused};
+ghost use Rattle.core_state.specs.Commands.{PlainDoes, PlainLeaves};
+ghost use Rattle.core_state.specs.Found.{lent_key};
 ghost use Rattle.core_state.specs.Replies.{refuses_previous};
-ghost use Rattle.core_state.specs.Settles.{kind_by, reply_by};
-ghost use Rattle.core_state.specs.Stops.{told};
-ghost use Rattle.core_state.specs.Unreadables.{TellsUnreadable, whole_by};
-ghost use Rattle.core_state.specs.Wanted.{session_at};
-ghost use Rattle.core_uploads.specs.Previous.{ArePieces, MayKnow, asked_of_base, base_file as base_file_of, previous_by, shown_given, with_known};
+ghost use Rattle.core_state.specs.Unreadables.{ActUnreadable, whole_by};
+ghost use Rattle.core_uploads.specs.Previous.{ArePieces, GivesPrevious, LendsPath, MayKnow, asked_of_base, with_known};
 
 use crate::names::file_name;
 use core_state::{Listed, Parts, Place, Session, Stop, path_named, snapshot_named};
@@ -41,8 +38,7 @@ fn base_file<'a>(
 ) -> Result<&'a FilePath, Refusal>
     ensures text { IfErr result (λ refusal. ReplyHasText (Refused refusal)) }
     ensures kind { IfErr result (λ refusal. IsTrue (refuses_previous refusal)) }
-    ensures value { MatchResult result (λ path. base_file_of (option_map (λ k. k.now) base.entry) name.now catalogue.now ≡ Ok path.now)
-        (λ refusal. base_file_of (option_map (λ k. k.now) base.entry) name.now catalogue.now ≡ Err refusal) }
+    ensures value { LendsPath (lent_key base.entry) name.now catalogue.now result }
 {
     let key = base.ok_or(Refusal::NoSnapshot)?;
     let kept = snapshot_named(catalogue, key).ok_or(Refusal::NoSnapshot)?;
@@ -58,7 +54,7 @@ fn read_whole<D: Disk>(
     offset: u64,
 ) -> Result<Given, ReadError>
     ensures reads { OnlyReads D.Disk disk.old disk.new (IsErrOf result ReadError.Failed) }
-    ensures exact { D.honest disk.old → Gives shown_given result (previous_by (Some is_fixed) (D.content disk.old) path.now offset) }
+    ensures exact { GivesPrevious D.Disk disk.old path.now (Some is_fixed) offset result }
     ensures kind { MatchResult result (λ g. IsPart g.part) (IfRefused (RefusesPart path.now)) }
     ensures text { MatchResult result (λ g. ReplyHasText g.part) ErrorHasText }
     ensures pieces { IfOk result (λ g. ArePieces (map known_of g.pieces.items)) }
@@ -78,7 +74,7 @@ fn read_file<D: Disk>(
     offset: u64,
 ) -> Result<Given, ReadError>
     ensures reads { OnlyReads D.Disk disk.old disk.new (IsErrOf result ReadError.Failed) }
-    ensures exact { D.honest disk.old → Gives shown_given result (previous_by (whole_by name.now) (D.content disk.old) path.now offset) }
+    ensures exact { GivesPrevious D.Disk disk.old path.now (whole_by name.now) offset result }
     ensures kind { MatchResult result (λ g. IsPart g.part) (IfRefused (RefusesPart path.now)) }
     ensures text { MatchResult result (λ g. ReplyHasText g.part) ErrorHasText }
     ensures pieces { IfOk result (λ g. ArePieces (map known_of g.pieces.items)) }
@@ -121,10 +117,10 @@ pub fn previous<D: Disk>(
     offset: u64,
 ) -> Result<Reply, Stop>
     requires { at.lane < 64 }
-    ensures does { ActDoes D.Disk parts.old parts.new at (Plain (commands.Previous name.now offset)) result }
-    ensures leaves { ActLeaves D.Disk parts.old parts.new at (Plain (commands.Previous name.now offset)) result }
+    ensures does { PlainDoes D.Disk parts.old parts.new at (Previous name.now offset) result }
+    ensures leaves { PlainLeaves D.Disk parts.old parts.new at (Previous name.now offset) result }
     // it is unreadable exactly where it is, as far as the disk tells
-    ensures unreadable { TellsUnreadable D.Disk parts.old.disk (asked_of_base name.now offset (session_at parts.old at.lane) parts.old.catalogue.items) (kind_by (told result)) (Some (reply_by (told result))) }
+    ensures unreadable { ActUnreadable D.Disk (asked_of_base name.now offset) parts.old at result }
 {
     parts.writer(at.lane)?;
     let name = file_name(alloc, name)?;

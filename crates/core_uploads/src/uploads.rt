@@ -1,27 +1,21 @@
 //! BLOB.
 
-ghost use Rattle.std.specs.Prelude.{◌≡◌, ◌<◌, ℕ, List, true, None, Err, IsErrOf, IsOk, IsTrue};
-ghost use Rattle.blob_codec.specs.Blob.{blob as blob_text, data_of};
+ghost use Rattle.std.specs.Prelude.{◌≡◌, ◌<◌, true, None, Err, IsErrOf, IsOk, IsTrue};
+ghost use Rattle.blob_codec.specs.Blob.{data_of};
 ghost use Rattle.blob_codec.specs.Laws.{AreBytes};
 ghost use Rattle.store_types.specs.declared.refusal.Refusal.TheVariants.{BadBlob as BadBlobOf};
 ghost use Rattle.store_types.specs.declared.refusal.BadBlob.TheVariants as causes;
 ghost use Rattle.wire_commands.specs.HasText.{ReplyHasText};
 ghost use Rattle.wire_commands.specs.declared.reply.Reply.TheVariants.{Refused};
 ghost use Rattle.store_history.specs.Acts.{IsChecked};
-ghost use Rattle.store_history.specs.History.{data_in};
-ghost use Rattle.store_history.specs.declared.act.Act.TheVariants as acts;
-ghost use Rattle.store_model.specs.WriterCalls as calls;
-ghost use Rattle.store_model.specs.WriterSteps.{checked_blob};
-ghost use Rattle.backup_session.specs.Answers.{Does, DoesPlainly, IsPendingAt};
-ghost use Rattle.backup_session.specs.Session.{held};
-ghost use Rattle.backup_session.specs.Steps as rows;
-ghost use Rattle.core_state.specs.Changes.{blob_put};
+ghost use Rattle.store_history.specs.declared.act.Act.TheVariants.{Blob};
+ghost use Rattle.backup_session.specs.Answers.{IsPendingAt};
 ghost use Rattle.core_state.specs.Closing.{is_writer};
 ghost use Rattle.core_state.specs.Commands.{ActDoes, ActLeaves};
 ghost use Rattle.core_state.specs.Named.{is_named};
-ghost use Rattle.core_state.specs.Replies.{answers_blob, refuses_blob};
+ghost use Rattle.core_state.specs.Replies.{refuses_blob};
 ghost use Rattle.core_state.specs.declared.stop.Stop.TheVariants.{DiskFailed};
-ghost use Rattle.core_uploads.specs.Pending.{MakesPending};
+ghost use Rattle.core_uploads.specs.Calls.{TakesBlob, TakesPending, TakesPlainly};
 ghost use Rattle.core_uploads.specs.Stepped.{answer_of};
 
 use crate::files::{NewFile, keep_pending, stored_file};
@@ -70,9 +64,9 @@ fn take(session: &mut Writer, alloc: Global, name: FileName, text: &Bytes) -> Re
     requires settled { session.old.pending ≡ None }
     requires blob { IsOk (data_of text.now) }
     ensures bytes { AreBytes text.now }
-    ensures does { Does (λ u. u) (held session.old.writer) session.old session.new (answer_of result) (rows.blob session.old.writer name text.now) }
+    ensures does { TakesBlob session.old session.new name text.now result }
     ensures pending { IsPendingAt session.new (answer_of result) }
-    ensures plain { (contents : List ℕ) → text.now ≡ blob_text contents → DoesPlainly (λ u. u) (held session.old.writer) session.old session.new (answer_of result) (λ w. calls.put_data w name contents) }
+    ensures plain { TakesPlainly session.old session.new name text.now result }
     ensures uncalled { IsErrOf result DiskFailed → ⊥ }
 {
     let bytes = text.as_slice();
@@ -90,7 +84,7 @@ fn take_blob(
     requires named { IsTrue (is_named session.old) }
     requires writer { is_writer session.old ≡ true }
     requires checked { IsChecked checked }
-    ensures { MakesPending session.old session.new (λ s lane. checked_blob s lane name.now (data_in checked)) answers_blob (blob_put name.now checked) result }
+    ensures { TakesPending session.old session.new name.now checked result }
 {
     match session {
         Session::Writer(w) => {
@@ -122,8 +116,8 @@ pub fn blob<D: Disk>(
 ) -> Result<Reply, Stop>
     requires lane { at.lane < 64 }
     requires checked { IsChecked checked }
-    ensures does { ActDoes D.Disk parts.old parts.new at (acts.Blob name.now checked) result }
-    ensures leaves { ActLeaves D.Disk parts.old parts.new at (acts.Blob name.now checked) result }
+    ensures does { ActDoes D.Disk parts.old parts.new at (Blob name.now checked) result }
+    ensures leaves { ActLeaves D.Disk parts.old parts.new at (Blob name.now checked) result }
 {
     parts.writer(at.lane)?;
     let session = &mut parts.sessions[at.lane as usize];

@@ -1,5 +1,5 @@
 -- What the catalogue is asked, and how a snapshot comes into it.
-use Rattle.std.proofs.Common.{◌≡◌, ℕ, suc, Bool, true, false, cond, length, map, filter, List, [], ◌∷◌, ◌++◌, Option, Some, None, refl, ap}
+use Rattle.std.proofs.Common.{◌≡◌, suc, Bool, true, false, cond, length, map, filter, List, [], ◌∷◌, ◌++◌, Option, Some, None, refl, ap}
 use Rattle.std.specs.List.{last_or, insert, position_or_len}
 use Rattle.store_types.specs.declared.names.SnapshotKey.{SnapshotKey}
 use Rattle.store_types.specs.declared.names.GroupKey.{GroupKey}
@@ -44,11 +44,7 @@ latest_from o group (y ∷ ys) x = by_test (is_in group y) (λ p. latest_from p 
 pub latest_kept-push : (group : GroupKey) (xs : List Listed) (x : Listed) → latest_kept group (all_kept (xs ++ x ∷ [])) ≡ cond (is_in group x) (Some (x.kept).key) (latest_kept group (all_kept xs))
 latest_kept-push group xs x = latest_from None group xs x
 
--- the place of the first that is greater
-abbrev pub place_for : Listed → List Listed → ℕ
-place_for x xs = position_or_len (λ y. key_lt (x.kept).key (y.kept).key) xs
-
--- the place of the first that is greater
+-- whether the second is greater
 abbrev pub is_after : Listed → Listed → Bool
 is_after x y = key_lt (x.kept).key (y.kept).key
 

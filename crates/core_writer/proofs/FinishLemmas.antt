@@ -27,7 +27,7 @@ use Rattle.wire_commands.specs.declared.command.Command.TheVariants.{Finish}
 use Rattle.wire_commands.specs.declared.reply.Reply.TheVariants.{Done, Refused}
 use Rattle.store_model.specs.Store as model
 use Rattle.store_model.specs.Manifests.{data_in, manifest_data, want_manifest, mismatch_refusal, want_listed, listing_of, finish_check}
-use Rattle.store_model.specs.Store.{Begun, Store, Writer, none, writer, session, with_session, Outcome, in_group, insert_snapshot, snapshot_named}
+use Rattle.store_model.specs.Store.{Begun, Store, Writer, none, writer, session, with_session, Outcome, in_group, insert_snapshot}
 use Rattle.store_files.specs.Folder.{file_path}
 use Rattle.store_model.specs.WriterSteps.{snapshot_of, finish}
 use Rattle.store_model.specs.Steps.{outcome}

@@ -1,5 +1,6 @@
 -- OPEN_WRITER, by what the core keeps.
-use Rattle.std.specs.Prelude.{◌≡◌, ℕ, List, [], map, filter, length, nat_lt, Option, None, Result, Ok, Err}
+use Rattle.std.specs.Prelude.{◌≡◌, ℕ, Bool, List, [], map, filter, length, nat_lt, Option, None, Result, Ok, Err, MatchResult}
+use Rattle.std.specs.Borrow.{Bor}
 use Rattle.std.specs.List.{last_or}
 use Rattle.store_types.specs.declared.names.SnapshotKey.{SnapshotKey}
 use Rattle.store_types.specs.declared.names.GroupKey.{GroupKey}
@@ -7,13 +8,16 @@ use Rattle.store_types.specs.declared.refusal.Refusal.{Refusal}
 use Rattle.store_types.specs.declared.refusal.Refusal.TheVariants.{GroupBusy, TooMany}
 use Rattle.store_types.specs.Chain.Refusing.{◌>>=◌, unless, if_none}
 use Rattle.store_types.specs.Names.{same_group, group_of_key}
+use Rattle.lock_book.specs.Locks.{Locks, TakesWriter, group_holder, other_than}
 use Rattle.store_model.specs.WriterSteps.{want_newer, base_text}
 use Rattle.backup_session.specs.Session.{settled}
 use Rattle.backup_session.specs.Steps as rows
 use Rattle.core_state.specs.declared.kept.Kept.{Kept}
+use Rattle.core_state.specs.declared.kept.Listed.{Listed}
 use Rattle.core_state.specs.declared.kept.Writing.{Writing}
 use Rattle.core_state.specs.declared.stop.Stop.{Stop}
 use Rattle.core_state.specs.declared.stop.Stop.TheVariants.{Refused, NoMemory, DiskFailed}
+use Rattle.core_state.specs.Found.{lent_key}
 use Rattle.core_writer.specs.declared.opening.Beginning.{Beginning}
 
 -- the group's snapshots, the oldest first
@@ -30,6 +34,42 @@ base_kept kept holder key = do
   _ ← want_newer key.time (latest_kept (group_of_key key) kept)
   _ ← unless (TooMany 4096) (nat_lt (length (kept_in (group_of_key key) kept)) 4096)
   Ok (latest_kept (group_of_key key) kept)
+
+-- ---- by the locks and the catalogue
+
+-- the other lane whose writer has the group
+abbrev pub other_holder : Locks → ℕ → GroupKey → Option ℕ
+other_holder locks lane group = other_than lane (group_holder locks group)
+
+-- the listed snapshot is of the snapshot's group
+abbrev pub shares_group : SnapshotKey → Listed → Bool
+shares_group key x = same_group (group_of_key (x.kept).key) (group_of_key key)
+
+-- the latest snapshot of the snapshot's group
+abbrev pub latest_listed : SnapshotKey → List Listed → Option SnapshotKey
+latest_listed key catalogue = latest_kept (group_of_key key) (map (λ x. x.kept) catalogue)
+
+-- the snapshot's group has room for one more
+abbrev pub wants_room : SnapshotKey → List Listed → Result (Unit {0}) Refusal
+wants_room key catalogue = unless (TooMany 4096) (nat_lt (length (kept_in (group_of_key key) (map (λ x. x.kept) catalogue))) 4096)
+
+-- the base of a writer of the snapshot on the lane that takes the group, or its refusal
+abbrev pub base_on : Locks → List Listed → ℕ → GroupKey → SnapshotKey → Result (Option SnapshotKey) Refusal
+base_on locks catalogue lane group key = base_kept (map (λ x. x.kept) catalogue) (other_holder locks lane group) key
+
+-- with the snapshot's own group
+abbrev pub base_for : Locks → List Listed → ℕ → SnapshotKey → Result (Option SnapshotKey) Refusal
+base_for locks catalogue lane key = base_on locks catalogue lane (group_of_key key) key
+
+-- it is lent, or its refusal is told
+abbrev pub LendsBase : Result (Option SnapshotKey) Refusal → Result (Option (Bor SnapshotKey)) Refusal → Type 0
+LendsBase step result = MatchResult result (λ base. step ≡ Ok (lent_key base)) (λ refusal. step ≡ Err refusal)
+
+-- the lane takes the snapshot's group, and what it begins with as base
+abbrev pub TakesBase : Locks → Locks → ℕ → SnapshotKey → Beginning → Type 0
+TakesBase old new lane key b = TakesWriter old new lane (group_of_key key) b.base
+
+-- ---- the writer, and its reply
 
 abbrev pub new_writing : SnapshotKey → ℕ → Option SnapshotKey → Writing
 new_writing key moment base = record { session = settled (rows.opened key moment base); files = [] }

@@ -1,15 +1,12 @@
 //! A writer's act, and a lane's end.
 
-ghost use Rattle.std.specs.Prelude.{◌<◌, ◌≤◌, Some};
+ghost use Rattle.std.specs.Prelude.{◌<◌, ◌≤◌};
 ghost use Rattle.store_types.specs.Times.{last_moment};
 ghost use Rattle.store_history.specs.declared.act.Act.TheVariants.{End};
 ghost use Rattle.core_state.specs.Applies.{ActApplies, ActKeeps};
 ghost use Rattle.core_state.specs.Commands.{ActDoes, ActLeaves};
 ghost use Rattle.core_state.specs.Reserved.{HasRoom};
-ghost use Rattle.core_state.specs.Settles.{kind_by, reply_by};
-ghost use Rattle.core_state.specs.Stops.{told};
-ghost use Rattle.core_state.specs.Unreadables.{TellsUnreadable};
-ghost use Rattle.core_state.specs.Wanted.{session_at};
+ghost use Rattle.core_state.specs.Unreadables.{ActUnreadable, CoreUnreadable};
 ghost use Rattle.core_writer.specs.WriterActs.{IsWriters, asked_of_writer};
 
 use crate::ending::{abort, end};
@@ -31,7 +28,7 @@ fn perform<D: Disk>(parts: &mut Parts<D>, alloc: Global, at: Place, act: Act) ->
     requires kind { IsWriters act }
     ensures does { ActDoes D.Disk parts.old parts.new at act result }
     ensures leaves { ActLeaves D.Disk parts.old parts.new at act result }
-    ensures unreadable { TellsUnreadable D.Disk parts.old.disk (asked_of_writer act (session_at parts.old at.lane) parts.old.catalogue.items) (kind_by (told result)) (Some (reply_by (told result))) }
+    ensures unreadable { ActUnreadable D.Disk (asked_of_writer act) parts.old at result }
 {
     match act {
         Act::Plain(Command::OpenWriter { snapshot }) => {
@@ -82,7 +79,7 @@ pub fn writer_act<D: Disk, E, C: Clock>(
     ensures applies { ActApplies D.Disk C.Clock core.old core.new lane act result }
     ensures keeps { ActKeeps D.Disk core.old core.new lane act result }
     // a file of the base is unreadable exactly where it is, as far as the disk tells
-    ensures unreadable { TellsUnreadable D.Disk core.old.parts.disk (asked_of_writer act (session_at core.old.parts lane) core.old.parts.catalogue.items) result.entry.kind result.reply }
+    ensures unreadable { CoreUnreadable D.Disk (asked_of_writer act) core.old lane result }
 {
     match begin(core, alloc, lane, &act) {
         Admitted::Answered(answer) => answer,

@@ -1,21 +1,20 @@
 //! What the catalogue is asked, and how a snapshot comes into it.
 
-ghost use Rattle.std.specs.Prelude.{◌≡◌, ◌<◌, ◌≤◌, map, filter, length, nat_lt, option_map, position, vec_len, vec_capacity, IfErr};
-ghost use Rattle.store_types.specs.Chain.Refusing.{unless};
-ghost use Rattle.store_types.specs.Names.{same_group, group_of_key, key_lt};
-ghost use Rattle.store_types.specs.declared.refusal.Refusal.TheVariants.{TooMany};
+ghost use Rattle.std.specs.Prelude.{◌≡◌, ◌<◌, filter, length, position, vec_len, vec_capacity, IfErr};
+ghost use Rattle.store_types.specs.Names.{key_lt};
 ghost use Rattle.store_model.specs.WriterSteps.{want_newer as needs_newer};
-ghost use Rattle.core_state.specs.Replies.{refuses_writer};
-ghost use Rattle.core_writer.specs.Opened.{kept_in, latest_kept};
-ghost use Rattle.core_writer.specs.Stopping.{RefusesBy};
 ghost use Rattle.core_state.specs.Catalogue.{insert_listed};
+ghost use Rattle.core_state.specs.Found.{lent_key};
+ghost use Rattle.core_state.specs.Replies.{refuses_writer};
+ghost use Rattle.core_writer.specs.Opened.{latest_listed, shares_group, wants_room};
+ghost use Rattle.core_writer.specs.Stopping.{RefusesBy};
 
 use core_state::Listed;
 use store_types::{Refusal, SnapshotKey};
 
 /// The latest snapshot of the snapshot's group.
 pub fn latest_in<'a>(catalogue: &'a [Listed], key: &SnapshotKey) -> Option<&'a SnapshotKey>
-    ensures { option_map (λ latest. latest.now) result ≡ latest_kept (group_of_key key.now) (map (λ x. x.kept) catalogue.now) }
+    ensures { lent_key result ≡ latest_listed key.now catalogue.now }
 {
     let mut latest = None;
     for listed in catalogue {
@@ -28,7 +27,7 @@ pub fn latest_in<'a>(catalogue: &'a [Listed], key: &SnapshotKey) -> Option<&'a S
 
 /// How many snapshots the snapshot's group has.
 fn count_in(catalogue: &[Listed], key: &SnapshotKey) -> usize
-    ensures { result ≡ length (filter (λ x. same_group (group_of_key x.kept.key) (group_of_key key.now)) catalogue.now) }
+    ensures { result ≡ length (filter (λ x. shares_group key.now x) catalogue.now) }
 {
     catalogue
         .iter()
@@ -40,7 +39,7 @@ fn count_in(catalogue: &[Listed], key: &SnapshotKey) -> usize
 #[tactic(auto, using(core_state::proofs::Texts::not_newer_has_text))]
 pub fn want_newer(key: &SnapshotKey, latest: Option<&SnapshotKey>) -> Result<(), Refusal>
     ensures refusal { IfErr result (RefusesBy refuses_writer) }
-    ensures value { result ≡ needs_newer key.now.time (option_map (λ latest. latest.now) latest.entry) }
+    ensures value { result ≡ needs_newer key.now.time (lent_key latest.entry) }
 {
     match latest {
         Some(latest) if key.time <= latest.time => Err(Refusal::NotNewer {
@@ -54,7 +53,7 @@ pub fn want_newer(key: &SnapshotKey, latest: Option<&SnapshotKey>) -> Result<(),
 #[tactic(auto, using(core_state::proofs::Texts::too_many_has_text))]
 pub fn want_room(catalogue: &[Listed], key: &SnapshotKey) -> Result<(), Refusal>
     ensures refusal { IfErr result (RefusesBy refuses_writer) }
-    ensures value { result ≡ unless (TooMany 4096) (nat_lt (length (kept_in (group_of_key key.now) (map (λ x. x.kept) catalogue.now))) 4096) }
+    ensures value { result ≡ wants_room key.now catalogue.now }
 {
     if count_in(catalogue, key) < 4096 {
         Ok(())

@@ -1,10 +1,10 @@
 //! The end of a lane, and ABORT.
 
 ghost use Rattle.std.specs.Prelude.{◌≡◌, ◌<◌, IsOk};
-ghost use Rattle.wire_commands.specs.declared.command.Command.TheVariants as commands;
-ghost use Rattle.store_history.specs.declared.act.Act.TheVariants.{End, Plain};
+ghost use Rattle.wire_commands.specs.declared.command.Command.TheVariants.{Abort};
+ghost use Rattle.store_history.specs.declared.act.Act.TheVariants.{End};
 ghost use Rattle.core_state.specs.declared.kept.Session.TheVariants.{Idle};
-ghost use Rattle.core_state.specs.Commands.{ActDoes, ActLeaves};
+ghost use Rattle.core_state.specs.Commands.{ActDoes, ActLeaves, PlainDoes, PlainLeaves};
 ghost use Rattle.core_state.specs.Stops.{ended_as};
 ghost use Rattle.core_state.specs.Wanted.{session_at};
 ghost use Rattle.core_writer.specs.Ended.{files_in};
@@ -43,8 +43,8 @@ pub fn end<D: Disk>(parts: &mut Parts<D>, at: Place) -> Result<(), Failed>
 /// It is refused where the lane has no writer. After a fault of the disk the session is as before.
 pub fn abort<D: Disk>(parts: &mut Parts<D>, at: Place) -> Result<Reply, Stop>
     requires { at.lane < 64 }
-    ensures does { ActDoes D.Disk parts.old parts.new at (Plain commands.Abort) result }
-    ensures leaves { ActLeaves D.Disk parts.old parts.new at (Plain commands.Abort) result }
+    ensures does { PlainDoes D.Disk parts.old parts.new at Abort result }
+    ensures leaves { PlainLeaves D.Disk parts.old parts.new at Abort result }
 {
     parts.writer(at.lane)?;
     end(parts, at)?;

@@ -1,22 +1,15 @@
 //! FINISH.
 
 ghost use Rattle.std.specs.Prelude.{◌≡◌, ◌<◌, None, Ok, Err, option_map, IfErr, vec_len, vec_capacity};
-ghost use Rattle.std.specs.List.{find};
 ghost use Rattle.std.specs.Result.{result_ok};
-ghost use Rattle.std.specs.Str.{bytes_eq};
-ghost use Rattle.store_types.specs.FileNames.{manifest_name};
 ghost use Rattle.store_types.specs.declared.refusal.Refusal.TheVariants as refusals;
-ghost use Rattle.wire_commands.specs.declared.command.Command.TheVariants as commands;
-ghost use Rattle.store_model.specs.Manifests.{finish_check as plain_check};
-ghost use Rattle.store_model.specs.Store.{Writer as PlainWriter};
-ghost use Rattle.store_history.specs.declared.act.Act.TheVariants.{Plain};
-ghost use Rattle.backup_session.specs.Shown.{Shows};
+ghost use Rattle.wire_commands.specs.declared.command.Command.TheVariants.{Finish};
 ghost use Rattle.core_state.specs.declared.kept.Session.TheVariants.{Idle};
 ghost use Rattle.core_state.specs.Catalogue.{closed};
 ghost use Rattle.core_state.specs.Changes.{kept_manifest};
-ghost use Rattle.core_state.specs.Commands.{ActDoes, ActLeaves};
+ghost use Rattle.core_state.specs.Commands.{PlainDoes, PlainLeaves};
 ghost use Rattle.core_state.specs.Replies.{refuses_finish};
-ghost use Rattle.core_writer.specs.Finished.{TestedBy, manifest_in};
+ghost use Rattle.core_writer.specs.Finished.{ChecksPlainly, lent_file, manifest_among, manifest_in};
 ghost use Rattle.core_writer.specs.Stopping.{StopsBy};
 
 use crate::catalogue::insert;
@@ -32,21 +25,21 @@ use wire_commands::Reply;
 fn check(w: &Writing, alloc: Global) -> Result<(), Stop>
     requires { w.now.session.pending ≡ None }
     ensures stop { IfErr result (StopsBy refuses_finish) }
-    ensures plain { (v : PlainWriter) → Shows w.now.session.writer v → TestedBy (plain_check v) result }
+    ensures plain { ChecksPlainly w.now.session.writer result }
 {
     w.session.finish_check(alloc)??;
     Ok(())
 }
 
 fn manifest_file(files: &[StoredFile]) -> Option<&StoredFile>
-    ensures { option_map (λ f. f.now) result ≡ find (λ f. bytes_eq f.name manifest_name) files.now }
+    ensures { option_map (λ f. f.now) result ≡ manifest_among files.now }
 {
     files.iter().find(|file| file.name.is_manifest())
 }
 
 /// The manifest's name in the datastore folder, and its text.
 fn manifest_of(w: &Writing) -> Option<(&FilePath, &[u8])>
-    ensures { option_map (λ m. (m.0.now, m.1.now)) result ≡ kept_manifest w.now }
+    ensures { lent_file result ≡ kept_manifest w.now }
 {
     let text = w.session.manifest()?;
     let file = manifest_file(w.files.as_slice())?;
@@ -55,7 +48,7 @@ fn manifest_of(w: &Writing) -> Option<(&FilePath, &[u8])>
 
 /// The name in the datastore folder of the manifest of the session's writer, and its text.
 fn manifest_at(session: &Session) -> Result<(&FilePath, &[u8]), Refusal>
-    ensures value { option_map (λ m. (m.0.now, m.1.now)) (result_ok result) ≡ manifest_in session.now }
+    ensures value { lent_file (result_ok result) ≡ manifest_in session.now }
     ensures refusal { IfErr result (λ refusal. refusal ≡ refusals.NoFile) }
 {
     match session {
@@ -90,8 +83,8 @@ fn close(catalogue: &mut Vec<Listed>, session: &mut Session, number: u64)
 /// refusal changes nothing. All memory is taken before the first disk call.
 pub fn finish<D: Disk>(parts: &mut Parts<D>, alloc: Global, at: Place) -> Result<Reply, Stop>
     requires { at.lane < 64 }
-    ensures does { ActDoes D.Disk parts.old parts.new at (Plain commands.Finish) result }
-    ensures leaves { ActLeaves D.Disk parts.old parts.new at (Plain commands.Finish) result }
+    ensures does { PlainDoes D.Disk parts.old parts.new at Finish result }
+    ensures leaves { PlainLeaves D.Disk parts.old parts.new at Finish result }
 {
     check(parts.writer(at.lane)?, alloc)?;
     let (path, text) = manifest_at(&parts.sessions[at.lane as usize])?;

@@ -1,20 +1,19 @@
 //! OPEN_WRITER.
 
-ghost use Rattle.std.specs.Prelude.{◌≡◌, ◌<◌, ◌≤◌, map, length, option_map, Ok, Err, MatchResult, IfOk, IfErr, OnErr, IsTrue};
+ghost use Rattle.std.specs.Prelude.{◌≡◌, ◌<◌, ◌≤◌, length, IfOk, IfErr, OnErr, IsTrue};
 ghost use Rattle.std.specs.List.{list_all};
 ghost use Rattle.std.specs.Option.{ForSome};
 ghost use Rattle.store_types.specs.Names.{IsKey, group_of_key};
 ghost use Rattle.store_types.specs.Times.{last_moment};
 ghost use Rattle.store_types.specs.Chain.Refusing.{if_none};
-ghost use Rattle.store_types.specs.declared.refusal.Refusal.TheVariants as refusals;
-ghost use Rattle.lock_book.specs.Locks.{TakesWriter, group_holder, other_than};
-ghost use Rattle.wire_commands.specs.declared.command.Command.TheVariants as commands;
-ghost use Rattle.store_history.specs.declared.act.Act.TheVariants.{Plain};
+ghost use Rattle.store_types.specs.declared.refusal.Refusal.TheVariants.{GroupBusy};
+ghost use Rattle.wire_commands.specs.declared.command.Command.TheVariants.{OpenWriter};
 ghost use Rattle.store_model.specs.WriterSteps.{base_text as text_of_base};
-ghost use Rattle.core_state.specs.Commands.{ActDoes, ActLeaves};
+ghost use Rattle.core_state.specs.Commands.{PlainDoes, PlainLeaves};
+ghost use Rattle.core_state.specs.Found.{lent_key};
 ghost use Rattle.core_state.specs.Named.{is_named_snapshot};
 ghost use Rattle.core_state.specs.Replies.{refuses_writer};
-ghost use Rattle.core_writer.specs.Opened.{TellsBase, base_kept};
+ghost use Rattle.core_writer.specs.Opened.{LendsBase, TakesBase, TellsBase, base_for, base_on, other_holder};
 ghost use Rattle.core_writer.specs.Stopping.{RefusesBy, StopsBy};
 
 use crate::catalogue::{latest_in, want_newer, want_room};
@@ -36,7 +35,7 @@ struct Beginning {
 #[tactic(auto, using(core_state::proofs::Texts::group_busy_has_text))]
 fn want_free(locks: &LockBook, lane: u32, group: &GroupKey) -> Result<(), Refusal>
     ensures refusal { IfErr result (RefusesBy refuses_writer) }
-    ensures value { result ≡ if_none refusals.GroupBusy (other_than lane (group_holder locks.now group.now)) }
+    ensures value { result ≡ if_none GroupBusy (other_holder locks.now lane group.now) }
 {
     match locks.free_for_writer(lane, group) {
         Ok(()) => Ok(()),
@@ -55,8 +54,7 @@ fn base_of<'a>(
 ) -> Result<Option<&'a SnapshotKey>, Refusal>
     requires { group.now ≡ group_of_key key.now }
     ensures refusal { IfErr result (RefusesBy refuses_writer) }
-    ensures value { MatchResult result (λ base. base_kept (map (λ x. x.kept) catalogue.now) (other_than lane (group_holder locks.now group.now)) key.now ≡ Ok (option_map (λ k. k.now) base))
-        (λ refusal. base_kept (map (λ x. x.kept) catalogue.now) (other_than lane (group_holder locks.now group.now)) key.now ≡ Err refusal) }
+    ensures value { LendsBase (base_on locks.now catalogue.now lane group.now key.now) result }
 {
     want_free(locks, lane, group)?;
     let latest = latest_in(catalogue, key);
@@ -69,7 +67,7 @@ fn base_of<'a>(
 fn base_text(alloc: Global, base: Option<&SnapshotKey>) -> Result<Bytes, AllocError>
     requires { ForSome base (λ k. IsKey k.now) }
     ensures short { IfOk result (λ text. length text < 256) }
-    ensures value { IfOk result (λ text. text ≡ text_of_base (option_map (λ k. k.now) base.entry)) }
+    ensures value { IfOk result (λ text. text ≡ text_of_base (lent_key base.entry)) }
 {
     match base {
         None => Ok(Bytes::new(alloc)),
@@ -78,7 +76,7 @@ fn base_text(alloc: Global, base: Option<&SnapshotKey>) -> Result<Bytes, AllocEr
 }
 
 fn copied(base: Option<&SnapshotKey>) -> Result<Option<SnapshotKey>, AllocError>
-    ensures { IfOk result (λ copy. copy ≡ option_map (λ k. k.now) base.entry) }
+    ensures { IfOk result (λ copy. copy ≡ lent_key base.entry) }
 {
     match base {
         None => Ok(None),
@@ -98,9 +96,9 @@ fn take_locks(
     requires { IsTrue (list_all is_named_snapshot catalogue.now) }
     ensures stop { IfErr result (StopsBy refuses_writer) }
     // a group that another lane has is told with that lane
-    ensures value { TellsBase (base_kept (map (λ x. x.kept) catalogue.now) (other_than lane (group_holder locks.old (group_of_key key.now))) key.now) result }
+    ensures value { TellsBase (base_for locks.old catalogue.now lane key.now) result }
     ensures short { IfOk result (λ b. length b.text < 256) }
-    ensures taken { IfOk result (λ b. TakesWriter locks.old locks.new lane (group_of_key key.now) b.base) }
+    ensures taken { IfOk result (λ b. TakesBase locks.old locks.new lane key.now b) }
     ensures err { OnErr result (locks.new ≡ locks.old) }
 {
     let group = key.group(alloc)?;
@@ -126,8 +124,8 @@ pub fn open_writer<D: Disk>(
 ) -> Result<Reply, Stop>
     requires lane { at.lane < 64 }
     requires in_time { at.moment ≤ last_moment }
-    ensures does { ActDoes D.Disk parts.old parts.new at (Plain (commands.OpenWriter snapshot.now)) result }
-    ensures leaves { ActLeaves D.Disk parts.old parts.new at (Plain (commands.OpenWriter snapshot.now)) result }
+    ensures does { PlainDoes D.Disk parts.old parts.new at (OpenWriter snapshot.now) result }
+    ensures leaves { PlainLeaves D.Disk parts.old parts.new at (OpenWriter snapshot.now) result }
 {
     parts.idle(at.lane)?;
     let Ok(key) = SnapshotKey::parse(alloc, snapshot)? else {

@@ -26,9 +26,6 @@ short_last : (log : List LoggedStep) (e : LoggedStep) → all_short (log ++ e �
 short_last [] e h = first _ _ h
 short_last (x ∷ log) e h = short_last log e (second _ _ h)
 
-at_start : Step → LoggedStep
-at_start s = record { at = 0; step = s }
-
 pub copy_more : (old new log : List LoggedStep) (e : LoggedStep) (s : Step) → Remakes old new log (λ files. played files log) → IsCopy e.step s
     → Remakes old (new ++ record { at = 0; step = s } ∷ []) (log ++ e ∷ []) (λ files. played files (log ++ e ∷ []))
 copy_more old new log e s so copy = record {

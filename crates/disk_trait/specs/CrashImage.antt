@@ -1,5 +1,5 @@
 -- What a crash leaves of a disk that has done some steps, by one of three choices.
-use Rattle.std.specs.Prelude.{◌/◌, ℕ, zero, suc, List, [], ◌∷◌, Bool, true, false, Some, take, length, string_bytes}
+use Rattle.std.specs.Prelude.{◌≡◌, ◌<◌, ◌≤◌, ◌/◌, ℕ, zero, suc, List, [], ◌∷◌, Bool, true, false, Some, take, length, get_or, string_bytes}
 use Rattle.std.specs.List.{before_last, after_last}
 use Rattle.std.specs.FinMap.{empty}
 use Rattle.disk_trait.specs.Files.{Files, placed, renamed}
@@ -14,6 +14,10 @@ syncs _ = false
 
 abbrev pub is_sync : LoggedStep → Bool
 is_sync e = syncs e.step
+
+-- no step from this place on is a sync
+abbrev pub NoSyncFrom : ℕ → List LoggedStep → Type 0
+NoSyncFrom first log = (k : ℕ) (d : LoggedStep) → first ≤ k → k < length log → is_sync (get_or log k d) ≡ false
 
 -- as after the last sync, or empty where there was none
 abbrev pub synced : List LoggedStep → Files

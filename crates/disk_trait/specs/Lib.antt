@@ -1,5 +1,6 @@
 pub mod Files
 pub mod Disk
+pub mod Calls
 pub mod Effects
 pub mod Runs
 pub mod Laws

@@ -3,7 +3,7 @@ use Rattle.std.specs.Prelude.{◌≡◌, ◌≢◌, ℕ, List, T, Option, Some, 
 use Rattle.disk_trait.specs.Files.{Files}
 use Rattle.std.specs.FinMap.{empty}
 use Rattle.disk_trait.specs.Replay.{done, played, all_by, all_short, gives_short, leaves}
-use Rattle.disk_trait.specs.CrashImage.{torn_by, crash_image}
+use Rattle.disk_trait.specs.CrashImage.{torn_by, torn, left_since, crash_image}
 use Rattle.disk_trait.specs.declared.step_log.Step.{Step}
 use Rattle.disk_trait.specs.declared.step_log.LoggedStep.{LoggedStep}
 
@@ -21,6 +21,18 @@ pub record Remakes (old new log : List LoggedStep) (made : Files → Files) : Ty
   pub plays : (files : Files) → played files new ≡ made (played files old)
   pub early : all_by 0 old → all_by 0 new
   pub short : all_short log → all_short old → all_short new
+
+-- the steps of the log were added
+abbrev pub ReplaysAll : List LoggedStep → List LoggedStep → List LoggedStep → Type 0
+ReplaysAll old new log = Remakes old new log (λ files. played files log)
+
+-- the steps of the log were added, torn
+abbrev pub ReplaysTorn : List LoggedStep → List LoggedStep → List LoggedStep → Type 0
+ReplaysTorn old new log = Remakes old new log (λ files. torn files log)
+
+-- what a crash leaves of steps since the last sync was added
+abbrev pub ReplaysSince : ℕ → List LoggedStep → List LoggedStep → List LoggedStep → Type 0
+ReplaysSince choice old new since = Remakes old new since (λ files. left_since choice files since)
 
 -- what steps leave of a disk that was empty
 abbrev pub left_by : List LoggedStep → Files → Type 0

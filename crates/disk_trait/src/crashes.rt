@@ -1,9 +1,10 @@
-// What a crash of a disk in memory leaves, as the steps that make it of an empty disk.
-ghost use Rattle.std.specs.Prelude.{◌≡◌, ◌-◌, ◌<◌, ◌≤◌, ℕ, true, false, T, length, get_or, IfOk, OnOk};
+//! What a crash of a disk in memory leaves, as the steps that make it of an empty disk.
+
+ghost use Rattle.std.specs.Prelude.{◌≡◌, ◌-◌, ◌<◌, ◌≤◌, true, T, length, get_or, IfOk, OnOk};
 ghost use Rattle.disk_trait.specs.Files.{Files};
-ghost use Rattle.disk_trait.specs.Replay.{done, played};
-ghost use Rattle.disk_trait.specs.CrashImage.{is_sync, syncs, left_since, torn};
-ghost use Rattle.disk_trait.specs.Remade.{Remakes, IsCopy, IsTorn, IsLeft};
+ghost use Rattle.disk_trait.specs.Replay.{done};
+ghost use Rattle.disk_trait.specs.CrashImage.{is_sync, syncs, NoSyncFrom};
+ghost use Rattle.disk_trait.specs.Remade.{ReplaysAll, ReplaysTorn, ReplaysSince, IsCopy, IsTorn, IsLeft};
 ghost use Rattle.disk_trait.specs.declared.step_log.LoggedStep.{LoggedStep};
 
 use crate::step_log::{LoggedStep, Step};
@@ -18,7 +19,7 @@ fn is_sync(step: &Step) -> bool
 // How many steps there are up to the last sync.
 fn synced_count(log: &[LoggedStep]) -> usize
     ensures within { result ≤ length log.now }
-    ensures since { (k : ℕ) (d : LoggedStep) → result ≤ k → k < length log.now → is_sync (get_or log.now k d) ≡ false }
+    ensures since { NoSyncFrom result log.now }
     ensures last { (d : LoggedStep) → 0 < result → is_sync (get_or log.now (result - 1) d) ≡ true }
 {
     let mut count = log.len();
@@ -70,7 +71,7 @@ fn torn(alloc: Global, step: &Step) -> Result<Option<Step>, AllocError>
 
 // Adds the steps of a log to those of a new disk, as done before its first call.
 fn replay(alloc: Global, into: &mut Vec<LoggedStep>, log: &[LoggedStep]) -> Result<(), AllocError>
-    ensures { OnOk result (Remakes into.old.items into.new.items log.now (λ files. played files log.now)) }
+    ensures { OnOk result (ReplaysAll into.old.items into.new.items log.now) }
 {
     for logged in log {
         into.push(LoggedStep {
@@ -87,7 +88,7 @@ fn replay_torn(
     into: &mut Vec<LoggedStep>,
     log: &[LoggedStep],
 ) -> Result<(), AllocError>
-    ensures { OnOk result (Remakes into.old.items into.new.items log.now (λ files. torn files log.now)) }
+    ensures { OnOk result (ReplaysTorn into.old.items into.new.items log.now) }
 {
     for logged in log {
         match torn(alloc, &logged.step)? {
@@ -104,7 +105,7 @@ fn replay_since(
     since: &[LoggedStep],
     choice: u8,
 ) -> Result<(), AllocError>
-    ensures { OnOk result (Remakes into.old.items into.new.items since.now (λ files. left_since choice files since.now)) }
+    ensures { OnOk result (ReplaysSince choice into.old.items into.new.items since.now) }
 {
     match choice {
         0 => Ok(()),

@@ -1,9 +1,9 @@
-// A disk: a map from names to bytes as it reads, and for each moment the images that a crash then may leave.
-ghost use Rattle.std.specs.Prelude.{◌≡◌, ◌<◌, ◌≤◌, ◌+◌, ◌-◌, ◌^◌, ◌++◌, ℕ, List, length, take, drop, map, min, filter, eqb, true, false, Some, is_some, option_map, string_bytes, IfOk, OnOk, IsErrOf, IsErr, MatchOption};
-ghost use Rattle.std.specs.FinMap.{get, keys, remove};
-ghost use Rattle.std.specs.List.{starts_with};
-ghost use Rattle.disk_trait.specs.Files.{Files, HasShortNames, placed, renamed, SameBut};
+//! A disk: a map from names to bytes as it reads, and for each moment the images that a crash then may leave.
+
+ghost use Rattle.std.specs.Prelude.{◌≡◌, ◌<◌, ◌≤◌, ◌-◌, ◌^◌, ℕ, List, length, OnOk, IsErrOf, IsErr};
+ghost use Rattle.disk_trait.specs.Files.{Files, HasShortNames, SameBut};
 ghost use Rattle.disk_trait.specs.Disk.{Serves, Ticks, Steps, Now, Same, MayMove, MayGo};
+ghost use Rattle.disk_trait.specs.Calls.{ReadsAt, FindsAt, FillsAt, CountsAt, ListsNames, TellsThere, PutsWhole, MovesFile, DropsFile, WantKeeps, NoneKeeps};
 ghost use Rattle.disk_trait.specs.declared.disk.DiskError.TheVariants.{NoMemory, Failed as DiskFailed};
 
 use std::alloc::{AllocError, AllocFailed, Global};
@@ -14,8 +14,10 @@ use thiserror::Error;
 #[error("the disk failed")]
 pub struct Failed;
 
+/// What may end a call that takes memory.
 #[derive(Clone, Copy, Debug, PartialEq, Eq, Error)]
 pub enum DiskError {
+    /// The disk failed, and its count of faults rose.
     #[error("the disk failed")]
     Failed,
     #[error("out of memory")]
@@ -80,7 +82,7 @@ pub trait Disk {
         ensures tick { Ticks honest calls self.old self.new }
         ensures crash { Steps calls images self.old self.new Same }
         ensures same { honest self.old → content self.new ≡ content self.old }
-        ensures bytes { honest self.old → IfOk result (λ found. option_map (λ v. v.items) found ≡ get (content self.old) name.now) }
+        ensures bytes { ReadsAt honest content self.old name.now result }
         ensures unchanged { IsErrOf result DiskError.NoMemory → faults self.new ≡ faults self.old };
 
     /// Fills `into` from the front with bytes of a file from an offset: the smaller of its length and what is left, which
@@ -95,10 +97,8 @@ pub trait Disk {
         ensures tick { Ticks honest calls self.old self.new }
         ensures crash { Steps calls images self.old self.new Same }
         ensures same { honest self.old → content self.new ≡ content self.old }
-        ensures there { honest self.old → IfOk result (λ n. is_some n ≡ is_some (get (content self.old) name.now)) }
-        ensures bytes { honest self.old → IfOk result (λ n. MatchOption (get (content self.old) name.now) (into.new ≡ into.old) (λ file.
-            (n ≡ Some (min (length into.old) (length file - offset)))
-            × (into.new ≡ take (length into.old) (drop offset file) ++ drop (length file - offset) into.old))) };
+        ensures there { FindsAt honest content self.old name.now result }
+        ensures bytes { FillsAt honest content self.old name.now offset into.old into.new result };
 
     /// How many bytes stand at a name, or `None` where nothing is there.
     fn size(&mut self, name: &str) -> Result<Option<u64>, Failed>
@@ -106,7 +106,7 @@ pub trait Disk {
         ensures tick { Ticks honest calls self.old self.new }
         ensures crash { Steps calls images self.old self.new Same }
         ensures same { honest self.old → content self.new ≡ content self.old }
-        ensures size { honest self.old → IfOk result (λ n. n ≡ option_map (λ file. length file) (get (content self.old) name.now)) };
+        ensures size { CountsAt honest content self.old name.now result };
 
     /// The names that begin with a prefix, in byte order.
     fn list(&mut self, alloc: Global, prefix: &str) -> Result<Vec<String>, DiskError>
@@ -114,7 +114,7 @@ pub trait Disk {
         ensures tick { Ticks honest calls self.old self.new }
         ensures crash { Steps calls images self.old self.new Same }
         ensures same { honest self.old → content self.new ≡ content self.old }
-        ensures names { honest self.old → IfOk result (λ names. map string_bytes names.items ≡ filter (λ name. starts_with eqb name prefix.now) (keys (content self.old))) }
+        ensures names { ListsNames honest content self.old prefix.now result }
         ensures unchanged { IsErrOf result DiskError.NoMemory → faults self.new ≡ faults self.old };
 
     /// Places bytes at a name, in place of what was there. Until a sync, a crash may leave any bytes at the name, or
@@ -124,9 +124,8 @@ pub trait Disk {
         ensures serves { Serves honest faults self.old self.new (IsErrOf result DiskError.Failed) }
         ensures tick { Ticks honest calls self.old self.new }
         ensures crash { Steps calls images self.old self.new (SameBut name.now) }
-        ensures put { honest self.old → OnOk result (content self.new ≡ placed (content self.old) name.now (Some bytes.now)) }
-        ensures unchanged { IsErrOf result DiskError.NoMemory → (honest self.old → content self.new ≡ content self.old)
-            × Steps calls images self.old self.new Same × (faults self.new ≡ faults self.old) };
+        ensures put { PutsWhole honest content self.old self.new name.now bytes.now result }
+        ensures unchanged { WantKeeps honest content calls images faults self.old self.new result };
 
     /// Moves what stands at `from` to `to`, in place of what was there. Until a sync, it may or may not have happened.
     /// `false` exactly where nothing is at `from`, and then nothing changed.
@@ -135,10 +134,9 @@ pub trait Disk {
         ensures serves { Serves honest faults self.old self.new (IsErr result) }
         ensures tick { Ticks honest calls self.old self.new }
         ensures crash { Steps calls images self.old self.new (MayMove from.now to.now) }
-        ensures there { honest self.old → IfOk result (λ done. done ≡ is_some (get (content self.old) from.now)) }
-        ensures renamed { honest self.old → IfOk result (λ done. done ≡ true → content self.new ≡ renamed (content self.old) from.now to.now) }
-        ensures unchanged { IfOk result (λ done. done ≡ false → (honest self.old → content self.new ≡ content self.old)
-            × Steps calls images self.old self.new Same × (faults self.new ≡ faults self.old)) };
+        ensures there { TellsThere honest content self.old from.now result }
+        ensures renamed { MovesFile honest content self.old self.new from.now to.now result }
+        ensures unchanged { NoneKeeps honest content calls images faults self.old self.new result };
 
     /// Removes what stands at a name. Until a sync, it may or may not have happened. `false` exactly where nothing is at
     /// the name, and then nothing changed.
@@ -146,10 +144,9 @@ pub trait Disk {
         ensures serves { Serves honest faults self.old self.new (IsErr result) }
         ensures tick { Ticks honest calls self.old self.new }
         ensures crash { Steps calls images self.old self.new (MayGo name.now) }
-        ensures there { honest self.old → IfOk result (λ done. done ≡ is_some (get (content self.old) name.now)) }
-        ensures removed { honest self.old → OnOk result (content self.new ≡ remove (content self.old) name.now) }
-        ensures unchanged { IfOk result (λ done. done ≡ false → (honest self.old → content self.new ≡ content self.old)
-            × Steps calls images self.old self.new Same × (faults self.new ≡ faults self.old)) };
+        ensures there { TellsThere honest content self.old name.now result }
+        ensures removed { DropsFile honest content self.old self.new name.now result }
+        ensures unchanged { NoneKeeps honest content calls images faults self.old self.new result };
 
     /// After Ok, a crash leaves only what is read.
     fn sync(&mut self) -> Result<(), Failed>

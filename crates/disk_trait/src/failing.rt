@@ -1,9 +1,10 @@
-// A disk that fails on purpose, over another.
-ghost use Rattle.std.specs.Prelude.{◌≡◌, ◌<◌, ◌≤◌, ◌+◌, ◌-◌, ◌^◌, ◌++◌, ◌↔◌, min, ℕ, List, length, take, drop, map, filter, eqb, true, false, Some, is_some, option_map, string_bytes, IfOk, OnOk, IsErrOf, IsErr, MatchOption};
-ghost use Rattle.std.specs.FinMap.{get, keys, remove};
-ghost use Rattle.std.specs.List.{starts_with};
-ghost use Rattle.disk_trait.specs.Files.{placed, renamed, SameBut};
-ghost use Rattle.disk_trait.specs.Disk.{Serves, Ticks, Steps, Now, Same, MayMove, MayGo};
+//! A disk that fails on purpose, over another.
+
+ghost use Rattle.std.specs.Prelude.{◌≡◌, ◌<◌, ◌≤◌, ◌+◌, ◌-◌, ◌^◌, ◌↔◌, min, ℕ, List, length, OnOk, IsErrOf, IsErr};
+ghost use Rattle.disk_trait.specs.Files.{SameBut};
+ghost use Rattle.disk_trait.specs.Disk.{Rose, Ticks, Same, MayMove, MayGo};
+ghost use Rattle.disk_trait.specs.Calls.{ReadsAt, FindsAt, CountsAt, ListsNames, WantKeepsFaults};
+ghost use Rattle.disk_trait.specs.Effects.{StepsOn, SameContent, OkKeepsContent, IsDurable, DiskFills, DiskTells, DiskPuts, Renames, DiskDrops, DiskWantKeeps, DiskNoneKeeps};
 ghost use Rattle.disk_trait.specs.FailurePlan.{fails_at};
 
 use crate::{Disk, DiskError, Failed};
@@ -54,14 +55,14 @@ fn pass<D: Disk>(disk: &mut D)
     ensures kept { D.honest disk.old ↔ D.honest disk.new }
     ensures count { D.faults disk.old ≤ D.faults disk.new }
     ensures tick { Ticks D.honest D.calls disk.old disk.new }
-    ensures crash { Steps D.calls D.images disk.old disk.new Same }
-    ensures same { D.honest disk.old → D.content disk.new ≡ D.content disk.old }
+    ensures crash { StepsOn D.Disk disk.old disk.new Same }
+    ensures same { SameContent D.Disk disk.old disk.new }
 {
     let _ = disk.size("");
 }
 
 impl<D: Disk + Drop> FailingDisk<D> {
-    ghost use Rattle.disk_trait.specs.Planned.{plan_is, made_by, own_faults, below};
+    ghost use Rattle.disk_trait.specs.Planned.{plan_is, made_by, own_faults, all_faults, below};
     ghost use Rattle.disk_trait.specs.declared.failing.Plan.TheVariants.{Calls, StopAfter};
 
     /// Fails the calls with these numbers, the first call being 0.
@@ -107,13 +108,13 @@ impl<D: Disk + Drop> FailingDisk<D> {
     // Fails a planned call.
     fn fail(&mut self)
         ensures kept { D.honest self.old.inner ↔ D.honest self.new.inner }
-        ensures count { min (D.faults self.old.inner + self.old.failed) (2 ^ 64 - 1) ≤ min (D.faults self.new.inner + self.new.failed) (2 ^ 64 - 1) }
-        ensures rose { min (min (D.faults self.old.inner + self.old.failed) (2 ^ 64 - 1) + 1) (2 ^ 64 - 1) ≤ min (D.faults self.new.inner + self.new.failed) (2 ^ 64 - 1) }
+        ensures count { all_faults D.Disk self.old ≤ all_faults D.Disk self.new }
+        ensures rose { Rose (all_faults D.Disk self.old) (all_faults D.Disk self.new) }
         ensures own { self.new.failed ≡ min (self.old.failed + 1) (2 ^ 64 - 1) }
         ensures schedule { self.new.schedule ≡ self.old.schedule }
         ensures tick { Ticks D.honest D.calls self.old.inner self.new.inner }
-        ensures crash { Steps D.calls D.images self.old.inner self.new.inner Same }
-        ensures same { D.honest self.old.inner → D.content self.new.inner ≡ D.content self.old.inner }
+        ensures crash { StepsOn D.Disk self.old.inner self.new.inner Same }
+        ensures same { SameContent D.Disk self.old.inner self.new.inner }
     {
         pass(&mut self.inner);
         self.failed = self.failed.saturating_add(1);
@@ -121,7 +122,7 @@ impl<D: Disk + Drop> FailingDisk<D> {
 }
 
 impl<D: Disk + Drop> Disk for FailingDisk<D> {
-    ghost use Rattle.disk_trait.specs.Planned.{Follows, fails_next, below};
+    ghost use Rattle.disk_trait.specs.Planned.{Follows, ServesOver, PlanKeepsContent, PlanKeepsFiles, below};
 
     ghost honest = { λ d. D.honest d.inner };
 
@@ -150,12 +151,12 @@ impl<D: Disk + Drop> Disk for FailingDisk<D> {
     }
 
     fn read(&mut self, alloc: Global, name: &str) -> Result<Option<Vec<u8>>, DiskError>
-        ensures serves { Serves ⟦<FailingDisk<D> as Disk>⟧.honest ⟦<FailingDisk<D> as Disk>⟧.faults self.old self.new (IsErrOf result DiskError.Failed) }
+        ensures serves { ServesOver D.Disk self.old self.new (IsErrOf result DiskError.Failed) }
         ensures tick { Ticks D.honest D.calls (below self.old) (below self.new) }
-        ensures crash { Steps D.calls D.images (below self.old) (below self.new) Same }
-        ensures same { D.honest (below self.old) → D.content (below self.new) ≡ D.content (below self.old) }
-        ensures bytes { D.honest (below self.old) → IfOk result (λ found. option_map (λ v. v.items) found ≡ get (D.content (below self.old)) name.now) }
-        ensures unchanged { IsErrOf result DiskError.NoMemory → D.faults (below self.new) ≡ D.faults (below self.old) }
+        ensures crash { StepsOn D.Disk (below self.old) (below self.new) Same }
+        ensures same { SameContent D.Disk (below self.old) (below self.new) }
+        ensures bytes { ReadsAt D.honest D.content (below self.old) name.now result }
+        ensures unchanged { WantKeepsFaults D.faults (below self.old) (below self.new) result }
         ensures plan { Follows D.faults self.old self.new (IsErrOf result DiskError.Failed) }
     {
         if self.schedule.is_failing() {
@@ -171,14 +172,12 @@ impl<D: Disk + Drop> Disk for FailingDisk<D> {
         offset: u64,
         into: &mut [u8],
     ) -> Result<Option<usize>, Failed>
-        ensures serves { Serves ⟦<FailingDisk<D> as Disk>⟧.honest ⟦<FailingDisk<D> as Disk>⟧.faults self.old self.new (IsErr result) }
+        ensures serves { ServesOver D.Disk self.old self.new (IsErr result) }
         ensures tick { Ticks D.honest D.calls (below self.old) (below self.new) }
-        ensures crash { Steps D.calls D.images (below self.old) (below self.new) Same }
-        ensures same { D.honest (below self.old) → D.content (below self.new) ≡ D.content (below self.old) }
-        ensures there { D.honest (below self.old) → IfOk result (λ n. is_some n ≡ is_some (get (D.content (below self.old)) name.now)) }
-        ensures bytes { D.honest (below self.old) → IfOk result (λ n. MatchOption (get (D.content (below self.old)) name.now) (into.new ≡ into.old) (λ file.
-            (n ≡ Some (min (length into.old) (length file - offset)))
-            × (into.new ≡ take (length into.old) (drop offset file) ++ drop (length file - offset) into.old))) }
+        ensures crash { StepsOn D.Disk (below self.old) (below self.new) Same }
+        ensures same { SameContent D.Disk (below self.old) (below self.new) }
+        ensures there { FindsAt D.honest D.content (below self.old) name.now result }
+        ensures bytes { DiskFills D.Disk (below self.old) name.now offset into.old into.new result }
         ensures plan { Follows D.faults self.old self.new (IsErr result) }
     {
         if self.schedule.is_failing() {
@@ -189,11 +188,11 @@ impl<D: Disk + Drop> Disk for FailingDisk<D> {
     }
 
     fn size(&mut self, name: &str) -> Result<Option<u64>, Failed>
-        ensures serves { Serves ⟦<FailingDisk<D> as Disk>⟧.honest ⟦<FailingDisk<D> as Disk>⟧.faults self.old self.new (IsErr result) }
+        ensures serves { ServesOver D.Disk self.old self.new (IsErr result) }
         ensures tick { Ticks D.honest D.calls (below self.old) (below self.new) }
-        ensures crash { Steps D.calls D.images (below self.old) (below self.new) Same }
-        ensures same { D.honest (below self.old) → D.content (below self.new) ≡ D.content (below self.old) }
-        ensures size { D.honest (below self.old) → IfOk result (λ n. n ≡ option_map (λ file. length file) (get (D.content (below self.old)) name.now)) }
+        ensures crash { StepsOn D.Disk (below self.old) (below self.new) Same }
+        ensures same { SameContent D.Disk (below self.old) (below self.new) }
+        ensures size { CountsAt D.honest D.content (below self.old) name.now result }
         ensures plan { Follows D.faults self.old self.new (IsErr result) }
     {
         if self.schedule.is_failing() {
@@ -204,12 +203,12 @@ impl<D: Disk + Drop> Disk for FailingDisk<D> {
     }
 
     fn list(&mut self, alloc: Global, prefix: &str) -> Result<Vec<String>, DiskError>
-        ensures serves { Serves ⟦<FailingDisk<D> as Disk>⟧.honest ⟦<FailingDisk<D> as Disk>⟧.faults self.old self.new (IsErrOf result DiskError.Failed) }
+        ensures serves { ServesOver D.Disk self.old self.new (IsErrOf result DiskError.Failed) }
         ensures tick { Ticks D.honest D.calls (below self.old) (below self.new) }
-        ensures crash { Steps D.calls D.images (below self.old) (below self.new) Same }
-        ensures same { D.honest (below self.old) → D.content (below self.new) ≡ D.content (below self.old) }
-        ensures names { D.honest (below self.old) → IfOk result (λ names. map string_bytes names.items ≡ filter (λ name. starts_with eqb name prefix.now) (keys (D.content (below self.old)))) }
-        ensures unchanged { IsErrOf result DiskError.NoMemory → D.faults (below self.new) ≡ D.faults (below self.old) }
+        ensures crash { StepsOn D.Disk (below self.old) (below self.new) Same }
+        ensures same { SameContent D.Disk (below self.old) (below self.new) }
+        ensures names { ListsNames D.honest D.content (below self.old) prefix.now result }
+        ensures unchanged { WantKeepsFaults D.faults (below self.old) (below self.new) result }
         ensures plan { Follows D.faults self.old self.new (IsErrOf result DiskError.Failed) }
     {
         if self.schedule.is_failing() {
@@ -221,15 +220,13 @@ impl<D: Disk + Drop> Disk for FailingDisk<D> {
 
     fn put(&mut self, alloc: Global, name: &str, bytes: &[u8]) -> Result<(), DiskError>
         requires { length name.now ≤ 255 }
-        ensures serves { Serves ⟦<FailingDisk<D> as Disk>⟧.honest ⟦<FailingDisk<D> as Disk>⟧.faults self.old self.new (IsErrOf result DiskError.Failed) }
+        ensures serves { ServesOver D.Disk self.old self.new (IsErrOf result DiskError.Failed) }
         ensures tick { Ticks D.honest D.calls (below self.old) (below self.new) }
-        ensures crash { Steps D.calls D.images (below self.old) (below self.new) (SameBut name.now) }
-        ensures put { D.honest (below self.old) → OnOk result (D.content (below self.new) ≡ placed (D.content (below self.old)) name.now (Some bytes.now)) }
-        ensures unchanged { IsErrOf result DiskError.NoMemory → (D.honest (below self.old) → D.content (below self.new) ≡ D.content (below self.old))
-            × Steps D.calls D.images (below self.old) (below self.new) Same × (D.faults (below self.new) ≡ D.faults (below self.old)) }
+        ensures crash { StepsOn D.Disk (below self.old) (below self.new) (SameBut name.now) }
+        ensures put { DiskPuts D.Disk (below self.old) (below self.new) name.now bytes.now result }
+        ensures unchanged { DiskWantKeeps D.Disk (below self.old) (below self.new) result }
         ensures plan { Follows D.faults self.old self.new (IsErrOf result DiskError.Failed) }
-        ensures not_made { fails_next self.old ≡ true → (D.honest (below self.old) → D.content (below self.new) ≡ D.content (below self.old))
-            × Steps D.calls D.images (below self.old) (below self.new) Same }
+        ensures not_made { PlanKeepsFiles D.Disk self.old self.new }
     {
         if self.schedule.is_failing() {
             self.fail();
@@ -240,16 +237,14 @@ impl<D: Disk + Drop> Disk for FailingDisk<D> {
 
     fn rename(&mut self, from: &str, to: &str) -> Result<bool, Failed>
         requires { length to.now ≤ 255 }
-        ensures serves { Serves ⟦<FailingDisk<D> as Disk>⟧.honest ⟦<FailingDisk<D> as Disk>⟧.faults self.old self.new (IsErr result) }
+        ensures serves { ServesOver D.Disk self.old self.new (IsErr result) }
         ensures tick { Ticks D.honest D.calls (below self.old) (below self.new) }
-        ensures crash { Steps D.calls D.images (below self.old) (below self.new) (MayMove from.now to.now) }
-        ensures there { D.honest (below self.old) → IfOk result (λ done. done ≡ is_some (get (D.content (below self.old)) from.now)) }
-        ensures renamed { D.honest (below self.old) → IfOk result (λ done. done ≡ true → D.content (below self.new) ≡ renamed (D.content (below self.old)) from.now to.now) }
-        ensures unchanged { IfOk result (λ done. done ≡ false → (D.honest (below self.old) → D.content (below self.new) ≡ D.content (below self.old))
-            × Steps D.calls D.images (below self.old) (below self.new) Same × (D.faults (below self.new) ≡ D.faults (below self.old))) }
+        ensures crash { StepsOn D.Disk (below self.old) (below self.new) (MayMove from.now to.now) }
+        ensures there { DiskTells D.Disk (below self.old) from.now result }
+        ensures renamed { Renames D.Disk (below self.old) (below self.new) from.now to.now result }
+        ensures unchanged { DiskNoneKeeps D.Disk (below self.old) (below self.new) result }
         ensures plan { Follows D.faults self.old self.new (IsErr result) }
-        ensures not_made { fails_next self.old ≡ true → (D.honest (below self.old) → D.content (below self.new) ≡ D.content (below self.old))
-            × Steps D.calls D.images (below self.old) (below self.new) Same }
+        ensures not_made { PlanKeepsFiles D.Disk self.old self.new }
     {
         if self.schedule.is_failing() {
             self.fail();
@@ -259,16 +254,14 @@ impl<D: Disk + Drop> Disk for FailingDisk<D> {
     }
 
     fn remove(&mut self, name: &str) -> Result<bool, Failed>
-        ensures serves { Serves ⟦<FailingDisk<D> as Disk>⟧.honest ⟦<FailingDisk<D> as Disk>⟧.faults self.old self.new (IsErr result) }
+        ensures serves { ServesOver D.Disk self.old self.new (IsErr result) }
         ensures tick { Ticks D.honest D.calls (below self.old) (below self.new) }
-        ensures crash { Steps D.calls D.images (below self.old) (below self.new) (MayGo name.now) }
-        ensures there { D.honest (below self.old) → IfOk result (λ done. done ≡ is_some (get (D.content (below self.old)) name.now)) }
-        ensures removed { D.honest (below self.old) → OnOk result (D.content (below self.new) ≡ remove (D.content (below self.old)) name.now) }
-        ensures unchanged { IfOk result (λ done. done ≡ false → (D.honest (below self.old) → D.content (below self.new) ≡ D.content (below self.old))
-            × Steps D.calls D.images (below self.old) (below self.new) Same × (D.faults (below self.new) ≡ D.faults (below self.old))) }
+        ensures crash { StepsOn D.Disk (below self.old) (below self.new) (MayGo name.now) }
+        ensures there { DiskTells D.Disk (below self.old) name.now result }
+        ensures removed { DiskDrops D.Disk (below self.old) (below self.new) name.now result }
+        ensures unchanged { DiskNoneKeeps D.Disk (below self.old) (below self.new) result }
         ensures plan { Follows D.faults self.old self.new (IsErr result) }
-        ensures not_made { fails_next self.old ≡ true → (D.honest (below self.old) → D.content (below self.new) ≡ D.content (below self.old))
-            × Steps D.calls D.images (below self.old) (below self.new) Same }
+        ensures not_made { PlanKeepsFiles D.Disk self.old self.new }
     {
         if self.schedule.is_failing() {
             self.fail();
@@ -278,13 +271,13 @@ impl<D: Disk + Drop> Disk for FailingDisk<D> {
     }
 
     fn sync(&mut self) -> Result<(), Failed>
-        ensures serves { Serves ⟦<FailingDisk<D> as Disk>⟧.honest ⟦<FailingDisk<D> as Disk>⟧.faults self.old self.new (IsErr result) }
+        ensures serves { ServesOver D.Disk self.old self.new (IsErr result) }
         ensures tick { Ticks D.honest D.calls (below self.old) (below self.new) }
-        ensures crash { Steps D.calls D.images (below self.old) (below self.new) Same }
-        ensures same { D.honest (below self.old) → OnOk result (D.content (below self.new) ≡ D.content (below self.old)) }
-        ensures durable { OnOk result (Now D.calls D.images (below self.new) (λ c. c ≡ D.content (below self.new))) }
+        ensures crash { StepsOn D.Disk (below self.old) (below self.new) Same }
+        ensures same { OkKeepsContent D.Disk (below self.old) (below self.new) result }
+        ensures durable { OnOk result (IsDurable D.Disk (below self.new)) }
         ensures plan { Follows D.faults self.old self.new (IsErr result) }
-        ensures not_made { fails_next self.old ≡ true → D.honest (below self.old) → D.content (below self.new) ≡ D.content (below self.old) }
+        ensures not_made { PlanKeepsContent D.Disk self.old self.new }
     {
         if self.schedule.is_failing() {
             self.fail();

@@ -1,6 +1,8 @@
-// A disk over a folder of files. Nothing is told of its content.
-ghost use Rattle.std.specs.Prelude.{◌≡◌, ◌⊎◌, ◌+◌, ◌-◌, ◌^◌, ◌≤◌, min, IfOk, IsErr, IsErrOf, string_bytes};
+//! A disk over a folder of files. Nothing is told of its content.
+
+ghost use Rattle.std.specs.Prelude.{◌≡◌, ◌⊎◌, ◌≤◌, IfOk, IsErr, IsErrOf, string_bytes};
 ghost use Rattle.std.specs.FinMap.{empty};
+ghost use Rattle.disk_trait.specs.Disk.{one_up};
 
 use crate::folder::Folder;
 use crate::{Disk, DiskError, Failed};
@@ -36,7 +38,7 @@ impl<R: Files + AllocGlobal + Clone + Drop> FileDisk<R> {
         ensures same { result ≡ outcome }
         ensures calls { self.old.calls ≤ self.new.calls }
         ensures faults { self.old.faults ≤ self.new.faults }
-        ensures rose { IsErrOf result DiskError.Failed → self.new.faults ≡ min (self.old.faults + 1) (2 ^ 64 - 1) }
+        ensures rose { IsErrOf result DiskError.Failed → self.new.faults ≡ one_up self.old.faults }
         ensures stays { IsErrOf result DiskError.NoMemory → self.new.faults ≡ self.old.faults }
     {
         self.calls = self.calls.saturating_add(1);
@@ -50,7 +52,7 @@ impl<R: Files + AllocGlobal + Clone + Drop> FileDisk<R> {
         ensures same { result ≡ outcome }
         ensures calls { self.old.calls ≤ self.new.calls }
         ensures faults { self.old.faults ≤ self.new.faults }
-        ensures rose { IsErr result → self.new.faults ≡ min (self.old.faults + 1) (2 ^ 64 - 1) }
+        ensures rose { IsErr result → self.new.faults ≡ one_up self.old.faults }
         ensures stays { IsErr result ⊎ (self.new.faults ≡ self.old.faults) }
     {
         self.calls = self.calls.saturating_add(1);

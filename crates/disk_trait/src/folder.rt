@@ -1,4 +1,5 @@
-// A real folder whose files are seen as a map from names to bytes. A name with slashes is a file in sub-folders.
+//! A real folder whose files are seen as a map from names to bytes. A name with slashes is a file in sub-folders.
+
 ghost use Rattle.std.specs.Prelude.{◌≡◌, IfOk, string_bytes};
 ghost use Rattle.std.specs.IoError.{error_kind};
 ghost use Rattle.disk_trait.specs.IoCauses.{cause_of};
@@ -30,6 +31,7 @@ impl From<io::Error> for DiskError {
     }
 }
 
+/// The files below a root. No clause says what is read or written.
 #[derive(Drop)]
 pub struct Folder<R: Files + AllocGlobal + Clone + Drop> {
     rt: R,
@@ -40,6 +42,7 @@ pub struct Folder<R: Files + AllocGlobal + Clone + Drop> {
 }
 
 impl<R: Files + AllocGlobal + Clone + Drop> Folder<R> {
+    /// The folder at a root, which is not looked at yet.
     pub fn new(rt: R, alloc: Global, root: &str) -> Result<Self, AllocError>
         ensures { IfOk result (λ f. string_bytes f.root ≡ root.now) }
     {
@@ -52,7 +55,7 @@ impl<R: Files + AllocGlobal + Clone + Drop> Folder<R> {
         })
     }
 
-    // Fails where the root is no folder.
+    /// Fails where the root is no folder.
     pub fn check_root(&self) -> Result<(), Failed> {
         if fs::metadata(&self.rt, self.root.as_str())?.is_dir() {
             Ok(())
@@ -61,7 +64,7 @@ impl<R: Files + AllocGlobal + Clone + Drop> Folder<R> {
         }
     }
 
-    // The size of the file at a name, where there is one. Its path then stands in `path`.
+    /// The size of the file at a name, where there is one. Its path then stands in `path`.
     pub fn look_up(&mut self, name: &str) -> Result<Option<u64>, Failed> {
         self.check_root()?;
         if !is_plain(name) {
@@ -76,6 +79,7 @@ impl<R: Files + AllocGlobal + Clone + Drop> Folder<R> {
         }
     }
 
+    /// All bytes of the file at a name, where there is one.
     pub fn read(&mut self, alloc: Global, name: &str) -> Result<Option<Vec<u8>>, DiskError> {
         if self.look_up(name)?.is_none() {
             return Ok(None);
@@ -85,6 +89,7 @@ impl<R: Files + AllocGlobal + Clone + Drop> Folder<R> {
         Ok(Some(bytes))
     }
 
+    /// The bytes of the file at a name from an offset on, as far as they go, left in `into`: how many they are.
     pub fn read_part(
         &mut self,
         name: &str,
@@ -103,6 +108,7 @@ impl<R: Files + AllocGlobal + Clone + Drop> Folder<R> {
         Ok(Some(count))
     }
 
+    /// Writes the file at a name, syncs it, and syncs its folder. Folders of the name are made when needed.
     pub fn put(&mut self, name: &str, bytes: &[u8]) -> Result<(), Failed> {
         self.check_root()?;
         make_folders(&self.rt, &mut self.path, self.root.as_str(), name)?;
@@ -112,6 +118,7 @@ impl<R: Files + AllocGlobal + Clone + Drop> Folder<R> {
         sync_folder_of(&self.rt, self.path.as_str())
     }
 
+    /// Renames a file, over another where there is one, and syncs the folders; `false` where there is none at `from`.
     pub fn rename(&mut self, from: &str, to: &str) -> Result<bool, Failed> {
         if self.look_up(from)?.is_none() {
             return Ok(false);
@@ -125,6 +132,7 @@ impl<R: Files + AllocGlobal + Clone + Drop> Folder<R> {
         Ok(true)
     }
 
+    /// Removes the file at a name, and syncs its folder; `false` where there is none.
     pub fn remove(&mut self, name: &str) -> Result<bool, Failed> {
         if self.look_up(name)?.is_none() {
             return Ok(false);
@@ -134,6 +142,7 @@ impl<R: Files + AllocGlobal + Clone + Drop> Folder<R> {
         Ok(true)
     }
 
+    /// The names of the files that begin with the prefix.
     pub fn list(&self, alloc: Global, prefix: &str) -> Result<Vec<String>, DiskError> {
         self.check_root()?;
         let mut found = Found {

@@ -1,12 +1,13 @@
-// A disk in memory. It keeps what it did, and reads by going back over it.
-ghost use Rattle.std.specs.Prelude.{◌≡◌, ◌≢◌, ◌<◌, ◌+◌, ◌-◌, ◌^◌, ◌++◌, [], ◌∷◌, ℕ, min, OnOk, OnErr, IfOk, Ok, ◌≤◌, length, take, drop};
+//! A disk in memory. It keeps what it did, and reads by going back over it.
+
+ghost use Rattle.std.specs.Prelude.{◌≡◌, ◌+◌, ◌-◌, ◌^◌, ℕ, min, OnOk, OnErr, IfOk, ◌≤◌, length};
 ghost use Rattle.std.specs.FinMap.{empty};
 ghost use Rattle.std.specs.Result.{ForOk};
 ghost use Rattle.disk_trait.specs.Files.{Files};
-ghost use Rattle.disk_trait.specs.declared.step_log.Step.{Step};
 ghost use Rattle.disk_trait.specs.Replay.{played, all_by, all_short, KeepsShort, images_of, IsPut, IsRename, IsRemove};
 ghost use Rattle.disk_trait.specs.Timeline.{read_now};
-ghost use Rattle.disk_trait.specs.CrashImage.{crash_image};
+ghost use Rattle.disk_trait.specs.Calls.{filled};
+ghost use Rattle.disk_trait.specs.Effects.{IsImage, ReadsAs, IsPlainlyLeft, LeavesOnlyRead};
 ghost use Rattle.disk_trait.specs.ShortNames.{short_read, short_left};
 
 use crate::crashes::crash_log;
@@ -28,7 +29,7 @@ pub struct MemoryDisk {
 }
 
 impl MemoryDisk {
-    ghost use Rattle.disk_trait.specs.Recorded.{steps_of};
+    ghost use Rattle.disk_trait.specs.Recorded.{steps_of, crashed_by, RecordsStep};
 
     /// An empty disk, on which nothing else was.
     pub fn new(alloc: Global) -> Self
@@ -58,11 +59,10 @@ impl MemoryDisk {
     /// reads, but each name put since the last sync, under its present name, is cut to half, and no removal is done. Any
     /// other: as it reads.
     pub fn crashed(&self, alloc: Global, choice: u8) -> Result<MemoryDisk, AllocError>
-        ensures image { ⟦<MemoryDisk as Disk>⟧.calls self.now < 2 ^ 64 - 1 → IfOk result (λ left.
-            ⟦<MemoryDisk as Disk>⟧.images self.now (⟦<MemoryDisk as Disk>⟧.calls self.now) (⟦<MemoryDisk as Disk>⟧.content left)) }
-        ensures left { IfOk result (λ left. ⟦<MemoryDisk as Disk>⟧.content left ≡ crash_image choice (steps_of self.now)) }
-        ensures as_read { choice ≢ 0 → choice ≢ 2 → IfOk result (λ left. ⟦<MemoryDisk as Disk>⟧.content left ≡ ⟦<MemoryDisk as Disk>⟧.content self.now) }
-        ensures firm { IfOk result (λ left. (t : ℕ) (c : Files) → ⟦<MemoryDisk as Disk>⟧.images left t c → c ≡ ⟦<MemoryDisk as Disk>⟧.content left) }
+        ensures image { IsImage ⟦<MemoryDisk as Disk>⟧ self.now result }
+        ensures left { IfOk result (ReadsAs ⟦<MemoryDisk as Disk>⟧ (crashed_by choice self.now)) }
+        ensures as_read { IsPlainlyLeft ⟦<MemoryDisk as Disk>⟧ choice self.now result }
+        ensures firm { IfOk result (LeavesOnlyRead ⟦<MemoryDisk as Disk>⟧) }
         ensures calls { IfOk result (λ left. ⟦<MemoryDisk as Disk>⟧.calls left ≡ 0) }
         ensures faults { IfOk result (λ left. ⟦<MemoryDisk as Disk>⟧.faults left ≡ 0) }
     {
@@ -98,7 +98,7 @@ impl MemoryDisk {
         ensures calls { self.new.calls ≡ min (self.old.calls + 1) (2 ^ 64 - 1) }
         ensures later { self.old.calls ≤ self.new.calls }
         ensures faults { self.new.faults ≡ self.old.faults }
-        ensures ok { OnOk result ((s : Step) × (step ≡ Ok s) × (self.new.log.items ≡ self.old.log.items ++ record { at = self.new.calls; step = s } ∷ [])) }
+        ensures ok { OnOk result (RecordsStep self.old self.new step) }
         ensures err { OnErr result (self.new.log.items ≡ self.old.log.items) }
     {
         self.tick();
@@ -115,7 +115,7 @@ impl MemoryDisk {
         ensures calls { self.new.calls ≡ min (self.old.calls + 1) (2 ^ 64 - 1) }
         ensures later { self.old.calls ≤ self.new.calls }
         ensures faults { self.old.faults ≤ self.new.faults }
-        ensures ok { OnOk result ((s : Step) × (step ≡ Ok s) × (self.new.log.items ≡ self.old.log.items ++ record { at = self.new.calls; step = s } ∷ [])) }
+        ensures ok { OnOk result (RecordsStep self.old self.new step) }
         ensures err { OnErr result (self.new.log.items ≡ self.old.log.items) }
         ensures cause { OnErr result (self.new.faults ≡ min (self.old.faults + 1) (2 ^ 64 - 1)) }
     {
@@ -248,7 +248,7 @@ impl Disk for MemoryDisk {
 // Copies bytes of a file from an offset, as many as there are and go in.
 fn copy_part(bytes: &[u8], offset: u64, into: &mut [u8]) -> usize
     ensures count { result ≡ min (length into.old) (length bytes.now - offset) }
-    ensures copied { into.new ≡ take (length into.old) (drop offset bytes.now) ++ drop (length bytes.now - offset) into.old }
+    ensures copied { into.new ≡ filled bytes.now offset into.old }
 {
     if offset >= bytes.len() as u64 {
         return 0;

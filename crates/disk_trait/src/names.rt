@@ -1,18 +1,19 @@
-// The names that stand after some steps.
-ghost use Rattle.std.specs.Prelude.{◌≡◌, eqb, map, filter, IfOk, OnOk, OnErr, string_bytes, string_cmp};
+//! The names that stand after some steps.
+
+ghost use Rattle.std.specs.Prelude.{◌≡◌, eqb, IfOk, OnOk, OnErr, string_cmp};
 ghost use Rattle.std.specs.List.{starts_with};
-ghost use Rattle.std.specs.FinMap.{empty, keys};
+ghost use Rattle.std.specs.FinMap.{empty};
 ghost use Rattle.std.specs.BTreeSet.{IsOrdered};
-ghost use Rattle.disk_trait.specs.Files.{Files};
-ghost use Rattle.disk_trait.specs.Replay.{done, played};
-ghost use Rattle.disk_trait.specs.Named.{Names};
+ghost use Rattle.disk_trait.specs.Replay.{played};
+ghost use Rattle.disk_trait.specs.Named.{Names, NamesFollow, keys_under};
+ghost use Rattle.disk_trait.specs.Calls.{AreNamesUnder};
 
 use crate::step_log::{LoggedStep, Step};
 use std::alloc::{AllocError, Global};
 use std::collections::BTreeSet;
 
 fn update(alloc: Global, names: &mut BTreeSet<String>, step: &Step) -> Result<(), AllocError>
-    ensures { OnOk result ((files : Files) → Names names.old files → Names names.new (done files step.now)) }
+    ensures { OnOk result (NamesFollow names.old names.new step.now) }
 {
     match step {
         Step::Put { name, .. } => {
@@ -58,7 +59,7 @@ fn beginning(
     prefix: &str,
 ) -> Result<Vec<String>, AllocError>
     ensures ordered { IsOrdered string_cmp names }
-    ensures found { IfOk result (λ found. found.items ≡ filter (λ n. starts_with eqb (string_bytes n) prefix.now) names.keys) }
+    ensures found { IfOk result (λ found. found.items ≡ keys_under names prefix.now) }
 {
     names
         .into_iter()
@@ -71,7 +72,7 @@ pub fn list_names(
     log: &[LoggedStep],
     prefix: &str,
 ) -> Result<Vec<String>, AllocError>
-    ensures { IfOk result (λ found. map string_bytes found.items ≡ filter (λ n. starts_with eqb n prefix.now) (keys (played empty log.now))) }
+    ensures { IfOk result (AreNamesUnder (played empty log.now) prefix.now) }
 {
     let names = names_of(alloc, log)?;
     let found = beginning(alloc, names, prefix)?;

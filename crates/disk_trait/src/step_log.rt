@@ -1,9 +1,10 @@
-// What a disk in memory has done, and how a file is found in it.
-ghost use Rattle.std.specs.Prelude.{◌≡◌, MatchOption, None, Some};
-ghost use Rattle.std.specs.FinMap.{get, empty};
+//! What a disk in memory has done, and how a file is found in it.
+
+ghost use Rattle.std.specs.Prelude.{◌≡◌};
+ghost use Rattle.std.specs.FinMap.{get};
 ghost use Rattle.disk_trait.specs.Files.{Files};
-ghost use Rattle.disk_trait.specs.Replay.{done, played};
-ghost use Rattle.disk_trait.specs.Traced.{traced};
+ghost use Rattle.disk_trait.specs.Replay.{done};
+ghost use Rattle.disk_trait.specs.Traced.{traced, IsFound};
 
 /// What a disk has done.
 #[derive(Debug, Drop)]
@@ -61,7 +62,7 @@ pub fn trace_back<'a>(step: &'a Step, name: &'a str) -> Trace<'a>
 }
 
 pub fn find<'a>(log: &'a [LoggedStep], name: &'a str) -> Option<&'a [u8]>
-    ensures { MatchOption result (get (played empty log.now) name.now ≡ None) (λ bytes. get (played empty log.now) name.now ≡ Some bytes.now) }
+    ensures { IsFound log.now name.now result }
 {
     let mut wanted = name;
     let mut left = log.len();

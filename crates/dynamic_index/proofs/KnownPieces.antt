@@ -1,9 +1,8 @@
 -- Several pieces behind the others.
-use Rattle.std.proofs.Common.{◌≡◌, ℕ, suc, ◌+◌, ◌<◌, ◌≤◌, List, [], ◌∷◌, ◌++◌, length, map, drop, All, get_or, refl, sym, ap, subst, ◌∙◌, append_assoc, drop-cons, add-one, arith}
+use Rattle.std.proofs.Common.{◌≡◌, ℕ, suc, ◌+◌, ◌<◌, List, [], ◌∷◌, ◌++◌, length, map, drop, All, get_or, refl, sym, ap, subst, ◌∙◌, append_assoc, drop-cons, add-one, arith}
 use Rattle.std.specs.Prelude.{ℤ}
 use Rattle.std.proofs.lemmas.List.Elements.{All-head, All-tail}
 use Rattle.store_types.specs.declared.names.Digest32.{Digest32}
-use Rattle.store_files.specs.Cells.{entry_limit}
 use Rattle.store_files.specs.DynamicIndex.{Ended}
 use Rattle.dynamic_index.specs.Pieces.{last_end}
 use Rattle.dynamic_index.specs.Writing.{reserved, IsBegun, FitsPiece, Known, known_of, ends_behind, FitsPieces}

@@ -6,3 +6,4 @@ mod Faults
 mod TextParts
 pub mod Spelling
 pub mod Reading
+mod InRange

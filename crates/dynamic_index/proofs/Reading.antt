@@ -1,12 +1,11 @@
 -- What bytes that are an index have in them, for a reader that uses no view.
-use Rattle.std.proofs.Common.{◌≡◌, ◌≤◌, ℕ, IsTrue, List, length, Option, Some, None, Ok, refl, sym, ap, subst, ◌∙◌, arith}
+use Rattle.std.proofs.Common.{◌≡◌, ◌≤◌, ℕ, IsTrue, List, length, Option, Some, None, Ok, refl, sym, subst, ◌∙◌, arith}
 use Rattle.store_files.specs.declared.causes.IndexFault.{IndexFault}
 use Rattle.store_files.specs.Cells.{entry_limit}
-use Rattle.store_files.specs.DynamicIndex.{DynamicIndex, steps_fit, fields_of, dynamic_text, dynamic_of}
+use Rattle.store_files.specs.DynamicIndex.{DynamicIndex, steps_fit, fields_of, dynamic_of}
 use Rattle.dynamic_index.specs.Viewing.{fault_of, IsIndex}
-use Rattle.dynamic_index.proofs.Cells.{AreBytes, count_is}
+use Rattle.dynamic_index.proofs.Cells.{count_is}
 use Rattle.dynamic_index.proofs.Faults.{outcome, dynamic_of-fault, is_index}
-use Rattle.dynamic_index.proofs.Spelling.{dynamic_text-fields}
 
 no_fault : (x y : DynamicIndex) (fault : Option IndexFault) → outcome x fault ≡ Ok y → (fault ≡ None) × (y ≡ x)
 no_fault x y None e = (refl, cc)
@@ -17,12 +16,6 @@ pub dynamic_of-ok : (bytes : List ℕ) (x : DynamicIndex) → dynamic_of bytes �
 dynamic_of-ok bytes x is =
     let found = no_fault (fields_of bytes) x (fault_of bytes) (sym (dynamic_of-fault bytes) ∙ is) in
     (found.1, is_index bytes found.0)
-
--- And its text is the bytes.
-pub dynamic_of-text : (bytes : List ℕ) (x : DynamicIndex) → AreBytes bytes → dynamic_of bytes ≡ Ok x → bytes ≡ dynamic_text x
-dynamic_of-text bytes x small is =
-    let found = dynamic_of-ok bytes x is in
-    dynamic_text-fields bytes small found.1 ∙ ap dynamic_text (sym found.0)
 
 -- It has not too many pieces, and each is as long as a piece may be.
 pub dynamic_of-fits : (bytes : List ℕ) (x : DynamicIndex) → dynamic_of bytes ≡ Ok x → (length x.entries ≤ entry_limit) × IsTrue (steps_fit 0 x.entries)

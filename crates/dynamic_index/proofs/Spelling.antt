@@ -106,7 +106,7 @@ dynamic_of-dynamic_text x fits =
 
 -- ---- and what is read was written so
 
-small_number : (bs : List ℕ) → AreBytes bs → from_le_bytes w64 bs < 2 ^ 64
+pub small_number : (bs : List ℕ) → AreBytes bs → from_le_bytes w64 bs < 2 ^ 64
 small_number bs small = omega (arith, small 0, small 1, small 2, small 3, small 4, small 5, small 6, small 7)
 
 pub dynamic_text-fields : (text : List ℕ) → AreBytes text → IsIndex text → text ≡ dynamic_text (fields_of text)

@@ -2,3 +2,4 @@ pub mod Pieces
 pub mod Writing
 pub mod Viewing
 pub mod Entries
+pub mod Laws

@@ -4,6 +4,7 @@
 //! each: the piece's end offset and its digest. A piece has 1 to 16,777,216 bytes. Numbers are little-endian.
 #![tactic(auto)]
 
+pub mod laws;
 mod view;
 mod writer;
 

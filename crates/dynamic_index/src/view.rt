@@ -92,8 +92,7 @@ impl<'a> DynamicView<'a> {
         Digest32(digest_at(self.bytes, 32))
     }
 
-    /// The piece that has the byte at an offset, or `None` where the archive ends at the offset or before it. It looks
-    /// at no more entries than one and the number of binary digits of `len`.
+    /// The piece that has the byte at an offset, or `None` where the archive ends at the offset or before it.
     pub fn chunk_at(&self, offset: u64) -> Option<u32>
         ensures exact { IsNone result ↔ (size_of self.now ≤ offset) }
         ensures held { IfSome result (HoldsOffset self.now offset) }

@@ -1,5 +1,5 @@
 -- What an installed file leaves at each name.
-use Rattle.std.proofs.Common.{◌≡◌, ◌≢◌, ◌⊎◌, inl, inr, ℕ, List, ◌+◌, length, Some, None, arith, sym, ◌∙◌, ap}
+use Rattle.std.proofs.Common.{◌≡◌, ◌≢◌, inl, inr, ℕ, List, ◌+◌, length, Some, None, arith, sym, ◌∙◌, ap}
 use Rattle.std.specs.Prelude.{codes}
 use Rattle.std.proofs.Common.{length-append}
 use Rattle.std.specs.FinMap.{get, remove}
@@ -25,11 +25,6 @@ installed_temporary files name bytes =
 pub installed_other : (files : Files) (name bytes q : List ℕ) → q ≢ name → q ≢ temporary name → get (installed files name bytes) q ≡ get files q
 installed_other files name bytes q not_name not_temporary =
     placed_other (remove files (temporary name)) name (Some bytes) q not_name ∙ placed_other files (temporary name) None q not_temporary
-
--- the old or the new content
-pub installs_name : (read : Files) (name bytes : List ℕ) (old new : Files) → Installs read name bytes old new → (get new name ≡ get old name) ⊎ (get new name ≡ Some bytes)
-installs_name read name bytes old new (inl same) = inl (same name (name_not_temporary name))
-installs_name read name bytes old new (inr is) = inr (ap (λ f. get f name) is.1 ∙ installed_name old name bytes)
 
 pub installs_other : (read : Files) (name bytes : List ℕ) (old new : Files) (q : List ℕ) → Installs read name bytes old new → q ≢ name → q ≢ temporary name → get new q ≡ get old q
 installs_other read name bytes old new q (inl same) not_name not_temporary = same q not_temporary

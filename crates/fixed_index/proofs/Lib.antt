@@ -5,3 +5,4 @@ mod Joining
 mod TextParts
 pub mod Spelling
 pub mod Reading
+mod InRange

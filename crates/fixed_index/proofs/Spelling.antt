@@ -94,7 +94,7 @@ fixed_of-fixed_text x fits =
 
 -- ---- and what is read was written so
 
-small_number : (bs : List ℕ) → ((i : ℕ) → get_or bs i 0 < 256) → from_le_bytes w64 bs < 2 ^ 64
+pub small_number : (bs : List ℕ) → ((i : ℕ) → get_or bs i 0 < 256) → from_le_bytes w64 bs < 2 ^ 64
 small_number bs small = omega (arith, small 0, small 1, small 2, small 3, small 4, small 5, small 6, small 7)
 
 eight_long : (text : List ℕ) (at : ℕ) → at + 8 ≤ length text → length (take 8 (drop at text)) ≡ 8

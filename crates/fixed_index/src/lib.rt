@@ -4,6 +4,7 @@
 //! length of a piece) and the digests, 32 bytes each. Numbers are little-endian.
 #![tactic(auto)]
 
+pub mod laws;
 mod sizes;
 mod view;
 mod writer;

@@ -1,5 +1,5 @@
 -- Chunks that were added are taken out again.
-use Rattle.std.proofs.Common.{◌≡◌, ℕ, zero, suc, ◌+◌, ◌<◌, Bool, true, false, ◌||◌, cond, refl, sym, ap, ◌∙◌, List, [], ◌∷◌, ◌++◌, length, map, drop, get_or, drop-cons, add-one, Some, None, arith}
+use Rattle.std.proofs.Common.{◌≡◌, ℕ, zero, suc, ◌+◌, ◌<◌, Bool, true, false, ◌||◌, cond, refl, sym, ap, ◌∙◌, List, [], ◌∷◌, ◌++◌, length, drop, get_or, drop-cons, add-one, Some, None, arith}
 use Rattle.std.specs.Prelude.{Result, Ok, Err, Option, OnOk, OnErr}
 use Rattle.std.specs.List.{list_any}
 use Rattle.std.specs.FinMap.{get, insert, remove, get-remove, get-insert, same_map, nat_cmp-IsAntisymmetric, slice_cmp-IsAntisymmetric}
@@ -9,7 +9,7 @@ use Rattle.std.proofs.lemmas.Map.Text.{is_eq-slice_cmp}
 use Rattle.std.proofs.lemmas.Slice.Eq.{bytes_eq-Decides}
 use Rattle.store_types.specs.declared.names.Digest32.{Digest32}
 use Rattle.store_types.specs.Names.{text_cmp}
-use Rattle.known_chunks.specs.Lengths.{Lengths, known_of, with_length, with_lengths, without}
+use Rattle.known_chunks.specs.Lengths.{Lengths, without}
 
 is_it : List ℕ → Digest32 → Bool
 is_it q d = eq_by_cmp text_cmp q d.0
@@ -74,12 +74,6 @@ module _ (m : Lengths) (d : Digest32) (none : get m d.0 ≡ None) where
 pub without_next : (m : Lengths) (ds : List Digest32) (i : ℕ) (d : Digest32) → i < length ds → get_or ds i d ≡ d → without m (drop i ds) ≡ without (remove m d.0) (drop (i + 1) ds)
 without_next m ds i d below at =
     ap (without m) (drop-cons ds i d below ∙ ap (λ x. x ∷ drop (suc i) ds) at) ∙ ap (λ k. without (remove m d.0) (drop k ds)) (sym (add-one i))
-
-pub lengths_next : (m : Lengths) (ps : List (Digest32 × ℕ)) (i : ℕ) (p : Digest32 × ℕ) → i < length ps → get_or ps i p ≡ p
-    → with_lengths m (map known_of (drop i ps)) ≡ with_lengths (with_length m (known_of p)) (map known_of (drop (i + 1) ps))
-lengths_next m ps i p below at =
-    ap (λ l. with_lengths m (map known_of l)) (drop-cons ps i p below ∙ ap (λ x. x ∷ drop (suc i) ps) at)
-    ∙ ap (λ k. with_lengths (with_length m (known_of p)) (map known_of (drop k ps))) (sym (add-one i))
 
 -- an element is the one at its place, whatever stands for none
 pub own_default : {A : Type 0} (xs : List A) (i : ℕ) (d : A) → i < length xs → get_or xs i (get_or xs i d) ≡ get_or xs i d

@@ -148,15 +148,6 @@ whole_size t body rest is =
       rest = omega (arith, ap (λ (s : Tail). s.offset) past, ap (λ (s : Tail). length s.bytes) past, cut-length t.bytes body rest is);
     }
 
-stays : (t : Tail) → advanced t ≡ t → IsFrontSize t 0
-stays t is = record { offset = omega (arith, ap (λ (s : Tail). s.offset) is); rest = ap (λ (s : Tail). s.offset + length s.bytes) is }
-
-pub short_size : (t : Tail) → cut t.bytes ≡ short → IsFrontSize t 0
-short_size t is = stays t (ap (advanced_by t) is)
-
-pub long_size : (t : Tail) (n : ℕ) → cut t.bytes ≡ too_long n → IsFrontSize t 0
-long_size t n is = stays t (ap (advanced_by t) is)
-
 -- ---- behind five bytes of a part of a frame
 
 -- a part of a frame of which five bytes are held has a length of at least two

@@ -1,5 +1,8 @@
 -- What one act of a lane does, and how its reply is given.
 use Rattle.std.specs.Prelude.{ℕ, ◌≡◌, ◌⊎◌, Bool, true, false, List, Option, Some, None, IsTrue}
+use Rattle.disk_trait.specs.declared.disk.Disk.{Ghosts}
+use Rattle.port_traits.specs.declared.clock.Clock as clocks
+use Rattle.port_traits.specs.declared.sink.Sink as sinks
 use Rattle.port_traits.specs.Bytes.{WritesCounted}
 use Rattle.wire_frames.specs.Frames.{frame}
 use Rattle.store_types.specs.declared.refusal.Refusal.TheVariants.{NoMemory}
@@ -15,6 +18,7 @@ use Rattle.store_history.specs.History.{reply, lane, kind}
 use Rattle.core_state.specs.declared.state.Core.{Core}
 use Rattle.core_state.specs.Replies.{may_answer}
 use Rattle.core_state.specs.Reserved.{CanEnd, Reserved}
+use Rattle.core_state.specs.Records.{Reaches}
 use Rattle.core_state.specs.History.{History, then_event}
 use Rattle.lane.specs.declared.acts.Told.{Told}
 
@@ -75,6 +79,10 @@ pub record Gives (told : Told) (taken taken' : Option (List ℕ)) (given given' 
   pub gave : WritesCounted taken taken' given given' (frame (reply_text told.reply)) (went_on ending)
   pub ended : IsEndedBy told.last ending
 
+-- a sink was given it
+abbrev pub GivesTo : {K : Type 0} → sinks.Ghosts K → Told → K → K → ℕ → ℕ → Option Ending → Type 0
+GivesTo sink told into later given given' ending = Gives told (sink.taken into) (sink.taken later) given given' ending
+
 -- ---- want of memory for a frame
 
 -- it ends the lane, where the sink took its reply
@@ -89,3 +97,13 @@ pub record AnswersShort (before after : History → Type 0) (k : ℕ) (taken tak
   pub tells : MayTell acts.Short told
   pub gives : Gives told taken taken' given given' stop
   pub ending_is : ending ≡ short_ending stop
+
+-- ---- of cores, from each first one and its history
+
+abbrev pub CoreDid : {D E C : Type 0} → Ghosts D → clocks.Ghosts C → Core D E C → Core D E C → ℕ → Act → Told → Type 0
+CoreDid {D} {E} {C} d clock old new k act told =
+    (first : Core D E C) (began : History) → Did (Reaches d clock.readings first began old) (Reaches d clock.readings first began new) k act told
+
+abbrev pub CoreAnswersShort : {D E C K : Type 0} → Ghosts D → clocks.Ghosts C → sinks.Ghosts K → Core D E C → Core D E C → ℕ → K → K → ℕ → ℕ → Ending → Type 0
+CoreAnswersShort {D} {E} {C} d clock sink old new k into later given given' ending =
+    (first : Core D E C) (began : History) → AnswersShort (Reaches d clock.readings first began old) (Reaches d clock.readings first began new) k (sink.taken into) (sink.taken later) given given' ending

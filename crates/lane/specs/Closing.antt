@@ -1,10 +1,15 @@
 -- What a lane's end does.
 use Rattle.std.specs.Prelude.{ℕ, ◌≡◌, List, [], ◌∷◌, ◌++◌, Option}
+use Rattle.disk_trait.specs.declared.disk.Disk.{Ghosts}
+use Rattle.port_traits.specs.declared.clock.Clock as clocks
+use Rattle.port_traits.specs.declared.sink.Sink as sinks
 use Rattle.store_model.specs.declared.ending.Ending.{Ending}
 use Rattle.store_history.specs.declared.act.Act.TheVariants as acts
 use Rattle.store_history.specs.declared.act.Event.{Event}
 use Rattle.store_history.specs.History.{kind, lane}
 use Rattle.core_state.specs.History.{History}
+use Rattle.core_state.specs.Records.{Reaches}
+use Rattle.core_state.specs.declared.state.Core.{Core}
 use Rattle.lane.specs.declared.ending.Last.{Last}
 use Rattle.lane.specs.Ran.{with_events, RanAlone}
 use Rattle.lane.specs.Progress.{Start, HasStopped}
@@ -28,3 +33,13 @@ abbrev pub Closes : (History → Type 0) → (History → Type 0) → ℕ → Op
 Closes before after k taken taken' given given' last ending =
     (start : Start) (left : Option (List ℕ)) (size : ℕ) → HasStopped before start k left taken size given last.ending last.words
     → RanAlone after start.history k start.left left start.taken taken' (record { taken = size; given = given'; ending = ending })
+
+-- ---- of cores, from each first one and its history
+
+abbrev pub CoreEnds : {D E C : Type 0} → Ghosts D → clocks.Ghosts C → Core D E C → Core D E C → ℕ → Type 0
+CoreEnds {D} {E} {C} d clock old new k =
+    (first : Core D E C) (began : History) → EndsLane (Reaches d clock.readings first began old) (Reaches d clock.readings first began new) k
+
+abbrev pub CoreCloses : {D E C K : Type 0} → Ghosts D → clocks.Ghosts C → sinks.Ghosts K → Core D E C → Core D E C → ℕ → K → K → ℕ → ℕ → Last → Ending → Type 0
+CoreCloses {D} {E} {C} d clock sink old new k into later given given' last ending =
+    (first : Core D E C) (began : History) → Closes (Reaches d clock.readings first began old) (Reaches d clock.readings first began new) k (sink.taken into) (sink.taken later) given given' last ending

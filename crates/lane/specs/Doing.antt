@@ -1,12 +1,17 @@
 -- What a command of a lane does, or the whole job of one.
 use Rattle.std.specs.Prelude.{ℕ, ◌≡◌, Bool, true, false, List, [], ◌∷◌, ◌++◌, None}
+use Rattle.disk_trait.specs.declared.disk.Disk.{Ghosts}
+use Rattle.port_traits.specs.declared.clock.Clock as clocks
+use Rattle.wire_commands.specs.declared.command.Command.{Command}
 use Rattle.wire_commands.specs.declared.reply.Reply.{Reply}
-use Rattle.store_model.specs.Lanes.{Next, job_step}
+use Rattle.store_model.specs.Lanes.{Next, command_next, job_step}
 use Rattle.store_history.specs.declared.act.Event.{Event}
 use Rattle.store_history.specs.LaneRun.{Position, next_at, may_want_at}
 use Rattle.store_history.specs.Seats.{AreOf}
 use Rattle.store_history.specs.SoFar.{Leads}
 use Rattle.core_state.specs.History.{History}
+use Rattle.core_state.specs.Records.{Reaches}
+use Rattle.core_state.specs.declared.state.Core.{Core}
 use Rattle.lane.specs.declared.acts.Told.{Told}
 use Rattle.lane.specs.Ran.{with_events}
 
@@ -34,3 +39,8 @@ pub record Does (before after : History → Type 0) (k : ℕ) (n : List ℕ → 
   pub lanes : AreOf k events
   pub leads : (p : Position) (left : List ℕ) → IsNext (n left) p → Leads p events (answered p left told.reply is_short told.last)
   pub short : told.last ≡ true → is_short ≡ true
+
+-- so a command did between two cores, from each first one and its history
+abbrev pub CoreDoes : {D E C : Type 0} → Ghosts D → clocks.Ghosts C → Core D E C → Core D E C → ℕ → Command → Told → Type 0
+CoreDoes {D} {E} {C} d clock old new k command told =
+    (first : Core D E C) (began : History) → Does (Reaches d clock.readings first began old) (Reaches d clock.readings first began new) k (command_next command) told

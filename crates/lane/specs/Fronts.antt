@@ -1,11 +1,14 @@
 -- What stands at the front of what a lane took of its input.
-use Rattle.std.specs.Prelude.{ℕ, ◌≡◌, ◌≢◌, ◌+◌, ◌<◌, true, length, IsSome}
-use Rattle.wire_frames.specs.Frames.{Tail, short, cut, advanced}
+use Rattle.std.specs.Prelude.{ℕ, ◌≡◌, ◌≢◌, ◌+◌, ◌<◌, true, List, length, Result, Err, IsOk, IsSome, MatchResult}
+use Rattle.wire_frames.specs.Frames.{Tail, short, cut, advanced, whole}
+use Rattle.store_types.specs.declared.names.Digest32.{Digest32}
+use Rattle.store_types.specs.declared.refusal.Refusal.{Refusal}
 use Rattle.wire_commands.specs.HasText.{ReplyHasText}
 use Rattle.wire_commands.specs.Inputs.{front}
 use Rattle.wire_commands.specs.declared.command.Command.{Command}
 use Rattle.wire_commands.specs.declared.command.Command.TheVariants as commands
 use Rattle.wire_commands.specs.declared.reply.Reply.TheVariants.{Refused}
+use Rattle.store_model.specs.ArchiveSteps.{check_chunk}
 use Rattle.store_model.specs.Jobs.{job_of}
 use Rattle.store_model.specs.Lanes.{Next, bye, broken, front_next, command_next}
 use Rattle.store_history.specs.LaneRun.{may_want}
@@ -36,6 +39,10 @@ IsAhead t aheads.Bye = IsLastAhead t bye
 IsAhead t (aheads.Broken refusal) = IsLastAhead t (broken refusal) × ReplyHasText (Refused refusal)
 IsAhead t aheads.NoMemory = may_want t.bytes ≡ true
 
+-- what stands ahead is a frame at this offset with this body
+abbrev pub IsAheadAs : ℕ → List ℕ → Ahead → Type 0
+IsAheadAs offset body ahead = (t : Tail) (rest : List ℕ) → t.offset ≡ offset → cut t.bytes ≡ whole body rest → IsAhead t ahead
+
 -- a command, with BYE told apart
 abbrev pub ahead_of : Command → Ahead
 ahead_of commands.Bye = aheads.Bye
@@ -45,3 +52,8 @@ ahead_of c = aheads.Command c
 pub record IsFrontSize (t : Tail) (size : ℕ) : Type 0 where
   pub offset : (advanced t).offset ≡ t.offset + size
   pub rest : (advanced t).offset + length (advanced t).bytes ≡ t.offset + length t.bytes
+
+-- the bytes are the blob of a piece with this digest, or the refusal of their check is told
+abbrev pub TestsChunk : Digest32 → List ℕ → Result (Unit {0}) Refusal → Type 0
+TestsChunk digest blob result =
+    MatchResult result (λ _. IsOk (check_chunk digest blob)) (λ e. check_chunk digest blob ≡ Err e)

@@ -1,5 +1,9 @@
 -- What a lane that was served alone did.
 use Rattle.std.specs.Prelude.{ℕ, ◌≡◌, List, [], ◌∷◌, ◌++◌, length, Option, IfSome}
+use Rattle.disk_trait.specs.declared.disk.Disk.{Ghosts}
+use Rattle.port_traits.specs.declared.clock.Clock as clocks
+use Rattle.port_traits.specs.declared.source.Source as sources
+use Rattle.port_traits.specs.declared.sink.Sink as sinks
 use Rattle.port_traits.specs.Bytes.{TakesFrom, WritesCounted}
 use Rattle.wire_frames.specs.Frames.{short, cut}
 use Rattle.wire_commands.specs.declared.reply.Reply.{Reply}
@@ -11,7 +15,10 @@ use Rattle.store_history.specs.LaneRun.{Position, begin, text, LaneRan}
 use Rattle.store_history.specs.Seats.{AreOf}
 use Rattle.store_history.specs.SoFar.{Leads}
 use Rattle.core_state.specs.History.{History}
+use Rattle.core_state.specs.Records.{Reaches, Records}
+use Rattle.core_state.specs.declared.state.Core.{Core}
 use Rattle.lane.specs.declared.port.LaneReport.{LaneReport}
+use Rattle.lane.specs.declared.port.Port.{Port}
 use Rattle.lane.specs.Acting.{gave_all}
 
 abbrev pub with_events : History → List Event → History
@@ -61,3 +68,10 @@ pub record RanAlone (stands : History → Type 0) (h : History) (k : ℕ) (left 
   pub took : Took report.ending left left' input
   pub gave : WritesCounted taken taken' 0 report.given (text told) (gave_all report.ending)
   pub read_out : EndsRead report.ending input events left'
+
+-- so it ran between two cores, from a history of the first that has no events
+abbrev pub CoreRan : {D E C S K : Type 0} → Ghosts D → clocks.Ghosts C → sources.Ghosts S → sinks.Ghosts K → Core D E C → Core D E C → ℕ
+    → Port S K → Port S K → LaneReport → Type 0
+CoreRan d clock source sink old new k port later report =
+    (h : History) → Records clock.readings old h → h.events ≡ []
+    → RanAlone (Reaches d clock.readings old h new) h k (source.left port.source) (source.left later.source) (sink.taken port.sink) (sink.taken later.sink) report

@@ -11,6 +11,10 @@ use Rattle.lane.specs.declared.input.Taken.TheVariants.{More, End, Fault, TooLon
 abbrev pub IsWhole : Input → Type 0
 IsWhole input = (input.cutter).offset + length (input.cutter).bytes ≡ input.taken
 
+-- as long as fewer than five bytes of a frame are held, this many more are five at most
+abbrev pub AsksFew : Input → ℕ → Type 0
+AsksFew input size = IsWhole input → length (input.cutter).bytes < 5 → length (input.cutter).bytes + size ≤ 5
+
 -- this piece was fed
 pub record Feeds (old new : Input) (piece : List ℕ) : Type 0 where
   pub fed_is : new.cutter ≡ fed old.cutter piece

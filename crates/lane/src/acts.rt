@@ -1,13 +1,11 @@
 //! What a lane asks of the core, and what it tells its sink.
 
-ghost use Rattle.std.specs.Prelude.{◌≡◌, ◌<◌, ◌⊎◌, ℕ, true};
+ghost use Rattle.std.specs.Prelude.{◌≡◌, ◌<◌};
 ghost use Rattle.wire_commands.specs.HasText.{ReplyHasText};
 ghost use Rattle.store_history.specs.Acts.{IsWellFormed};
-ghost use Rattle.core_state.specs.History.{History};
-ghost use Rattle.core_state.specs.Records.{Reaches};
 ghost use Rattle.core_state.specs.Reserved.{Reserved};
-ghost use Rattle.lane.specs.Acting.{IsNoEnd, IsWant, Did, Gives, LeavesReserve, MayTell};
-ghost use Rattle.lane.specs.Causes.{HasCauses};
+ghost use Rattle.lane.specs.Acting.{IsNoEnd, IsWant, CoreDid, GivesTo, LeavesReserve, MayTell};
+ghost use Rattle.lane.specs.Causes.{SinkHasCauses};
 ghost use Rattle.lane.specs.Entries.{HasEntered};
 
 use core_state::{Act, Answer, Core};
@@ -37,7 +35,7 @@ pub fn ask<D: Disk, E, C: Clock>(
     requires room { Reserved core.old lane }
     requires formed { IsWellFormed act }
     requires no_end { IsNoEnd act }
-    ensures did { (first : Core D E C) (began : History) → Did (Reaches D.Disk C.readings first began core.old) (Reaches D.Disk C.readings first began core.new) lane act result }
+    ensures did { CoreDid D.Disk C.Clock core.old core.new lane act result }
     ensures tells { MayTell act result }
     ensures text { ReplyHasText result.reply }
     ensures room { LeavesReserve core.old core.new lane result.last }
@@ -55,8 +53,8 @@ impl Told {
     /// Gives the reply to the sink. Some is how the commands come to an end.
     pub fn give<K: Sink>(&self, sink: &mut K, given: &mut u64) -> Option<Ending>
         requires { ReplyHasText self.now.reply }
-        ensures gives { Gives self.now (K.taken sink.old) (K.taken sink.new) given.old given.new result }
-        ensures causes { (source size : ℕ) → HasCauses source source (K.faults sink.old) (K.faults sink.new) size result }
+        ensures gives { GivesTo K.Sink self.now sink.old sink.new given.old given.new result }
+        ensures causes { SinkHasCauses K.Sink sink.old sink.new result }
     {
         match self.reply.put_counted(sink, given) {
             Err(_) => Some(Ending::SinkFault),

@@ -1,11 +1,11 @@
 //! What stands next in a lane's input, and the act that it asks for.
 
-ghost use Rattle.std.specs.Prelude.{◌≡◌, ℕ, List, IsOk, MatchResult, Err, is_some};
-ghost use Rattle.wire_frames.specs.Frames.{Tail, cut, too_long, whole};
+ghost use Rattle.std.specs.Prelude.{◌≡◌, Err, is_some};
+ghost use Rattle.wire_frames.specs.Frames.{Tail, cut, too_long};
 ghost use Rattle.store_model.specs.ArchiveSteps.{check_chunk as piece_of};
 ghost use Rattle.store_model.specs.Jobs.{job_of};
 ghost use Rattle.store_history.specs.Acts.{check_blob, checked_by, act_of_command};
-ghost use Rattle.lane.specs.Fronts.{IsAhead, ahead_of};
+ghost use Rattle.lane.specs.Fronts.{IsAhead, IsAheadAs, TestsChunk, ahead_of};
 
 use blob_codec::decode;
 use core_state::Act;
@@ -49,7 +49,7 @@ fn too_long(length: u32) -> Ahead
 
 /// What the body of a frame at this offset is.
 fn read_body(alloc: Global, offset: u64, body: &[u8]) -> Ahead
-    ensures { (t : Tail) (rest : List ℕ) → t.offset ≡ offset → cut t.bytes ≡ whole body.now rest → IsAhead t result }
+    ensures { IsAheadAs offset body.now result }
 {
     match Command::read(alloc, body) {
         Err(_) => Ahead::NoMemory,
@@ -80,7 +80,7 @@ fn check(blob: Bytes) -> Result<Bytes, Refusal>
 
 /// The first refusal of a chunk's upload: the bytes are no blob, the piece in them is empty, or it has another digest.
 fn test_chunk(digest: Digest32, blob: &[u8]) -> Result<(), Refusal>
-    ensures { MatchResult result (λ _. IsOk (piece_of digest blob.now)) (λ e. piece_of digest blob.now ≡ Err e) }
+    ensures { TestsChunk digest blob.now result }
 {
     let piece = match decode(blob) {
         Ok(piece) => piece,

@@ -1,14 +1,11 @@
 //! How a lane ends.
 
-ghost use Rattle.std.specs.Prelude.{◌≡◌, ◌<◌, ℕ, List, Option, Some, IfSome};
+ghost use Rattle.std.specs.Prelude.{◌≡◌, ◌<◌, Option, Some, IfSome};
 ghost use Rattle.wire_commands.specs.HasText.{ReplyHasText};
-ghost use Rattle.core_state.specs.History.{History};
-ghost use Rattle.core_state.specs.Records.{Reaches};
 ghost use Rattle.core_state.specs.Reserved.{CanEnd};
-ghost use Rattle.lane.specs.Causes.{HasCauses};
-ghost use Rattle.lane.specs.Closing.{EndsLane, Closes};
+ghost use Rattle.lane.specs.Causes.{EndHasCauses};
+ghost use Rattle.lane.specs.Closing.{CoreCloses, CoreEnds};
 ghost use Rattle.lane.specs.Entries.{HasEntered};
-ghost use Rattle.lane.specs.Progress.{Start};
 
 use core_state::{Act, Core};
 use disk_trait::Disk;
@@ -29,7 +26,7 @@ pub struct Last {
 fn end<D: Disk, E, C: Clock>(core: &mut Core<D, E, C>, alloc: Global, lane: u32)
     requires lane { lane < 64 }
     requires room { CanEnd core.old lane }
-    ensures ends { (first : Core D E C) (began : History) → EndsLane (Reaches D.Disk C.readings first began core.old) (Reaches D.Disk C.readings first began core.new) lane }
+    ensures ends { CoreEnds D.Disk C.Clock core.old core.new lane }
     ensures remote { core.new.remote ≡ core.old.remote }
     ensures entered { HasEntered D.Disk core.old core.new lane ⊥ }
 {
@@ -51,11 +48,11 @@ pub fn close<D: Disk, E, C: Clock, K: Sink>(
     requires lane { lane < 64 }
     requires room { CanEnd core.old lane }
     requires text { IfSome last.words ReplyHasText }
-    ensures closes { (first : Core D E C) (began : History) → Closes (Reaches D.Disk C.readings first began core.old) (Reaches D.Disk C.readings first began core.new) lane (K.taken sink.old) (K.taken sink.new) given.old given.new last result }
+    ensures closes { CoreCloses D.Disk C.Clock K.Sink core.old core.new lane
+        sink.old sink.new given.old given.new last result }
     ensures remote { core.new.remote ≡ core.old.remote }
     ensures entered { HasEntered D.Disk core.old core.new lane ⊥ }
-    ensures causes { (source source' sink_before size : ℕ) → HasCauses source source' sink_before (K.faults sink.old) size (Some last.ending)
-        → HasCauses source source' sink_before (K.faults sink.new) size (Some result) }
+    ensures causes { EndHasCauses K.Sink sink.old sink.new last.ending result }
     ensures memory { result ≡ Ending.NoMemory → last.ending ≡ Ending.NoMemory }
 {
     end(core, alloc, lane);

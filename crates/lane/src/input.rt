@@ -44,7 +44,7 @@ pub enum Taken {
 }
 
 impl Input {
-    ghost use Rattle.lane.specs.Taking.{IsWhole, IsFed, IsFault, Takes};
+    ghost use Rattle.lane.specs.Taking.{AsksFew, IsFed, IsFault, IsWhole, Takes};
 
     pub fn new(alloc: Global) -> Input
         ensures cutter { result.cutter ≡ record { offset = 0; bytes = [] } }
@@ -64,7 +64,7 @@ impl Input {
         ensures some { 0 < result }
         ensures piece { result ≤ 65_536 }
         ensures within { self.now.taken + result ≤ 2 ^ 40 }
-        ensures few { IsWhole self.now → length self.now.cutter.bytes < 5 → length self.now.cutter.bytes + result ≤ 5 }
+        ensures few { AsksFew self.now result }
     {
         let held = self.taken - self.front;
         let wanted = if held < FEW { FEW - held } else { PIECE as u64 };
@@ -87,7 +87,7 @@ impl Input {
     fn take_into<S: Source>(&mut self, source: &mut S, piece: &mut [u8]) -> Taken
         requires some { 0 < length piece.old }
         requires within { self.old.taken + length piece.old ≤ 2 ^ 40 }
-        requires few { IsWhole self.old → length self.old.cutter.bytes < 5 → length self.old.cutter.bytes + length piece.old ≤ 5 }
+        requires few { AsksFew self.old (length piece.old) }
         ensures takes { Takes (S.left source.old) (S.left source.new) self.old self.new result }
         ensures cause { IsFault (S.faults source.old) (S.faults source.new) result }
     {

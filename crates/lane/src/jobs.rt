@@ -3,12 +3,9 @@
 ghost use Rattle.std.specs.Prelude.{◌≡◌, ◌<◌, IsSome, true};
 ghost use Rattle.wire_commands.specs.HasText.{ReplyHasText};
 ghost use Rattle.store_model.specs.Jobs.{job_of};
-ghost use Rattle.store_model.specs.Lanes.{command_next};
-ghost use Rattle.core_state.specs.History.{History};
-ghost use Rattle.core_state.specs.Records.{Reaches};
 ghost use Rattle.core_state.specs.Reserved.{Reserved};
 ghost use Rattle.lane.specs.Acting.{LeavesReserve};
-ghost use Rattle.lane.specs.Doing.{Does};
+ghost use Rattle.lane.specs.Doing.{CoreDoes};
 ghost use Rattle.lane.specs.Entries.{HasEntered};
 ghost use Rattle.lane.specs.Stepping.{IsNextAct};
 
@@ -44,7 +41,7 @@ pub fn do_job<D: Disk, E, C: Clock>(
     requires lane { lane < 64 }
     requires room { Reserved core.old lane }
     requires job { IsSome (job_of command.now) }
-    ensures does { (first : Core D E C) (began : History) → Does (Reaches D.Disk C.readings first began core.old) (Reaches D.Disk C.readings first began core.new) lane (command_next command.now) result }
+    ensures does { CoreDoes D.Disk C.Clock core.old core.new lane command.now result }
     ensures text { ReplyHasText result.reply }
     ensures room { LeavesReserve core.old core.new lane result.last }
     ensures remote { core.new.remote ≡ core.old.remote }

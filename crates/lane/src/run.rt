@@ -1,19 +1,16 @@
 //! The loop of a lane.
 
-ghost use Rattle.std.specs.Prelude.{◌≡◌, ◌≢◌, ◌≤◌, ◌<◌, ◌+◌, ◌^◌, ℕ, [], true, Some, IfSome, IfNone};
+ghost use Rattle.std.specs.Prelude.{◌≡◌, ◌≢◌, ◌≤◌, ◌<◌, ◌^◌, true, Some, IfSome, IfNone};
 ghost use Rattle.wire_commands.specs.HasText.{ReplyHasText};
-ghost use Rattle.store_model.specs.Lanes.{command_next};
 ghost use Rattle.core_state.specs.Entering.{held_by};
-ghost use Rattle.core_state.specs.History.{History};
-ghost use Rattle.core_state.specs.Records.{Records, Reaches};
 ghost use Rattle.core_state.specs.Reserved.{CanEnd, Reserved};
-ghost use Rattle.lane.specs.Acting.{AnswersShort, LeavesReserve};
-ghost use Rattle.lane.specs.Causes.{HasCauses};
-ghost use Rattle.lane.specs.Doing.{Does};
+ghost use Rattle.lane.specs.Acting.{CoreAnswersShort, LeavesReserve};
+ghost use Rattle.lane.specs.Causes.{LaneHasCauses, SinkHasCauses};
+ghost use Rattle.lane.specs.Doing.{CoreDoes};
 ghost use Rattle.lane.specs.Entries.{HasEntered};
 ghost use Rattle.lane.specs.Fronts.{IsCommandAhead};
-ghost use Rattle.lane.specs.Ran.{RanAlone};
-ghost use Rattle.lane.specs.Turns.{GoesOn, LeavesHeld, ending_of, HasEnded};
+ghost use Rattle.lane.specs.Ran.{CoreRan};
+ghost use Rattle.lane.specs.Turns.{CoreGoesOn, HasEnded, IsEndedByMemory, IsFurther, LeavesHeld, TurnHasCauses, broken_at};
 ghost use Rattle.wire_frames.specs.Frames.{short, cut};
 
 use crate::acts::{Told, ask};
@@ -50,9 +47,9 @@ pub fn run_alone<D: Disk, E, C: Clock, S: Source, K: Sink, G: Gate>(
 ) -> LaneReport
     requires lane { lane < 64 }
     requires room { 3 ≤ held_by core.old.journal lane }
-    ensures ran { (h : History) → Records C.readings core.old h → h.events ≡ []
-        → RanAlone (Reaches D.Disk C.readings core.old h core.new) h lane (S.left port.old.source) (S.left port.new.source) (K.taken port.old.sink) (K.taken port.new.sink) result }
-    ensures causes { HasCauses (S.faults port.old.source) (S.faults port.new.source) (K.faults port.old.sink) (K.faults port.new.sink) result.taken (Some result.ending) }
+    ensures ran { CoreRan D.Disk C.Clock S.Source K.Sink core.old core.new lane
+        port.old port.new result }
+    ensures causes { LaneHasCauses S.Source K.Sink port.old port.new result }
     ensures budget { result.taken ≤ 2 ^ 40 }
     ensures remote { core.new.remote ≡ core.old.remote }
     ensures entered { HasEntered D.Disk core.old core.new lane (result.ending ≡ Ending.NoMemory) }
@@ -85,15 +82,14 @@ fn turn<D: Disk, E, C: Clock, S: Source, K: Sink, G: Gate>(
 ) -> Option<Last>
     requires lane { lane < 64 }
     requires room { Reserved core.old lane }
-    ensures goes { (first : Core D E C) (began : History) → GoesOn (Reaches D.Disk C.readings first began core.old) (Reaches D.Disk C.readings first began core.new) lane
-        (S.left port.old.source) (S.left port.new.source) (K.taken port.old.sink) (K.taken port.new.sink)
-        progress.old.input progress.new.input progress.old.given progress.new.given result }
+    ensures goes { CoreGoesOn D.Disk C.Clock S.Source K.Sink core.old core.new lane
+        port.old port.new progress.old progress.new result }
     ensures text { IfSome result (λ last. IfSome last.words ReplyHasText) }
     ensures room { LeavesHeld core.new lane result }
-    ensures causes { HasCauses (S.faults port.old.source) (S.faults port.new.source) (K.faults port.old.sink) (K.faults port.new.sink) progress.new.input.taken (ending_of result) }
-    ensures further { IfNone result (progress.old.input.taken + progress.old.input.front < progress.new.input.taken + progress.new.input.front) }
+    ensures causes { TurnHasCauses S.Source K.Sink port.old port.new progress.new result }
+    ensures further { IfNone result (IsFurther progress.old.input progress.new.input) }
     ensures remote { core.new.remote ≡ core.old.remote }
-    ensures entered { HasEntered D.Disk core.old core.new lane (ending_of result ≡ Some Ending.NoMemory) }
+    ensures entered { HasEntered D.Disk core.old core.new lane (IsEndedByMemory result) }
 {
     match read_front(alloc, &progress.input.cutter) {
         Ahead::Part => more(core, alloc, lane, port, progress),
@@ -120,7 +116,7 @@ fn untold(ending: Ending) -> Last
 }
 
 fn broken(place: u64, refusal: Refusal) -> Last
-    ensures { result ≡ record { ending = Ending.Broken place; words = Some (Reply.Refused refusal) } }
+    ensures { result ≡ broken_at place refusal }
 {
     Last {
         ending: Ending::Broken { place },
@@ -152,15 +148,14 @@ fn more<D: Disk, E, C: Clock, S: Source, K: Sink>(
     requires lane { lane < 64 }
     requires room { Reserved core.old lane }
     requires part { cut progress.old.input.cutter.bytes ≡ short }
-    ensures goes { (first : Core D E C) (began : History) → GoesOn (Reaches D.Disk C.readings first began core.old) (Reaches D.Disk C.readings first began core.new) lane
-        (S.left port.old.source) (S.left port.new.source) (K.taken port.old.sink) (K.taken port.new.sink)
-        progress.old.input progress.new.input progress.old.given progress.new.given result }
+    ensures goes { CoreGoesOn D.Disk C.Clock S.Source K.Sink core.old core.new lane
+        port.old port.new progress.old progress.new result }
     ensures text { IfSome result (λ last. IfSome last.words ReplyHasText) }
     ensures room { LeavesHeld core.new lane result }
-    ensures causes { HasCauses (S.faults port.old.source) (S.faults port.new.source) (K.faults port.old.sink) (K.faults port.new.sink) progress.new.input.taken (ending_of result) }
-    ensures further { IfNone result (progress.old.input.taken + progress.old.input.front < progress.new.input.taken + progress.new.input.front) }
+    ensures causes { TurnHasCauses S.Source K.Sink port.old port.new progress.new result }
+    ensures further { IfNone result (IsFurther progress.old.input progress.new.input) }
     ensures remote { core.new.remote ≡ core.old.remote }
-    ensures entered { HasEntered D.Disk core.old core.new lane (ending_of result ≡ Some Ending.NoMemory) }
+    ensures entered { HasEntered D.Disk core.old core.new lane (IsEndedByMemory result) }
 {
     match progress.input.take(&mut port.source) {
         Taken::More => None,
@@ -187,15 +182,14 @@ fn serve<D: Disk, E, C: Clock, S: Source, K: Sink, G: Gate>(
     requires lane { lane < 64 }
     requires room { Reserved core.old lane }
     requires ahead { IsCommandAhead progress.old.input.cutter command }
-    ensures goes { (first : Core D E C) (began : History) → GoesOn (Reaches D.Disk C.readings first began core.old) (Reaches D.Disk C.readings first began core.new) lane
-        (S.left port.old.source) (S.left port.new.source) (K.taken port.old.sink) (K.taken port.new.sink)
-        progress.old.input progress.new.input progress.old.given progress.new.given result }
+    ensures goes { CoreGoesOn D.Disk C.Clock S.Source K.Sink core.old core.new lane
+        port.old port.new progress.old progress.new result }
     ensures text { IfSome result (λ last. IfSome last.words ReplyHasText) }
     ensures room { LeavesHeld core.new lane result }
-    ensures causes { HasCauses (S.faults port.old.source) (S.faults port.new.source) (K.faults port.old.sink) (K.faults port.new.sink) progress.new.input.taken (ending_of result) }
-    ensures further { IfNone result (progress.old.input.taken + progress.old.input.front < progress.new.input.taken + progress.new.input.front) }
+    ensures causes { TurnHasCauses S.Source K.Sink port.old port.new progress.new result }
+    ensures further { IfNone result (IsFurther progress.old.input progress.new.input) }
     ensures remote { core.new.remote ≡ core.old.remote }
-    ensures entered { HasEntered D.Disk core.old core.new lane (ending_of result ≡ Some Ending.NoMemory) }
+    ensures entered { HasEntered D.Disk core.old core.new lane (IsEndedByMemory result) }
 {
     gate.before(lane, progress.number);
     let told = do_command(core, alloc, lane, command);
@@ -216,7 +210,7 @@ fn do_command<D: Disk, E, C: Clock>(
     requires lane { lane < 64 }
     requires room { Reserved core.old lane }
     requires other { command ≢ Command.Bye }
-    ensures does { (first : Core D E C) (began : History) → Does (Reaches D.Disk C.readings first began core.old) (Reaches D.Disk C.readings first began core.new) lane (command_next command) result }
+    ensures does { CoreDoes D.Disk C.Clock core.old core.new lane command result }
     ensures text { ReplyHasText result.reply }
     ensures room { LeavesReserve core.old core.new lane result.last }
     ensures remote { core.new.remote ≡ core.old.remote }
@@ -238,9 +232,10 @@ fn short<D: Disk, E, C: Clock, K: Sink>(
 ) -> Ending
     requires lane { lane < 64 }
     requires room { Reserved core.old lane }
-    ensures answers { (first : Core D E C) (began : History) → AnswersShort (Reaches D.Disk C.readings first began core.old) (Reaches D.Disk C.readings first began core.new) lane (K.taken sink.old) (K.taken sink.new) given.old given.new result }
+    ensures answers { CoreAnswersShort D.Disk C.Clock K.Sink core.old core.new lane
+        sink.old sink.new given.old given.new result }
     ensures room { CanEnd core.new lane }
-    ensures causes { (source size : ℕ) → HasCauses source source (K.faults sink.old) (K.faults sink.new) size (Some result) }
+    ensures causes { SinkHasCauses K.Sink sink.old sink.new (Some result) }
     ensures remote { core.new.remote ≡ core.old.remote }
     ensures entered { HasEntered D.Disk core.old core.new lane (result ≡ Ending.NoMemory) }
 {

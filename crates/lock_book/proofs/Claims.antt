@@ -1,5 +1,5 @@
 -- What a change of the lists of claims does to who holds what.
-use Rattle.std.proofs.Common.{◌≡◌, ℕ, Bool, true, false, not, cond, eqb, List, [], ◌∷◌, ◌++◌, append-nil, map, filter, Option, Some, None, refl, sym, ap, ◌∙◌}
+use Rattle.std.proofs.Common.{◌≡◌, ℕ, Bool, true, false, not, cond, eqb, List, [], ◌∷◌, ◌++◌, map, filter, Option, Some, None, refl, sym, ap, ◌∙◌}
 use Rattle.std.specs.Option.{option_map, option_to_list}
 use Rattle.std.specs.Map.{lookup, keys_of}
 use Rattle.std.specs.List.{IsDistinct}
@@ -8,7 +8,7 @@ use Rattle.store_types.specs.declared.names.SnapshotKey.{SnapshotKey}
 use Rattle.store_types.specs.declared.names.GroupKey.{GroupKey}
 use Rattle.store_types.specs.Names.{same_key, same_group}
 use Rattle.store_types.specs.KeyOrder.{same_group_equiv}
-use Rattle.lock_book.specs.Locks.{Locks, group_holder, other_than, claims_of, TakesGroup, TakesWriter, Releases}
+use Rattle.lock_book.specs.Locks.{Locks, group_holder, other_than, claims_of, TakesWriter, Releases}
 
 option_claims : (lane : ℕ) (base : Option SnapshotKey) → option_to_list (option_map (λ key. (key, lane)) base) ≡ claims_of lane base
 option_claims lane None = refl
@@ -22,10 +22,6 @@ takes_writer locks entries claims lane group copy base is updates more = record 
   groups = λ g. updates g ∙ ap (λ c. cond (same_group c g) (Some lane) (group_holder locks g)) is;
   shared = more ∙ ap (λ l. locks.shared ++ l) (option_claims lane base);
 }
-
--- without a base the group alone is taken
-pub takes_group : (old new : Locks) (lane : ℕ) (group : GroupKey) → TakesWriter old new lane group None → TakesGroup old new lane group
-takes_group old new lane group takes = record { groups = takes.groups; shared = takes.shared ∙ append-nil old.shared }
 
 abbrev not_of : ℕ → ℕ → Bool
 not_of lane l = not (eqb l lane)

@@ -1,6 +1,7 @@
 -- What a run leaves, and that a session is answered as the plain store answers it.
 use Rattle.disk_trait.specs.declared.disk.Disk.{Ghosts}
-use Rattle.std.specs.Prelude.{◌≡◌, ◌≤◌, ◌^◌, ◌⊎◌, ℕ, false, List, [], ◌∷◌, ◌++◌, map, length, Option, Some, None, IfSome, IsSome, IsTrue, Ok}
+use Rattle.std.specs.Prelude.{◌≡◌, ◌≤◌, ◌^◌, ◌⊎◌, ℕ, false, List, [], ◌∷◌, ◌++◌, map, length, Option, Some, None, IfSome, IsSome, IsTrue, Ok, String, string_bytes}
+use Rattle.std.specs.declared.alloc.Global.{Global}
 use Rattle.std.specs.FinMap.{get}
 use Rattle.port_traits.specs.Bytes.{WritesCounted}
 use Rattle.port_traits.specs.Readings.{Readings}
@@ -110,3 +111,7 @@ Leaves d left source_faults taken sink_faults readings disk remote result old ne
 -- the words have a reading, and ask for as many sessions as there are ports
 abbrev pub IsAsked : List (List ℕ) → ℕ → Type 0
 IsAsked words ports = IsSome (reading words) × (ports ≡ 1)
+
+-- the words have no reading, or ask for another number of sessions than there are ports
+abbrev pub IsMisused : List (String Global) → ℕ → Type 0
+IsMisused words ports = IsAsked (map string_bytes words) ports → ⊥

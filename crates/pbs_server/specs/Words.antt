@@ -3,6 +3,7 @@ use Rattle.std.specs.Prelude.{◌≡◌, ℕ, Bool, false, ◌&&◌, ◌||◌, n
 use Rattle.std.specs.Str.{bytes_eq}
 use Rattle.pbs_server.specs.declared.plan.Plan.{Plan}
 use Rattle.pbs_server.specs.declared.plan.Plan.TheVariants.{Run}
+use Rattle.pbs_server.specs.declared.plan.Run.{Run as RunWords}
 use Rattle.pbs_server.specs.declared.plan.WordFault.{WordFault}
 use Rattle.pbs_server.specs.declared.plan.WordFault.TheVariants.{NoReading, NoMemory}
 
@@ -28,6 +29,10 @@ abbrev pub reading : List (List ℕ) → Option Said
 reading (command ∷ root ∷ session ∷ []) =
     if bytes_eq command (codes "run") && is_value root && is_value session then Some (record { root = root; session = session }) else None
 reading _ = None
+
+-- what they were read as
+abbrev pub said_in : RunWords → Said
+said_in r = record { root = (r.root).now; session = (r.session).now }
 
 abbrev pub IsPlan : Said → Plan → Type 0
 IsPlan said (Run root remote order sessions) =

@@ -1,7 +1,7 @@
 //! The words of the command line.
 
 ghost use Rattle.std.specs.Prelude.{◌≡◌, map, string_bytes, option_map, IfOk};
-ghost use Rattle.pbs_server.specs.Words.{IsPlan, IsReadBy, reading, is_value};
+ghost use Rattle.pbs_server.specs.Words.{IsPlan, IsReadBy, reading, is_value, said_in};
 
 use std::alloc::{AllocError, Global};
 use thiserror::Error;
@@ -44,7 +44,7 @@ fn names_value(word: &str) -> bool
 
 /// Reads `run ROOT SESSION`. It takes no memory.
 pub fn read_run(words: &[String]) -> Option<Run<'_>>
-    ensures { option_map (λ r. record { root = r.root.now; session = r.session.now }) result ≡ reading (map string_bytes words.now) }
+    ensures { option_map (λ r. said_in r) result ≡ reading (map string_bytes words.now) }
 {
     let [command, root, session] = words else {
         return None;
@@ -60,7 +60,7 @@ pub fn read_run(words: &[String]) -> Option<Run<'_>>
 
 /// The plan with texts of its own.
 fn owned(alloc: Global, run: &Run<'_>) -> Result<Plan, AllocError>
-    ensures { IfOk result (IsPlan (record { root = run.now.root.now; session = run.now.session.now })) }
+    ensures { IfOk result (IsPlan (said_in run.now)) }
 {
     let root = String::from_str(alloc, run.root)?;
     let mut sessions = Vec::with_capacity(alloc, 1)?;

@@ -80,8 +80,8 @@ pub fn serve_alone<D: Disk, E, C: Clock + Drop, S: Source, K: Sink, G: Gate>(
     clock: C,
     gate: &G,
 ) -> Served<D, E>
-    ensures leaves { Leaves D.Disk S.left S.faults K.taken K.faults (C.readings clock) disk remote result
-        (port.old ∷ []) (port.new ∷ []) result.report.lanes.items }
+    ensures leaves { Leaves D.Disk S.left S.faults K.taken K.faults (C.readings clock)
+        disk remote result (port.old ∷ []) (port.new ∷ []) result.report.lanes.items }
     ensures status { result.status ≢ Status.Usage }
     ensures unequal { result.report.unequal ≡ None }
 {

@@ -1,7 +1,7 @@
 //! The program's call.
 
-ghost use Rattle.std.specs.Prelude.{◌≡◌, ◌↔◌, None, map, length, string_bytes};
-ghost use Rattle.pbs_server.specs.Headline.{Leaves, IsAsked};
+ghost use Rattle.std.specs.Prelude.{◌≡◌, ◌↔◌, None, length};
+ghost use Rattle.pbs_server.specs.Headline.{IsMisused, Leaves};
 
 use crate::plan::read_run;
 use crate::run::{not_served, serve_alone};
@@ -24,9 +24,9 @@ pub fn serve<D: Disk, E: Disk, C: Clock + Drop, S: Source, K: Sink, J: Sink, G: 
     journal: &mut J,
     gate: &G,
 ) -> Served<D, E>
-    ensures leaves { Leaves D.Disk S.left S.faults K.taken K.faults (C.readings clock) disk remote result
-        lanes.old lanes.new result.report.lanes.items }
-    ensures usage { result.status ≡ Status.Usage ↔ (IsAsked (map string_bytes words.now) (length lanes.old) → ⊥) }
+    ensures leaves { Leaves D.Disk S.left S.faults K.taken K.faults (C.readings clock)
+        disk remote result lanes.old lanes.new result.report.lanes.items }
+    ensures usage { result.status ≡ Status.Usage ↔ IsMisused words.now (length lanes.old) }
     ensures unequal { result.report.unequal ≡ None }
     ensures journal { journal.new ≡ journal.old }
 {

@@ -1,3 +1,4 @@
 pub mod Shown
 pub mod Contents
 pub mod Loading
+pub mod Rows

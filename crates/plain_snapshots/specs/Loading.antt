@@ -1,17 +1,35 @@
 -- What is read of a disk.
-use Rattle.std.specs.Prelude.{ℕ, List, [], ◌∷◌, Option, Some, None, Ok, Err, if◌then◌else◌}
+use Rattle.std.specs.Prelude.{◌≡◌, ℕ, List, [], ◌∷◌, ◌++◌, map, Option, Some, None, option_map, Result, Ok, Err, OnOk, Vec, if◌then◌else◌}
+use Rattle.std.specs.declared.alloc.Global.{Global}
+use Rattle.std.specs.FinMap.{get}
 use Rattle.std.specs.Str.{bytes_eq}
 use Rattle.sha2.specs.Sha256.{sha256}
+use Rattle.disk_trait.specs.declared.disk.Disk.{Ghosts}
+use Rattle.store_types.specs.FileNames.{manifest_name}
 use Rattle.blob_codec.specs.Blob.{data_of}
 use Rattle.store_files.specs.FixedIndex.{fixed_of}
-use Rattle.store_files.specs.DynamicIndex.{dynamic_of}
+use Rattle.store_files.specs.DynamicIndex.{dynamic_of, Ended}
 use Rattle.store_files.specs.Archive.{Archive, dynamic, fixed}
-use Rattle.store_model.specs.Load.{Entries, empty_archive, fixed_archive, dynamic_archive}
+use Rattle.store_files.specs.Manifest.{Manifest}
+use Rattle.store_model.specs.Manifests.{listed_names}
+use Rattle.store_model.specs.Load.{Entries, piece_in, empty_archive, fixed_archive, dynamic_archive}
 
 -- what is read at a name
 abbrev pub found_at : List ℕ → Option (List ℕ) → List (List ℕ × List ℕ)
 found_at name None = []
 found_at name (Some bytes) = (name, bytes) ∷ []
+
+-- on an honest disk, Ok adds what is read at the name
+abbrev pub AddsRead : {D A E : Type 0} → Ghosts D → D → List ℕ → Entries → Entries → Result A E → Type 0
+AddsRead d disk name old new result = d.honest disk → OnOk result (new ≡ old ++ found_at name (get (d.content disk) name))
+
+-- the items of a list, where there is one
+abbrev pub HasItems : {A : Type 0} → Option (Vec A Global) → Option (List A) → Type 0
+HasItems found items = option_map (λ v. v.items) found ≡ items
+
+-- the names of a snapshot's files: the manifest's, and those that it lists
+abbrev pub all_names : Manifest → List (List ℕ)
+all_names listed = manifest_name ∷ listed_names listed
 
 -- the data of a blob, where they have this digest
 abbrev pub data_of_digest : List ℕ → List ℕ → Option (List ℕ)
@@ -28,3 +46,7 @@ dynamic_in m bytes = elim (dynamic_of bytes) [ Ok x ↦ dynamic_archive m x | Er
 -- the data of a blob, or none
 abbrev pub data_or_nothing : List ℕ → List ℕ
 data_or_nothing bytes = elim (data_of bytes) [ Ok p ↦ p | Err cause ↦ [] ]
+
+-- the pieces that a dynamic index's entries name
+abbrev pub pieces_of_ends : Entries → List Ended → List (List ℕ)
+pieces_of_ends m ends = map (λ e. piece_in m e.digest) ends

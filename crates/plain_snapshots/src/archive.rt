@@ -3,8 +3,7 @@
 ghost use Rattle.std.specs.Prelude.{◌≡◌, IfOk, length, map};
 ghost use Rattle.std.specs.List.{concat, flat_map};
 ghost use Rattle.sha2.specs.Sha256.{sha256};
-ghost use Rattle.store_files.specs.Archive.{archive_text, content_of, csum_by, size_by, fixed_of_archive, dynamic_of_archive, ends_from};
-ghost use Rattle.store_files.specs.FixedIndex.{fixed_text as text_of_fixed};
+ghost use Rattle.store_files.specs.Archive.{archive_text, content_of, csum_by, size_by, text_by, fixed, dynamic_of_archive, ends_from};
 ghost use Rattle.store_files.specs.DynamicIndex.{dynamic_text as text_of_dynamic, entry_text};
 
 use crate::blob::BlobData;
@@ -131,7 +130,7 @@ impl Archive {
 
     #[tactic(auto, unfolding(store_files::specs::FixedIndex::fixed_text))]
     fn fixed_text(&self, alloc: Global, size: u64, chunk_size: u64) -> Result<Vec<u8>, AllocError>
-        ensures { IfOk result (λ text. text.items ≡ text_of_fixed (fixed_of_archive self.now size chunk_size)) }
+        ensures { IfOk result (λ text. text.items ≡ text_by (fixed size chunk_size) self.now) }
     {
         let digests = digests_of(alloc, &self.pieces)?;
         let mut text = Vec::from_slice(alloc, &FIXED_MAGIC)?;

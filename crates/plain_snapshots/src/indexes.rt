@@ -6,7 +6,7 @@ ghost use Rattle.store_files.specs.FixedIndex.{fixed_of};
 ghost use Rattle.store_files.specs.DynamicIndex.{dynamic_of};
 ghost use Rattle.store_model.specs.Load.{piece_in as piece_of, empty_archive as archive_without, fixed_archive as fixed_of_index, dynamic_archive as dynamic_of_index};
 ghost use Rattle.plain_snapshots.specs.Shown.{shown_layout};
-ghost use Rattle.plain_snapshots.specs.Loading.{fixed_in as fixed_of_bytes, dynamic_in as dynamic_of_bytes};
+ghost use Rattle.plain_snapshots.specs.Loading.{fixed_in as fixed_of_bytes, dynamic_in as dynamic_of_bytes, pieces_of_ends};
 
 use crate::archive::{Archive, Layout};
 use crate::blob::BlobData;
@@ -99,7 +99,7 @@ fn dynamic_pieces(
     files: &[Stored],
     view: &DynamicView,
 ) -> Result<Vec<BlobData>, AllocError>
-    ensures { IfOk result (λ pieces. pieces.items ≡ map (λ e. piece_of files.now e.digest) view.now.entries) }
+    ensures { IfOk result (λ pieces. pieces.items ≡ pieces_of_ends files.now view.now.entries) }
 {
     let mut pieces = Vec::new(alloc);
     for i in 0..view.len() {

@@ -6,7 +6,8 @@ ghost use Rattle.std.specs.Str.{bytes_eq};
 ghost use Rattle.manifest.specs.Views.{fact_view};
 ghost use Rattle.wire_commands.specs.HasText.{IsText, FitsListRow, FitsFileRow, ReplyHasText};
 ghost use Rattle.wire_commands.specs.declared.reply.Reply.TheVariants as replies;
-ghost use Rattle.store_model.specs.AdminSteps.{list_row as row_of, listed as rows_listed, is_after as stands_after, facts_in as facts_of, fact_shown as shown_of, file_row as row_of_fact, file_rows as rows_of, group_texts as texts_of};
+ghost use Rattle.store_model.specs.AdminSteps.{list_row as row_of, is_after as stands_after, facts_in as facts_of, file_rows as rows_of, group_texts as texts_of};
+ghost use Rattle.plain_snapshots.specs.Rows.{rows_after, listing_after, row_of_sum, row_shown_of};
 
 use crate::file::{File, manifest_data};
 use crate::snapshot::Snapshot;
@@ -44,7 +45,7 @@ fn list_rows(
     snapshots: &[Snapshot],
     after: Option<&SnapshotKey>,
 ) -> Result<Vec<ListRow>, AllocError>
-    ensures rows { IfOk result (λ rows. rows.items ≡ rows_listed snapshots.now (option_map (λ key. key.now) after.entry)) }
+    ensures rows { IfOk result (λ rows. rows.items ≡ rows_after snapshots.now after.entry) }
     ensures fits { IfOk result (λ rows. All FitsListRow rows.items) }
 {
     let mut rows = Vec::new(alloc);
@@ -63,7 +64,7 @@ pub fn list_reply(
     snapshots: &[Snapshot],
     after: Option<&SnapshotKey>,
 ) -> Result<Reply, AllocError>
-    ensures reply { IfOk result (λ reply. reply ≡ replies.Listing (rows_listed snapshots.now (option_map (λ key. key.now) after.entry))) }
+    ensures reply { IfOk result (λ reply. reply ≡ listing_after snapshots.now after.entry) }
     ensures spelled { IfOk result ReplyHasText }
 {
     let rows = list_rows(alloc, snapshots, after)?;
@@ -97,7 +98,7 @@ fn file_row(
     size: u64,
     csum: Digest32,
 ) -> Result<FileRow, AllocError>
-    ensures row { IfOk result (λ row. row ≡ row_of_fact (record { name = name.now; size = size; csum = csum })) }
+    ensures row { IfOk result (λ row. row ≡ row_of_sum name.now size csum) }
     ensures fits { IfOk result FitsFileRow }
 {
     let file = name_text(alloc, name)?;
@@ -113,7 +114,7 @@ fn fact_named<'a>(name: &FileName, facts: &'a [FileFact]) -> Option<&'a FileFact
 
 /// A file as it is told: the manifest by its own size and checksum, another by those that the manifest lists.
 fn row_shown(alloc: Global, facts: &[FileFact], file: &File) -> Result<Option<FileRow>, AllocError>
-    ensures row { IfOk result (λ row. row ≡ option_map row_of_fact (shown_of (map fact_view facts.now) file.now)) }
+    ensures row { IfOk result (λ row. row ≡ row_shown_of facts.now file.now) }
     ensures fits { IfOk result (λ row. IfSome row FitsFileRow) }
 {
     if file.name.is_manifest() {

@@ -1,15 +1,13 @@
 //! The snapshots of a datastore. Damaged ones are left out.
 
-ghost use Rattle.std.specs.Prelude.{◌≡◌, ◌+◌, ◌≤◌, ◌∷◌, length, option_map, IfOk, IfSome, IsErrOf};
-ghost use Rattle.store_types.specs.FileNames.{manifest_name};
+ghost use Rattle.std.specs.Prelude.{◌≡◌, ◌+◌, ◌≤◌, length, option_map, IfOk, IfSome, IsErrOf};
 ghost use Rattle.manifest.specs.Views.{manifest_view};
 ghost use Rattle.disk_trait.specs.Disk.{Serves};
 ghost use Rattle.store_files.specs.Folder.{file_path as path_of};
-ghost use Rattle.store_model.specs.Manifests.{listed_names as names_listed};
 ghost use Rattle.store_model.specs.Load.{content_in as content_of, files_in as files_of, read_manifest as manifest_of, snapshot_in as snapshot_of, key_of_manifest as key_named, entry_snapshot as snapshot_of_entry, in_order as ordered, load};
 ghost use Rattle.std.specs.List.{filter_map};
 ghost use Rattle.plain_snapshots.specs.Contents.{shown_content};
-ghost use Rattle.plain_snapshots.specs.Loading.{data_or_nothing};
+ghost use Rattle.plain_snapshots.specs.Loading.{HasItems, all_names, data_or_nothing};
 
 use crate::blob::BlobData;
 use crate::file::{Content, File, insert_file};
@@ -41,7 +39,7 @@ fn content_in(
     name: &FileName,
     bytes: &[u8],
 ) -> Result<Content, AllocError>
-    ensures { IfOk result (λ content. shown_content content ≡ content_of files.now name.now bytes.now) }
+    ensures { IfOk result (λ c. shown_content c ≡ content_of files.now name.now bytes.now) }
 {
     if name.is_fixed() {
         return Ok(Content::Archive(fixed_in(alloc, files, bytes)?));
@@ -71,8 +69,8 @@ fn files_in(
     key: &PlainKey,
     names: &[FileName],
 ) -> Result<Option<Vec<File>>, AllocError>
-    ensures files { IfOk result (λ files. option_map (λ files. files.items) files ≡ files_of stored.now key.now names.now) }
-    ensures count { IfOk result (λ files. IfSome files (λ files. length files.items ≡ length names.now)) }
+    ensures files { IfOk result (λ f. HasItems f (files_of stored.now key.now names.now)) }
+    ensures count { IfOk result (λ f. IfSome f (λ v. length v.items ≡ length names.now)) }
 {
     let Some((name, others)) = names.split_first() else {
         return Ok(Some(Vec::new(alloc)));
@@ -105,7 +103,7 @@ fn read_manifest(alloc: Global, bytes: &[u8]) -> Result<Option<Manifest>, AllocE
 
 /// The manifest's name, and those of the other files that it lists.
 fn names_in(alloc: Global, listed: &Manifest) -> Result<Vec<FileName>, AllocError>
-    ensures names { IfOk result (λ names. names.items ≡ manifest_name ∷ names_listed (manifest_view listed.now)) }
+    ensures names { IfOk result (λ names. names.items ≡ all_names (manifest_view listed.now)) }
     ensures count { IfOk result (λ names. length names.items ≤ length listed.now.files + 1) }
 {
     let mut names = Vec::new(alloc);
@@ -175,7 +173,7 @@ fn entry_snapshot(
 
 /// The snapshots whose manifests are there, as these stand.
 fn whole_in(alloc: Global, stored: &[Stored]) -> Result<Vec<Snapshot>, AllocError>
-    ensures { IfOk result (λ snapshots. snapshots.items ≡ filter_map (snapshot_of_entry stored.now) stored.now) }
+    ensures { IfOk result (λ s. s.items ≡ filter_map (snapshot_of_entry stored.now) stored.now) }
 {
     let mut snapshots = Vec::new(alloc);
     for entry in stored {
@@ -203,7 +201,7 @@ fn in_order(alloc: Global, mut snapshots: Vec<Snapshot>) -> Result<Vec<Snapshot>
 pub fn read_snapshots<D: Disk>(alloc: Global, disk: &mut D) -> Result<Vec<Snapshot>, DiskError>
     ensures serves { Serves D.honest D.faults disk.old disk.new (IsErrOf result DiskError.Failed) }
     ensures same { D.honest disk.old → D.content disk.new ≡ D.content disk.old }
-    ensures snapshots { D.honest disk.old → IfOk result (λ snapshots. snapshots.items ≡ load (D.content disk.old)) }
+    ensures snapshots { D.honest disk.old → IfOk result (λ s. s.items ≡ load (D.content disk.old)) }
 {
     let stored = read_all(alloc, disk)?;
     let snapshots = whole_in(alloc, &stored)?;

@@ -1,10 +1,10 @@
 //! The names of a disk and the bytes that stand there.
 
-ghost use Rattle.std.specs.Prelude.{◌≡◌, ◌++◌, option_map, IfOk, OnOk, IsErrOf};
-ghost use Rattle.std.specs.FinMap.{entries, get};
+ghost use Rattle.std.specs.Prelude.{◌≡◌, option_map, IfOk, IsErrOf};
+ghost use Rattle.std.specs.FinMap.{entries};
 ghost use Rattle.disk_trait.specs.Disk.{Serves};
 ghost use Rattle.store_model.specs.Load.{bytes_at as bytes_under};
-ghost use Rattle.plain_snapshots.specs.Loading.{found_at};
+ghost use Rattle.plain_snapshots.specs.Loading.{AddsRead};
 
 use disk_trait::{Disk, DiskError};
 use std::alloc::Global;
@@ -35,7 +35,7 @@ fn read_into<D: Disk>(
 ) -> Result<(), DiskError>
     ensures serves { Serves D.honest D.faults disk.old disk.new (IsErrOf result DiskError.Failed) }
     ensures same { D.honest disk.old → D.content disk.new ≡ D.content disk.old }
-    ensures files { D.honest disk.old → OnOk result (files.new.items ≡ files.old.items ++ found_at name.now (get (D.content disk.old) name.now)) }
+    ensures files { AddsRead D.Disk disk.old name.now files.old.items files.new.items result }
 {
     if let Some(bytes) = disk.read(alloc, name)? {
         files.push(Stored {
@@ -50,7 +50,7 @@ fn read_into<D: Disk>(
 pub fn read_all<D: Disk>(alloc: Global, disk: &mut D) -> Result<Vec<Stored>, DiskError>
     ensures serves { Serves D.honest D.faults disk.old disk.new (IsErrOf result DiskError.Failed) }
     ensures same { D.honest disk.old → D.content disk.new ≡ D.content disk.old }
-    ensures files { D.honest disk.old → IfOk result (λ files. files.items ≡ entries (D.content disk.old)) }
+    ensures files { D.honest disk.old → IfOk result (λ f. f.items ≡ entries (D.content disk.old)) }
 {
     let names = disk.list(alloc, "")?;
     let mut files = Vec::new(alloc);

@@ -3,3 +3,4 @@ pub mod Writers
 pub mod Parts
 pub mod Runs
 pub mod Turns
+pub mod Loaded

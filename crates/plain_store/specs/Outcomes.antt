@@ -1,8 +1,16 @@
 -- What a step leaves, by what it answers.
-use Rattle.std.specs.Prelude.{◌≡◌, Result, Ok, Err}
+use Rattle.std.specs.Prelude.{◌≡◌, ℕ, List, Result, Ok, Err, MatchResult}
+use Rattle.store_types.specs.declared.names.Digest32.{Digest32}
+use Rattle.store_types.specs.declared.refusal.Refusal.{Refusal}
 use Rattle.wire_commands.specs.declared.reply.Reply.{Reply}
 use Rattle.wire_commands.specs.HasText.{ReplyHasText}
-use Rattle.store_model.specs.Store.{Store, Outcome}
+use Rattle.store_model.specs.ArchiveSteps.{new_fixed, close_index}
+use Rattle.store_model.specs.Job.{Asking, step_of}
+use Rattle.store_model.specs.JobSteps.{step_outcome}
+use Rattle.store_model.specs.Steps.{answered}
+use Rattle.store_model.specs.Store.{Store, Outcome, session, with_session}
+use Rattle.plain_sessions.specs.declared.changes.Change.{Change}
+use Rattle.plain_sessions.specs.Changes.{changed_in}
 use Rattle.plain_sessions.specs.declared.stop.Stop.{Stop}
 use Rattle.plain_sessions.specs.declared.stop.Stop.TheVariants.{Refused, NoMemory}
 use Rattle.plain_sessions.specs.Outcomes.{IsFitRefusal}
@@ -17,3 +25,29 @@ Does old new (Err NoMemory) outcome = new ≡ old
 abbrev pub IsSpelled : Result Reply Stop → Type 0
 IsSpelled (Ok reply) = ReplyHasText reply
 IsSpelled (Err stop) = IsFitRefusal {A = Reply} (Err stop)
+
+-- the same of a step that changes nothing
+abbrev pub Answers : Store → Result Reply Stop → Outcome → Type 0
+Answers s result outcome = Does s s result outcome
+
+-- the test gives what is shown of the answer, or the refusal
+abbrev pub Tells : {A B : Type 0} → Result A Refusal → Result B Refusal → (A → B) → Type 0
+Tells result test show = MatchResult result (λ a. test ≡ Ok (show a)) (λ r. test ≡ Err r)
+
+-- ---- commands of many words
+
+abbrev pub BeginsFixed : Store → Store → ℕ → ℕ → List ℕ → ℕ → ℕ → Result Reply Stop → Type 0
+BeginsFixed old new lane moment name size chunk_size result = Does old new result (new_fixed old lane moment name size chunk_size)
+
+abbrev pub Closes : Store → Store → ℕ → ℕ → ℕ → ℕ → Digest32 → Result Reply Stop → Type 0
+Closes old new lane number count size csum result = Does old new result (close_index old lane number count size csum)
+
+-- ---- steps
+
+-- the lane's session is changed
+abbrev pub with_change : Store → ℕ → Change → Store
+with_change s lane change = with_session s lane (changed_in change (session s lane))
+
+-- the store after the step that a job asks, and its reply
+abbrev pub job_done : Store → ℕ → ℕ → Asking → Store × Reply
+job_done s lane moment job = answered s (step_outcome s lane moment (step_of job))

@@ -1,6 +1,11 @@
 -- What an entry leaves of a run.
-use Rattle.std.specs.Prelude.{◌≡◌, ℕ, Bool, true, false, Option, Some, None}
-use Rattle.store_model.specs.Lanes.{Run, lane_at, with_lane}
+use Rattle.std.specs.Prelude.{◌≡◌, ℕ, Bool, true, false, List, Option, Some, None, option_map, Result, IfOk}
+use Rattle.store_types.specs.declared.order.Entry.{Entry}
+use Rattle.store_types.specs.declared.refusal.Refusal.{Refusal}
+use Rattle.store_model.specs.declared.ending.Ending.{Ending}
+use Rattle.store_model.specs.Lanes.{Run, lane_at, with_lane, new_run, next_of}
+use Rattle.store_model.specs.Store.{Store}
+use Rattle.store_model.specs.Weave.{Misfit, Woven, ends, entered, faulted, short, stepped, told_fault, weave}
 use Rattle.plain_lanes.specs.declared.next.Next.{Next}
 use Rattle.plain_lanes.specs.Nexts.{left_by}
 
@@ -12,3 +17,39 @@ run_left n r k = with_lane r k (left_by n (lane_at r k))
 abbrev pub Enters : Run → Run → Bool → Option Run → Type 0
 Enters old new true entered = entered ≡ Some new
 Enters old new false entered = (entered ≡ None) × (new ≡ old)
+
+-- ---- an entry of a lane, by what stands next there
+
+-- where memory is not wanting, it tells whether the entry fits
+abbrev pub EntersBy : {E : Type 0} → Run → Run → Option Run → Result Bool E → Type 0
+EntersBy old new entered result = IfOk result (λ fits. Enters old new fits entered)
+
+abbrev pub stepped_at : Run → ℕ → ℕ → Option Run
+stepped_at r lane moment = stepped r lane moment (next_of r lane)
+
+abbrev pub short_at : Run → ℕ → Option Run
+short_at r lane = short r lane (next_of r lane)
+
+abbrev pub fault_at : Run → ℕ → Refusal → Run
+fault_at r lane refusal = told_fault r lane refusal (next_of r lane)
+
+abbrev pub faulted_at : Run → ℕ → ℕ → Ending → List Entry → Run
+faulted_at r lane place ending later = faulted r lane place ending later (next_of r lane)
+
+abbrev pub ends_at : Run → ℕ → Ending → Option Run
+ends_at r lane ending = ends r lane ending (next_of r lane)
+
+-- the entry at a place, whose lane has this ending
+abbrev pub EntersEntry : {E : Type 0} → Run → Run → Ending → ℕ → Entry → List Entry → Result Bool E → Type 0
+EntersEntry old new ending place entry later result = EntersBy old new (entered (λ _ _. ending) old place entry later) result
+
+-- ---- a run as a whole
+
+-- the run of the store's lanes, beside another store where there is one
+abbrev pub BeginsRun : {R E : Type 0} → Store → Option R → (R → Store) → List (List ℕ) → Result Run E → Type 0
+BeginsRun s remote shown inputs result = IfOk result (λ run. run ≡ new_run s.snapshots (option_map (λ p. (shown p).snapshots) remote) inputs)
+
+-- what these inputs and endings make in this order, or the first entry that does not fit
+abbrev pub Plays : {R E : Type 0} → Store → Option R → (R → Store) → List Entry → List (List ℕ) → List Ending → Result (Result Woven Misfit) E → Type 0
+Plays s remote shown order inputs endings result =
+    IfOk result (λ woven. woven ≡ weave s.snapshots (option_map (λ p. (shown p).snapshots) remote) order inputs endings)

@@ -4,7 +4,7 @@ ghost use Rattle.std.specs.Prelude.{◌≡◌, ◌<◌, option_map, IfErr};
 ghost use Rattle.wire_commands.specs.HasText.{FitsRefusal};
 ghost use Rattle.store_model.specs.AdminSteps.{want_after as needs_after, counts_fit as all_fit, list as listed, files as files_told, forget as forgotten, group as grouped, want_free as needs_free, prune_group as prune_begun};
 ghost use Rattle.plain_sessions.specs.Outcomes.{Gives, IsFitRefusal};
-ghost use Rattle.plain_store.specs.Outcomes.{Does, IsSpelled};
+ghost use Rattle.plain_store.specs.Outcomes.{Answers, Does, IsSpelled};
 
 use crate::plain::Plain;
 use plain_sessions::{Stop, want_unheld};
@@ -44,7 +44,7 @@ fn counts_fit(keep: &Keep) -> bool
 impl Plain {
     /// LIST: the snapshots after one.
     pub(crate) fn list(&self, alloc: Global, after: &[u8]) -> Result<Reply, Stop>
-        ensures does { Does self.now self.now result (listed self.now after.now) }
+        ensures does { Answers self.now result (listed self.now after.now) }
         ensures spelled { IsSpelled result }
     {
         let after = want_after(alloc, after)?;
@@ -54,7 +54,7 @@ impl Plain {
 
     /// FILES: the files of a snapshot.
     pub(crate) fn files(&self, alloc: Global, snapshot: &[u8]) -> Result<Reply, Stop>
-        ensures does { Does self.now self.now result (files_told self.now snapshot.now) }
+        ensures does { Answers self.now result (files_told self.now snapshot.now) }
         ensures spelled { IsSpelled result }
     {
         let Ok(key) = PlainKey::parse(alloc, snapshot)? else {
@@ -99,7 +99,7 @@ impl Plain {
 
     /// GROUP: the snapshots of a group.
     pub(crate) fn group(&self, alloc: Global, group: &[u8]) -> Result<Reply, Stop>
-        ensures does { Does self.now self.now result (grouped self.now group.now) }
+        ensures does { Answers self.now result (grouped self.now group.now) }
         ensures spelled { IsSpelled result }
     {
         let Ok(group) = GroupKey::parse(alloc, group)? else {
@@ -117,7 +117,7 @@ impl Plain {
         keep: &Keep,
     ) -> Result<Reply, Stop>
         requires { lane < 64 }
-        ensures does { Does self.now self.now result (prune_begun self.now lane group.now keep.now) }
+        ensures does { Answers self.now result (prune_begun self.now lane group.now keep.now) }
         ensures spelled { IsSpelled result }
     {
         self.held(lane).want_idle()?;

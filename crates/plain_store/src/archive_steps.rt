@@ -2,8 +2,8 @@
 
 ghost use Rattle.std.specs.Prelude.{◌<◌, ◌≤◌};
 ghost use Rattle.store_types.specs.Times.{last_moment};
-ghost use Rattle.store_model.specs.ArchiveSteps.{new_fixed as begins_fixed, new_dynamic as begins, put_chunk as puts, append as appends, close_index as closes};
-ghost use Rattle.plain_store.specs.Outcomes.{Does, IsSpelled};
+ghost use Rattle.store_model.specs.ArchiveSteps.{new_dynamic as begins, put_chunk as puts, append as appends};
+ghost use Rattle.plain_store.specs.Outcomes.{BeginsFixed, Closes, Does, IsSpelled};
 
 use crate::plain::Plain;
 use plain_sessions::{Change, Stop, checked_piece};
@@ -24,7 +24,7 @@ impl Plain {
     ) -> Result<Reply, Stop>
         requires lane { lane < 64 }
         requires moment { moment ≤ last_moment }
-        ensures does { Does self.old self.new result (begins_fixed self.old lane moment name.now size chunk_size) }
+        ensures does { BeginsFixed self.old self.new lane moment name.now size chunk_size result }
         ensures spelled { IsSpelled result }
     {
         let w = self.held(lane).want_writer()?;
@@ -102,7 +102,7 @@ impl Plain {
         csum: &Digest32,
     ) -> Result<Reply, Stop>
         requires { lane < 64 }
-        ensures does { Does self.old self.new result (closes self.old lane number count size csum.now) }
+        ensures does { Closes self.old self.new lane number count size csum.now result }
         ensures spelled { IsSpelled result }
     {
         let w = self.held(lane).want_writer()?;

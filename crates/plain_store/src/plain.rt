@@ -3,15 +3,13 @@
 ghost use Rattle.std.specs.Prelude.{◌≡◌, ◌<◌, ◌≤◌, IfOk, OnOk, OnErr};
 ghost use Rattle.store_types.specs.Times.{last_moment};
 ghost use Rattle.wire_commands.specs.HasText.{ReplyHasText};
-ghost use Rattle.store_model.specs.Job.{step_of};
-ghost use Rattle.store_model.specs.JobSteps.{step_outcome};
 ghost use Rattle.store_model.specs.Store.{session as session_at, with_session, ended};
-ghost use Rattle.store_model.specs.Steps.{step as stepped, answered, outcome as outcome_of};
+ghost use Rattle.store_model.specs.Steps.{step as stepped, outcome as outcome_of};
 ghost use Rattle.plain_sessions.specs.Sessions.{shown_held};
-ghost use Rattle.plain_sessions.specs.Changes.{changed_in, FitsSession};
+ghost use Rattle.plain_sessions.specs.Changes.{FitsSession};
 ghost use Rattle.plain_lanes.specs.Jobs.{FitsTaken};
 ghost use Rattle.plain_lanes.specs.Nexts.{IsStep};
-ghost use Rattle.plain_store.specs.Outcomes.{Does, IsSpelled};
+ghost use Rattle.plain_store.specs.Outcomes.{Does, IsSpelled, job_done, with_change};
 
 use plain_lanes::Asking;
 use plain_sessions::{Change, Held, Session, Stop};
@@ -62,7 +60,7 @@ impl Plain {
     pub(crate) fn change(&mut self, lane: u32, change: Change) -> Result<(), AllocError>
         requires lane { lane < 64 }
         requires fits { FitsSession change (session_at self.old lane) }
-        ensures ok { OnOk result (self.new ≡ with_session self.old lane (changed_in change (session_at self.old lane))) }
+        ensures ok { OnOk result (self.new ≡ with_change self.old lane change) }
         ensures err { OnErr result (self.new ≡ self.old) }
     {
         let session = &mut self.sessions[lane as usize];
@@ -91,7 +89,7 @@ impl Plain {
         requires lane { lane < 64 }
         requires moment { moment ≤ last_moment }
         requires command { IsStep command.now }
-        ensures step { IfOk result (λ reply. (self.new, reply) ≡ stepped self.old lane moment command.now) }
+        ensures step { IfOk result (λ r. (self.new, r) ≡ stepped self.old lane moment command.now) }
         ensures spelled { IfOk result ReplyHasText }
         ensures memory { OnErr result (self.new ≡ self.old) }
     {
@@ -109,7 +107,7 @@ impl Plain {
     ) -> Result<Reply, AllocError>
         requires lane { lane < 64 }
         requires moment { moment ≤ last_moment }
-        ensures step { IfOk result (λ reply. (self.new, reply) ≡ answered self.old (step_outcome self.old lane moment (step_of asking.now))) }
+        ensures step { IfOk result (λ r. (self.new, r) ≡ job_done self.old lane moment asking.now) }
         ensures fits { IfOk result FitsTaken }
     {
         match asking.next(alloc) {
@@ -128,7 +126,7 @@ impl Plain {
     ) -> Result<Reply, AllocError>
         requires lane { lane < 64 }
         requires moment { moment ≤ last_moment }
-        ensures step { IfOk result (λ reply. (self.new, reply) ≡ stepped self.old lane moment command.now) }
+        ensures step { IfOk result (λ r. (self.new, r) ≡ stepped self.old lane moment command.now) }
         ensures spelled { IfOk result ReplyHasText }
         ensures memory { OnErr result (self.new ≡ self.old) }
     {

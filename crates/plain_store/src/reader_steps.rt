@@ -2,7 +2,7 @@
 
 ghost use Rattle.std.specs.Prelude.{◌≡◌, ◌<◌};
 ghost use Rattle.store_model.specs.ReaderSteps.{reader_files, open_reader as opened, download as downloaded, get_chunk as chunk_given, range as range_given, close_reader as closed};
-ghost use Rattle.plain_store.specs.Outcomes.{Does, IsSpelled};
+ghost use Rattle.plain_store.specs.Outcomes.{Answers, Does, IsSpelled};
 
 use crate::parts::part_in;
 use crate::plain::Plain;
@@ -76,7 +76,7 @@ impl Plain {
         digest: &Digest32,
     ) -> Result<Reply, Stop>
         requires { lane < 64 }
-        ensures does { Does self.now self.now result (chunk_given self.now lane digest.now) }
+        ensures does { Answers self.now result (chunk_given self.now lane digest.now) }
         ensures spelled { IsSpelled result }
     {
         let r = self.held(lane).want_reader()?;
@@ -94,7 +94,7 @@ impl Plain {
         length: u32,
     ) -> Result<Reply, Stop>
         requires { lane < 64 }
-        ensures does { Does self.now self.now result (range_given self.now lane name.now offset length) }
+        ensures does { Answers self.now result (range_given self.now lane name.now offset length) }
         ensures spelled { IsSpelled result }
     {
         let r = self.held(lane).want_reader()?;

@@ -5,10 +5,10 @@ ghost use Rattle.std.specs.List.{find};
 ghost use Rattle.store_types.specs.Times.{last_moment};
 ghost use Rattle.wire_commands.specs.HasText.{FitsRefusal, ReplyHasText};
 ghost use Rattle.store_model.specs.Lanes.{lane_at, next_of};
-ghost use Rattle.store_model.specs.Weave.{tell as told, go_on as gone_on, end_session as without_session, stepped as after_step, short as after_short, told_fault as after_fault, faulted as after_faulted, fault_refusal as refusal_of, is_end as is_an_end, is_cut_off as cuts_off, is_replied as has_reply, may_leave_unread as may_stop, ended_with as after_end, unread as after_unread, ends as after_ends, entered};
+ghost use Rattle.store_model.specs.Weave.{tell as told, go_on as gone_on, end_session as without_session, fault_refusal as refusal_of, is_end as is_an_end, is_cut_off as cuts_off, is_replied as has_reply, may_leave_unread as may_stop, ended_with as after_end, unread as after_unread};
 ghost use Rattle.plain_lanes.specs.Jobs.{shown_job, IsSpelledJob};
 ghost use Rattle.plain_lanes.specs.Nexts.{shown_next, IsFitNext};
-ghost use Rattle.plain_store.specs.Runs.{run_left, Enters};
+ghost use Rattle.plain_store.specs.Runs.{run_left, Enters, EntersBy, EntersEntry, ends_at, fault_at, faulted_at, short_at, stepped_at};
 
 use crate::plain::Plain;
 use plain_lanes::{Job, Lane, Next};
@@ -162,7 +162,7 @@ impl<'a> Run<'a> {
         requires lane { lane < length self.old.lanes }
         requires lanes { length self.old.lanes ≤ 64 }
         requires moment { moment ≤ last_moment }
-        ensures enters { IfOk result (λ fits. Enters self.old self.new fits (after_step self.old lane moment (next_of self.old lane))) }
+        ensures enters { EntersBy self.old self.new (stepped_at self.old lane moment) result }
         ensures lanes { OnOk result (length self.new.lanes ≡ length self.old.lanes) }
     {
         match self.take_next(alloc, lane)? {
@@ -185,7 +185,7 @@ impl<'a> Run<'a> {
     #[tactic(auto, unfolding(store_model::specs::Weave::short), using(crate::proofs::Spelled::refusal_spelled))]
     fn short(&mut self, alloc: Global, lane: u32) -> Result<bool, AllocError>
         requires { lane < length self.old.lanes }
-        ensures enters { IfOk result (λ fits. Enters self.old self.new fits (after_short self.old lane (next_of self.old lane))) }
+        ensures enters { EntersBy self.old self.new (short_at self.old lane) result }
         ensures lanes { OnOk result (length self.new.lanes ≡ length self.old.lanes) }
     {
         let reply = Reply::Refused(Refusal::NoMemory);
@@ -212,7 +212,7 @@ impl<'a> Run<'a> {
     fn tell_fault(&mut self, alloc: Global, lane: u32, refusal: Refusal) -> Result<(), AllocError>
         requires lane { lane < length self.old.lanes }
         requires fits { FitsRefusal refusal }
-        ensures told { OnOk result (self.new ≡ after_fault self.old lane refusal (next_of self.old lane)) }
+        ensures told { OnOk result (self.new ≡ fault_at self.old lane refusal) }
         ensures lanes { OnOk result (length self.new.lanes ≡ length self.old.lanes) }
     {
         let reply = Reply::Refused(refusal);
@@ -247,7 +247,7 @@ impl<'a> Run<'a> {
         later: &[Entry],
     ) -> Result<(), AllocError>
         requires { lane < length self.old.lanes }
-        ensures told { OnOk result (self.new ≡ after_faulted self.old lane place ending later.now (next_of self.old lane)) }
+        ensures told { OnOk result (self.new ≡ faulted_at self.old lane place ending later.now) }
         ensures lanes { OnOk result (length self.new.lanes ≡ length self.old.lanes) }
     {
         let first = self.fault;
@@ -300,7 +300,7 @@ impl<'a> Run<'a> {
     fn ends(&mut self, alloc: Global, lane: u32, ending: Ending) -> Result<bool, AllocError>
         requires lane { lane < length self.old.lanes }
         requires lanes { length self.old.lanes ≤ 64 }
-        ensures enters { IfOk result (λ fits. Enters self.old self.new fits (after_ends self.old lane ending (next_of self.old lane))) }
+        ensures enters { EntersBy self.old self.new (ends_at self.old lane ending) result }
         ensures lanes { OnOk result (length self.new.lanes ≡ length self.old.lanes) }
     {
         if self.has_job(lane) {
@@ -335,7 +335,7 @@ impl<'a> Run<'a> {
         requires lane { entry.now.lane < length self.old.lanes }
         requires lanes { length self.old.lanes ≤ 64 }
         requires moment { entry.now.moment ≤ last_moment }
-        ensures enters { IfOk result (λ fits. Enters self.old self.new fits (entered (λ _ _. ending) self.old place entry.now later.now)) }
+        ensures enters { EntersEntry self.old self.new ending place entry.now later.now result }
         ensures lanes { OnOk result (length self.new.lanes ≡ length self.old.lanes) }
     {
         let lane = entry.lane;

@@ -1,12 +1,13 @@
 //! The plain store and the replies, where lanes take turns in a given order.
 
-ghost use Rattle.std.specs.Prelude.{◌≡◌, ◌<◌, ◌≤◌, length, map, replicate, option_map, slice_index_or, IfOk, IsTrue};
+ghost use Rattle.std.specs.Prelude.{◌≡◌, ◌<◌, ◌≤◌, length, map, replicate, slice_index_or, IfOk, IsTrue};
 ghost use Rattle.store_files.specs.Order.{keeps_rules};
 ghost use Rattle.store_model.specs.declared.ending.Ending.TheVariants.{Clean};
 ghost use Rattle.store_model.specs.Store.{none, store_of};
-ghost use Rattle.store_model.specs.Lanes.{new_run, new_lane};
+ghost use Rattle.store_model.specs.Lanes.{new_lane};
+ghost use Rattle.plain_store.specs.Runs.{BeginsRun, Plays};
 ghost use Rattle.plain_store.specs.Turns.{Turns};
-ghost use Rattle.store_model.specs.Weave.{known, weave as woven_in, woven_of, misfit as misfit_at};
+ghost use Rattle.store_model.specs.Weave.{known, woven_of, misfit as misfit_at};
 
 use crate::plain::Plain;
 use crate::run::Run;
@@ -112,7 +113,7 @@ impl Plain {
         remote: Option<&'a Plain>,
         inputs: &'a [Bytes],
     ) -> Result<Run<'a>, AllocError>
-        ensures run { IfOk result (λ run. run ≡ new_run self.now.snapshots (option_map (λ p. p.now.snapshots) remote.entry) inputs.now) }
+        ensures run { BeginsRun self.now remote.entry (λ p. p.now) inputs.now result }
         ensures lanes { IfOk result (λ run. length run.lanes ≡ length inputs.now) }
     {
         Ok(Run {
@@ -137,7 +138,7 @@ impl Plain {
         requires lanes { length inputs.now ≤ 64 }
         requires endings { length endings.now ≡ length inputs.now }
         requires rules { IsTrue (keeps_rules (length inputs.now) order.now) }
-        ensures { IfOk result (λ woven. woven ≡ woven_in self.now.snapshots (option_map (λ p. p.now.snapshots) remote.entry) order.now inputs.now endings.now) }
+        ensures { Plays self.now remote.entry (λ p. p.now) order.now inputs.now endings.now result }
     {
         let mut run = self.begin(alloc, remote, inputs)?;
         for place in 0..order.len() {
@@ -162,7 +163,7 @@ impl Run<'_> {
         requires lanes { length self.old.lanes ≤ 64 }
         requires endings { length endings.now ≡ length self.old.lanes }
         requires rules { IsTrue (keeps_rules (length self.old.lanes) order.now) }
-        ensures turn { IfOk result (λ misfit. Turns (known endings.now) order.now place self.old self.new misfit) }
+        ensures turn { IfOk result (Turns (known endings.now) order.now place self.old self.new) }
         ensures lanes { IfOk result (λ _. length self.new.lanes ≡ length self.old.lanes) }
     {
         let entry = &order[place];

@@ -1,14 +1,10 @@
 //! The commands of a writer.
 
-ghost use Rattle.std.specs.Prelude.{◌≡◌, ◌<◌, length, nat_lt, option_map, Ok, Err, MatchResult, IfOk, IfErr};
-ghost use Rattle.store_types.specs.Chain.Refusing.{unless};
-ghost use Rattle.store_types.specs.Names.{group_of_key};
-ghost use Rattle.store_types.specs.declared.refusal.Refusal.TheVariants.{TooMany};
-ghost use Rattle.store_model.specs.Store.{in_group};
+ghost use Rattle.std.specs.Prelude.{◌≡◌, ◌<◌, length, option_map, IfOk, IfErr};
 ghost use Rattle.store_model.specs.WriterSteps.{base_text as text_of_base, want_newer as needs_newer, open_writer as opened, base_of as base_named, previous as looked_back, put_blob as put, finish as finished, abort as aborted};
-ghost use Rattle.plain_store.specs.Outcomes.{Does, IsSpelled};
+ghost use Rattle.plain_store.specs.Outcomes.{Does, IsSpelled, Tells};
 ghost use Rattle.wire_commands.specs.HasText.{FitsRefusal};
-ghost use Rattle.plain_store.specs.Writers.{base_of as tested_base};
+ghost use Rattle.plain_store.specs.Writers.{base_of as tested_base, want_room_in};
 
 use crate::parts::part_in;
 use crate::plain::Plain;
@@ -21,7 +17,7 @@ use wire_commands::Reply;
 /// The snapshot is later than the latest of its group.
 fn want_newer(key: &SnapshotKey, latest: Option<&PlainKey>) -> Result<(), Refusal>
     ensures fits { IfErr result FitsRefusal }
-    ensures test { result ≡ needs_newer key.now.time (option_map (λ latest. latest.now) latest.entry) }
+    ensures test { result ≡ needs_newer key.now.time (option_map (λ l. l.now) latest.entry) }
 {
     let Some(latest) = latest else {
         return Ok(());
@@ -37,7 +33,7 @@ fn want_newer(key: &SnapshotKey, latest: Option<&PlainKey>) -> Result<(), Refusa
 /// The snapshot's group has room for one more.
 fn want_group_room(key: &SnapshotKey, snapshots: &[Snapshot]) -> Result<(), Refusal>
     ensures fits { IfErr result FitsRefusal }
-    ensures test { result ≡ unless (TooMany 4096) (nat_lt (length (in_group (group_of_key key.now) snapshots.now)) 4096) }
+    ensures test { result ≡ want_room_in key.now snapshots.now }
 {
     if count_in(key, snapshots) < 4096 {
         Ok(())
@@ -70,7 +66,7 @@ impl Plain {
     /// The latest snapshot of the group, where a writer of the snapshot may begin.
     fn base_of(&self, key: &SnapshotKey) -> Result<Option<&PlainKey>, Refusal>
         ensures fits { IfErr result FitsRefusal }
-        ensures test { MatchResult result (λ base. tested_base self.now key.now ≡ Ok (option_map (λ k. k.now) base)) (λ r. tested_base self.now key.now ≡ Err r) }
+        ensures test { Tells result (tested_base self.now key.now) (option_map (λ k. k.now)) }
     {
         want_free(&self.sessions, key)?;
         let latest = latest_in(key, &self.snapshots);

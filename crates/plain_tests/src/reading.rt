@@ -1,4 +1,5 @@
-//! Datastores, and the snapshots that are read of them. Checksums, digests and the bytes of indexes were made elsewhere.
+//! Datastores, and the snapshots that are read of them. Checksums, digests and the bytes of indexes are
+//! made by `tests/make-tables`.
 
 ghost use Rattle.std.specs.Prelude.{◌≤◌, length};
 

@@ -1,4 +1,4 @@
-//! Sessions by the bytes of their commands and replies, which were worked out elsewhere.
+//! Sessions by the bytes of their commands and replies, which are made by `tests/make-tables`.
 
 use disk_trait::{Disk, DiskError, MemoryDisk};
 use plain_store::{Misfit, Plain, Woven};

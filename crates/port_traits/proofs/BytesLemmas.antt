@@ -2,7 +2,7 @@
 use Rattle.std.proofs.Common.{◌≡◌, ℕ, ◌+◌, ◌-◌, List, ◌++◌, length, take, drop, arith, append_assoc, Option, None, Some, Bool, true, false, Result, Ok, Err, IsErr, is_ok, length-drop, length-append}
 use Rattle.std.proofs.Math.Seq.{take-add, take-length, take-append-add}
 use Rattle.std.proofs.lemmas.List.{take-append-le}
-use Rattle.port_traits.specs.Bytes.{AddsTo, Writes, WritesCounted, IsCountOf}
+use Rattle.port_traits.specs.Bytes.{AddsTo, WritesCounted, IsCountOf}
 
 -- what two writes took is one after the other
 pub AddsTo-append : (a b c : Option (List ℕ)) (xs ys : List ℕ) → AddsTo a b xs → AddsTo b c ys → AddsTo a c (xs ++ ys)
@@ -27,27 +27,12 @@ pub AddsTo-then : (a b c : Option (List ℕ)) (xs ys : List ℕ) (m n : ℕ) →
 AddsTo-then a b c xs ys m n all first second =
     rw take-append-add (AddsTo-append a b c xs (take n ys) (rw (all, take-length) at first) second)
 
-pub Writes-then : (a b c : Option (List ℕ)) (xs ys : List ℕ) (all : Bool) → Writes a b xs true → Writes b c ys all → Writes a c (xs ++ ys) all
-Writes-then a b c xs ys all first second = record {
-  count = length xs + second.count;
-  how_many = IsCountOf-append all xs ys second.count second.how_many;
-  added = AddsTo-then a b c xs ys first.count second.count first.how_many first.added second.added;
-}
-
 pub WritesCounted-then : (a b c : Option (List ℕ)) (m n k : ℕ) (xs ys : List ℕ) (all : Bool) → WritesCounted a b m n xs true → WritesCounted b c n k ys all → WritesCounted a c m k (xs ++ ys) all
 WritesCounted-then a b c m n k xs ys all first second = record {
   count = length xs + second.count;
   how_many = IsCountOf-append all xs ys second.count second.how_many;
   added = AddsTo-then a b c xs ys first.count second.count first.how_many first.added second.added;
   counted = omega (arith, first.how_many, first.counted, second.counted);
-}
-
--- a write that stopped, seen as one of more bytes
-pub Writes-stopped : (a b : Option (List ℕ)) (xs ys : List ℕ) → Writes a b xs false → Writes a b (xs ++ ys) false
-Writes-stopped a b xs ys first = record {
-  count = first.count;
-  how_many = omega (arith, first.how_many, length-append xs ys);
-  added = rw (take-append-le first.count xs ys (omega (arith, first.how_many))) first.added;
 }
 
 pub WritesCounted-stopped : (a b : Option (List ℕ)) (m n : ℕ) (xs ys : List ℕ) → WritesCounted a b m n xs false → WritesCounted a b m n (xs ++ ys) false
@@ -59,10 +44,6 @@ WritesCounted-stopped a b m n xs ys first = record {
 }
 
 -- the same at the exit of a `?`
-pub Writes-failed : {T E : Type 0} (a b : Option (List ℕ)) (xs ys : List ℕ) (r : Result T E) → IsErr r → Writes a b xs false → Writes a b (xs ++ ys) (is_ok r)
-Writes-failed a b xs ys (Ok t) failed first = absurd (cc failed)
-Writes-failed a b xs ys (Err e) failed first = Writes-stopped a b xs ys first
-
 pub WritesCounted-failed : {T E : Type 0} (a b : Option (List ℕ)) (m n : ℕ) (xs ys : List ℕ) (r : Result T E) → IsErr r → WritesCounted a b m n xs false → WritesCounted a b m n (xs ++ ys) (is_ok r)
 WritesCounted-failed a b m n xs ys (Ok t) failed first = absurd (cc failed)
 WritesCounted-failed a b m n xs ys (Err e) failed first = WritesCounted-stopped a b m n xs ys first

@@ -1,8 +1,8 @@
 -- A loop that turns to true what a test passes, one place after another along an order.
-use Rattle.std.proofs.Common.{◌≡◌, ℕ, ◌+◌, ◌<◌, ◌≤◌, ◌⊎◌, inl, inr, Bool, true, false, ◌||◌, List, length, get_or, set, refl, sym, ap, subst, ◌∙◌, arith}
+use Rattle.std.proofs.Common.{◌≡◌, ℕ, ◌+◌, ◌<◌, ◌≤◌, ◌⊎◌, inl, inr, Bool, true, false, ◌||◌, List, length, get_or, set, sym, ap, subst, ◌∙◌, arith}
 use Rattle.std.proofs.Math.Bool.{or-false}
 use Rattle.std.proofs.lemmas.List.{get_or-set_same, get_or-set_other}
-use Rattle.std.proofs.lemmas.Bool.{cases_Bool, cases_eq, or_right}
+use Rattle.std.proofs.lemmas.Bool.{cases_eq, or_right}
 use Rattle.prune_rules.specs.Slots.{place_of}
 
 -- What came before step i is done. Each place is as it was, or done.
@@ -10,28 +10,8 @@ pub record Turned {X : Type 0} (g : X → Bool) (d : X) (f : ℕ → Bool) (old 
   pub done : (k : ℕ) → from ≤ k → k < i → g (get_or new (place_of order k) d) ≡ (g (get_or old (place_of order k) d) || f (place_of order k))
   pub each : (j : ℕ) → (g (get_or new j d) ≡ g (get_or old j d)) ⊎ (g (get_or new j d) ≡ (g (get_or old j d) || f j))
 
-pub turned_begin : {X : Type 0} (g : X → Bool) (d : X) (f : ℕ → Bool) (old : List X) (order : List ℕ) (from : ℕ) → Turned g d f old old order from from
-turned_begin g d f old order from = record {
-  done = λ k low h. absurd (omega arith);
-  each = λ j. inl refl;
-}
-
 same_as_done : (a b x : Bool) → x ≡ false → a ≡ b → a ≡ (b || x)
 same_as_done a b x fails e = e ∙ sym (ap (λ y. b || y) fails ∙ or-false b)
-
--- the order reaches each place that passes
-pub turned_all : {X : Type 0} (g : X → Bool) (d : X) (f : ℕ → Bool) (old new : List X) (order : List ℕ) (from i n : ℕ) →
-    ((j : ℕ) → j < n → f j ≡ true → (k : ℕ) × (from ≤ k) × (k < i) × (place_of order k ≡ j)) →
-    Turned g d f old new order from i → (j : ℕ) → j < n → g (get_or new j d) ≡ (g (get_or old j d) || f j)
-turned_all g d f old new order from i n reach is j h = elim (cases_Bool (f j)) [
-  | inl passes ↦
-      let at = reach j h passes in
-      subst (λ p. g (get_or new p d) ≡ (g (get_or old p d) || f p)) at.3 (is.done at.0 at.1 at.2)
-  | inr fails ↦ elim (is.each j) [
-    | inl same ↦ same_as_done _ _ (f j) fails same
-    | inr done ↦ done
-  ]
-]
 
 set_here : {X : Type 0} (g : X → Bool) (d : X) (f : ℕ → Bool) (old new : List X) (order : List ℕ) (from i : ℕ) (v : X) →
     place_of order i < length new → g v ≡ true → f (place_of order i) ≡ true → Turned g d f old new order from i →

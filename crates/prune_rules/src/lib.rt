@@ -44,8 +44,6 @@ pub enum Mark {
 const TABLE_LEN: usize = 4096;
 
 /// A mark for each item, in the items' order.
-///
-/// An option costs what sorting the items does: of n items some n log n steps, in whatever order of times they are.
 pub fn marks(alloc: Global, items: &[Item], keep: &Keep) -> Result<Vec<Mark>, AllocError>
     requires { All (λ item. item.time ≤ last_moment) items.now }
     ensures { IfOk result (λ marks. marks.items ≡ marks_of items.now keep.now) }
@@ -59,7 +57,7 @@ pub fn marks(alloc: Global, items: &[Item], keep: &Keep) -> Result<Vec<Mark>, Al
 
 /// The same marks, left in `into`. What both slices held doesn't matter; `covered` is work space. It takes no memory.
 ///
-/// Up to 4,096 items cost what they cost in `marks`. Of more, an option may cost the square of their number.
+/// No clause speaks of the cost. More than 4,096 items are taken without the table of their places, which is slower.
 pub fn marks_into(items: &[Item], keep: &Keep, covered: &mut [bool], into: &mut [Mark])
     requires times { All (λ item. item.time ≤ last_moment) items.now }
     requires covered { length covered.old ≡ length items.now }

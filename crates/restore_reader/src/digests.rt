@@ -21,7 +21,7 @@ pub fn sorted(alloc: Global, entries: &[(Digest32, u64)]) -> Result<Vec<Digest32
     Ok(digests)
 }
 
-/// The digest is one of these. It takes no memory, and no more steps than the number of their binary digits and one.
+/// The digest is one of these. It takes no memory.
 pub fn contains(digests: &[Digest32], digest: &Digest32) -> bool
     requires { IsSorted digest_cmp digests.now }
     ensures { result ≡ list_any (λ d. bytes_eq d.0 digest.now.0) digests.now }

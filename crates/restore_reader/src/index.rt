@@ -1,11 +1,10 @@
 //! An archive that was downloaded.
 
-ghost use Rattle.std.specs.Prelude.{◌≡◌, ◌≤◌, ℕ, ◌-◌, List, take, drop, IfOk};
-ghost use Rattle.std.specs.List.{concat};
-ghost use Rattle.store_files.specs.Archive.{ends_from};
+ghost use Rattle.std.specs.Prelude.{◌≡◌, ◌≤◌, ◌-◌, IfOk};
 ghost use Rattle.dynamic_index.specs.Pieces.{last_end};
 ghost use Rattle.store_files.specs.Entries.{ends_of, FitsIndex};
-ghost use Rattle.restore_reader.specs.Cutting.{Reads, total_of};
+ghost use Rattle.restore_reader.specs.Answers.{ReadsRange};
+ghost use Rattle.restore_reader.specs.Cutting.{total_of};
 ghost use Rattle.restore_reader.specs.Plan as plan;
 ghost use Rattle.restore_reader.specs.Steps as steps;
 
@@ -75,9 +74,9 @@ impl Index {
 
     /// The parts of pieces from one offset up to another.
     pub fn parts(&self, alloc: Global, from: u64, to: u64) -> Result<Vec<Part>, AllocError>
-        ensures value { IfOk result (λ parts. parts.items ≡ plan.parts_in from to 0 self.now.entries) }
+        ensures value { IfOk result (λ ps. ps.items ≡ plan.parts_in from to 0 self.now.entries) }
         ensures total { IfOk result (λ parts. total_of parts.items ≤ to - from) }
-        ensures bytes { IfOk result (λ parts. (pieces : List (List ℕ)) → ends_from 0 pieces ≡ self.now.entries → Reads parts.items pieces (take (to - from) (drop from (concat pieces)))) }
+        ensures bytes { IfOk result (λ parts. ReadsRange parts.items self.now.entries from to) }
     {
         parts_in(alloc, &self.entries, from, to)
     }

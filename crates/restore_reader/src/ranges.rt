@@ -1,14 +1,14 @@
 //! The parts of pieces that make a range.
 
-ghost use Rattle.std.specs.Prelude.{◌≡◌, ℕ, ◌+◌, ◌-◌, ◌<◌, ◌≤◌, List, ◌++◌, length, take, drop, IsTrue, IfOk, IfErr, OnOk};
-ghost use Rattle.std.specs.List.{concat, AllWithin};
-ghost use Rattle.store_files.specs.Archive.{ends_from};
+ghost use Rattle.std.specs.Prelude.{◌≡◌, ◌+◌, ◌-◌, ◌<◌, ◌≤◌, length, take, IsTrue, IfOk, IfErr, OnOk};
+ghost use Rattle.std.specs.List.{AllWithin};
 ghost use Rattle.store_files.specs.DynamicIndex.{steps_fit};
 ghost use Rattle.dynamic_index.specs.Pieces.{last_end};
-ghost use Rattle.store_files.specs.Entries.{ended_of, ends_of};
-ghost use Rattle.restore_reader.specs.Answers.{RefusesRange};
-ghost use Rattle.restore_reader.specs.Cutting.{Reads, total_of};
+ghost use Rattle.store_files.specs.Entries.{ends_of};
+ghost use Rattle.restore_reader.specs.Answers.{ReadsRange, RefusesRange};
+ghost use Rattle.restore_reader.specs.Cutting.{total_of};
 ghost use Rattle.restore_reader.specs.Plan as plan;
+ghost use Rattle.restore_reader.specs.Plan.{with_part};
 ghost use Rattle.store_model.specs.ReaderSteps as plain;
 
 use std::alloc::{AllocError, Global};
@@ -51,8 +51,7 @@ pub fn end_before(entries: &[(Digest32, u64)], count: usize) -> u64
     entries[count - 1].1
 }
 
-/// How many pieces end at the offset or before it. It looks at no more entries than one and the number of binary digits
-/// of theirs.
+/// How many pieces end at the offset or before it.
 fn pieces_before(entries: &[(Digest32, u64)], offset: u64) -> usize
     requires { IsTrue (steps_fit 0 (ends_of entries.now)) }
     ensures bound { result ≤ length entries.now }
@@ -72,7 +71,7 @@ fn push_part(
 ) -> Result<(), AllocError>
     requires above { start < entry.now.1 }
     requires limit { entry.now.1 ≤ start + 16_777_216 }
-    ensures { OnOk result (parts.new.items ≡ parts.old.items ++ plan.part_in from to start (ended_of entry.now)) }
+    ensures { OnOk result (parts.new.items ≡ with_part parts.old.items from to start entry.now) }
 {
     let begin = from.max(start);
     let end = to.min(entry.1);
@@ -96,7 +95,7 @@ fn parts_from(
     to: u64,
 ) -> Result<Vec<Part>, AllocError>
     requires { IsTrue (steps_fit start (ends_of entries.now)) }
-    ensures { IfOk result (λ parts. parts.items ≡ plan.parts_in from to start (ends_of entries.now)) }
+    ensures { IfOk result (λ ps. ps.items ≡ plan.parts_in from to start (ends_of entries.now)) }
 {
     let mut parts = Vec::new(alloc);
     let mut reached = start;
@@ -118,9 +117,9 @@ pub fn parts_in(
     to: u64,
 ) -> Result<Vec<Part>, AllocError>
     requires { IsTrue (steps_fit 0 (ends_of entries.now)) }
-    ensures value { IfOk result (λ parts. parts.items ≡ plan.parts_in from to 0 (ends_of entries.now)) }
+    ensures value { IfOk result (λ ps. ps.items ≡ plan.parts_in from to 0 (ends_of entries.now)) }
     ensures total { IfOk result (λ parts. total_of parts.items ≤ to - from) }
-    ensures bytes { IfOk result (λ parts. (pieces : List (List ℕ)) → ends_from 0 pieces ≡ ends_of entries.now → Reads parts.items pieces (take (to - from) (drop from (concat pieces)))) }
+    ensures bytes { IfOk result (λ parts. ReadsRange parts.items (ends_of entries.now) from to) }
 {
     let first = pieces_before(entries, from);
     let start = end_before(entries, first);

@@ -1,15 +1,12 @@
 //! A reader's calls.
 
-ghost use Rattle.std.specs.Prelude.{◌≡◌, ◌≤◌, List, [], option_map, Some, IfOk, IfErr, OnOk, OnErr};
+ghost use Rattle.std.specs.Prelude.{◌≡◌, List, [], option_map, IfOk, IfErr, OnOk, OnErr};
 ghost use Rattle.std.specs.List.{list_any, find};
 ghost use Rattle.std.specs.Str.{bytes_eq};
-ghost use Rattle.store_files.specs.Archive.{Archive, archive, ends_from, File};
-ghost use Rattle.store_model.specs.Store.{Reader as PlainReader};
-ghost use Rattle.store_model.specs.ReaderSteps.{note, content_at, pieces_at, range_of};
+ghost use Rattle.store_files.specs.Archive.{File};
 ghost use Rattle.store_files.specs.Entries.{ends_of, FitsIndex};
-ghost use Rattle.restore_reader.specs.Answers.{Tells, ReadsNoted, RefusesRange, TellsPlainly};
-ghost use Rattle.restore_reader.specs.Cutting.{total_of};
-ghost use Rattle.restore_reader.specs.Shown.{Shows};
+ghost use Rattle.restore_reader.specs.Answers.{PlanFits, PlanPlainly, PlanReads, RefusesRange, TellsParts};
+ghost use Rattle.restore_reader.specs.Shown.{Shows, ForShown, ShowsNoted};
 ghost use Rattle.restore_reader.specs.Shown as plain;
 ghost use Rattle.restore_reader.specs.Steps as steps;
 
@@ -86,8 +83,7 @@ impl Reader {
         requires { FitsIndex (ends_of entries.now) }
         ensures ok { OnOk result (self.new ≡ steps.downloaded self.old name (ends_of entries.now)) }
         ensures err { OnErr result (self.new ≡ self.old) }
-        ensures plain { OnOk result ((files : List File) → (a : Archive) → (r : PlainReader) → Shows self.old files r → content_at files name ≡ Some (archive a) → ends_of entries.now ≡ ends_from 0 a.pieces →
-            Shows self.new files (note name (archive a) r)) }
+        ensures plain { OnOk result (ShowsNoted self.old self.new name (ends_of entries.now)) }
     {
         self.note(alloc, name, entries)
     }
@@ -114,7 +110,7 @@ impl Reader {
     /// An archive that was downloaded names the digest. It takes no memory.
     pub fn allowed(&self, digest: &Digest32) -> bool
         ensures value { result ≡ steps.is_allowed self.now digest.now.0 }
-        ensures plain { (files : List File) → (r : PlainReader) → Shows self.now files r → result ≡ plain.is_allowed files r digest.now }
+        ensures plain { ForShown self.now (λ fs r. result ≡ plain.is_allowed fs r digest.now) }
     {
         names_digest(&self.indexes, digest)
     }
@@ -130,12 +126,11 @@ impl Reader {
         offset: u64,
         length: u32,
     ) -> Result<Result<Vec<Part>, Refusal>, AllocError>
-        ensures does { IfOk result (Tells (λ parts. parts.items) (steps.range_plan self.now name.now offset length)) }
+        ensures does { IfOk result (TellsParts (steps.range_plan self.now name.now offset length)) }
         // whatever pieces have these digests and lengths, the parts are the range of what they make
-        ensures bytes { IfOk result (λ told. IfOk told (λ parts. ReadsNoted parts.items (steps.noted_as self.now name.now) offset length)) }
-        ensures total { IfOk result (λ told. IfOk told (λ parts. (total_of parts.items ≤ length) × (length ≤ 4_194_304))) }
-        ensures plain { IfOk result (λ told. (files : List File) → (r : PlainReader) → Shows self.now files r →
-            TellsPlainly (λ parts. parts.items) (pieces_at files name.now) (range_of files r name.now offset length) told) }
+        ensures bytes { IfOk result (PlanReads self.now name.now offset length) }
+        ensures total { IfOk result (PlanFits length) }
+        ensures plain { IfOk result (PlanPlainly self.now name.now offset length) }
         ensures refusal { IfOk result (λ told. IfErr told RefusesRange) }
     {
         self.plan(alloc, name, offset, length)
@@ -149,9 +144,9 @@ impl Reader {
         offset: u64,
         length: u32,
     ) -> Result<Result<Vec<Part>, Refusal>, AllocError>
-        ensures does { IfOk result (Tells (λ parts. parts.items) (steps.range_plan self.now name.now offset length)) }
-        ensures bytes { IfOk result (λ told. IfOk told (λ parts. ReadsNoted parts.items (steps.noted_as self.now name.now) offset length)) }
-        ensures total { IfOk result (λ told. IfOk told (λ parts. (total_of parts.items ≤ length) × (length ≤ 4_194_304))) }
+        ensures does { IfOk result (TellsParts (steps.range_plan self.now name.now offset length)) }
+        ensures bytes { IfOk result (PlanReads self.now name.now offset length) }
+        ensures total { IfOk result (PlanFits length) }
         ensures refusal { IfOk result (λ told. IfErr told RefusesRange) }
     {
         let Some(index) = index_named(&self.indexes, name) else {

@@ -1,15 +1,14 @@
 //! The dispatch of acts.
 #![tactic(auto)]
 
-ghost use Rattle.std.specs.Prelude.{◌≡◌, ◌<◌, true, IfSome};
+ghost use Rattle.std.specs.Prelude.{◌≡◌, ◌<◌, true};
 ghost use Rattle.store_history.specs.Acts.{IsWellFormed};
 ghost use Rattle.core_state.specs.Applies.{ActApplies, ActKeeps};
 ghost use Rattle.core_state.specs.Commands.{is_admins};
 ghost use Rattle.core_state.specs.Reserved.{HasRoom};
-ghost use Rattle.core_state.specs.Unreadables.{TellsUnreadable};
-ghost use Rattle.core_state.specs.Wanted.{session_at};
-ghost use Rattle.core_reader.specs.Damages.{TellsDamaged, needed};
-ghost use Rattle.core_admin.specs.AnsweredBy.{AnswersBy};
+ghost use Rattle.core_state.specs.Unreadables.{CoreUnreadable};
+ghost use Rattle.core_reader.specs.Damages.{CoreDamaged};
+ghost use Rattle.core_admin.specs.AnsweredBy.{CoreAnswersBy};
 ghost use Rattle.shared_store.specs.Asked.{asked, is_readers};
 
 use core_admin::admin_act;
@@ -69,16 +68,11 @@ pub fn apply<D: Disk, E, C: Clock>(
     ensures applies { ActApplies D.Disk C.Clock core.old core.new lane act result }
     // what it leaves of disk, catalogue, sessions and reserve, by the act and its reply; what a crash leaves
     ensures keeps { ActKeeps D.Disk core.old core.new lane act result }
-    ensures unreadable { TellsUnreadable D.Disk core.old.parts.disk
-        (asked act (session_at core.old.parts lane) core.old.parts.catalogue.items)
-        result.entry.kind result.reply }
-    ensures damaged { TellsDamaged D.Disk core.old.parts.disk
-        (needed act (session_at core.old.parts lane) core.old.parts.catalogue.items)
-        result.entry.kind result.reply }
+    ensures unreadable { CoreUnreadable D.Disk (asked act) core.old lane result }
+    ensures damaged { CoreDamaged D.Disk core.old lane act result }
     // on any disk the tests of a command on the store as a whole answer what the core keeps; of FILES, whether there is such a
     // snapshot
-    ensures by_kept { is_admins act ≡ true → result.entry.kind ≡ 0 → IfSome result.reply
-        (AnswersBy act (session_at core.old.parts lane) core.old.parts.catalogue.items core.old.parts.locks) }
+    ensures by_kept { is_admins act ≡ true → CoreAnswersBy core.old lane act result }
     ensures short { act ≡ Act.Short → result.entry.kind ≡ 2 }
 {
     if is_readers(&act) {

@@ -1,7 +1,10 @@
 -- What is read of an index.
-use Rattle.std.specs.Prelude.{ℕ, ◌+◌, ◌-◌, Bool, true, false, List, [], ◌∷◌, Option, Some, None, Result, Ok, Err}
+use Rattle.std.specs.Prelude.{ℕ, ◌+◌, ◌-◌, Bool, true, false, List, [], ◌∷◌, Option, Some, None, option_map, Result, Ok, Err, Vec}
+use Rattle.std.specs.declared.alloc.Global.{Global}
 use Rattle.std.specs.FinMap.{get}
+use Rattle.disk_trait.specs.declared.disk.Disk.{Ghosts}
 use Rattle.disk_trait.specs.Files.{Files}
+use Rattle.store_types.specs.declared.names.Digest32.{Digest32}
 use Rattle.store_types.specs.Chain.Refusing.{◌>>=◌, or_else}
 use Rattle.store_types.specs.declared.refusal.Refusal.{Refusal}
 use Rattle.store_types.specs.declared.refusal.Refusal.TheVariants.{Unreadable}
@@ -12,7 +15,9 @@ use Rattle.store_files.specs.Archive.{Layout, dynamic, fixed}
 use Rattle.dynamic_index.specs.Writing.{Known}
 use Rattle.store_files.specs.Entries.{ends_of}
 use Rattle.snapshot_files.specs.declared.index.IndexPart.{IndexPart}
+use Rattle.snapshot_files.specs.declared.read_error.ReadError.{ReadError}
 use Rattle.snapshot_files.specs.Parts.{part_from}
+use Rattle.snapshot_files.specs.Reads.{Gives}
 
 -- ---- entries
 
@@ -29,6 +34,10 @@ fixed_ends x = fixed_ends_from x.size x.chunk_size 0 x.digests
 unfoldable pub entries_in : Bool → List ℕ → Option (List Ended)
 entries_in true text = elim (fixed_of text) [ Ok x ↦ Some (fixed_ends x) | Err cause ↦ None ]
 entries_in false text = elim (dynamic_of text) [ Ok x ↦ Some x.entries | Err cause ↦ None ]
+
+-- the entries that were read, where there are any
+abbrev pub ends_read : Option (Vec (Digest32 × ℕ) Global) → Option (List Ended)
+ends_read found = option_map (λ (entries : Vec (Digest32 × ℕ) Global). ends_of entries.items) found
 
 abbrev pub is_fixed_layout : Layout → Bool
 is_fixed_layout dynamic = false
@@ -54,6 +63,10 @@ index_at content path is_fixed offset = or_else (Unreadable path) (get content p
 
 abbrev pub shown_index : IndexPart → Indexed
 shown_index p = record { part = p.part; entries = ends_of p.entries.items }
+
+-- of an honest disk: the part and the entries are those of the index at the path, or the refusal
+abbrev pub ReadsIndex : {D : Type 0} → Ghosts D → D → List ℕ → Bool → ℕ → Result IndexPart ReadError → Type 0
+ReadsIndex d disk path is_fixed offset result = d.honest disk → Gives shown_index result (index_at (d.content disk) path is_fixed offset)
 
 -- ---- lengths
 

@@ -1,3 +1,4 @@
+pub mod Effects
 pub mod Forgotten
 pub mod Indexes
 pub mod Parts

@@ -1,6 +1,7 @@
 -- What is read of a file.
 use Rattle.std.specs.Prelude.{◌≡◌, ℕ, List, Result, Ok, Err, length, nat_le}
 use Rattle.std.specs.FinMap.{get}
+use Rattle.disk_trait.specs.declared.disk.Disk.{Ghosts}
 use Rattle.disk_trait.specs.Files.{Files}
 use Rattle.store_types.specs.Chain.Refusing.{◌>>=◌, or_else, unless}
 use Rattle.store_types.specs.declared.refusal.Refusal.{Refusal}
@@ -9,6 +10,8 @@ use Rattle.wire_commands.specs.HasText.{ReplyHasText}
 use Rattle.wire_commands.specs.declared.reply.Reply.{Reply}
 use Rattle.wire_commands.specs.declared.reply.Reply.TheVariants.{Part, Refused}
 use Rattle.store_model.specs.WriterSteps.{part_of}
+use Rattle.snapshot_files.specs.declared.read_error.ReadError.{ReadError}
+use Rattle.snapshot_files.specs.Reads.{Gives}
 
 -- a part of a file's text from an offset, or the refusal of the offset
 abbrev pub part_from : List ℕ → ℕ → Result Reply Refusal
@@ -37,3 +40,7 @@ IsPartOf path (Err refusal) = RefusesPart path refusal
 abbrev pub GivesText : Result Reply Refusal → Type 0
 GivesText (Ok reply) = ReplyHasText reply
 GivesText (Err refusal) = ReplyHasText (Refused refusal)
+
+-- of an honest disk: the part is that of the file at the path, or the refusal
+abbrev pub ReadsPart : {D : Type 0} → Ghosts D → D → List ℕ → ℕ → Result Reply ReadError → Type 0
+ReadsPart d disk path offset result = d.honest disk → Gives (λ (part : Reply). part) result (part_at (d.content disk) path offset)

@@ -1,7 +1,10 @@
 -- What a read of a file gives, and why it gives nothing.
-use Rattle.std.specs.Prelude.{◌≡◌, Result, Ok, Err}
+use Rattle.std.specs.Prelude.{◌≡◌, ℕ, List, map, Result, Ok, Err, IfOk, String, string_bytes, Vec}
+use Rattle.std.specs.declared.alloc.Global.{Global}
+use Rattle.disk_trait.specs.declared.disk.Disk.{Ghosts}
 use Rattle.disk_trait.specs.declared.disk.DiskError.{DiskError}
 use Rattle.disk_trait.specs.declared.disk.DiskError.TheVariants as disks
+use Rattle.disk_trait.specs.Files.{Files}
 use Rattle.store_types.specs.declared.refusal.Refusal.{Refusal}
 use Rattle.wire_commands.specs.HasText.{ReplyHasText}
 use Rattle.wire_commands.specs.declared.reply.Reply.TheVariants as replies
@@ -28,3 +31,17 @@ IfRefused P Failed = Unit {0}
 -- a refusal has a spelling
 abbrev pub ErrorHasText : ReadError → Type 0
 ErrorHasText e = IfRefused (λ refusal. ReplyHasText (replies.Refused refusal)) e
+
+-- ---- what an honest disk holds, where it is read
+
+-- the value is this of it
+abbrev pub ReadsThere : {D A E : Type 0} → Ghosts D → D → Result A E → (Files → A) → Type 0
+ReadsThere d disk result value = d.honest disk → IfOk result (λ a. a ≡ value (d.content disk))
+
+-- the items are
+abbrev pub ReadsItems : {D A E : Type 0} → Ghosts D → D → Result (Vec A Global) E → (Files → List A) → Type 0
+ReadsItems d disk result value = d.honest disk → IfOk result (λ all. all.items ≡ value (d.content disk))
+
+-- the texts are
+abbrev pub ReadsTexts : {D E : Type 0} → Ghosts D → D → Result (Vec (String Global) Global) E → (Files → List (List ℕ)) → Type 0
+ReadsTexts d disk result value = d.honest disk → IfOk result (λ texts. map string_bytes texts.items ≡ value (d.content disk))

@@ -1,13 +1,18 @@
 -- The snapshots that a datastore's files have, and which of them are damaged.
-use Rattle.std.specs.Prelude.{◌≡◌, ◌≤◌, ◌↔◌, ℕ, Bool, true, ◌&&◌, List, [], ◌∷◌, ◌++◌, map, filter, length, nat_le, eqb, if◌then◌else◌, Option, Some, None, is_some, option_map, codes, IsSome, IfSome, IsTrue}
-use Rattle.std.specs.List.{All, Contains, starts_with}
+use Rattle.std.specs.Prelude.{◌≡◌, ◌≤◌, ◌↔◌, ℕ, Bool, true, not, ◌&&◌, List, [], ◌∷◌, ◌++◌, map, filter, length, nat_le, eqb, if◌then◌else◌, Option, Some, None, is_some, option_map, codes, IsSome, IfSome, IsTrue, Result, OnOk, String, string_bytes}
+use Rattle.std.specs.declared.alloc.Global.{Global}
+use Rattle.std.specs.List.{All, Contains, starts_with, cons_option, filter_map}
 use Rattle.std.specs.FinMap.{get, keys}
+use Rattle.disk_trait.specs.declared.disk.Disk.{Ghosts}
 use Rattle.disk_trait.specs.Files.{Files}
 use Rattle.store_types.specs.declared.names.SnapshotKey.{SnapshotKey}
 use Rattle.store_types.specs.Names.{IsKey, key_lt}
 use Rattle.store_types.specs.Chain.Reading.{◌>>=◌}
 use Rattle.store_files.specs.Manifest.{Manifest}
+use Rattle.manifest.specs.declared.facts.FileFact.{FileFact}
+use Rattle.manifest.specs.declared.facts.Manifest.{Manifest as ReadManifest}
 use Rattle.manifest.specs.Least.{lesser}
+use Rattle.manifest.specs.Views.{manifest_view}
 use Rattle.store_files.specs.Folder.{file_path}
 use Rattle.store_files.specs.Folder.{manifest_path}
 use Rattle.store_model.specs.Load.{read_manifest, key_of_manifest}
@@ -24,10 +29,22 @@ pub record FoundSnapshot : Type 0 where
 abbrev pub missing_name : Files → SnapshotKey → List ℕ → Option (List ℕ)
 missing_name files key name = if is_some (get files (file_path key name)) then None else Some name
 
+-- the snapshot has no such file
+abbrev pub lacks_file : Files → SnapshotKey → List ℕ → Bool
+lacks_file files key name = not (is_some (get files (file_path key name)))
+
+-- the lesser of a name and this one, where the snapshot has no such file
+abbrev pub with_missing : Files → SnapshotKey → Option (List ℕ) → List ℕ → Option (List ℕ)
+with_missing files key first name = lesser first (missing_name files key name)
+
 -- the first of these names, in byte order, of which the snapshot has no file
 abbrev pub first_missing : Files → SnapshotKey → List (List ℕ) → Option (List ℕ)
 first_missing files key [] = None
 first_missing files key (name ∷ names) = lesser (missing_name files key name) (first_missing files key names)
+
+-- of the files that are listed
+abbrev pub first_missing_file : SnapshotKey → List FileFact → Files → Option (List ℕ)
+first_missing_file key listed files = first_missing files key (map (λ f. f.name) listed)
 
 -- the manifest's name where it cannot be read or lists more than 63 files, else that of the first listed file that is missing
 abbrev pub unreadable_by : Files → SnapshotKey → Option Manifest → Option (List ℕ)
@@ -35,6 +52,10 @@ unreadable_by files key None = Some (manifest_path key)
 unreadable_by files key (Some listed) =
     if nat_le (length listed.files) 63 then option_map (file_path key) (first_missing files key (map (λ f. f.name) listed.files))
     else Some (manifest_path key)
+
+-- by the manifest that was read
+abbrev pub unreadable_in : SnapshotKey → Option ReadManifest → Files → Option (List ℕ)
+unreadable_in key listed files = unreadable_by files key (option_map manifest_view listed)
 
 -- the snapshot whose manifest reads so, whatever snapshot it names
 abbrev pub found_with : Files → SnapshotKey → Option Manifest → FoundSnapshot
@@ -72,6 +93,14 @@ found_named files name = do
   key ← key_of_manifest name
   bytes ← get files name
   Some (found_with files key (read_manifest bytes))
+
+-- the snapshots whose manifests have these names
+abbrev pub found_by : Files → List (String Global) → List FoundSnapshot
+found_by files names = filter_map (found_named files) (map string_bytes names)
+
+-- of an honest disk: the snapshot of this name is behind those before
+abbrev pub FindsInto : {D A E : Type 0} → Ghosts D → D → List FoundSnapshot → List FoundSnapshot → List ℕ → Result A E → Type 0
+FindsInto d disk old new name result = d.honest disk → OnOk result (new ≡ old ++ cons_option (found_named (d.content disk) name) [])
 
 abbrev pub names_under : List ℕ → Files → List (List ℕ)
 names_under folder files = filter (λ name. starts_with eqb name folder) (keys files)

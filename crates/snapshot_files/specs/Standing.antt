@@ -10,7 +10,7 @@ use Rattle.store_types.specs.FileNames.{is_file_name, manifest_name}
 use Rattle.store_types.specs.Names.{IsKey, group_of_key}
 use Rattle.store_files.specs.Archive.{File, Snapshot, file_text}
 use Rattle.store_files.specs.Folder.{file_path, manifest_path}
-use Rattle.store_model.specs.Store.{in_group}
+use Rattle.store_model.specs.Store.{in_group, insert_snapshot, without_snapshot}
 use Rattle.store_model.specs.Stands.{StandsFor, IsSnapshot, HoldsPieces, group_limit}
 
 -- Where all that a crash may leave stood for the first list, each image since stands for one of both. Once it is done, the second alone
@@ -39,3 +39,20 @@ pub record Completes (read : Files) (snapshots : List Snapshot) (x : Snapshot) (
   pub room : length (in_group (group_of_key x.key) snapshots) < group_limit
   pub ready : All (IsReady read x.key text) x.files
   pub pieces : HoldsPieces read x
+
+-- ---- what the calls make of each list that is stood for
+
+-- where the file is one of a snapshot that the list lacks, the list stays
+abbrev pub StandsWithFile : {D : Type 0} → Ghosts D → D → D → List ℕ → Type 0 → Type 0
+StandsWithFile d old new path done =
+    (snapshots : List Snapshot) (key : SnapshotKey) (name : List ℕ) → IsOfNew snapshots key name path → Moves d old new done snapshots snapshots
+
+-- where the manifest completes a snapshot, that joins the list
+abbrev pub StandsFinished : {D : Type 0} → Ghosts D → D → D → List ℕ → List ℕ → Type 0 → Type 0
+StandsFinished d old new path manifest done =
+    (snapshots : List Snapshot) (x : Snapshot) → Completes (d.content old) snapshots x path manifest → Moves d old new done snapshots (insert_snapshot x snapshots)
+
+-- the snapshot of this key, with files of these names, leaves the list
+abbrev pub StandsForgotten : {D : Type 0} → Ghosts D → D → D → SnapshotKey → List (List ℕ) → Type 0 → Type 0
+StandsForgotten d old new key names done =
+    (snapshots : List Snapshot) → All (λ name. IsTrue (is_file_name name)) names → Moves d old new done snapshots (without_snapshot key snapshots)

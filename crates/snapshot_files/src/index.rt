@@ -1,6 +1,6 @@
 //! Whole indexes.
 
-ghost use Rattle.std.specs.Prelude.{◌≡◌, ◌≤◌, IfOk, IfSome, IsErrOf, IsTrue, MatchResult, length, map, option_map};
+ghost use Rattle.std.specs.Prelude.{◌≡◌, ◌≤◌, IfOk, IfSome, IsErrOf, IsTrue, MatchResult, length, map};
 ghost use Rattle.disk_trait.specs.Effects.{OnlyReads};
 ghost use Rattle.wire_commands.specs.HasText.{ReplyHasText};
 ghost use Rattle.store_files.specs.DynamicIndex.{steps_fit};
@@ -9,7 +9,7 @@ ghost use Rattle.dynamic_index.specs.Writing.{known_of};
 ghost use Rattle.store_files.specs.Entries.{FitsIndex, ends_of};
 ghost use Rattle.snapshot_files.specs.Parts.{IsPart, RefusesPart};
 ghost use Rattle.snapshot_files.specs.Reads.{ErrorHasText, Gives, IfRefused};
-ghost use Rattle.snapshot_files.specs.Indexes.{entries_in as entries_of_text, fixed_ends, index_at, index_in as index_of_text, lengths_from, shown_index};
+ghost use Rattle.snapshot_files.specs.Indexes.{entries_in as entries_of_text, ends_read, fixed_ends, index_in as index_of_text, lengths_from, shown_index, ReadsIndex};
 
 use crate::parts::unreadable;
 use crate::read_error::ReadError;
@@ -55,8 +55,8 @@ fn entries_in(
     text: &[u8],
     is_fixed: bool,
 ) -> Result<Option<Vec<(Digest32, u64)>>, AllocError>
-    ensures value { IfOk result (λ found. option_map (λ entries. ends_of entries.items) found ≡ entries_of_text is_fixed text.now) }
-    ensures fits { IfOk result (λ found. IfSome found (λ entries. FitsIndex (ends_of entries.items))) }
+    ensures value { IfOk result (λ found. ends_read found ≡ entries_of_text is_fixed text.now) }
+    ensures fits { IfOk result (λ found. IfSome found (λ es. FitsIndex (ends_of es.items))) }
 {
     if is_fixed {
         let Ok(view) = FixedView::open_on(text) else {
@@ -94,7 +94,7 @@ fn index_in(
     requires path { length path.now ≤ 255 }
     requires offset { offset ≤ length text.now }
     ensures value { Gives shown_index result (index_of_text path.now is_fixed text.now offset) }
-    ensures kind { MatchResult result (λ index. IsPart index.part) (IfRefused (RefusesPart path.now)) }
+    ensures kind { MatchResult result (λ i. IsPart i.part) (IfRefused (RefusesPart path.now)) }
     ensures text { MatchResult result (λ index. ReplyHasText index.part) ErrorHasText }
     ensures entries { IfOk result (λ index. FitsIndex (ends_of index.entries.items)) }
     ensures cause { IsErrOf result ReadError.Failed → ⊥ }
@@ -120,8 +120,8 @@ pub fn read_index<D: Disk>(
 ) -> Result<IndexPart, ReadError>
     requires { length path.now ≤ 255 }
     ensures reads { OnlyReads D.Disk disk.old disk.new (IsErrOf result ReadError.Failed) }
-    ensures exact { D.honest disk.old → Gives shown_index result (index_at (D.content disk.old) path.now is_fixed offset) }
-    ensures kind { MatchResult result (λ index. IsPart index.part) (IfRefused (RefusesPart path.now)) }
+    ensures exact { ReadsIndex D.Disk disk.old path.now is_fixed offset result }
+    ensures kind { MatchResult result (λ i. IsPart i.part) (IfRefused (RefusesPart path.now)) }
     ensures text { MatchResult result (λ index. ReplyHasText index.part) ErrorHasText }
     ensures entries { IfOk result (λ index. FitsIndex (ends_of index.entries.items)) }
 {
@@ -143,7 +143,7 @@ pub fn lengths_of(
     entries: &[(Digest32, u64)],
 ) -> Result<Vec<(Digest32, u32)>, AllocError>
     requires { IsTrue (steps_fit 0 (ends_of entries.now)) }
-    ensures { IfOk result (λ pieces. map known_of pieces.items ≡ lengths_from 0 (ends_of entries.now)) }
+    ensures { IfOk result (λ ps. map known_of ps.items ≡ lengths_from 0 (ends_of entries.now)) }
 {
     let mut pieces = Vec::with_capacity(alloc, entries.len())?;
     let mut start = 0;

@@ -1,12 +1,12 @@
 //! Parts of files.
 
-ghost use Rattle.std.specs.Prelude.{◌≡◌, ◌≤◌, ℕ, List, IfOk, MatchResult, IsErrOf, length};
+ghost use Rattle.std.specs.Prelude.{◌≡◌, ◌≤◌, IfOk, MatchResult, IsErrOf, length};
 ghost use Rattle.disk_trait.specs.Effects.{OnlyReads};
 ghost use Rattle.store_types.specs.declared.refusal.Refusal.TheVariants.{Unreadable as UnreadableAt};
 ghost use Rattle.wire_commands.specs.HasText.{ReplyHasText};
 ghost use Rattle.wire_commands.specs.declared.reply.Reply.TheVariants.{Refused};
-ghost use Rattle.snapshot_files.specs.Parts.{IsPart, RefusesPart, part_at};
-ghost use Rattle.snapshot_files.specs.Reads.{ErrorHasText, Gives, IfRefused};
+ghost use Rattle.snapshot_files.specs.Parts.{IsPart, ReadsPart, RefusesPart};
+ghost use Rattle.snapshot_files.specs.Reads.{ErrorHasText, IfRefused};
 
 use crate::read_error::ReadError;
 use disk_trait::Disk;
@@ -45,7 +45,7 @@ pub fn read_part<D: Disk>(
 ) -> Result<Reply, ReadError>
     requires { length path.now ≤ 255 }
     ensures reads { OnlyReads D.Disk disk.old disk.new (IsErrOf result ReadError.Failed) }
-    ensures exact { D.honest disk.old → Gives (λ part. part) result (part_at (D.content disk.old) path.now offset) }
+    ensures exact { ReadsPart D.Disk disk.old path.now offset result }
     ensures kind { MatchResult result IsPart (IfRefused (RefusesPart path.now)) }
     ensures text { MatchResult result ReplyHasText ErrorHasText }
 {

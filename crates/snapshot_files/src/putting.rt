@@ -1,13 +1,11 @@
 //! Files of snapshots are put, the manifest last.
 
-ghost use Rattle.std.specs.Prelude.{◌≡◌, ◌⊎◌, ℕ, List, None, IsOk, OnOk, IsErrOf};
-ghost use Rattle.std.specs.FinMap.{get};
-ghost use Rattle.disk_trait.specs.Disk.{Serves, Steps, LeavesOnly, After, Now, Same};
-ghost use Rattle.store_types.specs.declared.names.SnapshotKey.{SnapshotKey};
-ghost use Rattle.store_files.specs.Archive.{Snapshot};
-ghost use Rattle.store_model.specs.Store.{insert_snapshot};
-ghost use Rattle.snapshot_files.specs.Standing.{Completes, IsOfNew, Moves};
-ghost use Rattle.file_install.specs.Install.{installed, Installs, StagesOrInstalls, InstallsFirm};
+ghost use Rattle.std.specs.Prelude.{IsOk, OnOk, IsErrOf};
+ghost use Rattle.disk_trait.specs.Disk.{Serves};
+ghost use Rattle.disk_trait.specs.Effects.{IsDurable, DiskWantKeeps};
+ghost use Rattle.file_install.specs.Install.{StepsInstall, OkInstalls, NowWhole, NowInstalled};
+ghost use Rattle.snapshot_files.specs.Effects.{PutsNoneOrWhole};
+ghost use Rattle.snapshot_files.specs.Standing.{StandsFinished, StandsWithFile};
 
 use crate::path::FilePath;
 use disk_trait::{Disk, DiskError};
@@ -17,7 +15,8 @@ use std::alloc::Global;
 /// Puts a snapshot's file. A crash leaves the old or the new content under its name, never a part; all else but a
 /// temporary name stays as it was.
 ///
-/// Three calls of the disk: put, sync and rename. Until `finish`, or another sync, the old content may come back.
+/// Tests count three calls of the disk: put, sync and rename. Until `finish`, or another sync, the old content may come
+/// back.
 pub fn put_file<D: Disk>(
     disk: &mut D,
     alloc: Global,
@@ -25,15 +24,12 @@ pub fn put_file<D: Disk>(
     text: &[u8],
 ) -> Result<(), DiskError>
     ensures serves { Serves D.honest D.faults disk.old disk.new (IsErrOf result DiskError.Failed) }
-    ensures crash { Steps D.calls D.images disk.old disk.new (Installs (D.content disk.old) path.now text.now) }
-    ensures installed { D.honest disk.old → OnOk result (D.content disk.new ≡ installed (D.content disk.old) path.now text.now) }
-    ensures whole { OnOk result (Now D.calls D.images disk.new (After D.calls D.images disk.old
-        (StagesOrInstalls (D.content disk.old) path.now text.now))) }
-    ensures unchanged { IsErrOf result DiskError.NoMemory → (D.honest disk.old → D.content disk.new ≡ D.content disk.old)
-        × Steps D.calls D.images disk.old disk.new Same × (D.faults disk.new ≡ D.faults disk.old) }
+    ensures crash { StepsInstall D.Disk disk.old disk.new path.now text.now }
+    ensures installed { OkInstalls D.Disk disk.old disk.new path.now text.now result }
+    ensures whole { OnOk result (NowWhole D.Disk disk.old disk.new path.now text.now) }
+    ensures unchanged { DiskWantKeeps D.Disk disk.old disk.new result }
     // what stands for a list that lacks the snapshot still does
-    ensures stands { (snapshots : List Snapshot) (key : SnapshotKey) (name : List ℕ) → IsOfNew snapshots key name path.now
-        → Moves D.Disk disk.old disk.new (IsOk result) snapshots snapshots }
+    ensures stands { StandsWithFile D.Disk disk.old disk.new path.now (IsOk result) }
 {
     install(disk, alloc, path.as_str(), text)
 }
@@ -41,7 +37,7 @@ pub fn put_file<D: Disk>(
 /// Finishes a snapshot: puts the text of its manifest's file at the manifest's path, and syncs. After Ok the manifest and
 /// all that was put before outlast a crash.
 ///
-/// Four calls of the disk: put, sync, rename and sync.
+/// Tests count four calls of the disk: put, sync, rename and sync.
 pub fn finish<D: Disk>(
     disk: &mut D,
     alloc: Global,
@@ -49,20 +45,15 @@ pub fn finish<D: Disk>(
     manifest: &[u8],
 ) -> Result<(), DiskError>
     ensures serves { Serves D.honest D.faults disk.old disk.new (IsErrOf result DiskError.Failed) }
-    ensures crash { Steps D.calls D.images disk.old disk.new (Installs (D.content disk.old) path.now manifest.now) }
+    ensures crash { StepsInstall D.Disk disk.old disk.new path.now manifest.now }
     // where there was no manifest, a crash leaves none, or the whole one with all that was read
-    ensures finished { Now D.calls D.images disk.old (λ c. get c path.now ≡ None)
-        → LeavesOnly D.calls D.images disk.old disk.new (λ c. (get c path.now ≡ None)
-        ⊎ (c ≡ installed (D.content disk.old) path.now manifest.now)) }
-    ensures installed { D.honest disk.old → OnOk result (D.content disk.new ≡ installed (D.content disk.old) path.now manifest.now) }
-    ensures firm { OnOk result (Now D.calls D.images disk.new (After D.calls D.images disk.old
-        (InstallsFirm (D.content disk.old) path.now manifest.now))) }
-    ensures durable { OnOk result (Now D.calls D.images disk.new (λ c. c ≡ D.content disk.new)) }
-    ensures unchanged { IsErrOf result DiskError.NoMemory → (D.honest disk.old → D.content disk.new ≡ D.content disk.old)
-        × Steps D.calls D.images disk.old disk.new Same × (D.faults disk.new ≡ D.faults disk.old) }
+    ensures finished { PutsNoneOrWhole D.Disk disk.old disk.new path.now manifest.now }
+    ensures installed { OkInstalls D.Disk disk.old disk.new path.now manifest.now result }
+    ensures firm { OnOk result (NowInstalled D.Disk disk.old disk.new path.now manifest.now) }
+    ensures durable { OnOk result (IsDurable D.Disk disk.new) }
+    ensures unchanged { DiskWantKeeps D.Disk disk.old disk.new result }
     // what stood for a list stands for it, or for that list with the snapshot
-    ensures stands { (snapshots : List Snapshot) (x : Snapshot) → Completes (D.content disk.old) snapshots x path.now manifest.now
-        → Moves D.Disk disk.old disk.new (IsOk result) snapshots (insert_snapshot x snapshots) }
+    ensures stands { StandsFinished D.Disk disk.old disk.new path.now manifest.now (IsOk result) }
 {
     install_firm(disk, alloc, path.as_str(), manifest)
 }

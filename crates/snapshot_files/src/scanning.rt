@@ -1,16 +1,15 @@
 //! All snapshots on a disk.
 
-ghost use Rattle.std.specs.Prelude.{◌≡◌, ◌≤◌, ◌++◌, [], Some, not, is_some, length, map, option_map, string_bytes, IfSome, IfOk, OnOk, IsErrOf};
-ghost use Rattle.std.specs.List.{All, cons_option, filter_map};
-ghost use Rattle.std.specs.FinMap.{get};
+ghost use Rattle.std.specs.Prelude.{◌≡◌, ◌≤◌, Some, length, IfSome, IfOk, OnOk, IsErrOf};
+ghost use Rattle.std.specs.List.{All};
 ghost use Rattle.disk_trait.specs.Disk.{Ticks};
 ghost use Rattle.disk_trait.specs.Effects.{OnlyReads};
 ghost use Rattle.manifest.specs.Least.{lesser as lesser_of};
-ghost use Rattle.manifest.specs.Views.{manifest_view};
 ghost use Rattle.store_types.specs.Names.{IsKey};
 ghost use Rattle.store_model.specs.Load.{key_of_manifest as key_named};
-ghost use Rattle.store_files.specs.Folder.{file_path, manifest_path};
-ghost use Rattle.snapshot_files.specs.Scanned.{Lists, HasNames, found_named as found_of, first_missing as first_missing_of, missing_name as missing_of, unreadable_by, folder_names, in_order as ordered};
+ghost use Rattle.store_files.specs.Folder.{manifest_path};
+ghost use Rattle.snapshot_files.specs.Reads.{ReadsItems, ReadsTexts, ReadsThere};
+ghost use Rattle.snapshot_files.specs.Scanned.{FindsInto, Lists, HasNames, lacks_file, with_missing, first_missing_file, unreadable_in, found_named as found_of, found_by, folder_names, in_order as ordered};
 
 use crate::found::{Found, insert_found, read_manifest};
 use crate::path::{manifest_path_of, path_of};
@@ -46,7 +45,7 @@ fn is_missing<D: Disk>(
 ) -> Result<bool, DiskError>
     requires { IsKey key.now }
     ensures reads { OnlyReads D.Disk disk.old disk.new (IsErrOf result DiskError.Failed) }
-    ensures missing { D.honest disk.old → IfOk result (λ missing. missing ≡ not (is_some (get (D.content disk.old) (file_path key.now name.now)))) }
+    ensures missing { ReadsThere D.Disk disk.old result (λ m. lacks_file m key.now name.now) }
 {
     let path = path_of(alloc, key, name)?;
     let size = disk.size(path.as_str())?;
@@ -77,7 +76,7 @@ fn first_with<D: Disk>(
 ) -> Result<Option<FileName>, DiskError>
     requires { IsKey key.now }
     ensures reads { OnlyReads D.Disk disk.old disk.new (IsErrOf result DiskError.Failed) }
-    ensures first { D.honest disk.old → IfOk result (λ new. new ≡ lesser_of first (missing_of (D.content disk.old) key.now name.now)) }
+    ensures first { ReadsThere D.Disk disk.old result (λ m. with_missing m key.now first name.now) }
 {
     if !is_missing(disk, alloc, key, name)? {
         return Ok(first);
@@ -95,7 +94,7 @@ fn first_missing<D: Disk>(
 ) -> Result<Option<FileName>, DiskError>
     requires { IsKey key.now }
     ensures reads { OnlyReads D.Disk disk.old disk.new (IsErrOf result DiskError.Failed) }
-    ensures first { D.honest disk.old → IfOk result (λ first. first ≡ first_missing_of (D.content disk.old) key.now (map (λ f. f.name) listed.now)) }
+    ensures first { ReadsThere D.Disk disk.old result (first_missing_file key.now listed.now) }
 {
     let mut first = None;
     for file in listed {
@@ -123,7 +122,7 @@ fn unreadable_of<D: Disk>(
 ) -> Result<Option<Bytes>, DiskError>
     requires { IsKey key.now }
     ensures reads { OnlyReads D.Disk disk.old disk.new (IsErrOf result DiskError.Failed) }
-    ensures unreadable { D.honest disk.old → IfOk result (λ name. name ≡ unreadable_by (D.content disk.old) key.now (option_map manifest_view manifest.now)) }
+    ensures unreadable { ReadsThere D.Disk disk.old result (unreadable_in key.now manifest.now) }
     ensures short { IfOk result (λ name. IfSome name (λ path. length path ≤ 251)) }
 {
     let Some(listed) = manifest else {
@@ -144,7 +143,7 @@ fn unreadable_of<D: Disk>(
 #[tactic(auto, unfolding(crate::specs::Scanned::found_named))]
 fn found_named<D: Disk>(disk: &mut D, alloc: Global, name: &str) -> Result<Option<Found>, DiskError>
     ensures reads { OnlyReads D.Disk disk.old disk.new (IsErrOf result DiskError.Failed) }
-    ensures found { D.honest disk.old → IfOk result (λ found. found ≡ found_of (D.content disk.old) name.now) }
+    ensures found { ReadsThere D.Disk disk.old result (λ m. found_of m name.now) }
     ensures names { IfOk result (λ found. IfSome found HasNames) }
 {
     let Some(key) = key_of_manifest(alloc, name)? else {
@@ -170,7 +169,7 @@ fn find_into<D: Disk>(
     all: &mut Vec<Found>,
 ) -> Result<(), DiskError>
     ensures reads { OnlyReads D.Disk disk.old disk.new (IsErrOf result DiskError.Failed) }
-    ensures found { D.honest disk.old → OnOk result (all.new.items ≡ all.old.items ++ cons_option (found_of (D.content disk.old) name.now) []) }
+    ensures found { FindsInto D.Disk disk.old all.old.items all.new.items name.now result }
     ensures names { All HasNames all.old.items → OnOk result (All HasNames all.new.items) }
 {
     let Some(found) = found_named(disk, alloc, name)? else {
@@ -187,7 +186,7 @@ fn all_named<D: Disk>(
     names: &[String],
 ) -> Result<Vec<Found>, DiskError>
     ensures reads { OnlyReads D.Disk disk.old disk.new (IsErrOf result DiskError.Failed) }
-    ensures found { D.honest disk.old → IfOk result (λ all. all.items ≡ filter_map (found_of (D.content disk.old)) (map string_bytes names.now)) }
+    ensures found { ReadsItems D.Disk disk.old result (λ m. found_by m names.now) }
     ensures names { IfOk result (λ all. All HasNames all.items) }
 {
     let mut all = Vec::new(alloc);
@@ -201,7 +200,7 @@ fn all_named<D: Disk>(
 fn names_in_folders<D: Disk>(disk: &mut D, alloc: Global) -> Result<Vec<String>, DiskError>
     ensures reads { OnlyReads D.Disk disk.old disk.new (IsErrOf result DiskError.Failed) }
     ensures tick { Ticks D.honest D.calls disk.old disk.new }
-    ensures names { D.honest disk.old → IfOk result (λ names. map string_bytes names.items ≡ folder_names (D.content disk.old)) }
+    ensures names { ReadsTexts D.Disk disk.old result folder_names }
 {
     let mut names = disk.list(alloc, "ct/")?;
     let mut hosts = disk.list(alloc, "host/")?;
@@ -232,7 +231,7 @@ fn in_order(alloc: Global, mut all: Vec<Found>) -> Result<Vec<Found>, AllocError
 pub fn scan<D: Disk>(disk: &mut D, alloc: Global) -> Result<Vec<Found>, DiskError>
     ensures reads { OnlyReads D.Disk disk.old disk.new (IsErrOf result DiskError.Failed) }
     ensures tick { Ticks D.honest D.calls disk.old disk.new }
-    ensures found { D.honest disk.old → IfOk result (λ found. Lists (D.content disk.old) found.items) }
+    ensures found { D.honest disk.old → IfOk result (λ all. Lists (D.content disk.old) all.items) }
     ensures names { IfOk result (λ found. All HasNames found.items) }
 {
     let names = names_in_folders(disk, alloc)?;

@@ -1,4 +1,5 @@
 -- What a lane's loop needs: what is next by the front of its input, what an answer leaves, and how the lane ends.
+-- `next_job`, `next_plain`, `next_bye`, `next_no_command`, `next_too_long`, `plain_act` and `leads_short` wait for several lanes: nothing names them yet.
 use Rattle.std.specs.Result.{is_ok}
 use Rattle.std.proofs.Common.{◌≡◌, ◌≢◌, ℕ, ◌-◌, Bool, true, false, ◌||◌, List, [], ◌∷◌, ◌++◌, length, Option, Some, None, Result, Ok, Err, refl, sym, ap, subst, ◌∙◌, arith, ◌==◌, if◌then◌else◌, is_none}
 use Rattle.store_types.specs.declared.refusal.Refusal.{Refusal}

@@ -193,11 +193,6 @@ pub heard_over : (p : Position) (a : Answer) → (heard p a).is_over ≡ p.is_ov
 unfolding heard
 heard_over p a = heard_at_over p (a.entry).kind a.reply (next_at p)
 
--- where events of the lane led, it is not over
-pub leads_over : (vs : List Event) (p q : Position) → Leads p vs q → q.is_over ≡ p.is_over
-leads_over [] p q h = ap (λ x. x.is_over) (sym h)
-leads_over (v ∷ vs) p q h = leads_over vs (heard p v.answer) q h.1 ∙ heard_over p v.answer
-
 follows_does : (c : Class) (e : Ending) (p : Position) (v : Event) (vs : List Event) → Follows c p v → Does c e p v vs
 follows_does stepping e p v vs h = h
 follows_does wanting e p v vs h = (h.0, h.1)

@@ -1,4 +1,5 @@
 -- What a lane's loop needs of a job: the acts that it makes, and where each step of it leads.
+-- `leads_step` and `leads_step_short` wait for several lanes: nothing names them yet.
 use Rattle.std.proofs.Common.{◌≡◌, ℕ, Bool, true, false, ◌||◌, List, [], ◌∷◌, ◌++◌, Option, Some, None, refl, sym, ap, subst, ◌∙◌, ◌==◌, if◌then◌else◌}
 use Rattle.wire_commands.specs.declared.command.Command.{Command}
 use Rattle.wire_commands.specs.declared.command.Command.TheVariants as commands

@@ -1,4 +1,5 @@
 -- Histories one after another, and a history that is longer by one event.
+-- `moment_risen`, `moment_in_time`, `entries_length`, `own_more`, `own_same`, `lanes_more`, `picked_more`, `own_grown` and `own_kept` wait for several lanes: nothing names them yet.
 use Rattle.std.proofs.Common.{◌≡◌, ◌≢◌, ℕ, zero, suc, ◌+◌, ◌<◌, ◌≤◌, Bool, true, false, ◌||◌, List, [], ◌∷◌, ◌++◌, length, cond, Option, Some, None, refl, sym, ap, subst, ◌∙◌, arith, ◌==◌, nat_lt, slice_get, append-nil}
 use Rattle.std.specs.List.{cons_option}
 use Rattle.std.proofs.lemmas.Bool.{eq-eqb, eqb-true, ltb-true, ltb-false}
@@ -45,16 +46,7 @@ legal_append R w (e ∷ h) g legal more = (legal.0, legal_append R (after R w e)
 pub legal_more : (R : Option (List Snapshot)) (w : World) (h : List Event) (e : Event) → IsLegal R w h → IsRight R (after_all R w h) e → IsLegal R w (h ++ e ∷ [])
 legal_more R w h e legal right = legal_append R w h (e ∷ []) legal (right, tt)
 
-pub legal_front : (R : Option (List Snapshot)) (w : World) (h g : List Event) → IsLegal R w (h ++ g) → IsLegal R w h
-legal_front R w [] g legal = tt
-legal_front R w (e ∷ h) g legal = (legal.0, legal_front R (after R w e) h g legal.1)
-
--- moments and calls never fall along a legal history
-pub moments_risen : (R : Option (List Snapshot)) (w : World) (h : List Event) → IsLegal R w h → w.moment ≤ (after_all R w h).moment
-unfolding after_all after
-moments_risen R w [] legal = omega arith
-moments_risen R w (e ∷ h) legal = let ih = moments_risen R (after R w e) h legal.1 in let one = (legal.0).risen in omega (arith, ih, one)
-
+-- calls never fall along a legal history
 pub calls_risen : (R : Option (List Snapshot)) (w : World) (h : List Event) → IsLegal R w h → w.calls ≤ (after_all R w h).calls
 unfolding after_all after
 calls_risen R w [] legal = omega arith
@@ -127,10 +119,6 @@ lanes_more n h e are is = lanes_append n h (e ∷ []) are (is, tt)
 pub of_lanes : (k n : ℕ) (h : List Event) → k < n → AreOf k h → AreLanes n h
 of_lanes k n [] lt are = tt
 of_lanes k n (e ∷ h) lt are = (subst (λ x. x < n) (sym are.0) lt, of_lanes k n h lt are.1)
-
-pub lanes_of : (h : List Event) → AreLanes 1 h → AreOf 0 h
-lanes_of [] are = tt
-lanes_of (e ∷ h) are = (omega (arith, are.0), lanes_of h are.1)
 
 -- ---- places
 

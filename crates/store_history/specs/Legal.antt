@@ -25,23 +25,26 @@ closes (acts.Plain commands.Abort) (writer w) = true
 closes (acts.Plain commands.CloseReader) (reader r) = true
 closes _ session = false
 
--- The act ends the lane's session, and no fault was before: its entry is kept for it, so it wants no memory.
+-- A command ends the lane's session, and no fault was before. Its entry is in reserve, so it is not answered by want of memory.
 abbrev pub IsClosing : World → ℕ → Act → Type 0
 IsClosing w k a = (w.fault ≡ None) × (closes a (session w.store k) ≡ true)
 
 -- what an act is answered whose entry is of this kind
 abbrev pub Right : Option (List Snapshot) → World → ℕ → ℕ → Act → Option Reply → Class → EntryKind → Type 0
--- the next command
+-- a command or a step of a job, done: only where no fault was before
 Right remote w k m a r stepping step_kind = (w.fault ≡ None) × Says remote w k m a r
--- want of memory, which comes to no lane's end, and to no act that ends a session
+-- a command or a step that memory was wanting for: none that ends a session
 Right remote w k m a r stepping short_kind = (r ≡ Some (Refused NoMemory)) × (IsClosing w k a → ⊥)
+-- want of memory outside the turn, which has no other kind
 Right remote w k m a r wanting short_kind = r ≡ Some (Refused NoMemory)
-Right remote w k m a r ending short_kind = ⊥
--- a fault of the disk, and what comes after it; a lane's end is not refused for an earlier fault
 Right remote w k m a r wanting fault_kind = ⊥
+-- a lane's end takes no memory
+Right remote w k m a r ending short_kind = ⊥
+-- a lane's end that met the first fault: it is not refused for an earlier one
 Right remote w k m a r ending fault_kind = (w.fault ≡ None) × (r ≡ Some (Refused (fault_refusal w.fault)))
+-- a command or a step that met the first fault, or is refused for it
 Right remote w k m a r stepping fault_kind = r ≡ Some (Refused (fault_refusal w.fault))
--- the lane's end
+-- a lane's end, after a fault too
 Right remote w k m a r ending end_kind = r ≡ None
 Right remote w k m a r _ _ = ⊥
 

@@ -2,7 +2,7 @@
 use Rattle.std.specs.Prelude.{ℕ, ◌≡◌, ◌≤◌, suc, Bool, false, List, [], ◌∷◌, map, cond, ◌==◌, ◌||◌, Option, Some, None, slice_get}
 use Rattle.std.specs.List.{filter_map}
 use Rattle.store_history.specs.declared.act.Event.{Event}
-use Rattle.store_history.specs.History.{lane}
+use Rattle.store_history.specs.History.{lane, own}
 
 -- the events at these places
 abbrev pub picked : List Event → List ℕ → List Event
@@ -30,6 +30,10 @@ is_by k (Some e) = lane e == k
 pub record AreOwn (k : ℕ) (h : List Event) (places : List ℕ) : Type 0 where
   pub rise : Rises 0 places
   pub same : (i : ℕ) → has places i ≡ is_by k (slice_get h i)
+
+-- the events at these places are those of the lane
+abbrev pub PicksOwn : Type 0
+PicksOwn = (k : ℕ) (h : List Event) (places : List ℕ) → AreOwn k h places → picked h places ≡ own k h
 
 -- every event is of this lane
 abbrev pub AreOf : ℕ → List Event → Type 0

@@ -35,3 +35,15 @@ IsWoven o remote h inputs es told =
 -- the history's order keeps the rules of order files
 abbrev pub FitsRules : List Event → List (List ℕ) → Type 0
 FitsRules h inputs = IsTrue (keeps_rules (length inputs) (entries h))
+
+-- ---- the two laws of what was served
+
+abbrev pub ServedIsWoven : Type 0
+ServedIsWoven =
+    (o : Opening) (remote : Option (List Snapshot)) (h : List Event) (inputs : List (List ℕ)) (es : List Ending) (told : List (List Reply))
+    → IsServed o remote h inputs es told → IsWoven o remote h inputs es told
+
+abbrev pub ServedFitsRules : Type 0
+ServedFitsRules =
+    (o : Opening) (remote : Option (List Snapshot)) (h : List Event) (inputs : List (List ℕ)) (es : List Ending) (told : List (List Reply))
+    → IsServed o remote h inputs es told → FitsRules h inputs

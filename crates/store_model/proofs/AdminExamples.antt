@@ -1,14 +1,13 @@
 -- Snapshots listed, forgotten and pruned, from the bytes of the sessions.
-use Rattle.std.specs.Prelude.{◌≡◌, ℕ, List, [], ◌∷◌, ◌++◌, codes, refl, map, replicate, Option, Some, None, Result, Ok, Err}
+use Rattle.std.specs.Prelude.{◌≡◌, ℕ, List, [], ◌∷◌, ◌++◌, codes, refl, replicate, None, Result, Ok, Err}
 use Rattle.sha2.specs.Sha256.{sha256}
 use Rattle.store_types.specs.declared.names.Kind.TheVariants.{Host}
-use Rattle.store_types.specs.declared.names.SnapshotKey.{SnapshotKey}
 use Rattle.store_types.specs.declared.order.Entry.{Entry}
 use Rattle.blob_codec.specs.Blob.{blob}
 use Rattle.store_files.specs.Archive.{Snapshot}
 use Rattle.store_model.specs.declared.ending.Ending.{Ending}
 use Rattle.store_model.specs.declared.ending.Ending.TheVariants as endings
-use Rattle.store_model.specs.Weave.{Misfit, Woven, told_by_input, weave, woven}
+use Rattle.store_model.specs.Weave.{Misfit, told_by_input, weave, woven}
 use Rattle.wire_commands.proofs.Hexadecimal.{hex}
 use Rattle.store_model.proofs.OnLiterals.{store_model_on_literals, digests_on_literals, manifests_on_literals}
 use Rattle.store_model.proofs.ExampleBytes.{k, later_k, manifest, entry, replies_in, alone, open_writer, put, put_replies}

@@ -7,7 +7,7 @@ use Rattle.store_types.specs.declared.names.Digest32.{Digest32}
 use Rattle.store_types.specs.declared.refusal.CloseFault.TheVariants.{Rest}
 use Rattle.store_types.specs.declared.refusal.Refusal.{Refusal}
 use Rattle.store_types.specs.declared.refusal.Refusal.TheVariants.{WrongSize, BadClose}
-use Rattle.store_files.specs.Archive.{Layout, fixed}
+use Rattle.store_files.specs.Archive.{fixed}
 use Rattle.store_model.specs.Archives.{pieces_named, want_facts}
 use Rattle.wire_commands.proofs.Hexadecimal.{hex}
 use Rattle.store_model.proofs.OnLiterals.{store_model_on_literals, digests_on_literals, uuids_on_literals, manifests_on_literals}

@@ -10,8 +10,6 @@ pub mod Insertions
 pub mod FileInsertions
 pub mod StandsLemmas
 pub mod GroupTimes
-pub mod JobAnswers
 pub mod PiecesNamed
 pub mod ListingLemmas
-pub mod ManifestNames
 pub mod ManifestTexts

@@ -367,7 +367,3 @@ module _ (key : SnapshotKey) (files : List File) (m : Manifest) (l : Listing key
 
 pub listing_lists : (key : SnapshotKey) (files : List File) (m : Manifest) → listing_of key files ≡ Ok m → length files ≤ 64 → ListsFiles files
 listing_lists key files m is limit = lists_files key files m (listing key files m is) limit
-
--- the manifest is among the files
-pub lists_manifest : (files : List File) → ListsFiles files → is_some (file_named manifest_name files) ≡ true
-lists_manifest files l = data_named files l.0 l.2

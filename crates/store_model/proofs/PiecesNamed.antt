@@ -1,5 +1,5 @@
 -- What stands for pieces may be another, as long as it is found alike and has the same length.
-use Rattle.std.proofs.Common.{◌≡◌, ℕ, ◌+◌, Bool, true, false, List, [], ◌∷◌, map, Some, None, Ok, Err, refl, sym, ap, ◌∙◌, ◌==◌}
+use Rattle.std.proofs.Common.{◌≡◌, ℕ, ◌+◌, Bool, true, false, List, [], ◌∷◌, map, Some, None, Ok, Err, refl, ap, ◌∙◌, ◌==◌}
 use Rattle.std.specs.Prelude.{Option, Result}
 use Rattle.std.specs.Option.{option_map}
 use Rattle.store_types.specs.declared.names.Digest32.{Digest32}

@@ -8,7 +8,7 @@ use Rattle.store_types.specs.declared.refusal.Refusal.TheVariants.{WrongSize, Wr
 use Rattle.store_types.specs.Chain.Refusing.{◌>>=◌, unless}
 use Rattle.store_files.specs.Archive.{digest_of}
 use Rattle.wire_commands.specs.declared.reply.Reply.TheVariants.{Done, Number}
-use Rattle.store_model.specs.Store.{Writer, Store, Outcome, session, want_writer}
+use Rattle.store_model.specs.Store.{Store, Outcome, session, want_writer}
 use Rattle.store_model.specs.WriterSteps.{goes_on, want_data}
 use Rattle.store_model.specs.WriterCalls as calls
 

@@ -1,6 +1,6 @@
 -- The list of snapshots that a map from names to bytes gives. Damaged ones are left out.
-use Rattle.std.specs.Prelude.{◌≡◌, ℕ, ◌-◌, ◌≤◌, ◌↔◌, not, List, [], ◌∷◌, ◌++◌, map, filter, length, take, nat_le, if◌then◌else◌, Option, Some, None, Ok, Err, codes, pos}
-use Rattle.std.specs.List.{Contains, filter_map}
+use Rattle.std.specs.Prelude.{ℕ, ◌-◌, List, [], ◌∷◌, ◌++◌, map, length, take, nat_le, if◌then◌else◌, Option, Some, None, Ok, Err, codes, pos}
+use Rattle.std.specs.List.{filter_map}
 use Rattle.std.specs.Str.{bytes_eq}
 use Rattle.std.specs.FinMap.{find, entries}
 use Rattle.sha2.specs.Sha256.{sha256}

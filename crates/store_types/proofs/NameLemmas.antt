@@ -10,19 +10,9 @@ use Rattle.std.specs.Str.{IsAscii, bytes_eq}
 use Rattle.store_types.specs.declared.names.Kind.{Kind}
 use Rattle.store_types.specs.declared.names.Kind.TheVariants.{Ct, Host, Vm}
 use Rattle.store_types.specs.declared.names.GroupKey.{GroupKey}
-use Rattle.store_types.specs.FileNames.{is_id, is_id_byte, is_file_name, has_ending, fixed_ending, dynamic_ending, blob_ending}
+use Rattle.store_types.specs.FileNames.{is_id, is_file_name, has_ending, fixed_ending, dynamic_ending, blob_ending}
 use Rattle.store_types.specs.Times.{digits, time_text}
 use Rattle.store_types.specs.Names.{kind_rank, text_cmp, same_group}
-
-and_second : (a b : Bool) → (a && b) ≡ true → b ≡ true
-and_second true b h = h
-and_second false true h = refl
-and_second false false h = h
-
-and_first : (a b : Bool) → (a && b) ≡ true → a ≡ true
-and_first true b h = refl
-and_first false true h = h
-and_first false false h = h
 
 id_in_one : (i f d b : Bool) → ((i && f) || (i && d) || (i && b)) ≡ true → i ≡ true
 id_in_one true f d b h = refl
@@ -42,16 +32,6 @@ all_below xs h = λ i d l. let small : nat_lt (get_or xs i d) 128 ≡ true = All
 
 ascii : (xs : List ℕ) → below_128 xs ≡ true → IsAscii xs
 ascii xs h = IsAscii-from_all xs (all_below xs h)
-
-id_byte_small : (b : ℕ) → is_id_byte b ≡ true → nat_lt b 128 ≡ true
-id_byte_small b h = grind (arith, nat_tests)
-
-id_bytes_small : (xs : List ℕ) → list_all is_id_byte xs ≡ true → below_128 xs ≡ true
-id_bytes_small [] h = refl
-id_bytes_small (x ∷ xs) h = rw (id_byte_small x (and_first (is_id_byte x) (list_all is_id_byte xs) h)) (id_bytes_small xs (and_second (is_id_byte x) (list_all is_id_byte xs) h))
-
-pub id_ascii : (id : List ℕ) → is_id id ≡ true → IsAscii id
-id_ascii id h = ascii id (id_bytes_small id (and_second _ (list_all is_id_byte id) h))
 
 digit_small : (x : ℕ) → nat_lt (48 + x % 10) 128 ≡ true
 digit_small x = grind (arith, nat_tests)

@@ -1,5 +1,6 @@
 -- The one spelling of each command, and the command that a body spells.
 use Rattle.std.specs.Prelude.{ℕ, List, [], ◌∷◌, ◌++◌, length, ◌==◌, nat_le, if◌then◌else◌, Option, Some, None}
+use Rattle.std.specs.List.{flat_map}
 use Rattle.std.specs.Int.{w16, w32, w64}
 use Rattle.store_types.specs.declared.append.AppendEntry.{AppendEntry}
 use Rattle.store_types.specs.declared.names.Keep.{Keep}
@@ -161,3 +162,7 @@ command_of body = do
   _ ← only_if (nat_le (length body) body_limit)
   code ← byte_at body
   fields_of code.0 code.1
+
+-- the entries of a command between its head and the rest
+abbrev pub with_entries : List ℕ → Command → List ℕ → List ℕ
+with_entries head c rest = head ++ flat_map entry_text (entries_of c) ++ rest

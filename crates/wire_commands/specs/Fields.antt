@@ -1,5 +1,5 @@
 -- The fields of a body: how each is spelled, and how it is read from the front.
-use Rattle.std.specs.Prelude.{ℕ, zero, suc, Bool, true, false, List, [], ◌∷◌, ◌++◌, length, take, drop, ◌==◌, nat_lt, if◌then◌else◌, Option, Some, None}
+use Rattle.std.specs.Prelude.{ℕ, ◌≤◌, zero, suc, Bool, true, false, List, [], ◌∷◌, ◌++◌, length, take, drop, ◌==◌, nat_lt, if◌then◌else◌, Option, Some, None, IsSome, Result, OnErr}
 use Rattle.std.specs.Int.{Width, w16, w32, w64, byte_len, to_le_bytes, from_le_bytes}
 use Rattle.std.specs.List.{flat_map}
 use Rattle.store_types.specs.declared.names.Digest32.{Digest32}
@@ -91,3 +91,9 @@ abbrev pub few_rows_at : {A : Type 0} → (List ℕ → Read A) → List ℕ →
 few_rows_at read bytes = do
   count ← byte_at bytes
   many_at read count.0 count.1
+
+-- ---- want of memory
+
+-- it comes only where there are so many bytes, and they spell something
+abbrev pub WantsMemory : {A B E : Type 0} → ℕ → List ℕ → Option B → Result A E → Type 0
+WantsMemory least bytes read result = OnErr result ((least ≤ length bytes) × IsSome read)

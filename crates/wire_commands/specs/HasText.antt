@@ -140,3 +140,12 @@ RepliesAreReadAgain = (code : ℕ) (r : Reply) → ReplyHasText r → AnswersCod
 abbrev pub RepliesHaveOneText : Type 0
 RepliesHaveOneText = (code : ℕ) (body : List ℕ) (r : Reply) → AreBytes body → reply_of code body ≡ Some r →
     ReplyHasText r × AnswersCode code r × (body ≡ reply_text r)
+
+-- ---- what was read
+
+-- it has a spelling, which these bytes are
+abbrev pub SpellsCommand : List ℕ → Command → Type 0
+SpellsCommand body c = HasText c × (body ≡ command_text c)
+
+abbrev pub SpellsReply : List ℕ → Reply → Type 0
+SpellsReply body r = ReplyHasText r × (body ≡ reply_text r)

@@ -6,3 +6,4 @@ pub mod RefusalReading
 pub mod ReplyText
 pub mod ReplyReading
 pub mod HasText
+pub mod Puts

@@ -1,11 +1,11 @@
 //! The commands.
 
-ghost use Rattle.std.specs.Prelude.{◌≡◌, ◌≤◌, ◌++◌, length, IsSome, IfOk, OnErr};
+ghost use Rattle.std.specs.Prelude.{◌≡◌, ◌≤◌, ◌++◌, length, IfOk};
 ghost use Rattle.std.specs.Result.{result_ok};
-ghost use Rattle.wire_commands.specs.HasText.{HasText, FitsCommand};
-ghost use Rattle.std.specs.List.{flat_map};
+ghost use Rattle.wire_commands.specs.HasText.{HasText, FitsCommand, SpellsCommand};
 ghost use Rattle.std.specs.Option.{option_map};
-ghost use Rattle.wire_commands.specs.CommandText.{entry_text, entries_of, command_text, command_of, fields_of, nothing_more, one_text, text_and_offset, new_fixed, chunk, append, close_index, blob, get_chunk, range, prune, keep_at, keep_text};
+ghost use Rattle.wire_commands.specs.Fields.{WantsMemory};
+ghost use Rattle.wire_commands.specs.CommandText.{entries_of, with_entries, command_text, command_of, fields_of, nothing_more, one_text, text_and_offset, new_fixed, chunk, append, close_index, blob, get_chunk, range, prune, keep_at, keep_text};
 
 use crate::entries::{ENTRY_SIZE, entries_in, push_entries};
 use crate::fields::{
@@ -122,12 +122,12 @@ pub enum Command {
 pub struct BadFrame;
 
 impl Command {
-    /// The command that a body spells. Only a command with a text, a blob or entries takes memory, so what is no
+    /// The command that a body spells. Only a body of 2 bytes or more that is a command takes memory, so what is no
     /// command is always told.
     pub fn read(alloc: Global, body: &[u8]) -> Result<Result<Command, BadFrame>, AllocError>
         ensures command { IfOk result (λ read. result_ok read ≡ command_of body.now) }
-        ensures spelled { IfOk result (λ read. IfOk read (λ c. HasText c × (body.now ≡ command_text c))) }
-        ensures memory { OnErr result ((2 ≤ length body.now) × IsSome (command_of body.now)) }
+        ensures spelled { IfOk result (λ read. IfOk read (SpellsCommand body.now)) }
+        ensures memory { WantsMemory 2 body.now (command_of body.now) result }
     {
         Ok(command_in(alloc, body)?.ok_or(BadFrame))
     }
@@ -160,7 +160,7 @@ impl Command {
     #[tactic(auto, unfolding(crate::specs::CommandText::command_text))]
     fn spelling(&self) -> Spelling<'_>
         requires { FitsCommand self.now }
-        ensures { result.head ++ flat_map entry_text (entries_of self.now) ++ result.rest.now ≡ command_text self.now }
+        ensures { with_entries result.head self.now result.rest.now ≡ command_text self.now }
     {
         match self {
             Command::OpenWriter { snapshot } => Spelling::of(Head::new(10).text(snapshot)),
@@ -228,7 +228,7 @@ impl Command {
 #[tactic(auto, unfolding(crate::specs::CommandText::command_of))]
 fn command_in(alloc: Global, body: &[u8]) -> Result<Option<Command>, AllocError>
     ensures command { IfOk result (λ c. c ≡ command_of body.now) }
-    ensures memory { OnErr result ((2 ≤ length body.now) × IsSome (command_of body.now)) }
+    ensures memory { WantsMemory 2 body.now (command_of body.now) result }
 {
     if body.len() > BODY_LIMIT as usize {
         return Ok(None);
@@ -243,7 +243,7 @@ fn command_in(alloc: Global, body: &[u8]) -> Result<Option<Command>, AllocError>
 #[tactic(auto, unfolding(crate::specs::CommandText::fields_of))]
 fn with_code(alloc: Global, code: u8, fields: &[u8]) -> Result<Option<Command>, AllocError>
     ensures command { IfOk result (λ c. c ≡ fields_of code fields.now) }
-    ensures memory { OnErr result ((1 ≤ length fields.now) × IsSome (fields_of code fields.now)) }
+    ensures memory { WantsMemory 1 fields.now (fields_of code fields.now) result }
 {
     match code {
         10 => open_writer(alloc, fields),
@@ -285,7 +285,7 @@ fn nothing_more(command: Command, fields: &[u8]) -> Option<Command>
 #[tactic(auto, unfolding(crate::specs::CommandText::one_text))]
 fn open_writer(alloc: Global, fields: &[u8]) -> Result<Option<Command>, AllocError>
     ensures command { IfOk result (λ c. c ≡ one_text Command.OpenWriter fields.now) }
-    ensures memory { OnErr result ((1 ≤ length fields.now) × IsSome (one_text Command.OpenWriter fields.now)) }
+    ensures memory { WantsMemory 1 fields.now (one_text Command.OpenWriter fields.now) result }
 {
     let snapshot = only_text(alloc, fields)?;
     Ok(snapshot.map(|snapshot| Command::OpenWriter { snapshot }))
@@ -294,7 +294,7 @@ fn open_writer(alloc: Global, fields: &[u8]) -> Result<Option<Command>, AllocErr
 #[tactic(auto, unfolding(crate::specs::CommandText::one_text))]
 fn open_reader(alloc: Global, fields: &[u8]) -> Result<Option<Command>, AllocError>
     ensures command { IfOk result (λ c. c ≡ one_text Command.OpenReader fields.now) }
-    ensures memory { OnErr result ((1 ≤ length fields.now) × IsSome (one_text Command.OpenReader fields.now)) }
+    ensures memory { WantsMemory 1 fields.now (one_text Command.OpenReader fields.now) result }
 {
     let snapshot = only_text(alloc, fields)?;
     Ok(snapshot.map(|snapshot| Command::OpenReader { snapshot }))
@@ -303,7 +303,7 @@ fn open_reader(alloc: Global, fields: &[u8]) -> Result<Option<Command>, AllocErr
 #[tactic(auto, unfolding(crate::specs::CommandText::one_text))]
 fn new_dynamic(alloc: Global, fields: &[u8]) -> Result<Option<Command>, AllocError>
     ensures command { IfOk result (λ c. c ≡ one_text Command.NewDynamic fields.now) }
-    ensures memory { OnErr result ((1 ≤ length fields.now) × IsSome (one_text Command.NewDynamic fields.now)) }
+    ensures memory { WantsMemory 1 fields.now (one_text Command.NewDynamic fields.now) result }
 {
     let file = only_text(alloc, fields)?;
     Ok(file.map(|file| Command::NewDynamic { file }))
@@ -312,7 +312,7 @@ fn new_dynamic(alloc: Global, fields: &[u8]) -> Result<Option<Command>, AllocErr
 #[tactic(auto, unfolding(crate::specs::CommandText::text_and_offset))]
 fn previous(alloc: Global, fields: &[u8]) -> Result<Option<Command>, AllocError>
     ensures command { IfOk result (λ c. c ≡ text_and_offset Command.Previous fields.now) }
-    ensures memory { OnErr result ((1 ≤ length fields.now) × IsSome (text_and_offset Command.Previous fields.now)) }
+    ensures memory { WantsMemory 1 fields.now (text_and_offset Command.Previous fields.now) result }
 {
     let Some((file, rest)) = text_at(fields) else {
         return Ok(None);
@@ -327,7 +327,7 @@ fn previous(alloc: Global, fields: &[u8]) -> Result<Option<Command>, AllocError>
 #[tactic(auto, unfolding(crate::specs::CommandText::new_fixed))]
 fn new_fixed(alloc: Global, fields: &[u8]) -> Result<Option<Command>, AllocError>
     ensures command { IfOk result (λ c. c ≡ new_fixed fields.now) }
-    ensures memory { OnErr result ((1 ≤ length fields.now) × IsSome (new_fixed fields.now)) }
+    ensures memory { WantsMemory 1 fields.now (new_fixed fields.now) result }
 {
     let Some((file, rest)) = text_at(fields) else {
         return Ok(None);
@@ -349,7 +349,7 @@ fn new_fixed(alloc: Global, fields: &[u8]) -> Result<Option<Command>, AllocError
 #[tactic(auto, unfolding(crate::specs::CommandText::chunk))]
 fn chunk(alloc: Global, fields: &[u8]) -> Result<Option<Command>, AllocError>
     ensures command { IfOk result (λ c. c ≡ chunk fields.now) }
-    ensures memory { OnErr result ((1 ≤ length fields.now) × IsSome (chunk fields.now)) }
+    ensures memory { WantsMemory 1 fields.now (chunk fields.now) result }
 {
     let Some((digest, blob)) = digest_at(fields) else {
         return Ok(None);
@@ -361,7 +361,7 @@ fn chunk(alloc: Global, fields: &[u8]) -> Result<Option<Command>, AllocError>
 #[tactic(auto, unfolding(crate::specs::CommandText::append))]
 fn append(alloc: Global, fields: &[u8]) -> Result<Option<Command>, AllocError>
     ensures command { IfOk result (λ c. c ≡ append fields.now) }
-    ensures memory { OnErr result ((1 ≤ length fields.now) × IsSome (append fields.now)) }
+    ensures memory { WantsMemory 1 fields.now (append fields.now) result }
 {
     let Some((number, rest)) = byte_at(fields) else {
         return Ok(None);
@@ -389,7 +389,7 @@ fn close_index(fields: &[u8]) -> Option<Command>
 #[tactic(auto, unfolding(crate::specs::CommandText::blob))]
 fn blob(alloc: Global, fields: &[u8]) -> Result<Option<Command>, AllocError>
     ensures command { IfOk result (λ c. c ≡ blob fields.now) }
-    ensures memory { OnErr result ((1 ≤ length fields.now) × IsSome (blob fields.now)) }
+    ensures memory { WantsMemory 1 fields.now (blob fields.now) result }
 {
     let Some((file, blob)) = text_at(fields) else {
         return Ok(None);
@@ -402,7 +402,7 @@ fn blob(alloc: Global, fields: &[u8]) -> Result<Option<Command>, AllocError>
 #[tactic(auto, unfolding(crate::specs::CommandText::text_and_offset))]
 fn download(alloc: Global, fields: &[u8]) -> Result<Option<Command>, AllocError>
     ensures command { IfOk result (λ c. c ≡ text_and_offset Command.Download fields.now) }
-    ensures memory { OnErr result ((1 ≤ length fields.now) × IsSome (text_and_offset Command.Download fields.now)) }
+    ensures memory { WantsMemory 1 fields.now (text_and_offset Command.Download fields.now) result }
 {
     let Some((file, rest)) = text_at(fields) else {
         return Ok(None);
@@ -425,7 +425,7 @@ fn get_chunk(fields: &[u8]) -> Option<Command>
 #[tactic(auto, unfolding(crate::specs::CommandText::range))]
 fn range(alloc: Global, fields: &[u8]) -> Result<Option<Command>, AllocError>
     ensures command { IfOk result (λ c. c ≡ range fields.now) }
-    ensures memory { OnErr result ((1 ≤ length fields.now) × IsSome (range fields.now)) }
+    ensures memory { WantsMemory 1 fields.now (range fields.now) result }
 {
     let Some((file, rest)) = text_at(fields) else {
         return Ok(None);
@@ -447,7 +447,7 @@ fn range(alloc: Global, fields: &[u8]) -> Result<Option<Command>, AllocError>
 #[tactic(auto, unfolding(crate::specs::CommandText::one_text))]
 fn list(alloc: Global, fields: &[u8]) -> Result<Option<Command>, AllocError>
     ensures command { IfOk result (λ c. c ≡ one_text Command.List fields.now) }
-    ensures memory { OnErr result ((1 ≤ length fields.now) × IsSome (one_text Command.List fields.now)) }
+    ensures memory { WantsMemory 1 fields.now (one_text Command.List fields.now) result }
 {
     let after = only_text(alloc, fields)?;
     Ok(after.map(|after| Command::List { after }))
@@ -456,7 +456,7 @@ fn list(alloc: Global, fields: &[u8]) -> Result<Option<Command>, AllocError>
 #[tactic(auto, unfolding(crate::specs::CommandText::one_text))]
 fn files(alloc: Global, fields: &[u8]) -> Result<Option<Command>, AllocError>
     ensures command { IfOk result (λ c. c ≡ one_text Command.Files fields.now) }
-    ensures memory { OnErr result ((1 ≤ length fields.now) × IsSome (one_text Command.Files fields.now)) }
+    ensures memory { WantsMemory 1 fields.now (one_text Command.Files fields.now) result }
 {
     let snapshot = only_text(alloc, fields)?;
     Ok(snapshot.map(|snapshot| Command::Files { snapshot }))
@@ -465,7 +465,7 @@ fn files(alloc: Global, fields: &[u8]) -> Result<Option<Command>, AllocError>
 #[tactic(auto, unfolding(crate::specs::CommandText::one_text))]
 fn forget(alloc: Global, fields: &[u8]) -> Result<Option<Command>, AllocError>
     ensures command { IfOk result (λ c. c ≡ one_text Command.Forget fields.now) }
-    ensures memory { OnErr result ((1 ≤ length fields.now) × IsSome (one_text Command.Forget fields.now)) }
+    ensures memory { WantsMemory 1 fields.now (one_text Command.Forget fields.now) result }
 {
     let snapshot = only_text(alloc, fields)?;
     Ok(snapshot.map(|snapshot| Command::Forget { snapshot }))
@@ -474,7 +474,7 @@ fn forget(alloc: Global, fields: &[u8]) -> Result<Option<Command>, AllocError>
 #[tactic(auto, unfolding(crate::specs::CommandText::one_text))]
 fn group(alloc: Global, fields: &[u8]) -> Result<Option<Command>, AllocError>
     ensures command { IfOk result (λ c. c ≡ one_text Command.Group fields.now) }
-    ensures memory { OnErr result ((1 ≤ length fields.now) × IsSome (one_text Command.Group fields.now)) }
+    ensures memory { WantsMemory 1 fields.now (one_text Command.Group fields.now) result }
 {
     let group = only_text(alloc, fields)?;
     Ok(group.map(|group| Command::Group { group }))
@@ -483,7 +483,7 @@ fn group(alloc: Global, fields: &[u8]) -> Result<Option<Command>, AllocError>
 #[tactic(auto, unfolding(crate::specs::CommandText::prune))]
 fn prune(alloc: Global, fields: &[u8]) -> Result<Option<Command>, AllocError>
     ensures command { IfOk result (λ c. c ≡ prune fields.now) }
-    ensures memory { OnErr result ((1 ≤ length fields.now) × IsSome (prune fields.now)) }
+    ensures memory { WantsMemory 1 fields.now (prune fields.now) result }
 {
     let Some((group, rest)) = text_at(fields) else {
         return Ok(None);

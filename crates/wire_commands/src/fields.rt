@@ -1,6 +1,6 @@
 //! The fields of a body, read from its front: a value, and the bytes that follow it.
 
-ghost use Rattle.std.specs.Prelude.{◌≡◌, ◌≤◌, length, IsSome, IfOk, OnErr};
+ghost use Rattle.std.specs.Prelude.{◌≡◌, IfOk};
 ghost use Rattle.std.specs.Int.{w16, w32, w64};
 ghost use Rattle.std.specs.Option.{option_map};
 ghost use Rattle.wire_commands.specs.Fields as spec;
@@ -89,7 +89,7 @@ pub fn copied(alloc: Global, bytes: &[u8]) -> Result<Bytes, AllocError>
 /// The text that is all that there is.
 pub fn only_text(alloc: Global, bytes: &[u8]) -> Result<Option<Bytes>, AllocError>
     ensures text { IfOk result (λ t. t ≡ spec.whole (spec.text_at bytes.now)) }
-    ensures memory { OnErr result ((1 ≤ length bytes.now) × IsSome (spec.whole (spec.text_at bytes.now))) }
+    ensures memory { spec.WantsMemory 1 bytes.now (spec.whole (spec.text_at bytes.now)) result }
 {
     match text_at(bytes) {
         Some((text, [])) => Ok(Some(copied(alloc, text)?)),

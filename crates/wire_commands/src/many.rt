@@ -1,14 +1,14 @@
 //! Values one after another: the rows of replies.
 
-ghost use Rattle.std.specs.Prelude.{◌≡◌, ℕ, ◌+◌, ◌≤◌, ◌++◌, List, length, All, Option, is_some, is_ok, IsSome, IfOk, OnErr};
+ghost use Rattle.std.specs.Prelude.{◌≡◌, ℕ, ◌+◌, ◌≤◌, List, length, All, Option, is_some, IsSome, IfOk, OnErr};
 ghost use Rattle.std.specs.List.{flat_map};
 ghost use Rattle.std.specs.Option.{option_map};
-ghost use Rattle.port_traits.specs.Bytes.{WritesCounted};
 ghost use Rattle.port_traits.specs.Faults.{HasCause};
-ghost use Rattle.wire_frames.specs.Frames.{body_limit, frame};
+ghost use Rattle.wire_frames.specs.Frames.{body_limit};
 ghost use Rattle.wire_commands.specs.Fields as spec;
 ghost use Rattle.wire_commands.specs.Fields.{Read, whole, many_at};
 ghost use Rattle.wire_commands.specs.HasText as fits;
+ghost use Rattle.wire_commands.specs.Puts.{Puts, PutsRows};
 ghost use Rattle.wire_commands.specs.ReplyText as texts;
 ghost use Rattle.wire_commands.specs.ReplyReading as reading;
 
@@ -253,7 +253,8 @@ pub fn put_rows<R: Row, K: Sink>(
 ) -> Result<(), Failed>
     requires fit { All R.Fits rows.now }
     requires within { length head.now + length (flat_map R.spelled rows.now) ≤ body_limit }
-    ensures bytes { WritesCounted (K.taken sink.old) (K.taken sink.new) given.old given.new (frame (head.now ++ flat_map R.spelled rows.now)) (is_ok result) }
+    ensures bytes { PutsRows K.taken sink.old sink.new given.old given.new
+        head.now R.spelled rows.now result }
     ensures cause { HasCause (K.faults sink.old) (K.faults sink.new) result }
 {
     let head = head.as_slice();
@@ -279,7 +280,7 @@ fn size_of_all<R: Row>(rows: &[R]) -> usize
 
 fn write_values<R: Row, K: Sink>(sink: &mut K, rows: &[R], given: &mut u64) -> Result<(), Failed>
     requires { All R.Fits rows.now }
-    ensures bytes { WritesCounted (K.taken sink.old) (K.taken sink.new) given.old given.new (flat_map R.spelled rows.now) (is_ok result) }
+    ensures bytes { Puts K.taken sink.old sink.new given.old given.new R.spelled rows.now result }
     ensures cause { HasCause (K.faults sink.old) (K.faults sink.new) result }
 {
     let _before = *given;

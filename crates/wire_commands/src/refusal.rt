@@ -1,12 +1,12 @@
 //! Refusals as bodies: a number, and its fields.
 
-ghost use Rattle.std.specs.Prelude.{◌≡◌, ◌==◌, ◌≢◌, ◌≤◌, ◌++◌, length, IsSome, IfOk, OnErr};
+ghost use Rattle.std.specs.Prelude.{◌≡◌, ◌==◌, ◌≢◌, ◌≤◌, ◌++◌, length, IfOk};
 ghost use Rattle.std.specs.List.{list_all};
 ghost use Rattle.std.specs.Option.{option_map};
 ghost use Rattle.wire_commands.specs.HasText.{FitsRefusal};
 ghost use Rattle.wire_commands.specs.RefusalText.{state_number, blob_fault_text, close_fault_text, chunk_fault_text, refusal_text};
 ghost use Rattle.std.specs.Int.{w32, w64};
-ghost use Rattle.wire_commands.specs.Fields.{number_at, digest_at};
+ghost use Rattle.wire_commands.specs.Fields.{number_at, digest_at, WantsMemory};
 ghost use Rattle.wire_commands.specs.RefusalReading.{alone, two, zeros_at, wide_at, small_at, refusal_from, mismatch_in};
 ghost use Rattle.wire_commands.specs.RefusalReading as spec;
 
@@ -109,7 +109,7 @@ fn with_chunk_fault(head: Head, fault: &ChunkFault) -> Head
 #[tactic(auto, unfolding(crate::specs::RefusalReading::refusal_from, crate::specs::RefusalReading::one))]
 pub fn read(alloc: Global, number: u8, fields: &[u8]) -> Result<Option<Refusal>, AllocError>
     ensures refusal { IfOk result (λ r. r ≡ refusal_from number fields.now) }
-    ensures memory { OnErr result ((1 ≤ length fields.now) × IsSome (refusal_from number fields.now)) }
+    ensures memory { WantsMemory 1 fields.now (refusal_from number fields.now) result }
 {
     match number {
         19 => mismatch(alloc, fields),
@@ -201,7 +201,7 @@ fn alone(refusal: Refusal, fields: &[u8]) -> Option<Refusal>
 #[tactic(auto, unfolding(crate::specs::RefusalReading::mismatch_in))]
 fn mismatch(alloc: Global, fields: &[u8]) -> Result<Option<Refusal>, AllocError>
     ensures refusal { IfOk result (λ r. r ≡ mismatch_in fields.now) }
-    ensures memory { OnErr result ((1 ≤ length fields.now) × IsSome (mismatch_in fields.now)) }
+    ensures memory { WantsMemory 1 fields.now (mismatch_in fields.now) result }
 {
     let Some((file, rest)) = text_at(fields) else {
         return Ok(None);

@@ -1,13 +1,13 @@
 //! The replies.
 
-ghost use Rattle.std.specs.Prelude.{◌≡◌, ◌≤◌, ◌++◌, length, is_ok, IsSome, IfSome, IfOk, OnErr};
-ghost use Rattle.port_traits.specs.Bytes.{Writes, WritesCounted};
+ghost use Rattle.std.specs.Prelude.{◌≡◌, ◌≤◌, ◌++◌, length, IfSome, IfOk, OnErr};
 ghost use Rattle.port_traits.specs.Faults.{HasCause};
-ghost use Rattle.wire_frames.specs.Frames.{frame};
 ghost use Rattle.std.specs.List.{flat_map};
 ghost use Rattle.wire_commands.specs.Fields as spec;
-ghost use Rattle.wire_commands.specs.HasText.{FitsReply, ReplyHasText};
-ghost use Rattle.wire_commands.specs.ReplyText.{reply_text, behind_head, reply_form};
+ghost use Rattle.wire_commands.specs.Fields.{WantsMemory, whole};
+ghost use Rattle.wire_commands.specs.HasText.{FitsReply, ReplyHasText, SpellsReply};
+ghost use Rattle.wire_commands.specs.Puts.{PutsFrame, PutsReply};
+ghost use Rattle.wire_commands.specs.ReplyText.{reply_text, behind_head, reply_form as form_of};
 ghost use Rattle.wire_commands.specs.ReplyReading.{part_in, accepted, reply_from, reply_of};
 
 use crate::fields::{byte_at, copied, only_text, u16_at, u64_at, whole};
@@ -50,8 +50,8 @@ impl Reply {
     /// under any code. Only a reply of two bytes or more takes memory.
     pub fn read(alloc: Global, code: u8, body: &[u8]) -> Result<Option<Reply>, AllocError>
         ensures reply { IfOk result (λ r. r ≡ reply_of code body.now) }
-        ensures spelled { IfOk result (λ read. IfSome read (λ r. ReplyHasText r × (body.now ≡ reply_text r))) }
-        ensures memory { OnErr result ((2 ≤ length body.now) × IsSome (reply_of code body.now)) }
+        ensures spelled { IfOk result (λ read. IfSome read (SpellsReply body.now)) }
+        ensures memory { WantsMemory 2 body.now (reply_of code body.now) result }
     {
         reply_in(alloc, code, body)
     }
@@ -59,7 +59,7 @@ impl Reply {
     /// Writes the reply as a frame, or fails with a front of it written. It takes no memory.
     pub fn put<K: Sink>(&self, sink: &mut K) -> Result<(), Failed>
         requires { ReplyHasText self.now }
-        ensures bytes { Writes (K.taken sink.old) (K.taken sink.new) (frame (reply_text self.now)) (is_ok result) }
+        ensures bytes { PutsFrame K.taken sink.old sink.new self.now result }
         ensures cause { HasCause (K.faults sink.old) (K.faults sink.new) result }
     {
         self.put_counted(sink, &mut 0)
@@ -69,7 +69,7 @@ impl Reply {
     #[tactic(auto, unfolding(crate::specs::ReplyText::reply_text))]
     pub fn put_counted<K: Sink>(&self, sink: &mut K, given: &mut u64) -> Result<(), Failed>
         requires { ReplyHasText self.now }
-        ensures bytes { WritesCounted (K.taken sink.old) (K.taken sink.new) given.old given.new (frame (reply_text self.now)) (is_ok result) }
+        ensures bytes { PutsReply K.taken sink.old sink.new given.old given.new self.now result }
         ensures cause { HasCause (K.faults sink.old) (K.faults sink.new) result }
     {
         let head = self.head();
@@ -108,7 +108,7 @@ impl Reply {
 #[tactic(auto, unfolding(crate::specs::ReplyReading::reply_of))]
 fn reply_in(alloc: Global, code: u8, body: &[u8]) -> Result<Option<Reply>, AllocError>
     ensures reply { IfOk result (λ r. r ≡ reply_of code body.now) }
-    ensures memory { OnErr result ((2 ≤ length body.now) × IsSome (reply_of code body.now)) }
+    ensures memory { WantsMemory 2 body.now (reply_of code body.now) result }
 {
     if body.len() > BODY_LIMIT as usize {
         return Ok(None);
@@ -126,8 +126,8 @@ fn with_number(
     number: u8,
     fields: &[u8],
 ) -> Result<Option<Reply>, AllocError>
-    ensures reply { IfOk result (λ r. r ≡ reply_from (reply_form code) number fields.now) }
-    ensures memory { OnErr result ((1 ≤ length fields.now) × IsSome (reply_from (reply_form code) number fields.now)) }
+    ensures reply { IfOk result (λ r. r ≡ reply_from (form_of code) number fields.now) }
+    ensures memory { WantsMemory 1 fields.now (reply_from (form_of code) number fields.now) result }
 {
     if number == 0 {
         return accepted(alloc, code, fields);
@@ -138,8 +138,8 @@ fn with_number(
 
 #[tactic(auto, unfolding(crate::specs::ReplyReading::fields_in, crate::specs::ReplyReading::made))]
 fn accepted(alloc: Global, code: u8, fields: &[u8]) -> Result<Option<Reply>, AllocError>
-    ensures reply { IfOk result (λ r. r ≡ accepted (reply_form code) fields.now) }
-    ensures memory { OnErr result ((1 ≤ length fields.now) × IsSome (accepted (reply_form code) fields.now)) }
+    ensures reply { IfOk result (λ r. r ≡ accepted (form_of code) fields.now) }
+    ensures memory { WantsMemory 1 fields.now (accepted (form_of code) fields.now) result }
 {
     match code {
         10 => {
@@ -161,7 +161,7 @@ fn accepted(alloc: Global, code: u8, fields: &[u8]) -> Result<Option<Reply>, All
 #[tactic(auto, unfolding(crate::specs::ReplyReading::part_in))]
 fn part(alloc: Global, fields: &[u8]) -> Result<Option<Reply>, AllocError>
     ensures reply { IfOk result (λ r. r ≡ part_in fields.now) }
-    ensures memory { OnErr result ((1 ≤ length fields.now) × IsSome (part_in fields.now)) }
+    ensures memory { WantsMemory 1 fields.now (part_in fields.now) result }
 {
     let Some((total, bytes)) = u64_at(fields) else {
         return Ok(None);
@@ -184,7 +184,7 @@ fn bytes_in(alloc: Global, bytes: &[u8]) -> Result<Bytes, AllocError>
 /// Values that are all that follows their count of two bytes.
 fn rows_in<R: Row>(alloc: Global, fields: &[u8]) -> Result<Option<Rows<R>>, AllocError>
     ensures rows { IfOk result (λ rows. rows ≡ spec.whole (spec.rows_at R.read fields.now)) }
-    ensures memory { OnErr result ((1 ≤ length fields.now) × IsSome (spec.whole (spec.rows_at R.read fields.now))) }
+    ensures memory { WantsMemory 1 fields.now (whole (spec.rows_at R.read fields.now)) result }
 {
     let Some((count, rest)) = u16_at(fields) else {
         return Ok(None);
@@ -195,7 +195,7 @@ fn rows_in<R: Row>(alloc: Global, fields: &[u8]) -> Result<Option<Rows<R>>, Allo
 /// Values that are all that follows their count of one byte.
 fn few_rows_in<R: Row>(alloc: Global, fields: &[u8]) -> Result<Option<Rows<R>>, AllocError>
     ensures rows { IfOk result (λ rows. rows ≡ spec.whole (spec.few_rows_at R.read fields.now)) }
-    ensures memory { OnErr result ((1 ≤ length fields.now) × IsSome (spec.whole (spec.few_rows_at R.read fields.now))) }
+    ensures memory { WantsMemory 1 fields.now (whole (spec.few_rows_at R.read fields.now)) result }
 {
     let Some((count, rest)) = byte_at(fields) else {
         return Ok(None);

@@ -3,7 +3,7 @@ use Rattle.std.proofs.Common.{◌≡◌, ℕ, zero, suc, ◌+◌, ◌-◌, ◌�
 use Rattle.std.proofs.Math.Nat.{add-zero}
 use Rattle.std.proofs.Math.Dec.{ltb}
 use Rattle.std.proofs.Math.Seq.{take-append_seam, drop-append_seam}
-use Rattle.std.proofs.lemmas.Bool.{ltb-false, ltb-true, le-ltb, lt-ltb}
+use Rattle.std.proofs.lemmas.Bool.{ltb-false, le-ltb, lt-ltb}
 use Rattle.std.proofs.lemmas.List.{take-append-le, drop-append-le, take-append-drop, append-nil, length-take-le}
 use Rattle.std.proofs.lemmas.Grind.{common_steps}
 use Rattle.std.proofs.lemmas.Nat.{from_le_bytes-to_le_bytes_4, le_bytes_4}
@@ -75,16 +75,6 @@ cut_body-whole n bytes body rest e =
       ]
     ]
 
-pub cut_body-too_long : (n m : ℕ) (bytes : List ℕ) → cut_body n bytes ≡ too_long m → (body_limit < n) × (n ≡ m)
-cut_body-too_long n m bytes e =
-    elim (chosen (ltb body_limit n) (too_long n) (cond (ltb (length bytes) n) short (whole (take n bytes) (drop n bytes))) (too_long m) e) [
-      | inl p ↦ (ltb-true body_limit n p.0, cc (p.1))
-      | inr p ↦ elim (chosen (ltb (length bytes) n) short (whole (take n bytes) (drop n bytes)) (too_long m) p.1) [
-        | inl q ↦ absurd (cc (q.1))
-        | inr q ↦ absurd (cc (q.1))
-      ]
-    ]
-
 -- what a whole frame at the front tells
 pub record WholeFront (bytes body rest : List ℕ) : Type 0 where
   pub enough : 4 ≤ length bytes
@@ -99,16 +89,6 @@ cut-whole bytes body rest e =
         enough = ltb-false (length bytes) 4 p.0;
         behind = cut_body-whole (from_le_bytes w32 (take 4 bytes)) (drop 4 bytes) body rest p.1;
       }
-    ]
-
-pub cut-too_long : (bytes : List ℕ) (n : ℕ) → cut bytes ≡ too_long n → (4 ≤ length bytes) × (body_limit < from_le_bytes w32 (take 4 bytes)) × (from_le_bytes w32 (take 4 bytes) ≡ n)
-unfolding cut
-cut-too_long bytes n e =
-    elim (chosen (ltb (length bytes) 4) short (cut_body (from_le_bytes w32 (take 4 bytes)) (drop 4 bytes)) (too_long n) e) [
-      | inl p ↦ absurd (cc (p.1))
-      | inr p ↦
-          let above = cut_body-too_long (from_le_bytes w32 (take 4 bytes)) n (drop 4 bytes) p.1 in
-          (ltb-false (length bytes) 4 p.0, above.0, above.1)
     ]
 
 -- how long the parts of a whole frame are
@@ -136,12 +116,6 @@ cut-append_whole bytes more body rest e =
     cut-append bytes more w.enough
     ∙ cut_body-within n (drop 4 bytes ++ more) w.behind.within there
     ∙ rw (take-append-le n (drop 4 bytes) more w.behind.there, drop-append-le n (drop 4 bytes) more w.behind.there, w.behind.body_is, w.behind.rest_is)
-
--- and so does a length above the limit
-pub cut-append_too_long : (bytes more : List ℕ) (n : ℕ) → cut bytes ≡ too_long n → cut (bytes ++ more) ≡ too_long n
-cut-append_too_long bytes more n e =
-    let w = cut-too_long bytes n e in
-    cut-append bytes more w.0 ∙ cut_body-above (from_le_bytes w32 (take 4 bytes)) (drop 4 bytes ++ more) w.1 ∙ ap too_long w.2
 
 -- what is cut off was a frame
 pub cut-was_frame : (bytes body rest : List ℕ) → ((i : ℕ) → get_or bytes i 0 < 256) → cut bytes ≡ whole body rest → (bytes ≡ frame body ++ rest) × (length body ≤ body_limit)

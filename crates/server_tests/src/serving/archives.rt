@@ -1,4 +1,4 @@
-//! Sessions that send archives. `examples/archives/show-sessions` makes these bytes by the formats alone.
+//! Sessions that send archives. `tests/make-tables` makes these bytes by the formats alone.
 
 use super::*;
 

@@ -1,4 +1,4 @@
-use Rattle.std.proofs.Common.{◌∙◌, ap, length, arith}
+use Rattle.std.proofs.Common.{ap, length, arith}
 use Rattle.store_model.proofs.FileInsertions.{length-insert_file}
 use Rattle.plain_snapshots.proofs.loading.+files_in.Goals as goal
 

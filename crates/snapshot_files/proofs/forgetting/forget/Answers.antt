@@ -1,10 +1,10 @@
 use Rattle.std.proofs.Common.{◌∷◌, refl, ap, subst, ◌∙◌, rules, Result, Ok, List, ℕ, inl}
 use Rattle.disk_trait.specs.Files.{Files}
 use Rattle.disk_trait.specs.declared.disk.DiskError.{DiskError}
-use Rattle.disk_trait.specs.Disk.{Steps, Now, After}
+use Rattle.disk_trait.specs.Disk.{Steps}
 use Rattle.disk_trait.specs.Runs.{leaves_as}
 use Rattle.store_files.specs.Folder.{manifest_path}
-use Rattle.snapshot_files.specs.Forgotten.{Forgets, ForgetsFirm, without}
+use Rattle.snapshot_files.specs.Forgotten.{Forgets, NowForgotten, without}
 use Rattle.snapshot_files.proofs.Placing.{none_is}
 use Rattle.snapshot_files.proofs.StandingLemmas.{moves_forgotten, moves_none}
 use Rattle.snapshot_files.proofs.forgetting.forget.Goals as goal
@@ -44,9 +44,8 @@ returns-clause-crash g c =
 pub returns-clause-firm : goal.returns-clause-firm
 returns-clause-firm g c =
     let d = g.D.Disk in
-    let read : Files = d.content c.args.disk.now in
-    subst (λ (ps : List (List ℕ)). Now d.calls d.images c.forget_at.new.disk (After d.calls d.images c.args.disk.now (ForgetsFirm read (manifest_path c.args.key.now) ps))) (c.deref.ensures.value ∙ c.in_ok-paths.ensures)
-    (subst (λ (q : List ℕ). Now d.calls d.images c.forget_at.new.disk (After d.calls d.images c.args.disk.now (ForgetsFirm read q c.deref.result.now))) (c.as_str.ensures.text ∙ c.in_ok-manifest.ensures) c.in_ok-forget_at.ensures.firm)
+    subst (λ (ps : List (List ℕ)). NowForgotten d c.args.disk.now c.forget_at.new.disk (manifest_path c.args.key.now) ps) (c.deref.ensures.value ∙ c.in_ok-paths.ensures)
+    (subst (λ (q : List ℕ). NowForgotten d c.args.disk.now c.forget_at.new.disk q c.deref.result.now) (c.as_str.ensures.text ∙ c.in_ok-manifest.ensures) c.in_ok-forget_at.ensures.firm)
 
 pub returns-clause-removed : goal.returns-clause-removed
 returns-clause-removed g c =

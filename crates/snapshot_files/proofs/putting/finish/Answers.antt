@@ -1,6 +1,5 @@
 use Rattle.std.proofs.Common.{List, ℕ, OnOk, sym, subst}
-use Rattle.disk_trait.specs.Disk.{Now, After}
-use Rattle.file_install.specs.Install.{InstallsFirm}
+use Rattle.file_install.specs.Install.{NowInstalled}
 use Rattle.snapshot_files.specs.Standing.{Completes}
 use Rattle.snapshot_files.proofs.StandingLemmas.{moves_finished}
 use Rattle.snapshot_files.proofs.putting.finish.Goals as goal
@@ -8,8 +7,7 @@ use Rattle.snapshot_files.proofs.putting.finish.Goals as goal
 pub returns-clause-firm : goal.returns-clause-firm
 returns-clause-firm g c =
     let d = g.D.Disk in
-    let old = c.args.disk.now in
-    subst (λ (q : List ℕ). OnOk c.install_firm.result (Now d.calls d.images c.install_firm.new.disk (After d.calls d.images old (InstallsFirm (d.content old) q c.args.manifest.now))))
+    subst (λ (q : List ℕ). OnOk c.install_firm.result (NowInstalled d c.args.disk.now c.install_firm.new.disk q c.args.manifest.now))
     c.as_str.ensures.text c.install_firm.ensures.firm
 
 pub returns-clause-stands : goal.returns-clause-stands

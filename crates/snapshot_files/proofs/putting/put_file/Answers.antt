@@ -1,6 +1,5 @@
 use Rattle.std.proofs.Common.{List, ℕ, OnOk, sym, subst}
-use Rattle.disk_trait.specs.Disk.{Now, After}
-use Rattle.file_install.specs.Install.{StagesOrInstalls}
+use Rattle.file_install.specs.Install.{NowWhole}
 use Rattle.snapshot_files.specs.Standing.{IsOfNew}
 use Rattle.snapshot_files.proofs.StandingLemmas.{moves_put}
 use Rattle.snapshot_files.proofs.putting.put_file.Goals as goal
@@ -8,8 +7,7 @@ use Rattle.snapshot_files.proofs.putting.put_file.Goals as goal
 pub returns-clause-whole : goal.returns-clause-whole
 returns-clause-whole g c =
     let d = g.D.Disk in
-    let old = c.args.disk.now in
-    subst (λ (q : List ℕ). OnOk c.install.result (Now d.calls d.images c.install.new.disk (After d.calls d.images old (StagesOrInstalls (d.content old) q c.args.text.now))))
+    subst (λ (q : List ℕ). OnOk c.install.result (NowWhole d c.args.disk.now c.install.new.disk q c.args.text.now))
     c.as_str.ensures.text c.install.ensures.whole
 
 pub returns-clause-stands : goal.returns-clause-stands

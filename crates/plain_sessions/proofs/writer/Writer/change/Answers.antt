@@ -1,10 +1,8 @@
-use Rattle.std.proofs.Common.{◌∙◌, length, ap, subst, arith}
-use Rattle.std.specs.Prelude.{IsTrue}
+use Rattle.std.proofs.Common.{◌∙◌, length, ap, arith}
 use Rattle.std.specs.List.{list_any}
 use Rattle.store_model.specs.Store.{Writer}
 use Rattle.store_model.specs.WriterCalls.{has_number, with_pieces}
 use Rattle.store_model.proofs.FileInsertions.{length-insert_file}
-use Rattle.plain_sessions.specs.Changes.{HasRoom}
 use Rattle.plain_sessions.proofs.Counts.{length-change_first, length-without_first}
 use Rattle.plain_sessions.proofs.writer.Writer.change.Goals as goal
 
