@@ -23,10 +23,10 @@ use Rattle.store_model.specs.Steps.{outcome}
 use Rattle.core_state.specs.declared.kept.Kept.{Kept}
 use Rattle.core_state.specs.declared.kept.Listed.{Listed}
 use Rattle.core_state.specs.declared.kept.StoredFile.{StoredFile}
-use Rattle.core_state.specs.Found.{kept_named}
 use Rattle.core_state.specs.Shown.{shown_file, shown_files, shown_snapshot}
 use Rattle.core_state.proofs.Finding.{found_in}
 use Rattle.core_state.proofs.Found.{kept_is}
+use Rattle.core_state.proofs.Naming.{kept_by, named_by}
 use Rattle.core_admin.specs.FileRows.{rows_by}
 use Rattle.core_admin.specs.FilesTold.{HasBytes, rows_in, rows_read}
 use Rattle.core_state.specs.Found.{named_kept}
@@ -65,13 +65,6 @@ named_files s o = or_else BadName o >>= λ key. files_of s (snapshot_named key s
 step_is : (s : Store) (lane moment : ℕ) (text : List ℕ) → outcome s lane moment (FilesOf text) ≡ named_files s (key_of text)
 unfolding outcome files
 step_is s lane moment text = refl
-
-abbrev pub kept_by : List Listed → Option SnapshotKey → Result Kept Refusal
-kept_by catalogue o = or_else BadName o >>= λ key. or_else NoSnapshot (kept_named key catalogue)
-
-pub named_by : (text : List ℕ) (catalogue : List Listed) → named_kept text catalogue ≡ kept_by catalogue (key_of text)
-unfolding named_kept
-named_by text catalogue = refl
 
 module _ (s : Store) (lane moment : ℕ) (text : List ℕ) (catalogue : List Listed) (shown : map (λ x. x.kept) catalogue ≡ map shown_snapshot s.snapshots) where
   pub files_refused : (r : Refusal) → named_kept text catalogue ≡ Err r → outcome s lane moment (FilesOf text) ≡ Err r

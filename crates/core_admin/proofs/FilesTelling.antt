@@ -5,10 +5,8 @@ use Rattle.std.proofs.Common.{◌≡◌, ℕ, true, false, IsTrue, List, Option,
 use Rattle.std.specs.Option.{option_map}
 use Rattle.disk_trait.specs.Files.{Files as Content}
 use Rattle.store_types.specs.declared.refusal.Refusal.{Refusal}
-use Rattle.store_types.specs.declared.refusal.Refusal.TheVariants.{BadName, NoSnapshot, Unreadable}
-use Rattle.store_types.specs.declared.names.SnapshotKey.{SnapshotKey}
-use Rattle.store_types.specs.Chain.Refusing.{◌>>=◌, or_else}
-use Rattle.store_types.specs.Names.{key_of}
+use Rattle.store_types.specs.declared.refusal.Refusal.TheVariants.{Unreadable}
+use Rattle.store_types.specs.Chain.Refusing.{◌>>=◌, or_else, if_none}
 use Rattle.store_files.specs.Manifest.{Manifest}
 use Rattle.wire_commands.specs.declared.rows.FileRow.{FileRow}
 use Rattle.wire_commands.specs.declared.command.Command.TheVariants.{Files as FilesOf}
@@ -20,7 +18,6 @@ use Rattle.store_model.specs.Steps.{outcome}
 use Rattle.core_state.specs.declared.kept.Kept.{Kept}
 use Rattle.core_state.specs.declared.kept.Listed.{Listed}
 use Rattle.core_state.specs.declared.parts.Parts.{Parts}
-use Rattle.core_state.specs.Found.{kept_named}
 use Rattle.core_state.specs.Holds.{Holds}
 use Rattle.core_state.specs.Listing.{listing_at}
 use Rattle.core_state.specs.Settles.{kind_by, reply_by}
@@ -31,21 +28,12 @@ use Rattle.core_state.specs.Unreadables.{Asked, part_read, TellsUnreadable}
 use Rattle.core_state.specs.Replies.{answers_files}
 use Rattle.core_state.specs.Unchanged.{is_uncalled}
 use Rattle.core_state.proofs.Commanding.{refused_as}
-use Rattle.core_state.proofs.Unreadables.{tells_other, tells_failed}
-use Rattle.core_admin.specs.FilesTold.{AnswersFiles, HasBytes, IfTold, asked_at, asked_files, rows_in, rows_read, files_told}
+use Rattle.core_state.proofs.Unreadables.{tells_other, tells_failed, tells_read}
+use Rattle.core_admin.specs.FilesTold.{AnswersFiles, AnswersOf, HasBytes, IfTold, asked_at, asked_files, asked_of, rows_in, rows_read, files_told}
 use Rattle.core_state.specs.Found.{named_kept}
-use Rattle.core_admin.proofs.FilesRead.{kept_by, named_by, files_read}
+use Rattle.core_admin.proofs.FilesRead.{files_read}
 use Rattle.core_admin.proofs.Stopping.{Stops, stopped}
 use Rattle.core_admin.proofs.Told.{tells}
-
--- ---- the snapshot that is named
-
-module _ (text : List ℕ) (catalogue : List Listed) where
-  pub none_named : key_of text ≡ None → named_kept text catalogue ≡ Err BadName
-  none_named none = named_by text catalogue ∙ ap (kept_by catalogue) none
-
-  pub none_kept : (key : SnapshotKey) → key_of text ≡ Some key → kept_named key catalogue ≡ None → named_kept text catalogue ≡ Err NoSnapshot
-  none_kept key some none = named_by text catalogue ∙ ap (kept_by catalogue) some ∙ ap (or_else NoSnapshot) none
 
 -- ---- what is told
 
@@ -53,8 +41,11 @@ abbrev pub as_rows : Result (List FileRow) Refusal → Result Reply Refusal
 as_rows told = told >>= λ rows. Ok (Files rows)
 
 module _ (m : Content) (text : List ℕ) (catalogue : List Listed) where
+  abbrev told_of : Kept → Option (List ℕ) → Result Reply Refusal
+  told_of k damage = if_none Unreadable damage >>= λ _. as_rows (rows_read m k)
+
   abbrev told_by : Result Kept Refusal → Result Reply Refusal
-  told_by r = r >>= λ k. as_rows (rows_read m k)
+  told_by r = r >>= λ k. told_of k k.unreadable
 
   files_by : files_told m text catalogue ≡ told_by (named_kept text catalogue)
   unfolding files_told
@@ -63,8 +54,11 @@ module _ (m : Content) (text : List ℕ) (catalogue : List Listed) where
   pub told_refused : (r : Refusal) → named_kept text catalogue ≡ Err r → files_told m text catalogue ≡ Err r
   told_refused r is = files_by ∙ ap told_by is
 
-  pub told_rows : (k : Kept) → named_kept text catalogue ≡ Ok k → files_told m text catalogue ≡ as_rows (rows_read m k)
-  told_rows k is = files_by ∙ ap told_by is
+  pub told_rows : (k : Kept) → named_kept text catalogue ≡ Ok k → k.unreadable ≡ None → files_told m text catalogue ≡ as_rows (rows_read m k)
+  told_rows k is whole = files_by ∙ ap told_by is ∙ ap (told_of k) whole
+
+  pub told_damaged : (k : Kept) (path : List ℕ) → named_kept text catalogue ≡ Ok k → k.unreadable ≡ Some path → files_told m text catalogue ≡ Err (Unreadable path)
+  told_damaged k path is damage = files_by ∙ ap told_by is ∙ ap (told_of k) damage
 
 -- ---- whether the manifest is unreadable
 
@@ -113,61 +107,81 @@ module _ {D : Type 0} (d : Ghosts D) (disk : D) (text : List ℕ) (catalogue : L
   pub tells_refused : (r : Refusal) → named_kept text catalogue ≡ Err r → ((name : List ℕ) → r ≡ Unreadable name → ⊥) → TellsUnreadable d disk (asked_files text catalogue) 0 (Some (Refused r))
   tells_refused r is other = tells_other d disk (asked_files text catalogue) 0 (Some (Refused r)) (λ name e. other name (same_refusal r (Unreadable name) e)) (ap asked_at is)
 
-  asks : (k : Kept) (a : Asked) → named_kept text catalogue ≡ Ok k → asked_files text catalogue ≡ Some a → part_read (d.content disk) a ≡ asks_of k (listing_at (d.content disk) (manifest_path k.key))
-  asks k a is at = by_asked (asked_at (Ok k)) a (sym (ap asked_at is) ∙ at) refl
-    where
-      by_asked : (o : Option Asked) (a : Asked) → o ≡ Some a → asked_at (Ok k) ≡ o → part_read (d.content disk) a ≡ asks_of k (listing_at (d.content disk) (manifest_path k.key))
-      by_asked o a e here = sym (ap (part_read (d.content disk)) (same_asked _ a (here ∙ e)))
+  asks_for : (k : Kept) (damage : Option (List ℕ)) → named_kept text catalogue ≡ Ok k → k.unreadable ≡ damage → asked_files text catalogue ≡ Some (asked_of k.key damage)
+  asks_for k damage is so = ap asked_at is ∙ ap (λ o. Some (asked_of k.key o)) so
 
-  pub tells_rows : (k : Kept) (rows : List FileRow) → named_kept text catalogue ≡ Ok k → (d.honest disk → rows_read (d.content disk) k ≡ Ok rows)
+  -- of a damaged snapshot
+  pub tells_damaged : (k : Kept) (path : List ℕ) → named_kept text catalogue ≡ Ok k → k.unreadable ≡ Some path
+      → TellsUnreadable d disk (asked_files text catalogue) 0 (Some (Refused (Unreadable path)))
+  tells_damaged k path is damage = tells_read d disk (asked_files text catalogue) (asked_of k.key (Some path)) (Err (Unreadable path)) (asks_for k (Some path) is damage) refl (λ h. refl)
+
+  -- of a whole one
+  asks : (k : Kept) (a : Asked) → named_kept text catalogue ≡ Ok k → k.unreadable ≡ None → asked_files text catalogue ≡ Some a
+      → part_read (d.content disk) a ≡ asks_of k (listing_at (d.content disk) (manifest_path k.key))
+  asks k a is whole at = ap (part_read (d.content disk)) (same_asked a (asked_of k.key None) (sym at ∙ asks_for k None is whole))
+
+  pub tells_rows : (k : Kept) (rows : List FileRow) → named_kept text catalogue ≡ Ok k → k.unreadable ≡ None → (d.honest disk → rows_read (d.content disk) k ≡ Ok rows)
       → TellsUnreadable d disk (asked_files text catalogue) 0 (Some (Files rows))
-  tells_rows k rows is read = record {
+  tells_rows k rows is whole read = record {
     named = λ name e. absurd (rows_apart rows name e);
     cause = λ name a e at h. absurd (rows_apart rows name e);
-    missing = λ name a zero at h g. absurd (readable k (listing_at (d.content disk) (manifest_path k.key)) rows name (read h) (sym (asks k a is at) ∙ g));
+    missing = λ name a zero at h g. absurd (readable k (listing_at (d.content disk) (manifest_path k.key)) rows name (read h) (sym (asks k a is whole at) ∙ g));
   }
 
-  tells_unread : (k : Kept) (r : Refusal) → named_kept text catalogue ≡ Ok k → r ≡ Unreadable (manifest_path k.key) → (d.honest disk → rows_read (d.content disk) k ≡ Err r)
+  tells_unread : (k : Kept) (r : Refusal) → named_kept text catalogue ≡ Ok k → k.unreadable ≡ None → r ≡ Unreadable (manifest_path k.key) → (d.honest disk → rows_read (d.content disk) k ≡ Err r)
       → TellsUnreadable d disk (asked_files text catalogue) 0 (Some (Refused r))
-  tells_unread k r is path_is read = record {
-    named = λ name e. ap (option_map (λ a. a.path)) (ap asked_at is) ∙ ap (λ q. Some q) (same_name (manifest_path k.key) name (sym path_is ∙ same_refusal r (Unreadable name) e));
+  tells_unread k r is whole path_is read = record {
+    named = λ name e. ap (option_map (λ a. a.path)) (asks_for k None is whole) ∙ ap (λ q. Some q) (same_name (manifest_path k.key) name (sym path_is ∙ same_refusal r (Unreadable name) e));
     cause = λ name a e at h. unread_at a at h ∙ ap (λ q. Err q) (sym path_is ∙ same_refusal r (Unreadable name) e);
     missing = λ name a zero at h g. ap (λ q. Some (Refused q)) (path_is ∙ same_err (Unreadable (manifest_path k.key)) (Unreadable name) (sym (unread_at a at h) ∙ g));
   }
     where
       unread_at : (a : Asked) → asked_files text catalogue ≡ Some a → d.honest disk → part_read (d.content disk) a ≡ Err (Unreadable (manifest_path k.key))
-      unread_at a at h = asks k a is at ∙ unread k (listing_at (d.content disk) (manifest_path k.key)) r (read h)
+      unread_at a at h = asks k a is whole at ∙ unread k (listing_at (d.content disk) (manifest_path k.key)) r (read h)
 
   -- by how the reading stopped
-  unread_by : (k : Kept) (stop : Stop) → named_kept text catalogue ≡ Ok k → IfRefused (λ r. r ≡ Unreadable (manifest_path k.key)) stop → (d.honest disk → Gives (λ rows. rows) (Err stop) (rows_read (d.content disk) k))
+  unread_by : (k : Kept) (stop : Stop) → named_kept text catalogue ≡ Ok k → k.unreadable ≡ None → IfRefused (λ r. r ≡ Unreadable (manifest_path k.key)) stop → (d.honest disk → Gives (λ rows. rows) (Err stop) (rows_read (d.content disk) k))
       → TellsUnreadable d disk (asked_files text catalogue) (kind_by (told (Err stop))) (Some (reply_by (told (Err stop))))
-  unread_by k (stops.Refused r) is path_is gives = tells_unread k r is path_is gives
-  unread_by k stops.NoMemory is path_is gives = tells_failed d disk (asked_files text catalogue) disks.NoMemory
-  unread_by k stops.DiskFailed is path_is gives = tells_failed d disk (asked_files text catalogue) disks.Failed
+  unread_by k (stops.Refused r) is whole path_is gives = tells_unread k r is whole path_is gives
+  unread_by k stops.NoMemory is whole path_is gives = tells_failed d disk (asked_files text catalogue) disks.NoMemory
+  unread_by k stops.DiskFailed is whole path_is gives = tells_failed d disk (asked_files text catalogue) disks.Failed
 
-  pub tells_stopped : (k : Kept) (stop : Stop) (result : Result Reply Stop) → Stops result stop → named_kept text catalogue ≡ Ok k → IfRefused (λ r. r ≡ Unreadable (manifest_path k.key)) stop
+  pub tells_stopped : (k : Kept) (stop : Stop) (result : Result Reply Stop) → Stops result stop → named_kept text catalogue ≡ Ok k → k.unreadable ≡ None → IfRefused (λ r. r ≡ Unreadable (manifest_path k.key)) stop
       → (d.honest disk → Gives (λ rows. rows) (Err stop) (rows_read (d.content disk) k)) → TellsUnreadable d disk (asked_files text catalogue) (kind_by (told result)) (Some (reply_by (told result)))
-  tells_stopped k stop result stops is path_is gives =
-      stopped (λ r. TellsUnreadable d disk (asked_files text catalogue) (kind_by (told r)) (Some (reply_by (told r)))) result stop stops (unread_by k stop is path_is gives)
+  tells_stopped k stop result stops is whole path_is gives =
+      stopped (λ r. TellsUnreadable d disk (asked_files text catalogue) (kind_by (told r)) (Some (reply_by (told r)))) result stop stops (unread_by k stop is whole path_is gives)
 
 -- ---- what is told as the reading stopped
 
-module _ (text : List ℕ) (catalogue : List Listed) (k : Kept) (is : named_kept text catalogue ≡ Ok k) where
+module _ (text : List ℕ) (catalogue : List Listed) (k : Kept) (is : named_kept text catalogue ≡ Ok k) (whole : k.unreadable ≡ None) where
   told_by_stop : (m : Content) (stop : Stop) → Gives (λ rows. rows) (Err stop) (rows_read m k) → Gives (λ reply. reply) (Err stop) (files_told m text catalogue)
-  told_by_stop m (stops.Refused r) gives = told_rows m text catalogue k is ∙ ap as_rows gives
+  told_by_stop m (stops.Refused r) gives = told_rows m text catalogue k is whole ∙ ap as_rows gives
   told_by_stop m stops.NoMemory gives = tt
   told_by_stop m stops.DiskFailed gives = tt
 
   pub told_stopped : (m : Content) (stop : Stop) (result : Result Reply Stop) → Stops result stop → Gives (λ rows. rows) (Err stop) (rows_read m k) → Gives (λ reply. reply) result (files_told m text catalogue)
   told_stopped m stop result stops gives = stopped (λ r. Gives (λ reply. reply) r (files_told m text catalogue)) result stop stops (told_by_stop m stop gives)
 
+  answers_so : (reply : Reply) → AnswersOf k.key None reply → AnswersFiles (named_kept text catalogue) reply
+  answers_so reply answers = subst (λ found. AnswersFiles found reply) (sym is) (subst (λ damage. AnswersOf k.key damage reply) (sym whole) answers)
+
+  pub answers_rows : (rows : List FileRow) → AnswersFiles (named_kept text catalogue) (Files rows)
+  answers_rows rows = answers_so (Files rows) tt
+
   answers_by_stop : (stop : Stop) → IfRefused (λ r. r ≡ Unreadable (manifest_path k.key)) stop → IfOk (told (Err stop)) (AnswersFiles (named_kept text catalogue))
-  answers_by_stop (stops.Refused r) path_is = subst (λ found. AnswersFiles found (Refused r)) (sym is) (subst (λ r. AnswersFiles (Ok k) (Refused r)) (sym path_is) refl)
+  answers_by_stop (stops.Refused r) path_is = answers_so (Refused r) (subst (λ r. AnswersOf k.key None (Refused r)) (sym path_is) refl)
   answers_by_stop stops.NoMemory path_is = tt
   answers_by_stop stops.DiskFailed path_is = tt
 
   pub answers_stopped : (stop : Stop) (result : Result Reply Stop) → Stops result stop → IfRefused (λ r. r ≡ Unreadable (manifest_path k.key)) stop → IfOk (told result) (AnswersFiles (named_kept text catalogue))
   answers_stopped stop result stops path_is = stopped (λ r. IfOk (told r) (AnswersFiles (named_kept text catalogue))) result stop stops (answers_by_stop stop path_is)
+
+-- ---- what is told of a damaged snapshot
+
+pub answers_damaged : (text : List ℕ) (catalogue : List Listed) (k : Kept) (path : List ℕ) → named_kept text catalogue ≡ Ok k → k.unreadable ≡ Some path
+    → AnswersFiles (named_kept text catalogue) (Refused (Unreadable path))
+answers_damaged text catalogue k path is damage =
+    subst (λ found. AnswersFiles found (Refused (Unreadable path))) (sym is) (subst (λ o. AnswersOf k.key o (Refused (Unreadable path))) (sym damage) refl)
 
 -- ---- the refusal
 

@@ -43,9 +43,10 @@ use Rattle.core_state.specs.declared.kept.Session.{Session}
 use Rattle.core_state.specs.declared.parts.Parts.{Parts}
 use Rattle.core_state.specs.declared.stop.Stop.{Stop}
 use Rattle.core_state.proofs.Commanding.{writes_does, writes_leaves, failed_leaves}
+use Rattle.core_state.proofs.Naming.{kept_key, named_is}
 use Rattle.core_state.proofs.Texts.{done_has_text}
 use Rattle.core_admin.specs.Forgotten.{least_sharer, to_forget, forget_told}
-use Rattle.core_admin.proofs.TakenOut.{forget_step, kept_key, named_is}
+use Rattle.core_admin.proofs.TakenOut.{forget_passes, forget_step}
 
 pub snapshot_busy_has_text : (lane : ℕ) → lane < 2 ^ 32 → ReplyHasText (Refused (SnapshotBusy lane))
 unfolding reply_text refusal_text
@@ -131,8 +132,10 @@ module _ {D : Type 0} (d : Ghosts D) (old new : Parts D) (at : Place) (text : Li
 
   -- its files were not removed: want of memory comes before the first call that changes the disk
   pub undone_leaves : {A : Type 0} (removed : Result A DiskError) (e : DiskError) (result : Result Reply Stop) → IsErrAnd result (λ x. x ≡ stop_of e) → removed ≡ Err e → SameKept old new
+      → at.lane < 64 → to_forget text (session_at old at.lane) old.catalogue.items old.locks ≡ Ok key
       → Steps d.calls d.images old.disk new.disk (Forgets (manifest_path key) paths)
       → (IsErrOf removed NoMemory → SameContent d old.disk new.disk) → (IsErrOf removed NoMemory → Steps d.calls d.images old.disk new.disk Same)
       → ActLeaves d old new at act result
-  undone_leaves removed e result stops was kept first same unmoved =
+  undone_leaves removed e result stops was kept lt told first same unmoved =
       failed_leaves d old new at act removed e result stops was same (λ short. inr (unmoved short)) (goes first) kept refl (λ _ closing. never closing)
+      (λ s h. forget_passes old s at.lane at.moment text key h.shows lt told)

@@ -24,15 +24,12 @@ use Rattle.core_state.specs.Shown.{shown_snapshot, shown_session}
 use Rattle.core_state.specs.Holds.{IsOlder, IsSound, IsWriter, Shows, IsOnDisk}
 use Rattle.core_state.proofs.Finding.{found_in, found_passes}
 use Rattle.core_state.proofs.OnDisk.{fresh, off_other, uploads_off, IsOff}
+use Rattle.core_state.proofs.Removing.{forgot}
 use Rattle.core_state.specs.Catalogue.{without_listed}
 use Rattle.core_admin.proofs.Filtering.{filter_map_to}
 use Rattle.core_admin.proofs.Freeing.{not_held}
 use Rattle.snapshot_files.proofs.Leaving.{Takes, ArePlain, stands_without}
 use Rattle.snapshot_files.proofs.Removals.{length-filter_twice, rise-without, groups-without, All-without, named-without}
-
--- the store without it
-abbrev pub forgot : Store → SnapshotKey → Store
-forgot s key = record s { snapshots = without_snapshot key s.snapshots }
 
 -- ---- the sessions are as they were
 

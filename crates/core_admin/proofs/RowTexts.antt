@@ -1,5 +1,5 @@
 -- Listings have a spelling.
-use Rattle.std.proofs.Common.{◌≡◌, ◌≤◌, ◌*◌, ℕ, Bool, true, false, length, get_or, ap, List, [], ◌∷◌, ◌++◌, refl, arith, length-append}
+use Rattle.std.proofs.Common.{◌≡◌, ◌≤◌, ◌*◌, ℕ, Bool, true, false, length, List, [], ◌∷◌, ◌++◌, refl, arith, length-append}
 use Rattle.std.proofs.lemmas.List.Elements.{All-head, All-tail}
 use Rattle.std.specs.List.{All, flat_map}
 use Rattle.wire_commands.specs.declared.rows.ListRow.{ListRow}
@@ -7,7 +7,7 @@ use Rattle.wire_commands.specs.declared.rows.FileRow.{FileRow}
 use Rattle.wire_commands.specs.declared.reply.Reply.TheVariants.{Listing, Files, Keys}
 use Rattle.wire_commands.specs.Fields.{flag, text, u64}
 use Rattle.wire_commands.specs.HasText.{ReplyHasText}
-use Rattle.wire_commands.specs.ReplyText.{files_fit, reply_text, list_row_text, file_row_text}
+use Rattle.wire_commands.specs.ReplyText.{reply_text, list_row_text, file_row_text}
 use Rattle.core_admin.specs.FilesTold.{IsFileRow}
 use Rattle.core_admin.specs.Listings.{IsShort, IsListable}
 
@@ -34,7 +34,7 @@ pub listing_has_text : (rows : List ListRow) → length rows ≤ 1024 → All Is
 unfolding reply_text
 listing_has_text rows few all =
     let short = rows_short list_row_text 93 rows (λ i d lt. list_row_short _ (all i d lt)) in
-    ((omega (arith, few), λ i d lt. let h = all i d lt in let text = h.0 in (omega (arith, text), h.2, ap (λ b. files_fit b (get_or rows i d).files) h.1)), omega (arith, few, short))
+    ((omega (arith, few), λ i d lt. let h = all i d lt in let text = h.0 in (omega (arith, text), h.1, h.2)), omega (arith, few, short))
 
 pub keys_has_text : (texts : List (List ℕ)) → length texts ≤ 4096 → All IsShort texts → ReplyHasText (Keys texts)
 unfolding reply_text

@@ -1,6 +1,6 @@
 -- FORGET is the store's.
 use Rattle.disk_trait.specs.declared.disk.Disk.{Ghosts}
-use Rattle.std.proofs.Common.{◌≡◌, ◌<◌, ⊎_elim, ℕ, true, not, map, List, [], ◌∷◌, Option, Some, None, Result, Ok, Err, refl, sym, ap, ◌∙◌, arith}
+use Rattle.std.proofs.Common.{◌≡◌, ◌<◌, ⊎_elim, ℕ, true, not, map, List, [], ◌∷◌, Option, Some, None, Result, Ok, Err, IsOk, refl, sym, ap, subst, ◌∙◌, arith}
 use Rattle.std.proofs.lemmas.List.Elements.{All-cons, All-map, All-filter}
 use Rattle.std.specs.FinMap.{get}
 use Rattle.std.specs.List.{Contains, filter}
@@ -12,9 +12,8 @@ use Rattle.store_types.specs.declared.refusal.Refusal.{Refusal}
 use Rattle.store_types.specs.declared.refusal.Refusal.TheVariants.{BadName, NoSnapshot, SnapshotBusy}
 use Rattle.store_types.specs.Chain.Refusing.{◌>>=◌, or_else, if_none}
 use Rattle.store_types.specs.FileNames.{manifest_name}
-use Rattle.store_types.specs.Names.{IsKey, key_of, same_key}
+use Rattle.store_types.specs.Names.{IsKey, key_of}
 use Rattle.store_types.proofs.KeyTexts.{no_slash}
-use Rattle.store_types.proofs.OrderLaws.{same_keys}
 use Rattle.lock_book.specs.Locks.{Locks}
 use Rattle.store_files.specs.Archive.{Snapshot}
 use Rattle.wire_commands.specs.declared.command.Command.TheVariants.{Forget}
@@ -40,16 +39,16 @@ use Rattle.core_state.specs.Found.{kept_named}
 use Rattle.core_state.specs.Holds.{Holds, IsOnDisk, Shows}
 use Rattle.core_state.specs.Locked.{Locked}
 use Rattle.core_state.specs.Shown.{shown_file, shown_files, shown_snapshot, shown_session}
-use Rattle.core_state.proofs.Finding.{found_in, found_passes, mapped}
+use Rattle.core_state.proofs.Finding.{mapped}
 use Rattle.core_state.proofs.Found.{kept_is}
+use Rattle.core_state.proofs.Removing.{forgot, found_whole}
 use Rattle.core_state.specs.Catalogue.{without_listed}
 use Rattle.core_state.specs.Wanted.{session_at, want_idle}
-use Rattle.core_state.specs.Found.{named_kept}
 use Rattle.core_admin.specs.Forgotten.{least_sharer, to_forget}
 use Rattle.core_state.specs.Changes.{names_beside}
 use Rattle.core_admin.proofs.Freeing.{holder_is}
 use Rattle.snapshot_files.proofs.Leaving.{Takes, ArePlain}
-use Rattle.core_admin.proofs.Remaining.{forgot, shows_without, disk_without}
+use Rattle.core_admin.proofs.Remaining.{shows_without, disk_without}
 use Rattle.core_admin.proofs.Told.{idle_is, session_shown}
 
 -- ---- what is tested
@@ -90,16 +89,6 @@ module _ (text : List ℕ) (catalogue : List Listed) (locks : Locks) where
   pub free : (x : Session) (key : SnapshotKey) (k : Kept) → want_idle x ≡ Ok tt → key_of text ≡ Some key → kept_named key catalogue ≡ Some k → least_sharer locks key ≡ None
       → to_forget text x catalogue locks ≡ Ok key
   free x key k is some there none = idle x is ∙ ap named some ∙ ap (found key) there ∙ ap (freed key) none
-
--- the snapshot that was found
-pub kept_key : (catalogue : List Listed) (key : SnapshotKey) (k : Kept) → kept_named key catalogue ≡ Some k → k.key ≡ key
-kept_key catalogue key k there =
-    let x = mapped (λ (x : Listed). x.kept) (Rattle.std.specs.List.find (λ x. same_key (x.kept).key key) catalogue) k there in
-    ap (λ (k : Kept). k.key) x.2 ∙ (same_keys ((x.0).kept).key key).0 (found_passes (λ (x : Listed). same_key (x.kept).key key) catalogue x.0 x.1)
-
-pub named_is : (text : List ℕ) (catalogue : List Listed) (key : SnapshotKey) (k : Kept) → key_of text ≡ Some key → kept_named key catalogue ≡ Some k → named_kept text catalogue ≡ Ok k
-unfolding named_kept
-named_is text catalogue key k some there = ap (λ o. or_else BadName o >>= λ key. or_else NoSnapshot (kept_named key catalogue)) some ∙ ap (or_else NoSnapshot) there
 
 -- ---- the plain store's step
 
@@ -178,6 +167,12 @@ module _ {D : Type 0} (old : Parts D) (s : Store) (lane moment : ℕ) (text : Li
   forget_refuses r shows lt told =
       refused s lane moment text old.catalogue.items old.locks shows.catalogue shows.locks (session_at old lane) r (session_shown old s lane shows lt) told
 
+  -- the store takes it out, whatever becomes of its files
+  pub forget_passes : (key : SnapshotKey) → Shows old s → lane < 64 → to_forget text (session_at old lane) old.catalogue.items old.locks ≡ Ok key → IsOk (forget s lane text)
+  unfolding outcome
+  forget_passes key shows lt told =
+      subst IsOk (sym (done s lane moment text old.catalogue.items old.locks shows.catalogue shows.locks (session_at old lane) key (session_shown old s lane shows lt) told)) refl
+
 module _ {D : Type 0} (d : Ghosts D) (old new : Parts D) (s : Store) (lane moment : ℕ) (text : List ℕ) where
   pub forget_step : (key : SnapshotKey) (k : Kept) → Holds d old s → lane < 64 → to_forget text (session_at old lane) old.catalogue.items old.locks ≡ Ok key
       → kept_named key old.catalogue.items ≡ Some k → least_sharer old.locks key ≡ None → IsKey key
@@ -190,7 +185,7 @@ module _ {D : Type 0} (d : Ghosts D) (old new : Parts D) (s : Store) (lane momen
       let is = session_shown old s lane h.shows lt in
       let is_none = no_holder s lane moment text old.catalogue.items old.locks shown (h.shows).locks key none in
       let y = mapped shown_snapshot (snapshot_named key s.snapshots) k (sym (kept_is old.catalogue.items s.snapshots key shown) ∙ there) in
-      let whole : IsSnapshot y.0 = found_in IsSnapshot (λ (z : Snapshot). same_key z.key key) s.snapshots y.0 sound.each y.1 in
+      let whole : IsSnapshot y.0 = found_whole s.snapshots key y.0 sound.each y.1 in
       let files : d.content new.disk ≡ without (manifest_path key ∷ map (file_path key) (names_beside (shown_files (y.0).key (y.0).files))) (d.content old.disk)
       = gone h.honest ∙ ap (λ (k : Kept). without (manifest_path key ∷ map (file_path key) (names_beside k.files)) (d.content old.disk)) y.2 in (
         forgot s key,

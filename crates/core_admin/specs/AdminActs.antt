@@ -22,7 +22,7 @@ IsAdmins (Plain (Group group)) = Unit {0}
 IsAdmins (JobGroup (Prune group keep dry)) = Unit {0}
 IsAdmins _ = ⊥
 
--- the file that an act asks for: the manifest of the snapshot whose files it tells
+-- the file that an act asks for: the manifest of the snapshot whose files it tells, or the file that makes it damaged
 abbrev pub asked_of_admin : Act → List Listed → Option Asked
 asked_of_admin (Plain (Files snapshot)) catalogue = asked_files snapshot catalogue
 asked_of_admin act catalogue = None

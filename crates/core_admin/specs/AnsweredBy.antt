@@ -21,7 +21,7 @@ use Rattle.core_admin.specs.Forgotten.{forget_told}
 use Rattle.core_admin.specs.Listings.{list_told, group_told, prune_told}
 
 -- LIST, FORGET, GROUP and the first step of a PRUNE wholly, with the lane's session, the catalogue and the locks; of FILES, whether there is
--- such a snapshot: where there is one, rows, or that its manifest is unreadable
+-- such a snapshot, and whether it is damaged: where it is whole, rows, or that its manifest is unreadable
 abbrev pub AnswersBy : Act → Session → List Listed → Locks → Reply → Type 0
 AnswersBy (Plain (ListAll after)) session catalogue locks reply = reply ≡ reply_told (list_told after catalogue)
 AnswersBy (Plain (FilesOf snapshot)) session catalogue locks reply = AnswersFiles (named_kept snapshot catalogue) reply

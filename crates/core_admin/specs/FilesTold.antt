@@ -4,9 +4,10 @@ use Rattle.std.specs.FinMap.{get}
 use Rattle.blob_codec.specs.Laws.{AreBytes}
 use Rattle.disk_trait.specs.Files.{Files as Content}
 use Rattle.disk_trait.specs.declared.disk.Disk.{Ghosts}
+use Rattle.store_types.specs.declared.names.SnapshotKey.{SnapshotKey}
 use Rattle.store_types.specs.declared.refusal.Refusal.{Refusal}
 use Rattle.store_types.specs.declared.refusal.Refusal.TheVariants.{Unreadable}
-use Rattle.store_types.specs.Chain.Refusing.{◌>>=◌, or_else}
+use Rattle.store_types.specs.Chain.Refusing.{◌>>=◌, or_else, if_none}
 use Rattle.store_files.specs.Manifest.{Manifest}
 use Rattle.manifest.specs.Views.{manifest_view}
 use Rattle.wire_commands.specs.declared.rows.FileRow.{FileRow}
@@ -22,15 +23,20 @@ use Rattle.core_state.specs.declared.stop.Stop.TheVariants as stops
 use Rattle.core_state.specs.Found.{named_kept}
 use Rattle.core_state.specs.Listing.{listing_at}
 use Rattle.core_state.specs.Stops.{Gives}
-use Rattle.core_state.specs.Unreadables.{Asked, as_listing}
+use Rattle.core_state.specs.Unreadables.{Asked, as_listing, known}
 use Rattle.core_admin.specs.declared.file_list.ManifestFile.{ManifestFile}
 use Rattle.core_admin.specs.FileRows.{rows_by}
 
+-- the snapshot's manifest is asked for, or the file that makes it damaged
+abbrev pub asked_of : SnapshotKey → Option (List ℕ) → Asked
+asked_of key None = record { path = manifest_path key; way = as_listing }
+asked_of key (Some path) = record { path = path; way = known }
+
 abbrev pub asked_at : Result Kept Refusal → Option Asked
-asked_at (Ok k) = Some (record { path = manifest_path k.key; way = as_listing })
+asked_at (Ok k) = Some (asked_of k.key k.unreadable)
 asked_at (Err refusal) = None
 
--- its manifest is asked for
+-- where the text names a snapshot
 abbrev pub asked_files : List ℕ → List Listed → Option Asked
 asked_files text catalogue = asked_at (named_kept text catalogue)
 
@@ -42,9 +48,11 @@ rows_in read k = rows_by read.0 (read.1).files (map (λ f. f.name) (take file_li
 abbrev pub rows_read : Content → Kept → Result (List FileRow) Refusal
 rows_read m k = or_else (Unreadable (manifest_path k.key)) (listing_at m (manifest_path k.key)) >>= λ read. Ok (rows_in read k)
 
+-- whether the snapshot is damaged comes first
 unfoldable pub files_told : Content → List ℕ → List Listed → Result Reply Refusal
 files_told m text catalogue = do
   kept ← named_kept text catalogue
+  _ ← if_none Unreadable kept.unreadable
   rows ← rows_read m kept
   Ok (Files rows)
 
@@ -76,11 +84,16 @@ IfTold (Err stops.DiskFailed) P = Unit {0}
 abbrev pub TellsOfBytes : {A : Type 0} → Content → Kept → Result A Stop → Type 0
 TellsOfBytes m k result = IfTold result (HasBytes m (manifest_path k.key))
 
--- On any disk: rows, or that the manifest is unreadable, where there is such a snapshot; else the refusal.
+-- of a damaged snapshot the file that makes it so; of a whole one rows, or that its manifest is unreadable
+abbrev pub AnswersOf : SnapshotKey → Option (List ℕ) → Reply → Type 0
+AnswersOf key (Some path) reply = reply ≡ Refused (Unreadable path)
+AnswersOf key None (Files rows) = Unit {0}
+AnswersOf key None (Refused (Unreadable name)) = name ≡ manifest_path key
+AnswersOf key None _ = ⊥
+
+-- on any disk, where there is such a snapshot; else the refusal
 abbrev pub AnswersFiles : Result Kept Refusal → Reply → Type 0
-AnswersFiles (Ok k) (Files rows) = Unit {0}
-AnswersFiles (Ok k) (Refused (Unreadable name)) = name ≡ manifest_path k.key
-AnswersFiles (Ok k) _ = ⊥
+AnswersFiles (Ok k) reply = AnswersOf k.key k.unreadable reply
 AnswersFiles (Err refusal) reply = reply ≡ Refused refusal
 
 -- the row of a file's name, of a number of 64 bits and of a SHA-256

@@ -1,5 +1,5 @@
 -- LIST, GROUP and the first step of a PRUNE, by what the core keeps.
-use Rattle.std.specs.Prelude.{◌≡◌, ◌<◌, ◌≤◌, ℕ, Bool, true, false, List, map, filter, length, take, min, Option, Some, None, Result, Ok}
+use Rattle.std.specs.Prelude.{◌≡◌, ◌<◌, ◌≤◌, ℕ, Bool, true, List, map, filter, length, take, min, Option, Some, None, is_some, if◌then◌else◌, Result, Ok, IsTrue}
 use Rattle.store_types.specs.declared.names.Keep.{Keep}
 use Rattle.store_types.specs.declared.names.SnapshotKey.{SnapshotKey}
 use Rattle.store_types.specs.declared.names.GroupKey.{GroupKey}
@@ -10,6 +10,7 @@ use Rattle.store_types.specs.Names.{key_text, key_lt, group_of, group_of_key, sa
 use Rattle.wire_commands.specs.declared.rows.ListRow.{ListRow}
 use Rattle.wire_commands.specs.declared.reply.Reply.{Reply}
 use Rattle.wire_commands.specs.declared.reply.Reply.TheVariants.{Listing, Keys}
+use Rattle.wire_commands.specs.ReplyText.{files_fit}
 use Rattle.store_model.specs.AdminSteps.{list_limit, want_after, counts_fit}
 use Rattle.store_model.specs.Stands.{group_limit}
 use Rattle.core_state.specs.declared.kept.Kept.{Kept}
@@ -21,9 +22,12 @@ use Rattle.core_state.specs.Wanted.{want_idle}
 
 -- ---- LIST
 
--- what is kept is whole; a snapshot has 64 files at most, so their number fits its field
+-- of a damaged snapshot no files are told; a whole one has 64 at most, so their number fits its field
+abbrev pub files_counted : Kept → ℕ
+files_counted k = if is_some k.unreadable then 0 else min (length k.files) 255
+
 abbrev pub row_of : Kept → ListRow
-row_of k = record { snapshot = key_text k.key; damaged = false; files = min (length k.files) 255 }
+row_of k = record { snapshot = key_text k.key; damaged = is_some k.unreadable; files = files_counted k }
 
 abbrev pub is_behind : Option SnapshotKey → Kept → Bool
 is_behind None k = true
@@ -37,9 +41,9 @@ rows_behind after catalogue = map (λ x. row_of x.kept) (take list_limit (filter
 abbrev pub IsShort : List ℕ → Type 0
 IsShort snapshot = length snapshot ≤ 90
 
--- a row of one that is whole
+-- a row that has a spelling
 abbrev pub IsListable : ListRow → Type 0
-IsListable r = IsShort r.snapshot × (r.damaged ≡ false) × (r.files < 256)
+IsListable r = IsShort r.snapshot × (r.files < 256) × IsTrue (files_fit r.damaged r.files)
 
 -- the text names no snapshot, or memory is wanting
 abbrev pub IsNamesStop : Stop → Type 0

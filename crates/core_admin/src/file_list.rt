@@ -161,8 +161,9 @@ fn rows_read<D: Disk>(disk: &mut D, alloc: Global, kept: &Kept) -> Result<Rows<F
 /// The files of a snapshot, in byte order, as its manifest lists them; of the manifest itself its own size and checksum. It
 /// reads the manifest's file, and changes nothing.
 ///
-/// The refusals, in the order in which they are tested: the text names no snapshot; there is no such snapshot; nothing
-/// stands where its manifest was put, or no manifest, or one that lists more than 63 files.
+/// The refusals, in the order in which they are tested: the text names no snapshot; there is no such snapshot; it is
+/// damaged, with the file that makes it so; nothing stands where its manifest was put, or no manifest, or one that lists
+/// more than 63 files.
 pub fn files<D: Disk>(
     parts: &mut Parts<D>,
     alloc: Global,
@@ -171,7 +172,8 @@ pub fn files<D: Disk>(
 ) -> Result<Reply, Stop>
     ensures does { PlainDoes D.Disk parts.old parts.new _at (Files snapshot.now) result }
     ensures leaves { PlainLeaves D.Disk parts.old parts.new _at (Files snapshot.now) result }
-    // on any disk: rows, or that the manifest is unreadable, exactly where there is such a snapshot
+    // on any disk, where there is such a snapshot: the file that makes it damaged, exactly where one does; else rows, or
+    // that the manifest is unreadable
     ensures by_kept { ActAnswersBy parts.old _at (Plain (Files snapshot.now)) result }
     // any honest disk reads as before, and is told by what its manifest lists
     ensures told { TellsFiles D.Disk parts.old parts.new snapshot.now result }
@@ -184,6 +186,10 @@ pub fn files<D: Disk>(
     let Some(kept) = snapshot_named(&parts.catalogue, &key) else {
         return Err(Stop::Refused(Refusal::NoSnapshot));
     };
+    if let Some(name) = &kept.unreadable {
+        let name = name.clone()?;
+        return Err(Stop::Refused(Refusal::Unreadable { name }));
+    }
     let rows = rows_read(&mut parts.disk, alloc, kept)?;
     Ok(Reply::Files(rows))
 }

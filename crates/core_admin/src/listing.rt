@@ -11,7 +11,7 @@ ghost use Rattle.core_state.specs.Found.{lent_key};
 ghost use Rattle.core_state.specs.Named.{is_named_snapshot};
 ghost use Rattle.core_state.specs.Stops.{Gives};
 ghost use Rattle.core_admin.specs.AnsweredBy.{ActAnswersBy};
-ghost use Rattle.core_admin.specs.Listings.{IsListable, IsNamesStop, is_behind as stands_behind, row_of as row_of_kept, rows_behind as rows_of_kept};
+ghost use Rattle.core_admin.specs.Listings.{IsListable, IsNamesStop, files_counted, is_behind as stands_behind, row_of as row_of_kept, rows_behind as rows_of_kept};
 
 use core_state::{Kept, Listed, Parts, Place, Stop};
 use disk_trait::Disk;
@@ -43,6 +43,16 @@ fn is_behind(after: Option<&SnapshotKey>, kept: &Kept) -> bool
     }
 }
 
+/// How many files are told of a snapshot: of a damaged one none.
+fn file_count(kept: &Kept) -> u8
+    ensures { result ≡ files_counted kept.now }
+{
+    if kept.unreadable.is_some() {
+        return 0;
+    }
+    kept.files.as_slice().len().min(255) as u8
+}
+
 /// What is told of a snapshot.
 fn row_of(alloc: Global, kept: &Kept) -> Result<ListRow, AllocError>
     requires { IsKey kept.now.key }
@@ -52,9 +62,8 @@ fn row_of(alloc: Global, kept: &Kept) -> Result<ListRow, AllocError>
     let snapshot = Bytes::from_vec(kept.key.print(alloc)?.into_bytes());
     Ok(ListRow {
         snapshot,
-        // a run's catalogue has only what it finished; opening will tell damage by `snapshot_files::scan`
-        damaged: false,
-        files: kept.files.as_slice().len().min(255) as u8,
+        damaged: kept.unreadable.is_some(),
+        files: file_count(kept),
     })
 }
 
@@ -81,8 +90,8 @@ fn rows_behind(
     Ok(Rows::from_vec(rows))
 }
 
-/// The finished snapshots behind one, or from the first on where the text is empty, 1,024 at most. It changes nothing and makes
-/// no disk call.
+/// The finished snapshots behind one, or from the first on where the text is empty, 1,024 at most. A damaged one is told as
+/// such, without files. It changes nothing and makes no disk call.
 ///
 /// It is refused where the text is neither empty nor a snapshot's; the snapshot need not be there.
 pub fn list<D: Disk>(

@@ -1,19 +1,30 @@
 -- OPEN_READER is the store's.
-use Rattle.std.proofs.Common.{◌≡◌, ◌<◌, ℕ, List, [], length, Some, None, Ok, Err, refl, subst, ◌∙◌, arith}
+use Rattle.std.proofs.Common.{◌≡◌, ◌<◌, ℕ, List, [], length, Option, Some, None, Result, Ok, Err, refl, ap, subst, ◌∙◌, arith}
+use Rattle.std.specs.Option.{option_map}
+use Rattle.disk_trait.specs.declared.disk.Disk.{Ghosts}
 use Rattle.disk_trait.specs.Files.{Files}
 use Rattle.store_types.specs.declared.names.SnapshotKey.{SnapshotKey}
 use Rattle.store_types.specs.declared.refusal.Refusal.{Refusal}
-use Rattle.store_types.specs.declared.refusal.Refusal.TheVariants.{BadName, NoSnapshot}
+use Rattle.store_types.specs.declared.refusal.Refusal.TheVariants.{BadName, NoSnapshot, Unreadable}
+use Rattle.store_types.specs.Chain.Refusing.{◌>>=◌}
 use Rattle.store_types.specs.Names.{key_of}
 use Rattle.store_files.specs.Archive.{Snapshot}
-use Rattle.wire_commands.specs.declared.reply.Reply.TheVariants.{Done}
+use Rattle.wire_commands.specs.declared.reply.Reply.TheVariants.{Done, Refused}
 use Rattle.wire_commands.specs.declared.command.Command.TheVariants.{OpenReader}
 use Rattle.store_model.specs.Store as model
 use Rattle.store_model.specs.Store.{Store, none, writer, reader, session, with_session, want_idle, snapshot_named}
 use Rattle.store_model.specs.ReaderSteps.{open_reader}
 use Rattle.store_model.specs.Steps.{outcome}
+use Rattle.core_state.specs.declared.kept.Kept.{Kept}
+use Rattle.core_state.specs.declared.kept.Listed.{Listed}
+use Rattle.core_state.specs.declared.kept.Session.{Session}
+use Rattle.core_state.specs.Found.{named_kept}
 use Rattle.core_state.specs.Holds.{IsSound, IsReader, IsOnDisk}
+use Rattle.core_state.specs.Unreadables.{TellsUnreadable}
+use Rattle.core_state.specs.Wanted.{want_idle as wants_idle}
 use Rattle.core_state.proofs.Sessions.{changed, no_writer_reader}
+use Rattle.core_state.proofs.Unreadables.{tells_other, tells_read}
+use Rattle.core_reader.specs.Asked.{as_known, asked_open, damage_of}
 
 -- ---- the step
 
@@ -57,3 +68,36 @@ disk_reader m s lane x l h = record {
   snapshots = h.snapshots;
   writers = λ i w is. changed s lane (reader x) i (writer w) _ l is (λ e n. absurd (no_writer_reader w x n)) (λ ne old. h.writers i w old);
 }
+
+-- ---- what it asks for
+
+module _ (text : List ℕ) (f : Session) (catalogue : List Listed) where
+  pub asks_busy : (refusal : Refusal) → wants_idle f ≡ Err refusal → asked_open text f catalogue ≡ None
+  asks_busy refusal busy = ap (λ (i : Result (Unit {0}) Refusal). damage_of (i >>= λ _. named_kept text catalogue)) busy
+
+  pub asks_named : (r : Result Kept Refusal) → wants_idle f ≡ Ok tt → named_kept text catalogue ≡ r → asked_open text f catalogue ≡ damage_of r
+  asks_named r idle is = ap (λ (i : Result (Unit {0}) Refusal). damage_of (i >>= λ _. named_kept text catalogue)) idle ∙ ap damage_of is
+
+  -- no snapshot is named
+  pub tells_refused : {D : Type 0} (d : Ghosts D) (disk : D) (r : Refusal) → wants_idle f ≡ Ok tt → named_kept text catalogue ≡ Err r → ((name : List ℕ) → r ≡ Unreadable name → ⊥)
+      → TellsUnreadable d disk (asked_open text f catalogue) 0 (Some (Refused r))
+  tells_refused d disk r idle is other =
+      tells_other d disk (asked_open text f catalogue) 0 (Some (Refused r)) (λ name e. other name (same name e)) (asks_named (Err r) idle is)
+    where
+      same : (name : List ℕ) → Some (Refused r) ≡ Some (Refused (Unreadable name)) → r ≡ Unreadable name
+      same name e = cc
+
+  module _ {D : Type 0} (d : Ghosts D) (disk : D) (k : Kept) (idle : wants_idle f ≡ Ok tt) (named : named_kept text catalogue ≡ Ok k) where
+    asks_of : (damage : Option (List ℕ)) → k.unreadable ≡ damage → asked_open text f catalogue ≡ option_map as_known damage
+    asks_of damage is = asks_named (Ok k) idle named ∙ ap (option_map as_known) is
+
+    -- it is damaged
+    pub tells_damaged : (name : List ℕ) → k.unreadable ≡ Some name → TellsUnreadable d disk (asked_open text f catalogue) 0 (Some (Refused (Unreadable name)))
+    tells_damaged name damage = tells_read d disk (asked_open text f catalogue) (as_known name) (Err (Unreadable name)) (asks_of (Some name) damage) refl (λ h. refl)
+
+    -- it is opened
+    pub tells_whole : k.unreadable ≡ None → TellsUnreadable d disk (asked_open text f catalogue) 0 (Some Done)
+    tells_whole whole = tells_other d disk (asked_open text f catalogue) 0 (Some Done) (λ name e. apart name e) (asks_of None whole)
+      where
+        apart : (name : List ℕ) → Some Done ≡ Some (Refused (Unreadable name)) → ⊥
+        apart name e = cc

@@ -20,12 +20,12 @@ use Rattle.store_history.specs.declared.act.Act.TheVariants.{Plain}
 use Rattle.core_state.proofs.Chunks.{adds_same}
 use Rattle.store_model.specs.Store.{Store}
 use Rattle.core_state.specs.Closing.{closes}
-use Rattle.core_state.specs.Commands.{ActDoes, ActLeaves, IsNoRefusal, is_quiet}
+use Rattle.core_state.specs.Commands.{ActDoes, ActLeaves, IsNoRefusal}
 use Rattle.core_state.specs.Holds.{Holds}
 use Rattle.core_state.specs.Wanted.{session_at}
 use Rattle.core_state.specs.declared.entering.Place.{Place}
 use Rattle.core_state.specs.declared.parts.Parts.{Parts}
-use Rattle.core_state.proofs.Commanding.{act_does, read_text, stopped_does, stopped_leaves, writes_leaves}
+use Rattle.core_state.proofs.Commanding.{act_does, read_text, reads_disk, stopped_does, stopped_leaves, writes_leaves}
 use Rattle.core_state.specs.Replies.{answers_download, may_answer, refuses_download}
 use Rattle.core_state.specs.Settles.{kind_by, reply_by}
 use Rattle.core_state.specs.Stops.{IfRefused, stop_by_read, told}
@@ -102,7 +102,7 @@ module _ {A D : Type 0} (d : Ghosts D) (old new : Parts D) (at : Place) (act : A
       let ended : Result Reply Stop = Err (stop_by_read e) in
       stopped_does d old new at act ended (stop_by_read e) result stops refl (reads_as d old.disk new.disk _ _ (read_fails read e was) reads) kept (read_text e text) answers is
 
-  pub stops_leaves : (path : List ℕ) → IsErrAnd result (λ x. x ≡ stop_by_read e) → OnlyReads d old.disk new.disk (IsErrOf read errors.Failed) → SameKept old new → is_quiet act ≡ false → reads.IfRefused (RefusesPart path) e
+  pub stops_leaves : (path : List ℕ) → IsErrAnd result (λ x. x ≡ stop_by_read e) → OnlyReads d old.disk new.disk (IsErrOf read errors.Failed) → SameKept old new → reads_disk act ≡ true → reads.IfRefused (RefusesPart path) e
       → (closes act (session_at old at.lane) ≡ true → ⊥) → ActLeaves d old new at act result
   stops_leaves path stops reads kept called kind goes_on =
       stopped_leaves d old new at act (stop_by_read e) result _ stops reads kept called (read_called path _ e kind) goes_on
@@ -114,7 +114,7 @@ module _ {D : Type 0} (d : Ghosts D) (old new : Parts D) (at : Place) (act : Act
       let ended : Result Reply Stop = Err NoMemory in
       stopped_does d old new at act ended NoMemory result stops refl (reads_as d old.disk new.disk F _ short_unfailed reads) kept tt tt (λ s h. tt)
 
-  pub short_leaves : OnlyReads d old.disk new.disk F → SameKept old new → is_quiet act ≡ false → (closes act (session_at old at.lane) ≡ true → ⊥) → ActLeaves d old new at act result
+  pub short_leaves : OnlyReads d old.disk new.disk F → SameKept old new → reads_disk act ≡ true → (closes act (session_at old at.lane) ≡ true → ⊥) → ActLeaves d old new at act result
   short_leaves reads kept called goes_on = stopped_leaves d old new at act NoMemory result F stops reads kept called tt goes_on
 
 -- done, where the lane's session alone has changed

@@ -1,11 +1,11 @@
 -- What a reader asks for.
-use Rattle.std.specs.Prelude.{◌≡◌, ℕ, Bool, List, Option, None, Some, if◌then◌else◌, Result, Ok, string_bytes}
+use Rattle.std.specs.Prelude.{◌≡◌, ℕ, Bool, List, Option, None, Some, option_map, if◌then◌else◌, Result, Ok, Err, string_bytes}
 use Rattle.std.specs.Result.{result_ok}
 use Rattle.store_types.specs.declared.refusal.Refusal.{Refusal}
 use Rattle.store_types.specs.declared.refusal.Refusal.TheVariants.{BadName, NoFile}
 use Rattle.store_types.specs.Chain.Refusing.{◌>>=◌, unless, or_else}
 use Rattle.store_types.specs.FileNames.{is_file_name, is_index_name}
-use Rattle.wire_commands.specs.declared.command.Command.TheVariants.{Download}
+use Rattle.wire_commands.specs.declared.command.Command.TheVariants.{Download, OpenReader}
 use Rattle.store_history.specs.declared.act.Act.{Act}
 use Rattle.store_history.specs.declared.act.Act.TheVariants.{Plain}
 use Rattle.store_files.specs.DynamicIndex.{Ended}
@@ -15,17 +15,36 @@ use Rattle.store_model.specs.ReaderSteps.{content_at, note as noted}
 use Rattle.restore_reader.specs.declared.ranges.Part.{Part}
 use Rattle.restore_reader.specs.Session.{Reading}
 use Rattle.restore_reader.specs.Steps as steps
+use Rattle.core_state.specs.declared.kept.Kept.{Kept}
 use Rattle.core_state.specs.declared.kept.Listed.{Listed}
 use Rattle.core_state.specs.declared.kept.Session.{Session}
 use Rattle.core_state.specs.declared.kept.Session.TheVariants.{Idle, Writer, Reader}
 use Rattle.core_state.specs.declared.parts.Parts.{Parts}
 use Rattle.core_state.specs.declared.stop.Stop.{Stop}
-use Rattle.core_state.specs.Found.{path_in}
+use Rattle.core_state.specs.Found.{named_kept, path_in}
 use Rattle.core_state.specs.Shown.{files_named, shown_session}
 use Rattle.core_state.specs.Stops.{Gives}
-use Rattle.core_state.specs.Unreadables.{Asked, from_offset, whole_by}
-use Rattle.core_state.specs.Wanted.{reader_in, session_at}
+use Rattle.core_state.specs.Unreadables.{Asked, from_offset, known, whole_by}
+use Rattle.core_state.specs.Wanted.{reader_in, session_at, want_idle}
 use Rattle.core_reader.specs.declared.downloading.AskedFile.{AskedFile}
+
+-- ---- the snapshot
+
+-- the snapshot that is to be read, or the refusal
+abbrev pub to_read : List ℕ → Session → List Listed → Result Kept Refusal
+to_read text session catalogue = want_idle session >>= λ _. named_kept text catalogue
+
+-- the file that makes it damaged
+abbrev pub as_known : List ℕ → Asked
+as_known path = record { path = path; way = known }
+
+abbrev pub damage_of : Result Kept Refusal → Option Asked
+damage_of (Ok k) = option_map as_known k.unreadable
+damage_of (Err refusal) = None
+
+-- an OPEN_READER asks for it
+abbrev pub asked_open : List ℕ → Session → List Listed → Option Asked
+asked_open text session catalogue = damage_of (to_read text session catalogue)
 
 -- ---- files
 
@@ -50,6 +69,7 @@ asked_download file offset session catalogue = result_ok (file_asked file offset
 
 -- the file that an act asks for
 abbrev pub asked_file : Act → Session → List Listed → Option Asked
+asked_file (Plain (OpenReader snapshot)) session catalogue = asked_open snapshot session catalogue
 asked_file (Plain (Download file offset)) session catalogue = asked_download file offset session catalogue
 asked_file act session catalogue = None
 

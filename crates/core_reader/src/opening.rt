@@ -3,6 +3,8 @@
 ghost use Rattle.std.specs.Prelude.{◌<◌};
 ghost use Rattle.wire_commands.specs.declared.command.Command.TheVariants.{OpenReader};
 ghost use Rattle.core_state.specs.Commands.{PlainDoes, PlainLeaves};
+ghost use Rattle.core_state.specs.Unreadables.{ActUnreadable};
+ghost use Rattle.core_reader.specs.Asked.{asked_open};
 
 use core_state::{Parts, Place, Session, Stop, snapshot_named};
 use disk_trait::Disk;
@@ -14,7 +16,7 @@ use wire_commands::Reply;
 /// The lane gets a reader of the snapshot, and holds the snapshot. It makes no disk call.
 ///
 /// The refusals, in the order in which they are tested: the lane has a session; the text names no snapshot; there is no
-/// such snapshot.
+/// such snapshot; it is damaged, with the file that makes it so.
 pub fn open_reader<D: Disk>(
     parts: &mut Parts<D>,
     alloc: Global,
@@ -24,13 +26,19 @@ pub fn open_reader<D: Disk>(
     requires { at.lane < 64 }
     ensures does { PlainDoes D.Disk parts.old parts.new at (OpenReader snapshot.now) result }
     ensures leaves { PlainLeaves D.Disk parts.old parts.new at (OpenReader snapshot.now) result }
+    // it is told as damaged exactly where it is, on an honest disk
+    ensures unreadable { ActUnreadable D.Disk (asked_open snapshot.now) parts.old at result }
 {
     parts.idle(at.lane)?;
     let Ok(key) = SnapshotKey::parse(alloc, snapshot)? else {
         return Err(Stop::Refused(Refusal::BadName));
     };
-    if snapshot_named(&parts.catalogue, &key).is_none() {
+    let Some(kept) = snapshot_named(&parts.catalogue, &key) else {
         return Err(Stop::Refused(Refusal::NoSnapshot));
+    };
+    if let Some(name) = &kept.unreadable {
+        let name = name.clone()?;
+        return Err(Stop::Refused(Refusal::Unreadable { name }));
     }
     parts.locks.shared_take(at.lane, &key)?;
     parts.sessions[at.lane as usize] = Session::Reader(reader_of(alloc, key));

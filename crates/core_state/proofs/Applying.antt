@@ -1,7 +1,7 @@
 use Rattle.store_files.specs.Folder.{HasWholeChunks}
 use Rattle.core_state.specs.Chunks.{HoldsOnly, IsSafe}
 -- The two records of a command, lifted once over the beginning and the entry of an act.
-use Rattle.std.proofs.Common.{◌≡◌, ◌<◌, ◌≤◌, ℕ, true, false, length, is_some, Option, Some, None, Result, Ok, Err, IfOk, IfSome, IsSome, IsErrOf, inl, ⊎_elim, arith, refl, sym, ap, subst, ◌∙◌}
+use Rattle.std.proofs.Common.{◌≡◌, ◌<◌, ◌≤◌, ℕ, true, false, length, is_some, Option, Some, None, Result, Ok, Err, IfOk, IfSome, IsSome, IsTrue, IsErrOf, inl, ⊎_elim, arith, refl, sym, ap, subst, ◌∙◌}
 use Rattle.disk_trait.specs.Disk.{Serves}
 use Rattle.disk_trait.specs.Effects.{LeavesBy}
 use Rattle.disk_trait.specs.Files.{Files}
@@ -33,6 +33,8 @@ use Rattle.core_state.specs.Closing.{HasClosed, closes, closes_by, is_closing}
 use Rattle.core_state.specs.Commands.{ActDoes, ActLeaves, IsNoRefusal, change_at}
 use Rattle.core_state.specs.Entering.{held_by}
 use Rattle.core_state.specs.History.{History, event_of, pieces_of, then_event, world}
+use Rattle.core_state.specs.Holds.{Holds}
+use Rattle.core_state.specs.Replies.{may_answer}
 use Rattle.core_state.specs.Settles.{Settles, reply_by}
 use Rattle.core_state.specs.Stops.{told}
 use Rattle.core_state.specs.Wanted.{session_at}
@@ -41,6 +43,7 @@ use Rattle.core_state.proofs.Answering.{refused_answered, short_answered, done_a
 use Rattle.core_state.proofs.Caused.{refused_caused, short_caused, done_caused, step_caused, want_caused}
 use Rattle.core_state.proofs.Chunks.{clear_safe}
 use Rattle.core_state.proofs.Commanding.{same_leaves, unlisted}
+use Rattle.core_state.proofs.ForeignLemmas.{never_told}
 use Rattle.core_state.proofs.Recorded.{records_more, refused_timely, settled_timely, short_timely, step_kind, tells_reply, wanting_kind}
 use Rattle.core_state.proofs.Reserves.{refused_keeps, done_keeps, closing_kind, closing_before, no_end_keeps}
 use Rattle.core_state.proofs.Unchanging.{refused_parts, refused_unchanged, done_unchanged}
@@ -72,6 +75,16 @@ done_told P (Err DiskFailed) p plain = absurd plain
 
 pub no_fault : (result : Result Reply Stop) → (Some (reply_by (told result)) ≡ Some (replies.Refused DiskFault) → ⊥) → IsErrOf result DiskFailed → ⊥
 no_fault result fine failed = fine (ap (λ r. Some (reply_by (told r))) failed)
+
+-- an act that tells of a fault met one
+fault_met : (act : Act) (result : Result Reply Stop) → IfOk (told result) (λ reply. IsTrue (may_answer act reply)) → Some (reply_by (told result)) ≡ Some (replies.Refused DiskFault) → IsErrOf result DiskFailed
+fault_met act (Ok reply) answers is = absurd (never_told act (subst (λ r. IfSome r (λ x. IsTrue (may_answer act x))) is answers))
+fault_met act (Err (Refused refusal)) answers is = absurd (never_told act (subst (λ r. IfSome r (λ x. IsTrue (may_answer act x))) is answers))
+fault_met act (Err NoMemory) answers is = cc
+fault_met act (Err DiskFailed) answers is = refl
+
+refusal_is : (a b : Refusal) → Some (replies.Refused a) ≡ Some (replies.Refused b) → a ≡ b
+refusal_is a b e = cc
 
 failed_as : (result : Result Reply Stop) → IsErrOf (told result) disks.Failed → IsErrOf result DiskFailed
 failed_as (Ok reply) e = cc
@@ -183,6 +196,7 @@ module _ {D E C : Type 0} (d : Ghosts D) (clock : clocks.Ghosts C) where
         reads = λ _ h. ap d.content same;
         content = λ _ _ h. ap d.content same ∙ ap (λ c. after c (d.content (old.parts).disk)) (sym none);
         crash = inl same;
+        due = λ _ told. absurd (fine (refusal_is refusal DiskFault (sym is ∙ told)));
         firm = λ _. undone answer refusal is;
         listed = ap (λ p. p.catalogue.items) parts ∙ sym (ap (λ r. listed_by act r answer.place (session_at old.parts lane) (old.parts).catalogue.items) is
             ∙ unlisted act refusal answer.place (session_at old.parts lane) (old.parts).catalogue.items);
@@ -265,6 +279,7 @@ module _ {D E C : Type 0} (d : Ghosts D) (clock : clocks.Ghosts C) where
             (subst (λ r. LeavesChange d (old.parts).disk (acted.parts).disk (by_reply (change_at old.parts at.lane act) r)) (sym reply)
             (subst (λ p. LeavesChange d p.disk (acted.parts).disk (by_reply (change_at p at.lane act) (Some (reply_by (told result))))) before
             (crash_told d (mid.parts).disk (acted.parts).disk (change_at mid.parts at.lane act) result does.plain leaves.crash)));
+        due = λ _ told s h. leaves.due (fault_met act result does.answers (sym reply ∙ told)) s (subst (λ p. Holds d p s) (sym before) h);
         firm = λ _ done. subst (λ p. IsFirm d (old.parts).disk p.disk (change_at old.parts at.lane act)) (sym settles.parts)
             (subst (λ p. IsFirm d p.disk (acted.parts).disk (change_at p at.lane act)) before
             (done_told _ result leaves.firm (if_plain answer.reply _ reply done)));

@@ -1,6 +1,7 @@
 -- What a command's exits need to prove its two records.
-use Rattle.std.proofs.Common.{◌≡◌, ◌<◌, ◌↔◌, ℕ, List, true, false, length, get_or, Option, Some, Result, Ok, Err, IfOk, IsErrOf, IsErrAnd, IsTrue, inl, inr, ⊎_elim, refl, sym, ap, subst, ◌∙◌, arith}
+use Rattle.std.proofs.Common.{◌≡◌, ◌<◌, ◌↔◌, ℕ, Bool, ◌&&◌, not, List, true, false, length, get_or, Option, Some, Result, Ok, Err, IfOk, IsErrOf, IsErrAnd, IsTrue, inl, inr, ⊎_elim, refl, sym, ap, subst, ◌∙◌, arith}
 use Rattle.std.proofs.lemmas.List.{get_or_default}
+use Rattle.std.proofs.lemmas.Bool.{and_parts}
 use Rattle.std.specs.FinMap.{get}
 use Rattle.disk_trait.specs.Files.{Files}
 use Rattle.disk_trait.specs.Disk.{Serves, Steps, Same}
@@ -42,6 +43,7 @@ use Rattle.core_state.specs.Changes.{Change, IsFirm, LeavesChange, MayLeave, aft
 use Rattle.core_state.specs.Chunks.{Adds, IsSafe}
 use Rattle.core_state.specs.Closing.{HasClosed, closes, is_reader, is_writer}
 use Rattle.core_state.specs.Commands.{ActDoes, ActLeaves, IsNoRefusal, change_at, ends_session, is_admins, is_quiet, reads_only}
+use Rattle.core_state.specs.Due.{IsDue}
 use Rattle.core_state.specs.Holds.{Holds, IsOnDisk, Shows, Does, Acts}
 use Rattle.core_state.specs.Replies.{may_answer}
 use Rattle.core_state.specs.Settles.{reply_by}
@@ -277,6 +279,25 @@ reads_stay (acts.Plain (Forget snapshot)) session catalogue only = cc
 reads_stay acts.End session catalogue only = cc
 reads_stay act session catalogue only = refl
 
+-- of an act that only reads it says nothing
+due_reads : (act : Act) (s : Store) (lane : ℕ) → reads_only act ≡ true → IsDue act s lane
+due_reads (acts.Blob name checked) s lane only = cc
+due_reads (acts.Chunk digest checked) s lane only = cc
+due_reads (acts.Plain Finish) s lane only = cc
+due_reads (acts.Plain (Forget snapshot)) s lane only = cc
+due_reads act s lane only = tt
+
+-- the acts that read the disk, and change nothing there
+abbrev pub reads_disk : Act → Bool
+reads_disk act = reads_only act && not (is_quiet act)
+
+not_quiet : (act : Act) → reads_disk act ≡ true → is_quiet act ≡ true → ⊥
+not_quiet act reads quiet = apart (is_quiet act) (and_parts (reads_only act) (not (is_quiet act)) reads).1 quiet
+  where
+    apart : (b : Bool) → not b ≡ true → b ≡ true → ⊥
+    apart true e is = cc
+    apart false e is = cc
+
 -- an act that makes no call of the disk changes nothing there
 quiet_reads : (act : Act) → is_quiet act ≡ true → reads_only act ≡ true
 quiet_reads (acts.Blob name checked) quiet = cc
@@ -441,9 +462,9 @@ module _ {D : Type 0} (d : Ghosts D) where
   pub reads_leaves : (old new : Parts D) (at : Place) (act : Act) (result : Result Reply Stop) (failed : Type 0) → OnlyReads d old.disk new.disk failed → SameKept old new
       → IfOk result (DoneIdly old at act) → (is_quiet act ≡ true → new.disk ≡ old.disk)
       → ((refusal : Refusal) → result ≡ Err (Refused refusal) → is_uncalled refusal ≡ true → new.disk ≡ old.disk)
-      → (closes act (session_at old at.lane) ≡ true → IsErrOf result DiskFailed)
+      → (closes act (session_at old at.lane) ≡ true → IsErrOf result DiskFailed) → (IsErrOf result DiskFailed → (s : Store) → IsDue act s at.lane)
       → ActLeaves d old new at act result
-  reads_leaves old new at act result failed reads kept idly quiet uncalled closed = record {
+  reads_leaves old new at act result failed reads kept idly quiet uncalled closed due = record {
     unchanged = leaves_all old new result (plainly old at act result idly) kept uncalled (λ _. reads.same);
     quiet = quiet;
     reads = λ _. reads.same;
@@ -453,6 +474,7 @@ module _ {D : Type 0} (d : Ghosts D) where
     listed = listed_so old new at act result kept.catalogue (lists_none old at act result idly);
     admin = λ _. (kept.sessions, kept.locks);
     adds = adds_same d old new act (told result) reads.same;
+    due = λ f s _. due f s;
     closed = closed_so old new at act result idly closed;
     ended = ends_none old new at act result idly;
   }
@@ -479,7 +501,7 @@ module _ {D : Type 0} (d : Ghosts D) where
       → (closes act (session_at old at.lane) ≡ true → ⊥) → ActLeaves d old new at act result
   refused_leaves old new at act refusal result stops same kept going =
       stopped (ActLeaves d old new at act) result (Refused refusal) stops
-      (reads_leaves old new at act (Err (Refused refusal)) ⊥ (reads_none old.disk new.disk ⊥ same (λ f. f)) kept tt (λ _. same) (λ r e t. same) (λ closing. absurd (going closing)))
+      (reads_leaves old new at act (Err (Refused refusal)) ⊥ (reads_none old.disk new.disk ⊥ same (λ f. f)) kept tt (λ _. same) (λ r e t. same) (λ closing. absurd (going closing)) (λ f. absurd (not_failed refusal f)))
 
   -- the lane has no reader
   pub unread_does : (parts : Parts D) (at : Place) (act : Act) (refusal : Refusal) (result : Result Reply Stop) → Stops result (Refused refusal) → at.lane < 64
@@ -533,7 +555,7 @@ module _ {D : Type 0} (d : Ghosts D) where
       → (closes act (session_at old at.lane) ≡ true → ⊥) → ActLeaves d old new at act result
   short_leaves old new at act result stops same kept going =
       stopped (ActLeaves d old new at act) result NoMemory stops
-      (reads_leaves old new at act (Err NoMemory) ⊥ (reads_none old.disk new.disk ⊥ same (λ f. f)) kept tt (λ _. same) (λ r e t. same) (λ closing. absurd (going closing)))
+      (reads_leaves old new at act (Err NoMemory) ⊥ (reads_none old.disk new.disk ⊥ same (λ f. f)) kept tt (λ _. same) (λ r e t. same) (λ closing. absurd (going closing)) (λ f. absurd (not_memory f)))
 
   -- ---- commands that read the disk
 
@@ -582,12 +604,13 @@ module _ {D : Type 0} (d : Ghosts D) where
 
   -- its refusal is one that comes by a call, or the disk wasn't called
   pub stopped_leaves : (old new : Parts D) (at : Place) (act : Act) (stop : Stop) (result : Result Reply Stop) (failed : Type 0) → Stops result stop
-      → OnlyReads d old.disk new.disk failed → SameKept old new → is_quiet act ≡ false
+      → OnlyReads d old.disk new.disk failed → SameKept old new → reads_disk act ≡ true
       → IfRefused (λ refusal. is_uncalled refusal ≡ true → new.disk ≡ old.disk) stop
       → (closes act (session_at old at.lane) ≡ true → ⊥) → ActLeaves d old new at act result
   stopped_leaves old new at act stop result failed stops reads kept called uncalled going =
       stopped (ActLeaves d old new at act) result stop stops
-      (reads_leaves old new at act (Err stop) failed reads kept tt (λ quiet. absurd (false_true (sym called ∙ quiet))) (uncalled_by old new stop uncalled) (λ closing. absurd (going closing)))
+      (reads_leaves old new at act (Err stop) failed reads kept tt (λ quiet. absurd (not_quiet act called quiet)) (uncalled_by old new stop uncalled) (λ closing. absurd (going closing))
+      (λ _ s. due_reads act s at.lane (and_parts (reads_only act) (not (is_quiet act)) called).0))
 
   -- done, where nothing has changed
   pub read_does : (old new : Parts D) (at : Place) (act : Act) (reply : Reply) (failed : Type 0) → OnlyReads d old.disk new.disk failed → SameKept old new
@@ -600,7 +623,7 @@ module _ {D : Type 0} (d : Ghosts D) where
       → DoneIdly old at act reply → (is_quiet act ≡ true → new.disk ≡ old.disk) → ActLeaves d old new at act (Ok reply)
   read_leaves old new at act reply failed reads kept idly quiet =
       reads_leaves old new at act (Ok reply) failed reads kept idly quiet (λ r e t. cc)
-      (λ closing. absurd (false_true (sym idly.goes_on ∙ closes_ends act (session_at old at.lane) closing)))
+      (λ closing. absurd (false_true (sym idly.goes_on ∙ closes_ends act (session_at old at.lane) closing))) (λ f. absurd (not_done reply f))
 
   -- ---- done without a call of the disk, where parts have changed
 
@@ -635,6 +658,7 @@ module _ {D : Type 0} (d : Ghosts D) where
         listed = listed;
         admin = no_admins act other;
         adds = adds_same d old new act (told (Ok reply)) none.same;
+        due = λ f. absurd (not_done reply f);
         closed = λ closing. ended (closes_ends act (session_at old at.lane) closing);
         ended = ended;
       }
@@ -672,6 +696,7 @@ module _ {D : Type 0} (d : Ghosts D) where
     listed = listed;
     admin = admin;
     adds = adds;
+    due = λ f. absurd (not_done reply f);
     closed = λ closing. ended (closes_ends act (session_at old at.lane) closing);
     ended = ended;
   }
@@ -707,9 +732,9 @@ module _ {D : Type 0} (d : Ghosts D) where
   pub failed_leaves : {A : Type 0} (old new : Parts D) (at : Place) (act : Act) (done : Result A DiskError) (e : DiskError) (result : Result Reply Stop) → Stops result (stop_of e) → done ≡ Err e
       → (IsErrOf done disks.NoMemory → SameContent d old.disk new.disk) → (IsErrOf done disks.NoMemory → LeavesSame d old.disk new.disk)
       → LeavesChange d old.disk new.disk (change_at old at.lane act) → SameKept old new → reads_only act ≡ false
-      → (IsErrOf done disks.NoMemory → closes act (session_at old at.lane) ≡ true → ⊥)
+      → (IsErrOf done disks.NoMemory → closes act (session_at old at.lane) ≡ true → ⊥) → ((s : Store) → Holds d old s → IsDue act s at.lane)
       → ActLeaves d old new at act result
-  failed_leaves old new at act done e result stops was same unmoved crash kept called going =
+  failed_leaves old new at act done e result stops was same unmoved crash kept called going due =
       stopped (ActLeaves d old new at act) result (stop_of e) stops (by_error e was)
     where
       quiet : is_quiet act ≡ true → new.disk ≡ old.disk
@@ -729,6 +754,7 @@ module _ {D : Type 0} (d : Ghosts D) where
         listed = kept.catalogue ∙ sym (unlisted_by act NoMemory at.number (session_at old at.lane) old.catalogue.items);
         admin = λ _. (kept.sessions, kept.locks);
         adds = adds_same d old new act (told (Err NoMemory)) (same was);
+        due = λ f. absurd (not_memory f);
         closed = λ closing. absurd (going was closing);
         ended = λ _. tt;
       }
@@ -742,6 +768,7 @@ module _ {D : Type 0} (d : Ghosts D) where
         listed = kept.catalogue ∙ sym (unlisted_by act DiskFailed at.number (session_at old at.lane) old.catalogue.items);
         admin = λ _. (kept.sessions, kept.locks);
         adds = λ s h. tt;
+        due = λ _. due;
         closed = λ closing. tt;
         ended = λ _. tt;
       }

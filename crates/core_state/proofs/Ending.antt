@@ -96,6 +96,7 @@ module _ {D E C : Type 0} (d : Ghosts D) (clock : clocks.Ghosts C) where
     crash = subst (λ p. LeavesChange d (old.parts).disk p.disk (by_reply (change_at old.parts at.lane End) answer.reply)) (sym entered.parts)
         (subst (λ r. LeavesChange d (old.parts).disk (acted.parts).disk (by_reply (change_at old.parts at.lane End) r)) (sym entered.reply_is)
         (subst (λ p. LeavesChange d p.disk (acted.parts).disk (change_at p at.lane End)) next.parts leaves.crash));
+    due = λ _ _ s h. tt;
     firm = λ _ _. subst (λ p. IsFirm d (old.parts).disk p.disk (change_at old.parts at.lane End)) (sym entered.parts)
         (subst (λ p. IsFirm d p.disk (acted.parts).disk (change_at p at.lane End)) next.parts leaves.firm);
     listed = ap (λ p. p.catalogue.items) entered.parts ∙ leaves.listed ∙ ap (λ p. p.catalogue.items) next.parts;
@@ -154,6 +155,7 @@ module _ {D E C : Type 0} (d : Ghosts D) (clock : clocks.Ghosts C) where
     crash = subst (λ p. LeavesChange d (old.parts).disk p.disk (by_reply (change_at old.parts at.lane End) answer.reply)) (sym settles.parts)
         (subst (λ r. LeavesChange d (old.parts).disk (acted.parts).disk (by_reply (change_at old.parts at.lane End) r)) (sym settles.reply_is)
         (subst (λ p. LeavesChange d p.disk (acted.parts).disk (change_at p at.lane End)) next.parts leaves.crash));
+    due = λ _ _ s h. tt;
     firm = λ _. undone answer DiskFault settles.reply_is;
     listed = ap (λ p. p.catalogue.items) settles.parts ∙ leaves.listed ∙ ap (λ p. p.catalogue.items) next.parts;
     admin = λ is. absurd (false_true is);
@@ -210,6 +212,7 @@ module _ {D E C : Type 0} (d : Ghosts D) (clock : clocks.Ghosts C) where
         reads = λ only. absurd (false_true only);
         content = λ none. absurd (none_some first (sym some ∙ none));
         crash = inl still;
+        due = λ _ _ s h. tt;
         firm = λ none. absurd (none_some first (sym some ∙ none));
         listed = ap (λ p. p.catalogue.items) entered.parts ∙ catalogue ∙ ap (λ p. p.catalogue.items) next.parts;
         admin = λ is. absurd (false_true is);

@@ -55,11 +55,13 @@ own_file : (key : SnapshotKey) (name : List ℕ) → IsOwn (file_path key name)
 own_file key name = inl (key, name, refl)
 
 apart : (q p : List ℕ) → IsForeign q → IsOwn p → (q ≢ p) × (q ≢ temporary p)
-apart q p foreign own =
-    ⊎_elim
-    (λ (f : (key : SnapshotKey) × (name : List ℕ) × (p ≡ file_path key name)). subst (λ x. (q ≢ x) × (q ≢ temporary x)) (sym f.2) (foreign.file f.0 f.1))
-    (λ (c : (digest : List ℕ) × (p ≡ chunk_name digest)). subst (λ x. (q ≢ x) × (q ≢ temporary x)) (sym c.1) (foreign.chunk c.0))
-    own
+apart q p foreign own = (
+  ⊎_elim
+      (λ (f : (key : SnapshotKey) × (name : List ℕ) × (p ≡ file_path key name)). subst (λ x. q ≢ x) (sym f.2) (foreign.file f.0 f.1))
+      (λ (c : (digest : List ℕ) × (p ≡ chunk_name digest)). subst (λ x. q ≢ x) (sym c.1) (foreign.chunk c.0))
+      own,
+  foreign.lasting p,
+)
 
 -- each path of a change is one
 abbrev Owns : Change → Type 0
@@ -229,6 +231,10 @@ true_false : (b : Bool) → IsTrue b → b ≡ false → ⊥
 true_false true t e = cc
 true_false false t e = cc
 
+-- no command's tests tell a fault
+pub never_told : (act : Act) → IsTrue (may_answer act (replies.Refused refusals.DiskFault)) → ⊥
+never_told act may = true_false _ may (not_told act)
+
 same_some : (a b : Reply) → Some a ≡ Some b → a ≡ b
 same_some a b e = cc
 
@@ -246,7 +252,7 @@ some_none n e = cc
 
 not_caused : {D E C : Type 0} (d : Ghosts D) (old new : Core D E C) (act : Act) (answer : Answer) → HasCause d old new act answer → new.fault ≡ None → answer.reply ≡ Some (replies.Refused refusals.DiskFault) → ⊥
 not_caused d old new act answer (done before zero reply told may) none is =
-    true_false _ (subst (λ r. IsTrue (may_answer act r)) (same_some reply (replies.Refused refusals.DiskFault) (sym told ∙ is)) may) (not_told act)
+    never_told act (subst (λ r. IsTrue (may_answer act r)) (same_some reply (replies.Refused refusals.DiskFault) (sym told ∙ is)) may)
 not_caused d old new act answer (short kind told) none is = short_fault (sym told ∙ is)
 not_caused d old new act answer (failed before kind told fault rose) none is = some_none answer.place (sym fault ∙ none)
 not_caused d old new act answer (halted place before kind told) none is = halted_fault place (sym told ∙ is)
@@ -255,7 +261,7 @@ not_ended : {D E C : Type 0} (d : Ghosts D) (old new : Core D E C) (answer : Ans
 not_ended d old new answer (ended kind told) none is = none_fault (sym told ∙ is)
 not_ended d old new answer (end_failed before kind told fault rose) none is = some_none answer.place (sym fault ∙ none)
 
-not_faulted : {D E C : Type 0} (d : Ghosts D) (old new : Core D E C) (act : Act) (answer : Answer) → IsCaused d old new act answer → new.fault ≡ None → answer.reply ≡ Some (replies.Refused refusals.DiskFault) → ⊥
+pub not_faulted : {D E C : Type 0} (d : Ghosts D) (old new : Core D E C) (act : Act) (answer : Answer) → IsCaused d old new act answer → new.fault ≡ None → answer.reply ≡ Some (replies.Refused refusals.DiskFault) → ⊥
 not_faulted d old new (acts.Plain c) answer cause = not_caused d old new (acts.Plain c) answer cause
 not_faulted d old new (acts.JobGroup c) answer cause = not_caused d old new (acts.JobGroup c) answer cause
 not_faulted d old new (acts.Blob name checked) answer cause = not_caused d old new (acts.Blob name checked) answer cause

@@ -1,6 +1,5 @@
 pub mod Clocks
 pub mod Chunks
-pub mod Opened
 pub mod Entered
 pub mod Answered
 pub mod Ended
@@ -18,6 +17,7 @@ pub mod Caused
 pub mod Recorded
 pub mod Finding
 pub mod Found
+pub mod Naming
 pub mod Unreadables
 pub mod Readers
 pub mod Commanding
@@ -25,3 +25,11 @@ pub mod Applying
 pub mod Ending
 pub mod ForeignLemmas
 pub mod Reaching
+pub mod AnyPaths
+pub mod SameSnapshots
+pub mod Completing
+pub mod Removing
+pub mod Storing
+pub mod Sparing
+pub mod Leading
+pub mod Recovering

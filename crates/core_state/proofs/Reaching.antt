@@ -5,22 +5,18 @@ use Rattle.disk_trait.specs.declared.disk.Disk.{Ghosts}
 use Rattle.port_traits.specs.Readings.{Readings}
 use Rattle.port_traits.specs.declared.clock.Clock as clocks
 use Rattle.store_history.specs.declared.act.Act.{Act}
-use Rattle.store_history.specs.declared.act.Act.TheVariants.{Chunk}
 use Rattle.store_history.specs.declared.act.Answer.{Answer}
 use Rattle.core_state.specs.declared.state.Core.{Core}
-use Rattle.core_state.specs.Applies.{ActApplies, ActKeeps, IsClearFor}
-use Rattle.core_state.specs.History.{History, IsClear, event_of, then_event}
-use Rattle.core_state.specs.Records.{Reaches, Records, with_remote}
+use Rattle.core_state.specs.Applies.{ActApplies, ActKeeps}
+use Rattle.core_state.specs.History.{History, event_of, then_event}
+use Rattle.core_state.specs.Records.{Reaches, Records, opened_with}
 use Rattle.core_state.proofs.Chunks.{clear_before}
 use Rattle.core_state.proofs.ForeignLemmas.{foreign_kept, no_fault_before}
+use Rattle.core_state.proofs.Recovering.{clear_for, recovers_reached}
 
 pub reaches_first : {D E C : Type 0} (d : Ghosts D) (readings : C → Option Readings) (core : Core D E C) (h : History)
     → Records readings core h → Reaches d readings core h core h
-reaches_first d readings core h r = record { records = r; stands = λ R s _. s; foreign = λ R s clear none q own. refl }
-
-clear_for : (act : Act) (h : History) → IsClear h → IsClearFor act h
-clear_for (Chunk digest checked) h clear = clear
-clear_for act h clear = tt
+reaches_first d readings core h r = record { records = r; stands = λ L R s _. s; foreign = λ L R s clear none q own. refl; recovers = λ told start L R s r _. r }
 
 -- one act more
 pub reaches_more : {D E C : Type 0} (d : Ghosts D) (clock : clocks.Ghosts C) (first : Core D E C) (began : History) (old new : Core D E C) (lane : ℕ) (act : Act) (answer : Answer)
@@ -29,10 +25,12 @@ pub reaches_more : {D E C : Type 0} (d : Ghosts D) (clock : clocks.Ghosts C) (fi
 reaches_more d clock first began old new lane act answer lt applies keeps h x =
     let e = event_of act answer (d.calls (new.parts).disk) in record {
       records = applies.records h x.records;
-      stands = λ R s clear. applies.history (with_remote R h) (x.stands R s (clear_before h e clear)) (clear_for act (with_remote R (then_event h e)) clear);
-      foreign = λ R s clear none q own.
+      stands = λ L R s clear. applies.history (opened_with L R h) (x.stands L R s (clear_before h e clear)) (clear_for act (opened_with L R (then_event h e)) clear);
+      foreign = λ L R s clear none q own.
           let was = clear_before h e clear in
-          let so = x.stands R s was in
+          let so = x.stands L R s was in
           let before = no_fault_before _ (answer.entry).kind old.fault (sym (applies.answers).fault ∙ none) in
-          foreign_kept d old new _ lane _ act answer lt so.shows so.honest (applies.answers).fault applies.cause keeps none q own ∙ x.foreign R s was before q own;
+          foreign_kept d old new _ lane _ act answer lt so.shows so.honest (applies.answers).fault applies.cause keeps none q own ∙ x.foreign L R s was before q own;
+      recovers = λ told start L R s r clear.
+          recovers_reached d clock told first began old new lane act answer lt applies keeps keeps.due h x L R s clear start (x.recovers told start L R s r (clear_before h e clear));
     }

@@ -1,11 +1,9 @@
 -- What the core keeps of a history after one act more, on any disk.
 use Rattle.disk_trait.specs.declared.disk.Disk.{Ghosts}
-use Rattle.std.proofs.Common.{◌≡◌, ◌≤◌, ◌+◌, inl, inr, ℕ, suc, List, [], ◌∷◌, ◌++◌, length, Option, Some, None, IfSome, Result, refl, sym, ap, subst, ◌∙◌, arith}
+use Rattle.std.proofs.Common.{◌≡◌, ◌≤◌, ◌+◌, inl, inr, ℕ, suc, List, [], ◌∷◌, ◌++◌, length, Option, Some, None, IfSome, Result, sym, ap, subst, ◌∙◌, arith}
 use Rattle.std.proofs.lemmas.List.{map-append, length-map}
 use Rattle.port_traits.specs.Readings.{Readings}
-use Rattle.disk_trait.specs.Files.{Files}
 use Rattle.disk_trait.specs.declared.disk.DiskError.{DiskError}
-use Rattle.store_files.specs.Archive.{Snapshot}
 use Rattle.wire_commands.specs.declared.reply.Reply.{Reply}
 use Rattle.wire_commands.specs.declared.reply.Reply.TheVariants.{Refused}
 use Rattle.wire_commands.specs.HasText.{ReplyHasText}
@@ -19,14 +17,12 @@ use Rattle.store_history.specs.History as kinds
 use Rattle.store_history.specs.Legal.{moment_after}
 use Rattle.store_history.proofs.Longer.{moment_more, entries_more}
 use Rattle.core_state.specs.declared.state.Core.{Core}
-use Rattle.core_state.specs.History.{History, began, then_event, event_of}
-use Rattle.core_state.specs.Opening.{opening_at}
+use Rattle.core_state.specs.History.{History, then_event, event_of}
 use Rattle.core_state.specs.Settles.{IsEntered, Settles, with_fault, fault_by, kind_by}
 use Rattle.core_state.specs.Begins.{ReadsClock, IsShort, Refuses, short, halted}
 use Rattle.core_state.specs.Answers.{IsAnswered, fault_after, HasCause, done, short as was_short, failed, halted as was_halted, EndHasCause, ended, end_failed}
 use Rattle.core_state.specs.Records.{IsTimely, FitsKind, FitsReply, IsKept, AreKept, fault_in, Records}
 use Rattle.core_state.proofs.Entered.{time_more}
-use Rattle.core_state.proofs.Opened.{keeps_time}
 
 -- ---- one event more
 
@@ -145,16 +141,3 @@ pub end_tells_reply : {D E C : Type 0} (d : Ghosts D) (old new : Core D E C) (ac
     → EndHasCause d old new answer → FitsReply old.fault act (kind_of (answer.entry).kind) answer.reply
 end_tells_reply d old new act answer (ended is told) = subst (λ k. FitsReply old.fault act (kind_of k) answer.reply) (sym is) told
 end_tells_reply d old new act answer (end_failed before is told first rose) = fault_told old.fault None act (answer.entry).kind answer.reply is before told
-
--- a core that was opened
-pub opened_records : {D E C : Type 0} (readings : C → Option Readings) (core : Core D E C) (m : Files) (calls : ℕ) (R : Option (List Snapshot))
-    → (core.journal).entries.items ≡ [] → (core.journal).calls.items ≡ [] → core.fault ≡ None → core.last ≡ 0
-    → Records readings core (began (opening_at m calls) R (readings core.clock))
-opened_records readings core m calls R entries counts fault last = record {
-  kept = tt;
-  entries = entries;
-  calls = counts;
-  fault = fault;
-  last = last;
-  time = keeps_time readings core.clock (readings core.clock) refl;
-}

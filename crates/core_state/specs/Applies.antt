@@ -15,6 +15,7 @@ use Rattle.core_state.specs.Catalogue.{Lists}
 use Rattle.core_state.specs.Changes.{IsFirm, LeavesChange, after, by_reply}
 use Rattle.core_state.specs.Closing.{is_closing}
 use Rattle.core_state.specs.Commands.{IsNoRefusal, change_at, ends_session, is_admins, is_quiet, reads_only}
+use Rattle.core_state.specs.Due.{DueAt}
 use Rattle.core_state.specs.History.{History, IsClear, StandsFor, then_event, event_of}
 use Rattle.core_state.specs.Records.{IsTimely, Records}
 use Rattle.core_state.specs.Reserved.{Keeps}
@@ -53,6 +54,8 @@ pub record ActKeeps {D E C : Type 0} (d : Ghosts D) (old new : Core D E C) (lane
   pub content : old.fault ≡ None → (answer.reply ≡ Some (Refused DiskFault) → ⊥) → d.honest (old.parts).disk
       → d.content (new.parts).disk ≡ after (by_reply (change_at old.parts lane act) answer.reply) (d.content (old.parts).disk)
   pub crash : LeavesChange d (old.parts).disk (new.parts).disk (by_reply (change_at old.parts lane act) answer.reply)
+  -- where the disk failed in it, a FINISH or a FORGET had passed its tests, and a CHUNK was to put a piece's blob
+  pub due : DueAt d old lane act answer
   pub firm : old.fault ≡ None → IsDone answer → IsFirm d (old.parts).disk (new.parts).disk (change_at old.parts lane act)
   pub listed : Lists old new lane act answer
   pub admin : is_admins act ≡ true → ((new.parts).sessions.items ≡ (old.parts).sessions.items) × ((new.parts).locks ≡ (old.parts).locks)

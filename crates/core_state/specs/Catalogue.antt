@@ -22,7 +22,7 @@ insert_listed new (x ∷ xs) = if key_lt (new.kept).key (x.kept).key then new �
 
 -- the writer's snapshot, with the number of the order's entry by which it was finished
 abbrev pub listed_of : ℕ → Writing → Listed
-listed_of number w = record { number = number; kept = record { key = ((w.session).writer).key; files = w.files } }
+listed_of number w = record { number = number; kept = record { key = ((w.session).writer).key; files = w.files; unreadable = None } }
 
 -- the catalogue as the session's writer is finished
 abbrev pub closed : ℕ → Session → List Listed → List Listed

@@ -10,6 +10,7 @@ use Rattle.wire_commands.specs.declared.reply.Reply.{Reply}
 use Rattle.wire_commands.specs.declared.reply.Reply.TheVariants.{Refused}
 use Rattle.wire_commands.specs.declared.command.Command.{Command}
 use Rattle.wire_commands.specs.declared.command.Command.TheVariants.{OpenWriter, NewFixed, NewDynamic, Append, CloseIndex, OpenReader, CloseReader, List as ListAll, Files as FilesOf, Forget, Group, Finish, Abort}
+use Rattle.store_model.specs.Store.{Store}
 use Rattle.store_history.specs.declared.act.Act.{Act}
 use Rattle.store_history.specs.declared.act.Act.TheVariants.{Plain, Blob, Chunk, JobGroup, Short, End}
 use Rattle.store_history.specs.History.{World, act_outcome}
@@ -22,7 +23,8 @@ use Rattle.core_state.specs.Catalogue.{listed_by}
 use Rattle.core_state.specs.Changes.{Change, IsFirm, LeavesChange, after, by_stop, change_of}
 use Rattle.core_state.specs.Chunks.{Adds, IsSafe}
 use Rattle.core_state.specs.Closing.{HasClosed, closes}
-use Rattle.core_state.specs.Holds.{Acts}
+use Rattle.core_state.specs.Due.{IsDue}
+use Rattle.core_state.specs.Holds.{Acts, Holds}
 use Rattle.core_state.specs.Replies.{may_answer}
 use Rattle.core_state.specs.Settles.{reply_by}
 use Rattle.core_state.specs.Stops.{told}
@@ -105,6 +107,8 @@ pub record ActLeaves {D : Type 0} (d : Ghosts D) (old new : Parts D) (at : Place
   pub admin : is_admins act ≡ true → (new.sessions.items ≡ old.sessions.items) × (new.locks ≡ old.locks)
   -- Which chunk files there are more. It follows from `content`; that the core stands for the longer history is shown by it.
   pub adds : Adds d old new act (told result)
+  -- Where the disk failed, a FINISH or a FORGET had passed its tests, and a CHUNK was to put a piece's blob.
+  pub due : IsErrOf result DiskFailed → (s : Store) → Holds d old s → IsDue act s at.lane
   -- an act that ends the session wants no memory
   pub closed : closes act (session_at old at.lane) ≡ true → HasClosed new at.lane (told result)
   pub ended : ends_session act ≡ true → IfOk result (λ _. session_at new at.lane ≡ Idle)

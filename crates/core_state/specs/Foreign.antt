@@ -6,10 +6,11 @@ use Rattle.file_install.specs.Install.{temporary}
 use Rattle.store_types.specs.declared.names.SnapshotKey.{SnapshotKey}
 use Rattle.store_files.specs.Folder.{chunk_name, file_path}
 
--- no path below a snapshot's folder, whatever its key and the file's name, no chunk's, and no temporary one of these
+-- no path below a snapshot's folder, whatever its key and the file's name, no chunk's, and no temporary one
 pub record IsForeign (q : List ℕ) : Type 0 where
-  pub file : (key : SnapshotKey) (name : List ℕ) → (q ≢ file_path key name) × (q ≢ temporary (file_path key name))
-  pub chunk : (digest : List ℕ) → (q ≢ chunk_name digest) × (q ≢ temporary (chunk_name digest))
+  pub file : (key : SnapshotKey) (name : List ℕ) → q ≢ file_path key name
+  pub chunk : (digest : List ℕ) → q ≢ chunk_name digest
+  pub lasting : (name : List ℕ) → q ≢ temporary name
 
 -- what stands at such names stays
 abbrev pub KeepsForeign : {D : Type 0} → Ghosts D → D → D → Type 0

@@ -7,7 +7,6 @@ pub mod Chunks
 pub mod History
 pub mod Settles
 pub mod Begins
-pub mod Opening
 pub mod States
 pub mod Replies
 pub mod Unchanged
@@ -23,5 +22,7 @@ pub mod Listing
 pub mod Unreadables
 pub mod Stops
 pub mod Wanted
+pub mod Due
 pub mod Commands
 pub mod Applies
+pub mod Recovers

@@ -20,6 +20,7 @@ use Rattle.core_state.specs.Answers.{fault_after}
 use Rattle.core_state.specs.Begins.{ReadsClock}
 use Rattle.core_state.specs.Foreign.{KeepsForeign}
 use Rattle.core_state.specs.History.{History, KeepsTime, IsClear, StandsFor}
+use Rattle.core_state.specs.Recovers.{Recovers, TellsMoments}
 use Rattle.core_state.specs.Replies.{may_answer}
 
 -- the clock was read once for the act's moment, which is the last one then
@@ -74,16 +75,19 @@ pub record Records {D E C : Type 0} (readings : C → Option Readings) (core : C
   pub last : core.last ≡ moment_after (h.opening).moment h.events
   pub time : KeepsTime readings core.clock h
 
--- beside these snapshots of the remote
-abbrev pub with_remote : Option (List Snapshot) → History → History
-with_remote remote h = record h { remote = remote }
+-- opened with these snapshots, beside those of the remote
+abbrev pub opened_with : List Snapshot → Option (List Snapshot) → History → History
+opened_with snapshots remote h = record h { opening = record (h.opening) { snapshots = snapshots }; remote = remote }
 
--- From a first core and its history the core came to this history: it records it, and stands for it where the first core stood
--- for its own and no two pieces of the history have one digest. What stood at names that are none of the store's stands there still,
--- where the disk has not failed.
+-- From a first core and its history the core came to this history: it records it. Opened with whatever snapshots, it stands for it where
+-- the first core stood for its own and no two pieces of the history have one digest; and what stood at names that are none of the
+-- store's stands there still, where the disk has not failed.
 pub record Reaches {D E C : Type 0} (d : Ghosts D) (readings : C → Option Readings) (first : Core D E C) (began : History) (core : Core D E C) (h : History) : Type 0 where
   pub records : Records readings core h
-  pub stands : (R : Option (List Snapshot)) → StandsFor d readings first (with_remote R began) → IsClear h
-      → StandsFor d readings core (with_remote R h)
-  pub foreign : (R : Option (List Snapshot)) → StandsFor d readings first (with_remote R began) → IsClear h → core.fault ≡ None
-      → KeepsForeign d (first.parts).disk (core.parts).disk
+  pub stands : (L : List Snapshot) (R : Option (List Snapshot)) → StandsFor d readings first (opened_with L R began) → IsClear h
+      → StandsFor d readings core (opened_with L R h)
+  pub foreign : (L : List Snapshot) (R : Option (List Snapshot)) → StandsFor d readings first (opened_with L R began) → IsClear h
+      → core.fault ≡ None → KeepsForeign d (first.parts).disk (core.parts).disk
+  -- what a crash leaves since a moment of the opening stands for what the history gives by then
+  pub recovers : TellsMoments d → (start : ℕ) (L : List Snapshot) (R : Option (List Snapshot)) → StandsFor d readings first (opened_with L R began)
+      → Recovers d start first (opened_with L R began) → IsClear h → Recovers d start core (opened_with L R h)

@@ -89,6 +89,7 @@ abbrev pub refuses_reader : Refusal → Bool
 refuses_reader (WrongState state) = true
 refuses_reader BadName = true
 refuses_reader NoSnapshot = true
+refuses_reader (Unreadable name) = true
 refuses_reader _ = false
 
 abbrev pub refuses_download : Refusal → Bool

@@ -27,7 +27,7 @@ abbrev pub shown_files : SnapshotKey → List File → List StoredFile
 shown_files key files = map (shown_file key) files
 
 abbrev pub shown_snapshot : Snapshot → Kept
-shown_snapshot x = record { key = x.key; files = shown_files x.key x.files }
+shown_snapshot x = record { key = x.key; files = shown_files x.key x.files; unreadable = None }
 
 abbrev pub files_named : SnapshotKey → List Snapshot → List File
 files_named key snapshots = elim (model.snapshot_named key snapshots) [ None ↦ [] | Some x ↦ x.files ]

@@ -29,6 +29,8 @@ pub data Way : Type 0 where
   from_offset : Option Bool → ℕ → Way
   -- whole, as a manifest
   as_listing : Way
+  -- not at all: it makes its snapshot damaged, which was found at opening
+  known : Way
 
 -- a file that an act asks for: where it stands, and how it is read
 pub record Asked : Type 0 where
@@ -46,6 +48,7 @@ read_by (Some is_fixed) m path offset = index_at m path is_fixed offset >>= λ x
 abbrev pub read_so : Way → Files → List ℕ → Result Reply Refusal
 read_so (from_offset whole offset) m path = read_by whole m path offset
 read_so as_listing m path = or_else (Unreadable path) (listing_at m path) >>= λ read. Ok Done
+read_so known m path = Err (Unreadable path)
 
 -- The part, or that it was read, or the refusal, of what stands there: unreadable where nothing does, or where what is read whole is not
 -- what it is read as.

@@ -3,7 +3,7 @@
 use backup_session::Writer;
 use restore_reader::Reader;
 use snapshot_files::{FilePath, Stored};
-use store_types::{FileName, Rows, SessionState, SnapshotKey};
+use store_types::{Bytes, FileName, Rows, SessionState, SnapshotKey};
 
 /// A file of a snapshot: its name there, and its name in the datastore folder.
 #[derive(Debug, Drop)]
@@ -26,17 +26,21 @@ impl Stored for StoredFile {
     }
 }
 
-/// What is kept of a finished snapshot. The files stand in byte order of their names.
+/// What is kept of a finished snapshot. The files stand in byte order of their names; of one that was found they are those
+/// that its manifest lists, if it reads, and the manifest.
 #[derive(Debug, Drop)]
 pub struct Kept {
     pub key: SnapshotKey,
     pub files: Rows<StoredFile>,
+    /// The full name of the file that makes the snapshot damaged, of 251 bytes at most. None where it is whole.
+    pub unreadable: Option<Bytes>,
 }
 
 /// A finished snapshot in the catalogue.
 #[derive(Debug, Drop)]
 pub struct Listed {
-    /// The number of the order's entry by which it was finished.
+    /// The number of the order's entry by which it was finished; of those that were found at opening, 2^63 and more, one
+    /// after another.
     pub number: u64,
     pub kept: Kept,
 }

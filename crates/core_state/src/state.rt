@@ -1,6 +1,6 @@
 //! The core.
 
-ghost use Rattle.std.specs.Prelude.{◌≤◌};
+ghost use Rattle.std.specs.Prelude.{◌≡◌, ◌≤◌};
 ghost use Rattle.store_types.specs.Times.{last_moment};
 
 use crate::journal::Journal;
@@ -29,4 +29,38 @@ pub struct CoreParts<D, E, C> {
     pub clock: C,
     pub order: Vec<Entry>,
     pub calls: Vec<u64>,
+}
+
+impl<D, E, C> Core<D, E, C> {
+    /// All that the core was made of, with its order.
+    pub fn parts(self) -> CoreParts<D, E, C>
+        ensures disk { result.disk ≡ self.parts.disk }
+        ensures remote { result.remote ≡ self.remote }
+        ensures clock { result.clock ≡ self.clock }
+        ensures order { result.order ≡ self.journal.entries }
+        ensures calls { result.calls ≡ self.journal.calls }
+    {
+        let Core {
+            parts,
+            remote,
+            clock,
+            journal,
+            last: _,
+            fault: _,
+        } = self;
+        let Parts {
+            disk,
+            catalogue: _,
+            sessions: _,
+            locks: _,
+        } = parts;
+        let Journal { entries, calls, .. } = journal;
+        CoreParts {
+            disk,
+            remote,
+            clock,
+            order: entries,
+            calls,
+        }
+    }
 }

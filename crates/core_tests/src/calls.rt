@@ -86,6 +86,9 @@ pub(crate) const SECOND_BASE: &[u8] = b"\x1d\0\0\0\0\x1bhost/a/2020-01-15T06:30:
 /// No snapshot is told.
 pub(crate) const NONE_THERE: &[u8] = b"\x03\0\0\0\0\0\0";
 
+/// The first snapshot alone, as LIST tells it, with one file.
+pub(crate) const ONE_LISTED: &[u8] = b"\x21\0\0\0\0\x01\0\x1bhost/a/2020-01-15T06:30:03Z\0\x01";
+
 /// What is kept by a prune that keeps so many years, and 1,000 snapshots.
 pub(crate) fn keep(yearly: u16) -> Keep {
     Keep {

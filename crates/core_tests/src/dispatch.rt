@@ -1,39 +1,15 @@
-ghost use Rattle.std.specs.Prelude.{IfOk};
-ghost use Rattle.store_history.specs.Acts.{IsWellFormed};
-
 use crate::asserts::same;
 use crate::calls::{
-    DONE, FIRST_BASE, IN_NONE, IN_READER, IN_WRITER, NO_BASE, NO_SNAPSHOT, NONE_THERE, frame,
+    DONE, FIRST_BASE, IN_NONE, IN_READER, IN_WRITER, NO_BASE, NO_SNAPSHOT, NONE_THERE, ONE_LISTED,
 };
-use crate::fixtures::{FIRST, MANIFEST, MemoryCore, SECOND, at, checked, opened};
+use crate::fixtures::{FIRST, MemoryCore, SECOND, at, opened};
+use crate::steps::{Step, try_step};
 use core_state::{Act, enter};
-use shared_store::apply;
-use std::alloc::{AllocError, Global};
 use std::process::Abort;
 use std::test::Fail;
-use store_types::{Bytes, Keep, MEMORY_KIND, SnapshotKey};
-use wire_commands::Command;
+use store_types::{MEMORY_KIND, SnapshotKey};
 
-/// An act of a lane, as a table has it.
-#[derive(Clone, Copy)]
-enum Step {
-    OpenWriter(&'static [u8]),
-    Manifest,
-    Finish,
-    Abort,
-    OpenReader(&'static [u8]),
-    CloseReader,
-    List,
-    Forget(&'static [u8]),
-    /// The first step of a PRUNE of the group, with no option.
-    Prune,
-    Short,
-    End,
-}
-
-/// The first snapshot alone, as LIST tells it, and as GROUP does.
-const ONE_LISTED: &[u8] = b"\x21\0\0\0\0\x01\0\x1bhost/a/2020-01-15T06:30:03Z\0\x01";
-
+/// The first snapshot alone, as GROUP tells it.
 const ONE_KEY: &[u8] = b"\x1f\0\0\0\0\x01\0\x1bhost/a/2020-01-15T06:30:03Z";
 
 /// Two lanes want writers of one group, and a third wants to forget what is a base: each act with the frame of its reply, and
@@ -112,79 +88,6 @@ static HOLDERS: [(u32, Step, &[u8], Option<u32>); 18] = [
     (6, Step::Forget(FIRST), DONE, None),
     (6, Step::Prune, NONE_THERE, None),
 ];
-
-const KEEP_ALL: Keep = Keep {
-    last: 0,
-    hourly: 0,
-    daily: 0,
-    weekly: 0,
-    monthly: 0,
-    yearly: 0,
-};
-
-/// The upload of the manifest, checked outside the act.
-fn manifest(alloc: Global) -> Result<Act, AllocError>
-    ensures { IfOk result IsWellFormed }
-{
-    let name = Bytes::from_slice(alloc, b"index.json.blob")?;
-    let checked = checked(Bytes::from_slice(alloc, MANIFEST)?);
-    Ok(Act::Blob { name, checked })
-}
-
-fn act_of(alloc: Global, step: Step) -> Result<Act, AllocError>
-    ensures { IfOk result IsWellFormed }
-{
-    match step {
-        Step::OpenWriter(key) => {
-            let snapshot = Bytes::from_slice(alloc, key)?;
-            Ok(Act::Plain(Command::OpenWriter { snapshot }))
-        }
-        Step::Manifest => manifest(alloc),
-        Step::Finish => Ok(Act::Plain(Command::Finish)),
-        Step::Abort => Ok(Act::Plain(Command::Abort)),
-        Step::OpenReader(key) => {
-            let snapshot = Bytes::from_slice(alloc, key)?;
-            Ok(Act::Plain(Command::OpenReader { snapshot }))
-        }
-        Step::CloseReader => Ok(Act::Plain(Command::CloseReader)),
-        Step::List => {
-            let after = Bytes::from_slice(alloc, b"")?;
-            Ok(Act::Plain(Command::List { after }))
-        }
-        Step::Forget(key) => {
-            let snapshot = Bytes::from_slice(alloc, key)?;
-            Ok(Act::Plain(Command::Forget { snapshot }))
-        }
-        Step::Prune => {
-            let group = Bytes::from_slice(alloc, b"host/a")?;
-            Ok(Act::JobGroup(Command::Prune {
-                group,
-                keep: KEEP_ALL,
-                dry: false,
-            }))
-        }
-        Step::Short => Ok(Act::Short),
-        Step::End => Ok(Act::End),
-    }
-}
-
-/// Does a step, and compares its reply.
-fn try_step(
-    rt: &impl Abort,
-    core: &mut MemoryCore,
-    alloc: Global,
-    lane: u32,
-    step: Step,
-    expected: &[u8],
-) -> Result<(), Fail> {
-    let act = act_of(alloc, step)?;
-    if lane >= 64 || !core.room(lane, &act) {
-        return Err("no room".into());
-    }
-    let reply = apply(core, alloc, lane, act).reply;
-    same(rt, frame(alloc, reply)?.as_bytes(), expected);
-    Ok(())
-}
 
 #[test]
 fn groups_have_one_writer(rt: HostRuntime) -> Result<(), Fail> {

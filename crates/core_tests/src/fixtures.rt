@@ -7,7 +7,8 @@ ghost use Rattle.store_history.specs.Acts.{IsChecked};
 ghost use Rattle.core_state.specs.Stops.{told as told_by};
 
 use blob_codec::{decode, encode};
-use core_state::{Core, Parts, Place, Stop, open_on};
+use core_opening::open_on;
+use core_state::{Core, Parts, Place, Stop};
 use core_uploads::blob;
 use disk_trait::MemoryDisk;
 use port_traits::SetClock;
@@ -57,11 +58,21 @@ pub(crate) const NOTHING: Digest32 = Digest32([
     0x27, 0xae, 0x41, 0xe4, 0x64, 0x9b, 0x93, 0x4c, 0xa4, 0x95, 0x99, 0x1b, 0x78, 0x52, 0xb8, 0x55,
 ]);
 
-/// A core without snapshots, whose clock tells these moments and then always the last one.
-pub(crate) fn opened(alloc: Global, moments: &[u64], last: u64) -> Result<MemoryCore, Fail> {
+/// A core that is opened over the disk, whose clock tells these moments and then always the last one.
+pub(crate) fn opened_over(
+    alloc: Global,
+    disk: MemoryDisk,
+    moments: &[u64],
+    last: u64,
+) -> Result<MemoryCore, Fail> {
     let clock = SetClock::new(moments.to_vec(alloc)?, last);
-    let opened = open_on(alloc, MemoryDisk::new(alloc), None::<MemoryDisk>, clock);
+    let opened = open_on(alloc, disk, None::<MemoryDisk>, clock);
     Ok(opened.ok().ok_or("not opened")?)
+}
+
+/// A core without snapshots, with such a clock.
+pub(crate) fn opened(alloc: Global, moments: &[u64], last: u64) -> Result<MemoryCore, Fail> {
+    opened_over(alloc, MemoryDisk::new(alloc), moments, last)
 }
 
 /// The parts of such a core.

@@ -14,8 +14,12 @@ mod dispatch;
 #[cfg(test)]
 mod fixtures;
 #[cfg(test)]
+mod opening;
+#[cfg(test)]
 mod reader;
 #[cfg(test)]
 mod state;
+#[cfg(test)]
+mod steps;
 #[cfg(test)]
 mod writer;

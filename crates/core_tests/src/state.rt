@@ -3,6 +3,7 @@ ghost use Rattle.std.specs.Prelude.{◌<◌};
 use crate::asserts::same;
 use crate::fixtures::{MemoryCore, opened};
 use core_state::{Act, Admitted, Answer, Journal, Place, begin, enter, next_place, settle, short};
+use disk_trait::Disk;
 use std::alloc::{AllocError, Global};
 use std::process::Abort;
 use std::test::Fail;
@@ -46,6 +47,7 @@ fn end(core: &mut MemoryCore) -> Result<Answer, Fail> {
 fn acts_are_entered(rt: HostRuntime) -> Result<(), Fail> {
     let alloc = rt.alloc();
     let mut core = opened(alloc, &[100, 90], 110)?;
+    let calls = core.parts.disk.calls();
 
     same(&rt, core.journal.room(7), true);
     core.journal.reserve(2)?;
@@ -64,7 +66,7 @@ fn acts_are_entered(rt: HostRuntime) -> Result<(), Fail> {
 
     let parts = core.parts();
     same(&rt, parts.order.len(), 3);
-    same(&rt, parts.calls.as_slice(), [0, 0, 0].as_slice());
+    same(&rt, parts.calls.as_slice(), [calls; 3].as_slice());
     Ok(())
 }
 

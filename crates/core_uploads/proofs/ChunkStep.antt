@@ -33,6 +33,7 @@ use Rattle.core_state.specs.declared.parts.Parts.{Parts}
 use Rattle.core_state.specs.Chunks.{HasChunk, MayStand, AddsChunks}
 use Rattle.core_state.specs.Holds.{HasUploads, Holds, IsOnDisk, Shows}
 use Rattle.core_state.specs.Changes.{change_of, chunk_put, stays, stores}
+use Rattle.core_state.specs.Due.{IsDue}
 use Rattle.core_state.specs.Wanted.{session_at, want_writer}
 use Rattle.core_state.specs.declared.kept.Listed.{Listed}
 use Rattle.core_state.specs.declared.kept.Session.TheVariants.{Idle}
@@ -149,6 +150,14 @@ pub chunk_change : (x : Session) (w : Writing) (digest : Digest32) (checked : Re
     → known ≡ is_some (length_at ((w.session).writer).pool digest.0) → change_of (Chunk digest checked) x catalogue ≡ (if known then stays else stores (chunk_name digest.0) bytes)
 chunk_change x w digest checked bytes known catalogue is was value =
     ap (λ y. change_of (Chunk digest checked) y catalogue) is ∙ ap (λ k. chunk_put digest k w) was ∙ ap (λ b. if b then stays else stores (chunk_name digest.0) bytes) (sym value)
+
+-- what is put is a piece's blob
+pub chunk_due : (digest : Digest32) (checked : Result (List ℕ) Refusal) (bytes : List ℕ) → AreBytes bytes → checked ≡ Ok bytes → IsCheckedChunk digest checked
+    → (s : Store) (lane : ℕ) → IsDue (Chunk digest checked) s lane
+chunk_due digest checked bytes are was h s lane =
+    let ok : IsCheckedChunk digest (Ok bytes) = subst (IsCheckedChunk digest) was h in
+    let (p, is) = read digest bytes ok in
+    subst (λ k. IsDue (Chunk digest k) s lane) (sym was) (chunk_of digest bytes p (sent digest bytes p are ok is))
 
 module _ {D : Type 0} (g : Ghosts D) where
   -- what the plain store has afterwards

@@ -30,6 +30,7 @@ use Rattle.core_state.specs.Catalogue.{listed_by}
 use Rattle.core_state.specs.Changes.{Change, IsFirm, LeavesChange, after, by_writer, file_put, stays, installs}
 use Rattle.core_state.specs.Closing.{closes}
 use Rattle.core_state.specs.Commands.{ActDoes, ActLeaves, change_at, ends_session, is_admins, is_quiet, reads_only}
+use Rattle.core_state.specs.Due.{IsDue}
 use Rattle.core_state.specs.Holds.{Holds, IsOnDisk, Shows}
 use Rattle.core_state.specs.Named.{is_named}
 use Rattle.core_state.specs.Replies.{may_answer}
@@ -167,10 +168,11 @@ module _ {D : Type 0} (d : Ghosts D) (old new : Parts D) (at : Place) (act : Act
       pub unput_does : ActDoes d old new at act result
       unput_does = failed_does d old new at act done e result stopped failed puts.serves puts.same kept_so
 
-      pub unput_leaves : change_at old at.lane act ≡ by_writer (session_at old at.lane) changes → reads_only act ≡ false → closes act (session_at old at.lane) ≡ false → ActLeaves d old new at act result
-      unput_leaves is called closing_not =
+      pub unput_leaves : change_at old at.lane act ≡ by_writer (session_at old at.lane) changes → reads_only act ≡ false → closes act (session_at old at.lane) ≡ false
+          → ((s : Store) → Holds d old s → IsDue act s at.lane) → ActLeaves d old new at act result
+      unput_leaves is called closing_not due =
           failed_leaves d old new at act done e result stopped failed puts.same puts.unmoved (subst (LeavesChange d old.disk new.disk) (sym (puts_change is)) puts.crash) kept_so called
-          (λ short closing. false_true (sym closing_not ∙ closing))
+          (λ short closing. false_true (sym closing_not ∙ closing)) due
 
     module _ (put : d.honest old.disk → d.content new.disk ≡ with_put n.file n.text (d.content old.disk)) (kept_is : left ≡ with_pending n.file mid) where
       reached : (s : Store) → Holds d old s → (after_it : Store) × (act_does s at.lane at.moment act ≡ Ok (after_it, Done)) × Shows new after_it × IsOnDisk (d.content new.disk) after_it

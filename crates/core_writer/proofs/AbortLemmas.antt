@@ -138,7 +138,7 @@ module _ {D : Type 0} (d : Ghosts D) where
   end_failed_leaves old new at (Ok u) f is crash kept = absurd is
   end_failed_leaves old new at (Err x) f is crash kept =
       failed_leaves d old new at acts.End end_failed disks.Failed (Err DiskFailed) refl refl (λ none. no_memory none) (λ none. no_memory none)
-      (leaves_end (session_at old at.lane) old.disk new.disk crash) kept refl (λ none closing. no_memory none)
+      (leaves_end (session_at old at.lane) old.disk new.disk crash) kept refl (λ none closing. no_memory none) (λ s h. tt)
 
   -- ---- ABORT: a writer ends as a lane does
 
@@ -175,6 +175,7 @@ module _ {D : Type 0} (d : Ghosts D) where
         listed = ends.listed;
         admin = λ e. cc;
         adds = ends.adds;
+        due = λ failed s h. tt;
         closed = λ _. ends.ended refl;
         ended = λ _. ends.ended refl;
       }
@@ -210,6 +211,7 @@ module _ {D : Type 0} (d : Ghosts D) where
         listed = ends.listed;
         admin = λ e. cc;
         adds = ends.adds;
+        due = λ failed s h. tt;
         closed = λ _. tt;
         ended = λ _. tt;
       })

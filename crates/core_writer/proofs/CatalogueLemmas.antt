@@ -1,16 +1,17 @@
 -- What the catalogue is asked, and how a snapshot comes into it.
-use Rattle.std.proofs.Common.{◌≡◌, suc, Bool, true, false, cond, length, map, filter, List, [], ◌∷◌, ◌++◌, Option, Some, None, refl, ap}
+use Rattle.std.proofs.Common.{◌≡◌, ◌∙◌, suc, Bool, true, false, ◌&&◌, cond, length, map, filter, List, [], ◌∷◌, ◌++◌, append-nil, Option, Some, None, refl, ap}
+use Rattle.std.proofs.lemmas.List.Elements.{filter-append}
 use Rattle.std.specs.List.{last_or, insert, position_or_len}
 use Rattle.store_types.specs.declared.names.SnapshotKey.{SnapshotKey}
 use Rattle.store_types.specs.declared.names.GroupKey.{GroupKey}
 use Rattle.store_types.specs.Names.{key_lt, same_group, group_of_key}
 use Rattle.core_state.specs.declared.kept.Kept.{Kept}
 use Rattle.core_state.specs.declared.kept.Listed.{Listed}
-use Rattle.core_writer.specs.Opened.{kept_in, latest_kept}
+use Rattle.core_writer.specs.Opened.{is_whole, kept_in, latest_kept, latest_whole}
 use Rattle.core_state.specs.Catalogue.{insert_listed}
 use Rattle.core_uploads.proofs.Places.{insert_at}
 
-abbrev is_in : GroupKey → Listed → Bool
+abbrev pub is_in : GroupKey → Listed → Bool
 is_in group x = same_group (group_of_key (x.kept).key) group
 
 abbrev all_kept : List Listed → List Kept
@@ -25,24 +26,40 @@ kept_count group [] = refl
 kept_count group (x ∷ xs) = length_cond (is_in group x) x (filter (is_in group) xs) x.kept (kept_in group (all_kept xs)) (kept_count group xs)
 
 abbrev last_key : Option SnapshotKey → List Kept → Option SnapshotKey
-last_key o xs = last_or o (map (λ (x : Kept). x.key) xs)
+last_key o ks = last_or o (map (λ (k : Kept). k.key) ks)
 
-last_of_one : (o : Option SnapshotKey) (b : Bool) (x : Kept) → last_key o (cond b (x ∷ []) []) ≡ cond b (Some x.key) o
-last_of_one o true x = refl
-last_of_one o false x = refl
+last_of_one : (o : Option SnapshotKey) (b : Bool) (k : Kept) → last_key o (cond b (k ∷ []) []) ≡ cond b (Some k.key) o
+last_of_one o true k = refl
+last_of_one o false k = refl
 
-latest_from : (o : Option SnapshotKey) (group : GroupKey) (xs : List Listed) (x : Listed) → last_key o (kept_in group (all_kept (xs ++ x ∷ []))) ≡ cond (is_in group x) (Some (x.kept).key) (last_key o (kept_in group (all_kept xs)))
-latest_from o group [] x = last_of_one o (is_in group x) x.kept
-latest_from o group (y ∷ ys) x = by_test (is_in group y) (λ p. latest_from p group ys x)
+abbrev of_group : GroupKey → Kept → Bool
+of_group group k = same_group (group_of_key k.key) group
+
+latest_from : (o : Option SnapshotKey) (group : GroupKey) (ks : List Kept) (k : Kept) → last_key o (kept_in group (ks ++ k ∷ [])) ≡ cond (of_group group k) (Some k.key) (last_key o (kept_in group ks))
+latest_from o group [] k = last_of_one o (of_group group k) k
+latest_from o group (j ∷ js) k = by_test (of_group group j) (λ p. latest_from p group js k)
   where
-    by_test : (b : Bool) → ((p : Option SnapshotKey) → last_key p (kept_in group (all_kept (ys ++ x ∷ []))) ≡ cond (is_in group x) (Some (x.kept).key) (last_key p (kept_in group (all_kept ys))))
-        → last_key o (cond b (y.kept ∷ kept_in group (all_kept (ys ++ x ∷ []))) (kept_in group (all_kept (ys ++ x ∷ [])))) ≡ cond (is_in group x) (Some (x.kept).key) (last_key o (cond b (y.kept ∷ kept_in group (all_kept ys)) (kept_in group (all_kept ys))))
-    by_test true go = go (Some (y.kept).key)
+    by_test : (b : Bool) → ((p : Option SnapshotKey) → last_key p (kept_in group (js ++ k ∷ [])) ≡ cond (of_group group k) (Some k.key) (last_key p (kept_in group js)))
+        → last_key o (cond b (j ∷ kept_in group (js ++ k ∷ [])) (kept_in group (js ++ k ∷ []))) ≡ cond (of_group group k) (Some k.key) (last_key o (cond b (j ∷ kept_in group js) (kept_in group js)))
+    by_test true go = go (Some j.key)
     by_test false go = go o
+
+kept_push : (xs : List Listed) (x : Listed) → all_kept (xs ++ x ∷ []) ≡ all_kept xs ++ x.kept ∷ []
+kept_push [] x = refl
+kept_push (y ∷ ys) x = ap (λ (ks : List Kept). y.kept ∷ ks) (kept_push ys x)
 
 -- one more
 pub latest_kept-push : (group : GroupKey) (xs : List Listed) (x : Listed) → latest_kept group (all_kept (xs ++ x ∷ [])) ≡ cond (is_in group x) (Some (x.kept).key) (latest_kept group (all_kept xs))
-latest_kept-push group xs x = latest_from None group xs x
+latest_kept-push group xs x = ap (latest_kept group) (kept_push xs x) ∙ latest_from None group (all_kept xs) x.kept
+
+pub latest_whole-push : (group : GroupKey) (xs : List Listed) (x : Listed)
+    → latest_whole group (all_kept (xs ++ x ∷ [])) ≡ cond (is_whole x.kept && is_in group x) (Some (x.kept).key) (latest_whole group (all_kept xs))
+latest_whole-push group xs x =
+    ap (latest_whole group) (kept_push xs x) ∙ ap (latest_kept group) (filter-append is_whole (all_kept xs) (x.kept ∷ [])) ∙ by_test (is_whole x.kept)
+  where
+    by_test : (b : Bool) → latest_kept group (filter is_whole (all_kept xs) ++ cond b (x.kept ∷ []) []) ≡ cond (b && is_in group x) (Some (x.kept).key) (latest_whole group (all_kept xs))
+    by_test true = latest_from None group (filter is_whole (all_kept xs)) x.kept
+    by_test false = ap (latest_kept group) (append-nil (filter is_whole (all_kept xs)))
 
 -- whether the second is greater
 abbrev pub is_after : Listed → Listed → Bool

@@ -7,7 +7,7 @@ use Rattle.std.proofs.lemmas.Option.{some_pair_parts}
 use Rattle.std.proofs.lemmas.Slice.Eq.{bytes_eq-Decides}
 use Rattle.std.specs.FinMap.{get, remove}
 use Rattle.std.specs.List.{All, AllByRecursion, find, list_all}
-use Rattle.std.specs.Prelude.{option_map, is_some, codes}
+use Rattle.std.specs.Prelude.{IsOk, option_map, is_some, codes}
 use Rattle.std.specs.Str.{bytes_eq}
 use Rattle.disk_trait.specs.Files.{Files}
 use Rattle.disk_trait.specs.Laws.{placed_same, placed_other, differs}
@@ -408,7 +408,7 @@ list_all-insert new (x ∷ xs) is h =
 pub named_closed : (number : ℕ) (session : Session) (xs : List Listed) → is_named session ≡ true → list_all is_named_snapshot xs ≡ true → list_all is_named_snapshot (closed number session xs) ≡ true
 named_closed number sessions.Idle xs is h = h
 named_closed number (sessions.Writer w) xs is h =
-    list_all-insert (listed_of number w) xs (and_parts (has_text ((w.session).writer).key) (not (is_some (w.session).pending)) is).0 h
+    list_all-insert (listed_of number w) xs (and_from (has_text ((w.session).writer).key) true (and_parts (has_text ((w.session).writer).key) (not (is_some (w.session).pending)) is).0 refl) h
 named_closed number (sessions.Reader r) xs is h = h
 
 -- ---- the exits of the act
@@ -444,6 +444,14 @@ module _ {D : Type 0} (old : Parts D) (s : Store) (at : Place) (w : Writing) (sh
 
   pub tests_there : {P : Type 0} → ((v : Writer) → Shows (w.session).writer v → TestedBy (finish_check v) (Ok tt)) → manifest_in (session_at old at.lane) ≡ None → P
   tests_there plainly absent = let t = tested (Ok tt) plainly in absurd (checked_there shown_by.0 t.0 t.1 (sym kept_is ∙ absent))
+
+  -- where the tests passed the plain store's FINISH is done
+  pub tests_done : ((v : Writer) → Shows (w.session).writer v → TestedBy (finish_check v) (Ok tt)) → IsOk (finish s at.lane)
+  unfolding outcome
+  tests_done plainly =
+      let t = tested (Ok tt) plainly in
+      let done : finish s at.lane ≡ Ok (finished s at.lane shown_by.0, Done) = finishes s at.lane at.moment shown_by.0 t.0 shown_by.1 t.1 in
+      subst IsOk (sym done) refl
 
 -- ---- the act
 

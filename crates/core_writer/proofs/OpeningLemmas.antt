@@ -43,7 +43,7 @@ use Rattle.core_state.specs.Stops.{IfRefused}
 use Rattle.core_state.specs.declared.stop.Stop.{Stop}
 use Rattle.core_state.specs.declared.stop.Stop.TheVariants as Stopped
 use Rattle.core_state.specs.declared.kept.Listed.{Listed}
-use Rattle.core_writer.proofs.OpenedLemmas.{latest_shown, count_shown, may_open}
+use Rattle.core_writer.proofs.OpenedLemmas.{latest_shown, latest_whole-shown, count_shown, may_open}
 
 -- ---- the store's tests
 
@@ -91,7 +91,7 @@ module _ (s : Store) (lane moment : ℕ) (text : List ℕ) where
   kept_tests : (key : SnapshotKey) → base_kept (map shown_snapshot s.snapshots) (group_holder s (group_of_key key)) key ≡ store_tests key (Ok (latest_in (group_of_key key) s.snapshots))
   unfolding base_kept
   kept_tests key =
-      rw (latest_shown (group_of_key key) s.snapshots, count_shown (group_of_key key) s.snapshots) refl
+      rw (latest_shown (group_of_key key) s.snapshots, latest_whole-shown (group_of_key key) s.snapshots, count_shown (group_of_key key) s.snapshots) refl
 
   pub refused : (key : SnapshotKey) (r : Refusal) → model.want_idle (session s lane) ≡ Ok tt → key_of text ≡ Some key → base_kept (map shown_snapshot s.snapshots) (group_holder s (group_of_key key)) key ≡ Err r → step ≡ Err r
   refused key r idle is e = in_turn key idle is ∙ refuses_alike (group_holder s (group_of_key key)) (want_newer key.time (latest_in (group_of_key key) s.snapshots)) (nat_lt (length (in_group (group_of_key key) s.snapshots)) 4096) (latest_in (group_of_key key) s.snapshots) (after_tests key) r (sym (kept_tests key) ∙ e)
@@ -100,7 +100,7 @@ module _ (s : Store) (lane moment : ℕ) (text : List ℕ) where
       → step ≡ Ok (with_session s lane (writer (new_writer key moment base)), Base (base_text base))
   unfolding goes_on
   opened key base idle is e =
-      let latest = sym (latest_shown (group_of_key key) s.snapshots) ∙ (may_open _ _ key base e).latest in
+      let latest = sym (latest_whole-shown (group_of_key key) s.snapshots) ∙ (may_open _ _ key base e).latest in
       in_turn key idle is ∙ passes_alike (group_holder s (group_of_key key)) (want_newer key.time (latest_in (group_of_key key) s.snapshots)) (nat_lt (length (in_group (group_of_key key) s.snapshots)) 4096) (latest_in (group_of_key key) s.snapshots) base (after_tests key) (sym (kept_tests key) ∙ e)
       ∙ ap (λ b. Ok (with_session s lane (writer (new_writer key moment b)), Base (base_text b))) latest
 

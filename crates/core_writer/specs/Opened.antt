@@ -1,5 +1,5 @@
 -- OPEN_WRITER, by what the core keeps.
-use Rattle.std.specs.Prelude.{◌≡◌, ℕ, Bool, List, [], map, filter, length, nat_lt, Option, None, Result, Ok, Err, MatchResult}
+use Rattle.std.specs.Prelude.{◌≡◌, ℕ, Bool, List, [], map, filter, length, nat_lt, Option, None, is_none, Result, Ok, Err, MatchResult}
 use Rattle.std.specs.Borrow.{Bor}
 use Rattle.std.specs.List.{last_or}
 use Rattle.store_types.specs.declared.names.SnapshotKey.{SnapshotKey}
@@ -27,13 +27,22 @@ kept_in group kept = filter (λ x. same_group (group_of_key x.key) group) kept
 abbrev pub latest_kept : GroupKey → List Kept → Option SnapshotKey
 latest_kept group kept = last_or None (map (λ x. x.key) (kept_in group kept))
 
--- the base of a writer of the snapshot, unless it is refused; where another lane has the group, it is refused with that lane
+-- no file is known to make it damaged
+abbrev pub is_whole : Kept → Bool
+is_whole x = is_none x.unreadable
+
+-- the group's latest whole snapshot
+abbrev pub latest_whole : GroupKey → List Kept → Option SnapshotKey
+latest_whole group kept = latest_kept group (filter is_whole kept)
+
+-- The base of a writer of the snapshot, unless it is refused; where another lane has the group, it is refused with that lane. A damaged snapshot
+-- is no base, but it counts in both tests.
 unfoldable pub base_kept : List Kept → Option ℕ → SnapshotKey → Result (Option SnapshotKey) Refusal
 base_kept kept holder key = do
   _ ← if_none GroupBusy holder
   _ ← want_newer key.time (latest_kept (group_of_key key) kept)
   _ ← unless (TooMany 4096) (nat_lt (length (kept_in (group_of_key key) kept)) 4096)
-  Ok (latest_kept (group_of_key key) kept)
+  Ok (latest_whole (group_of_key key) kept)
 
 -- ---- by the locks and the catalogue
 
@@ -48,6 +57,10 @@ shares_group key x = same_group (group_of_key (x.kept).key) (group_of_key key)
 -- the latest snapshot of the snapshot's group
 abbrev pub latest_listed : SnapshotKey → List Listed → Option SnapshotKey
 latest_listed key catalogue = latest_kept (group_of_key key) (map (λ x. x.kept) catalogue)
+
+-- the latest whole snapshot of the snapshot's group
+abbrev pub whole_listed : SnapshotKey → List Listed → Option SnapshotKey
+whole_listed key catalogue = latest_whole (group_of_key key) (map (λ x. x.kept) catalogue)
 
 -- the snapshot's group has room for one more
 abbrev pub wants_room : SnapshotKey → List Listed → Result (Unit {0}) Refusal

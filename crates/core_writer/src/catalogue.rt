@@ -6,13 +6,13 @@ ghost use Rattle.store_model.specs.WriterSteps.{want_newer as needs_newer};
 ghost use Rattle.core_state.specs.Catalogue.{insert_listed};
 ghost use Rattle.core_state.specs.Found.{lent_key};
 ghost use Rattle.core_state.specs.Replies.{refuses_writer};
-ghost use Rattle.core_writer.specs.Opened.{latest_listed, shares_group, wants_room};
+ghost use Rattle.core_writer.specs.Opened.{latest_listed, shares_group, wants_room, whole_listed};
 ghost use Rattle.core_writer.specs.Stopping.{RefusesBy};
 
 use core_state::Listed;
 use store_types::{Refusal, SnapshotKey};
 
-/// The latest snapshot of the snapshot's group.
+/// The latest snapshot of the snapshot's group, whole or damaged.
 pub fn latest_in<'a>(catalogue: &'a [Listed], key: &SnapshotKey) -> Option<&'a SnapshotKey>
     ensures { lent_key result ≡ latest_listed key.now catalogue.now }
 {
@@ -25,7 +25,20 @@ pub fn latest_in<'a>(catalogue: &'a [Listed], key: &SnapshotKey) -> Option<&'a S
     latest
 }
 
-/// How many snapshots the snapshot's group has.
+/// The latest whole snapshot of the snapshot's group.
+pub fn latest_whole<'a>(catalogue: &'a [Listed], key: &SnapshotKey) -> Option<&'a SnapshotKey>
+    ensures { lent_key result ≡ whole_listed key.now catalogue.now }
+{
+    let mut whole = None;
+    for listed in catalogue {
+        if listed.kept.unreadable.is_none() && listed.kept.key.same_group(key) {
+            whole = Some(&listed.kept.key);
+        }
+    }
+    whole
+}
+
+/// How many snapshots the snapshot's group has, damaged ones too.
 fn count_in(catalogue: &[Listed], key: &SnapshotKey) -> usize
     ensures { result ≡ length (filter (λ x. shares_group key.now x) catalogue.now) }
 {
@@ -35,7 +48,7 @@ fn count_in(catalogue: &[Listed], key: &SnapshotKey) -> usize
         .count()
 }
 
-/// The snapshot is later than the latest of its group.
+/// The snapshot is later than the latest of its group, whole or damaged.
 #[tactic(auto, using(core_state::proofs::Texts::not_newer_has_text))]
 pub fn want_newer(key: &SnapshotKey, latest: Option<&SnapshotKey>) -> Result<(), Refusal>
     ensures refusal { IfErr result (RefusesBy refuses_writer) }

@@ -68,6 +68,7 @@ fn close(catalogue: &mut Vec<Listed>, session: &mut Session, number: u64)
         let kept = Kept {
             key: session.into_key(),
             files,
+            unreadable: None,
         };
         insert(catalogue, Listed { number, kept });
     }

@@ -16,7 +16,7 @@ ghost use Rattle.core_state.specs.Replies.{refuses_writer};
 ghost use Rattle.core_writer.specs.Opened.{LendsBase, TakesBase, TellsBase, base_for, base_on, other_holder};
 ghost use Rattle.core_writer.specs.Stopping.{RefusesBy, StopsBy};
 
-use crate::catalogue::{latest_in, want_newer, want_room};
+use crate::catalogue::{latest_in, latest_whole, want_newer, want_room};
 use core_state::{Listed, Parts, Place, Session, Stop, Writing};
 use disk_trait::Disk;
 use lock_book::LockBook;
@@ -43,7 +43,7 @@ fn want_free(locks: &LockBook, lane: u32, group: &GroupKey) -> Result<(), Refusa
     }
 }
 
-/// The latest snapshot of the group, where a writer of the snapshot may begin on the lane.
+/// The group's latest whole snapshot, where a writer of the snapshot may begin on the lane.
 #[tactic(auto, unfolding(crate::specs::Opened::base_kept))]
 fn base_of<'a>(
     locks: &LockBook,
@@ -57,10 +57,9 @@ fn base_of<'a>(
     ensures value { LendsBase (base_on locks.now catalogue.now lane group.now key.now) result }
 {
     want_free(locks, lane, group)?;
-    let latest = latest_in(catalogue, key);
-    want_newer(key, latest)?;
+    want_newer(key, latest_in(catalogue, key))?;
     want_room(catalogue, key)?;
-    Ok(latest)
+    Ok(latest_whole(catalogue, key))
 }
 
 /// The base's text, empty where there is none.
@@ -84,8 +83,8 @@ fn copied(base: Option<&SnapshotKey>) -> Result<Option<SnapshotKey>, AllocError>
     }
 }
 
-/// The lane takes the group of the snapshot, and the group's latest snapshot as base. At a refusal and at want of memory
-/// nothing has changed.
+/// The lane takes the group of the snapshot, and the group's latest whole snapshot as base. At a refusal and at want of
+/// memory nothing has changed.
 fn take_locks(
     locks: &mut LockBook,
     alloc: Global,
@@ -113,9 +112,9 @@ fn take_locks(
 
 /// The lane gets a writer of the snapshot, and holds the group and the base. It makes no disk call.
 ///
-/// The reply is the text of the base: the group's latest snapshot, or nothing. The refusals, in the order in which they
-/// are tested: the lane has a session; the text names no snapshot; a writer has the group; the snapshot is not later than
-/// the group's latest; the group has 4,096 snapshots.
+/// The reply is the text of the base: the group's latest whole snapshot, or nothing. The refusals, in the order in which
+/// they are tested: the lane has a session; the text names no snapshot; a writer has the group; the snapshot is not later
+/// than the group's latest, whole or damaged; the group has 4,096 snapshots, damaged ones too.
 pub fn open_writer<D: Disk>(
     parts: &mut Parts<D>,
     alloc: Global,

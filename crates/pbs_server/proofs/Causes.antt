@@ -1,6 +1,6 @@
 -- Why a session is answered so.
 use Rattle.disk_trait.specs.declared.disk.Disk.{Ghosts}
-use Rattle.std.proofs.Common.{◌≡◌, ℕ, Bool, true, false, List, [], ◌++◌, length, Some, None, if◌then◌else◌, ◌⊎◌, inl, inr, refl, sym, ap, subst, ◌∙◌}
+use Rattle.std.proofs.Common.{◌≡◌, ◌≤◌, ℕ, Bool, true, false, List, [], ◌++◌, length, Some, None, if◌then◌else◌, ◌⊎◌, inl, inr, refl, sym, ap, subst, ◌∙◌}
 use Rattle.std.specs.List.{All}
 use Rattle.port_traits.specs.Faults.{Rose}
 use Rattle.store_types.specs.declared.order.Entry.{Entry}
@@ -11,6 +11,7 @@ use Rattle.core_state.specs.declared.state.Core.{Core}
 use Rattle.lane.specs.declared.port.LaneReport.{LaneReport}
 use Rattle.lane.specs.Causes.{IsCaused, HasCauses}
 use Rattle.lane.specs.Entries.{has_kind, HasEntered}
+use Rattle.lane.proofs.Caused.{rose_later}
 use Rattle.pbs_server.specs.declared.status.Status.{Status}
 use Rattle.pbs_server.specs.declared.status.Status.TheVariants as statuses
 use Rattle.pbs_server.specs.Statuses.{status_by, status_of_ending, is_short}
@@ -200,17 +201,17 @@ pub record IsHandedBack (order : List Entry) (calls : List ℕ) (disk disk' : �
   pub order_is : IsOrder order calls disk disk'
   pub memory : wanting → has_kind 2 order ≡ true
 
--- what a lane entered from the first entry on is the order
+-- What a lane entered from the first entry on is the order. Before it, the disk was opened.
 pub handed_back : {D E C : Type 0} (d : Ghosts D) (old new : Core D E C) (wanting : Type 0) (order : List Entry) (calls : List ℕ) (disk disk' : D)
     → HasEntered d old new 0 wanting
     → (old.journal).entries.items ≡ [] → (old.journal).calls.items ≡ [] → old.fault ≡ None
-    → order ≡ (new.journal).entries.items → calls ≡ (new.journal).calls.items → (old.parts).disk ≡ disk → disk' ≡ (new.parts).disk
+    → order ≡ (new.journal).entries.items → calls ≡ (new.journal).calls.items → d.faults disk ≤ d.faults (old.parts).disk → disk' ≡ (new.parts).disk
     → IsHandedBack order calls (d.faults disk) (d.faults disk') wanting
-handed_back d old new wanting order calls disk disk' x no_entries no_calls no_fault entries_are calls_are disk_is disk_after = record {
+handed_back d old new wanting order calls disk disk' x no_entries no_calls no_fault entries_are calls_are later disk_after = record {
   order_is = record {
     lanes = subst (λ es. All (λ e. e.lane ≡ 0) es) (sym added) x.lanes;
     beside = ap length counts ∙ x.beside ∙ ap length (sym added);
-    faults = λ five. subst (λ n. Rose n (d.faults disk')) (ap d.faults disk_is)
+    faults = λ five. rose_later (d.faults disk) (d.faults (old.parts).disk) (d.faults disk') later
         (subst (λ n. Rose (d.faults (old.parts).disk) n) (sym (ap d.faults disk_after)) (x.cause no_fault (sym (ap (has_kind 5) added) ∙ five)));
   };
   memory = λ wants. ap (has_kind 2) added ∙ x.memory wants;

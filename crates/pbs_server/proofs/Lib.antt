@@ -4,3 +4,4 @@ pub mod Causes
 pub mod Leaving
 pub mod Rules
 pub mod Broken
+pub mod Acknowledged

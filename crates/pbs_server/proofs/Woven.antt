@@ -1,6 +1,6 @@
 -- A session that was served is answered as by the plain store.
 use Rattle.disk_trait.specs.declared.disk.Disk.{Ghosts}
-use Rattle.std.proofs.Common.{◌≡◌, ◌≤◌, ℕ, zero, suc, Bool, true, false, ◌||◌, ◌==◌, List, [], ◌∷◌, ◌++◌, Option, Some, None, IfSome, IsTrue, Ok, refl, sym, ap, subst, ◌∙◌}
+use Rattle.std.proofs.Common.{◌≡◌, ◌≤◌, ℕ, zero, suc, Bool, true, false, ◌||◌, ◌==◌, ◌⊎◌, inl, inr, List, [], ◌∷◌, ◌++◌, Option, Some, None, IfSome, IsTrue, Ok, refl, sym, ap, subst, ◌∙◌}
 use Rattle.std.specs.FinMap.{get}
 use Rattle.port_traits.specs.Readings.{Readings}
 use Rattle.disk_trait.specs.Files.{Files}
@@ -10,7 +10,7 @@ use Rattle.store_model.specs.Clash.{NoClash, chunk_pieces}
 use Rattle.store_model.specs.Stands.{StandsFor as Stands}
 use Rattle.store_model.specs.Weave.{weave}
 use Rattle.store_history.specs.declared.act.Event.{Event}
-use Rattle.store_history.specs.History.{World, opened, after, after_all, moved, entries, sent, kind, kind_of, EntryKind, step_kind, short_kind, fault_kind, end_kind, no_kind}
+use Rattle.store_history.specs.History.{Opening, World, opened, after, after_all, moved, entries, sent, kind, kind_of, EntryKind, step_kind, short_kind, fault_kind, end_kind, no_kind}
 use Rattle.store_history.specs.LaneRun.{text}
 use Rattle.store_history.proofs.Alone.{served_alone}
 use Rattle.store_history.proofs.Whole.{served_woven}
@@ -19,13 +19,17 @@ use Rattle.store_files.specs.Order.{keeps_rules}
 use Rattle.core_state.specs.declared.state.Core.{Core}
 use Rattle.core_state.specs.History.{StandsFor, began, world}
 use Rattle.core_state.specs.Chunks.{HoldsOnly}
-use Rattle.core_state.specs.Foreign.{KeepsForeign}
-use Rattle.core_state.specs.Opening.{opening_at}
+use Rattle.core_state.specs.Foreign.{IsForeign}
 use Rattle.core_state.specs.Records.{Records, Reaches}
+use Rattle.core_state.specs.Recovers.{TellsMoments}
+use Rattle.opening_files.specs.Leaving.{IsFileOf, IsLeaving, Cleans}
+use Rattle.opening_files.specs.Opened.{Opens}
+use Rattle.core_opening.specs.Opening.{opening_of, StandsOpened}
+use Rattle.core_opening.proofs.Recovering.{recovers_began}
 use Rattle.lane.specs.declared.port.LaneReport.{LaneReport}
 use Rattle.lane.specs.Entries.{has_kind}
 use Rattle.lane.specs.Ran.{RanAlone, with_events}
-use Rattle.pbs_server.specs.Headline.{HasTold, IsPlain}
+use Rattle.pbs_server.specs.Headline.{HasTold, IsPlain, StopsLeave}
 use Rattle.pbs_server.proofs.Rules.{kept_rules}
 
 -- only a fault's entry leaves a fault
@@ -89,17 +93,35 @@ no_fault R w (e ∷ es) none_is =
     no_fault R (after R w e) es both.1
     ∙ moved_fault R w _ _ _ (kind_of (kind e)) (λ is. not_five (kind e) both.0 (fault_is_five (kind e) is))
 
--- what a session did on any disk, and on an honest one, from a core that stands for no events where this holds
-pub record HasBoth (clock : Option Readings) (old : Files) (before now : ℕ) (is_honest : Type 0) (left left' taken taken' : Option (List ℕ)) (order : List Entry) (calls : List ℕ) (report : LaneReport) (files : Files) (stands : Option (List Snapshot) → Type 0) : Type 0 where
-  pub told : HasTold clock left left' taken taken' order calls report
-  pub plain : (R : Option (List Snapshot)) → stands R → NoClash (chunk_pieces old ++ sent told.events) → IsPlain (opening_at old before) R now is_honest told.input told.events told.replies order report old files
+-- what opening leaves at names that are none of the store's
+foreign_cleaned : (old new : Files) → Cleans old new → (q : List ℕ) → IsForeign q → get new q ≡ get old q
+foreign_cleaned old new cleans q own = by_name (cleans.only q)
+  where
+    no_leaving : IsLeaving old q → ⊥
+    no_leaving (inl temporary) = own.lasting temporary.0 temporary.1
+    no_leaving (inr orphan) = let file : IsFileOf orphan.0 q = orphan.2 in own.file orphan.0 file.0 file.2
 
-pub has_both : {D E C : Type 0} (d : Ghosts D) (readings : C → Option Readings) (first core : Core D E C)
-    (clock : Option Readings) (old : Files) (before : ℕ) (left left' taken taken' : Option (List ℕ)) (order : List Entry) (calls : List ℕ) (report : LaneReport) (disk : D)
-    → RanAlone (Reaches d readings first (began (opening_at old before) None clock) core) (began (opening_at old before) None clock) 0 left left' taken taken' report
-    → d.content (first.parts).disk ≡ old → order ≡ (core.journal).entries.items → calls ≡ (core.journal).calls.items → disk ≡ (core.parts).disk
-    → HasBoth clock old before (d.calls disk) (d.honest disk) left left' taken taken' order calls report (d.content disk) (λ R. StandsFor d readings first (began (opening_at old before) R clock))
-has_both d readings first core clock old before left left' taken taken' order calls report disk ran first_as order_as calls_as disk_as = record {
+    by_name : (get new q ≡ get old q) ⊎ ((get new q ≡ None) × IsLeaving old q) → get new q ≡ get old q
+    by_name (inl same) = same
+    by_name (inr gone) = absurd (no_leaving gone.1)
+
+-- what a session did on any disk, and on an honest one, which was opened at a moment
+pub record HasBoth {D : Type 0} (d : Ghosts D) (clock : Option Readings) (start : ℕ) (disk opened last : D) (left left' taken taken' : Option (List ℕ)) (order : List Entry) (calls : List ℕ) (report : LaneReport) : Type 0 where
+  pub told : HasTold clock left left' taken taken' order calls report
+  pub plain : (L : List Snapshot) (R : Option (List Snapshot)) → d.honest disk → Stands (d.content disk) L → NoClash (chunk_pieces (d.content disk) ++ sent told.events)
+      → IsPlain (opening_of d disk opened L) R (d.calls last) (d.honest last) told.input told.events told.replies order report (d.content disk) (d.content last)
+  pub stops : (L : List Snapshot) (R : Option (List Snapshot)) → d.honest disk → Stands (d.content disk) L → NoClash (chunk_pieces (d.content disk) ++ sent told.events)
+      → StopsLeave d start last R (opening_of d disk opened L) told.events
+
+pub has_both : {D E C : Type 0} (d : Ghosts D) (readings : C → Option Readings) (clock : C) (disk : D) (first core : Core D E C)
+    (left left' taken taken' : Option (List ℕ)) (order : List Entry) (calls : List ℕ) (report : LaneReport) (last : D)
+    → TellsMoments d → StandsOpened d readings disk clock first → (since : Opens d disk (first.parts).disk)
+    → (d.honest disk → Cleans (d.content disk) (d.content (first.parts).disk))
+    → RanAlone (Reaches d readings first (began (opening_of d disk (first.parts).disk []) None (readings clock)) core)
+    (began (opening_of d disk (first.parts).disk []) None (readings clock)) 0 left left' taken taken' report
+    → order ≡ (core.journal).entries.items → calls ≡ (core.journal).calls.items → last ≡ (core.parts).disk
+    → HasBoth d (readings clock) since.start disk (first.parts).disk last left left' taken taken' order calls report
+has_both d readings clock disk first core left left' taken taken' order calls report last moments opens since cleaned ran order_as calls_as disk_as = record {
   told = record {
     input = ran.input;
     events = ran.events;
@@ -111,16 +133,24 @@ has_both d readings first core clock old before left left' taken taken' order ca
     took = ran.took;
     size_is = ran.size_is;
     rules = subst (λ es. IsTrue (keeps_rules 1 es)) (sym order_is) (kept_rules 0 ran.events ran.input report.ending ran.told r.kept ran.lanes ran.ran);
-    times = timed clock r.time;
+    times = timed (readings clock) r.time;
     kept = r.kept;
     order_is = order_is;
     calls_are = calls_as ∙ r.calls;
     read_out = ran.read_out;
   };
-  plain = λ R begun clear. plain R ((ran.stands_for).stands R begun clear) (λ none. (ran.stands_for).foreign R begun clear none);
+  plain = λ L R honest stands clear.
+      let stood = opens L R honest stands in
+      plain L R ((ran.stands_for).stands L R stood clear) (λ none q own. (ran.stands_for).foreign L R stood clear none q own ∙ foreign_cleaned _ _ (cleaned honest) q own);
+  stops = λ L R honest stands clear t c from image.
+      ((ran.stands_for).recovers moments since.start L R (opens L R honest stands) (recovers_began d disk first (readings clock) L R since stands) clear).each t c from
+      (subst (λ x. d.images x t c) disk_as image);
 }
   where
-    r : Records readings core (with_events (began (opening_at old before) None clock) ran.events)
+    opening : List Snapshot → Opening
+    opening L = opening_of d disk (first.parts).disk L
+
+    r : Records readings core (with_events (began (opening []) None (readings clock)) ran.events)
     r = (ran.stands_for).records
 
     order_is : order ≡ entries ran.events
@@ -131,23 +161,23 @@ has_both d readings first core clock old before left left' taken taken' order ca
     timed None t = t
     timed (Some c) t = t.0
 
-    calm : (R : Option (List Snapshot)) → has_kind 5 order ≡ false → (after_all R (opened (opening_at old before)) ran.events).fault ≡ None
-    calm R is = no_fault R (opened (opening_at old before)) ran.events (sym (ap (has_kind 5) order_is) ∙ is)
+    calm : (L : List Snapshot) (R : Option (List Snapshot)) → has_kind 5 order ≡ false → (after_all R (opened (opening L)) ran.events).fault ≡ None
+    calm L R is = no_fault R (opened (opening L)) ran.events (sym (ap (has_kind 5) order_is) ∙ is)
 
-    plain : (R : Option (List Snapshot)) → StandsFor d readings core (with_events (began (opening_at old before) R clock) ran.events)
-        → (core.fault ≡ None → KeepsForeign d (first.parts).disk (core.parts).disk)
-        → IsPlain (opening_at old before) R (d.calls disk) (d.honest disk) ran.input ran.events (text ran.told) order report old (d.content disk)
-    plain R s foreign =
-        let h = with_events (began (opening_at old before) R clock) ran.events in
-        let served = served_alone (opening_at old before) R ran.events ran.input report.ending ran.told s.legal ran.lanes ran.ran in
+    plain : (L : List Snapshot) (R : Option (List Snapshot)) → StandsFor d readings core (with_events (began (opening L) R (readings clock)) ran.events)
+        → (core.fault ≡ None → (q : List ℕ) → IsForeign q → get (d.content (core.parts).disk) q ≡ get (d.content disk) q)
+        → IsPlain (opening L) R (d.calls last) (d.honest last) ran.input ran.events (text ran.told) order report (d.content disk) (d.content last)
+    plain L R s foreign =
+        let h = with_events (began (opening L) R (readings clock)) ran.events in
+        let served = served_alone (opening L) R ran.events ran.input report.ending ran.told s.legal ran.lanes ran.ran in
         record {
           store = (world h).store;
-          woven = subst (λ es. weave [] R es (ran.input ∷ []) (report.ending ∷ []) ≡ Ok (record { store = (world h).store; replies = text ran.told ∷ [] })) (sym order_is)
-              (served_woven (opening_at old before) R ran.events (ran.input ∷ []) (report.ending ∷ []) (ran.told ∷ []) served);
+          woven = subst (λ es. weave L R es (ran.input ∷ []) (report.ending ∷ []) ≡ Ok (record { store = (world h).store; replies = text ran.told ∷ [] })) (sym order_is)
+              (served_woven (opening L) R ran.events (ran.input ∷ []) (report.ending ∷ []) (ran.told ∷ []) served);
           legal = s.legal;
           reached = subst (λ x. (world h).calls ≤ d.calls x) (sym disk_as) s.reached;
           honest = subst d.honest (sym disk_as) s.honest;
-          stands = λ is. subst (λ x. Stands (d.content x) (world h).store.snapshots) (sym disk_as) (s.files (calm R is)).snapshots;
-          chunks = λ is. subst (λ x. HoldsOnly (d.content x) (chunk_pieces old ++ sent ran.events)) (sym disk_as) (s.chunks (calm R is));
-          foreign = λ is q own. ap (λ x. get (d.content x) q) disk_as ∙ foreign (s.fault ∙ calm R is) q own ∙ ap (λ m. get m q) first_as;
+          stands = λ is. subst (λ x. Stands (d.content x) (world h).store.snapshots) (sym disk_as) (s.files (calm L R is)).snapshots;
+          chunks = λ is. subst (λ x. HoldsOnly (d.content x) (chunk_pieces (d.content disk) ++ sent ran.events)) (sym disk_as) (s.chunks (calm L R is));
+          foreign = λ is q own. ap (λ x. get (d.content x) q) disk_as ∙ foreign (s.fault ∙ calm L R is) q own;
         }

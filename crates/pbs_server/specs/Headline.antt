@@ -1,6 +1,7 @@
 -- What a run leaves, and that a session is answered as the plain store answers it.
 use Rattle.disk_trait.specs.declared.disk.Disk.{Ghosts}
-use Rattle.std.specs.Prelude.{◌≡◌, ◌≤◌, ◌^◌, ◌⊎◌, ℕ, false, List, [], ◌∷◌, ◌++◌, map, length, Option, Some, None, IfSome, IsSome, IsTrue, Ok, String, string_bytes}
+use Rattle.disk_trait.specs.Disk.{Serves}
+use Rattle.std.specs.Prelude.{◌≡◌, ◌≢◌, ◌≤◌, ◌^◌, ◌⊎◌, ℕ, false, List, [], ◌∷◌, ◌++◌, map, length, Option, Some, None, IfSome, IsSome, IsTrue, Ok, String, string_bytes}
 use Rattle.std.specs.declared.alloc.Global.{Global}
 use Rattle.std.specs.FinMap.{get}
 use Rattle.port_traits.specs.Bytes.{WritesCounted}
@@ -15,13 +16,16 @@ use Rattle.store_model.specs.Store.{Store}
 use Rattle.store_model.specs.Stands.{StandsFor}
 use Rattle.store_model.specs.Weave.{weave}
 use Rattle.store_history.specs.declared.act.Event.{Event}
+use Rattle.store_history.specs.CrashPoints.{Reopens}
 use Rattle.store_history.specs.History.{Opening, opened, after_all, entries, sent}
 use Rattle.store_history.specs.LaneRun.{text, LaneRan}
 use Rattle.store_history.specs.Legal.{IsLegal, IsTimed}
 use Rattle.core_state.specs.Chunks.{HoldsOnly}
 use Rattle.core_state.specs.Foreign.{IsForeign}
-use Rattle.core_state.specs.Opening.{opening_at}
 use Rattle.core_state.specs.Records.{AreKept}
+use Rattle.opening_files.specs.Leaving.{MayClean, Cleans}
+use Rattle.opening_files.specs.Opened.{Opens, MayOpen}
+use Rattle.core_opening.specs.Opening.{opening_of}
 use Rattle.lane.specs.declared.port.LaneReport.{LaneReport}
 use Rattle.lane.specs.declared.port.Port.{Port}
 use Rattle.lane.specs.Acting.{gave_all}
@@ -58,13 +62,19 @@ pub record HasTold (readings : Option Readings) (left left' taken taken' : Optio
   -- a session that ends cleanly, or where no command stands, was read to there
   pub read_out : EndsRead report.ending input events left'
 
--- The plain store of whole archives, opened without snapshots and asked by the session's commands in the returned order, gives
+-- What opening did to a disk: nothing was removed before a sync, and then only files that opening takes away. An honest disk lacks them all,
+-- and else it reads as before.
+pub record WasOpened {D : Type 0} (d : Ghosts D) (disk opened : D) : Type 0 where
+  pub opens : Opens d disk opened
+  pub cleaned : d.honest disk → Cleans (d.content disk) (d.content opened)
+
+-- The plain store of whole archives, opened with these snapshots and asked by the session's commands in the returned order, gives
 -- the bytes of the replies and this last store. The answers are the plain store's. The disk is honest still, its count of calls is
 -- not below the last entry's. Where it did not fail, what it holds stands for the last store's snapshots, its chunk files are of pieces that
 -- were there or that the session sent, and what stood at names that are none of the store's stands there still.
 pub record IsPlain (opening : Opening) (remote : Option (List Snapshot)) (now : ℕ) (is_honest : Type 0) (input : List ℕ) (events : List Event) (replies : List ℕ) (order : List Entry) (report : LaneReport) (before files : Files) : Type 0 where
   pub store : Store
-  pub woven : weave [] remote order (input ∷ []) (report.ending ∷ []) ≡ Ok (record { store = store; replies = replies ∷ [] })
+  pub woven : weave opening.snapshots remote order (input ∷ []) (report.ending ∷ []) ≡ Ok (record { store = store; replies = replies ∷ [] })
   pub legal : IsLegal remote (opened opening) events
   pub reached : (after_all remote (opened opening) events).calls ≤ now
   pub honest : is_honest
@@ -72,15 +82,27 @@ pub record IsPlain (opening : Opening) (remote : Option (List Snapshot)) (now : 
   pub chunks : has_kind 5 order ≡ false → HoldsOnly files (chunk_pieces before ++ sent events)
   pub foreign : has_kind 5 order ≡ false → (q : List ℕ) → IsForeign q → get files q ≡ get before q
 
+-- What a crash leaves of a moment since this one stands for the plain store's snapshots after the events that were answered by then, or after
+-- one more: of a moment without a fault before it, a front of the events with each that was answered.
+abbrev pub StopsLeave : {D : Type 0} → Ghosts D → ℕ → D → Option (List Snapshot) → Opening → List Event → Type 0
+StopsLeave d start disk remote opening events =
+    (t : ℕ) (c : Files) → start ≤ t → d.images disk t c → (found : List Snapshot) × StandsFor c found × Reopens remote (opened opening) events t found
+
 -- One session was served.
 pub record HasServed {D E S K : Type 0} (d : Ghosts D) (left : S → Option (List ℕ)) (source_faults : S → ℕ) (taken : K → Option (List ℕ)) (sink_faults : K → ℕ)
     (readings : Option Readings) (disk : D) (remote : Option E) (old new : Port S K) (report : LaneReport) (result : Served D E) : Type 0 where
   -- on any disk
   pub told : HasTold readings (left old.source) (left new.source) (taken old.sink) (taken new.sink) (result.order).items ((result.report).calls).items report
-  -- on an honest disk without snapshots, whatever the remote has, where no two unequal pieces have one digest of those in the chunk
-  -- files at opening and those that the session sent
-  pub plain : (R : Option (List Snapshot)) → d.honest disk → StandsFor (d.content disk) [] → NoClash (chunk_pieces (d.content disk) ++ sent told.events)
-      → IsPlain (opening_at (d.content disk) (d.calls disk)) R (d.calls result.disk) (d.honest result.disk) told.input told.events told.replies (result.order).items report (d.content disk) (d.content result.disk)
+  -- the disk once it was opened, before the first command
+  pub opened : D
+  pub was_opened : WasOpened d disk opened
+  -- on an honest disk that stands for any list of snapshots, whatever the remote has, where no two unequal pieces have one digest of those in
+  -- the chunk files at opening and those that the session sent
+  pub plain : (L : List Snapshot) (R : Option (List Snapshot)) → d.honest disk → StandsFor (d.content disk) L → NoClash (chunk_pieces (d.content disk) ++ sent told.events)
+      → IsPlain (opening_of d disk opened L) R (d.calls result.disk) (d.honest result.disk) told.input told.events told.replies (result.order).items report (d.content disk) (d.content result.disk)
+  -- under the same premises, what a crash leaves from the opening's sync on
+  pub stops : (L : List Snapshot) (R : Option (List Snapshot)) → d.honest disk → StandsFor (d.content disk) L → NoClash (chunk_pieces (d.content disk) ++ sent told.events)
+      → StopsLeave d ((was_opened.opens).start) result.disk R (opening_of d disk opened L) told.events
   -- on any disk
   pub status : result.status ≡ status_by (result.order).items report.ending
   pub causes : HasCauses (source_faults old.source) (source_faults new.source) (sink_faults old.sink) (sink_faults new.sink) report.taken (Some report.ending)
@@ -90,14 +112,21 @@ pub record HasServed {D E S K : Type 0} (d : Ghosts D) (left : S → Option (Lis
   pub faults : d.faults disk ≤ d.faults result.disk
   pub remote_is : result.remote ≡ remote
 
--- No session was served: none was read, and nothing was done.
-pub record HasNotServed {D E P : Type 0} (disk : D) (remote : Option E) (old new : List P) (result : Served D E) : Type 0 where
-  pub status : (result.status ≡ statuses.Usage) ⊎ (result.status ≡ statuses.NoMemory)
+-- No session was served, and none was read: the words ask for none, or the datastore was not opened.
+pub record HasNotServed {D E P : Type 0} (d : Ghosts D) (disk : D) (remote : Option E) (old new : List P) (result : Served D E) : Type 0 where
+  pub status : (result.status ≡ statuses.Usage) ⊎ ((result.status ≡ statuses.NoMemory) ⊎ (result.status ≡ statuses.DiskFault))
   pub order : (result.order).items ≡ []
   pub calls : ((result.report).calls).items ≡ []
   pub ports : new ≡ old
-  pub disk_is : result.disk ≡ disk
   pub remote_is : result.remote ≡ remote
+  -- where the words ask for none, nothing was done
+  pub disk_is : result.status ≡ statuses.Usage → result.disk ≡ disk
+  -- on any disk, which is said to have failed only where its count of faults rose
+  pub serves : Serves d.honest d.faults disk result.disk (result.status ≡ statuses.DiskFault)
+  -- in what a crash leaves, nothing was removed before a sync, and then only files that opening takes away
+  pub crash : (result.disk ≡ disk) ⊎ MayOpen d disk result.disk
+  -- an honest disk that did not fail reads as before, without some of these files
+  pub left : d.honest disk → result.status ≢ statuses.DiskFault → MayClean (d.content disk) (d.content disk) (d.content result.disk)
 
 -- what was served is told by the reports
 abbrev pub Leaves : {D E S K : Type 0} → Ghosts D → (S → Option (List ℕ)) → (S → ℕ) → (K → Option (List ℕ)) → (K → ℕ)
@@ -105,7 +134,7 @@ abbrev pub Leaves : {D E S K : Type 0} → Ghosts D → (S → Option (List ℕ)
 Leaves d left source_faults taken sink_faults readings disk remote result (old ∷ []) (new ∷ []) (report ∷ []) =
     HasServed d left source_faults taken sink_faults readings disk remote old new report result
 Leaves d left source_faults taken sink_faults readings disk remote result old new [] =
-    HasNotServed disk remote old new result
+    HasNotServed d disk remote old new result
 Leaves d left source_faults taken sink_faults readings disk remote result old new _ = ⊥
 
 -- the words have a reading, and ask for as many sessions as there are ports

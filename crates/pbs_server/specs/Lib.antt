@@ -2,3 +2,4 @@ pub mod Words
 pub mod Statuses
 pub mod Causes
 pub mod Headline
+pub mod Acknowledged

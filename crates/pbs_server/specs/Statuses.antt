@@ -3,6 +3,8 @@ use Rattle.std.specs.Prelude.{ℕ, Bool, true, false, List, codes, if◌then◌e
 use Rattle.store_types.specs.declared.order.Entry.{Entry}
 use Rattle.store_model.specs.declared.ending.Ending.{Ending}
 use Rattle.store_model.specs.declared.ending.Ending.TheVariants as endings
+use Rattle.core_opening.specs.declared.opening.OpenFault.{OpenFault}
+use Rattle.core_opening.specs.declared.opening.OpenFault.TheVariants as openings
 use Rattle.lane.specs.Entries.{has_kind}
 use Rattle.pbs_server.specs.declared.status.Status.{Status}
 use Rattle.pbs_server.specs.declared.status.Status.TheVariants as statuses
@@ -28,6 +30,11 @@ status_by order ending =
     if is_short ending then statuses.NoMemory else
     if has_kind 5 order then statuses.DiskFault else
     status_of_ending ending
+
+-- by why the datastore was not opened
+abbrev pub status_of_opening : OpenFault → Status
+status_of_opening openings.DiskFault = statuses.DiskFault
+status_of_opening openings.NoMemory = statuses.NoMemory
 
 abbrev pub number_of : Status → ℕ
 number_of statuses.Ok = 0

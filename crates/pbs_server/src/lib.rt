@@ -1,6 +1,7 @@
 //! The program's call: sessions are served on a datastore, and all that was handed in is handed back.
 #![tactic(auto)]
 
+pub mod laws;
 mod plan;
 mod run;
 mod served;

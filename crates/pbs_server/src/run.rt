@@ -5,8 +5,9 @@ ghost use Rattle.pbs_server.specs.Headline.{Leaves};
 ghost use Rattle.pbs_server.specs.Statuses.{status_by};
 
 use crate::served::{RunReport, Served};
-use crate::status::{Status, status_of};
-use core_state::{Core, CoreParts, NotOpened, open_on};
+use crate::status::{Status, by_opening, status_of};
+use core_opening::{NotOpened, open_on};
+use core_state::{Core, CoreParts};
 use disk_trait::Disk;
 use lane::{Ending, LaneReport, Port, run_alone};
 use port_traits::{Clock, Gate, Sink, Source};
@@ -95,8 +96,13 @@ pub fn serve_alone<D: Disk, E, C: Clock + Drop, S: Source, K: Sink, G: Gate>(
             handed_back(core, reports, report.ending)
         }
         Err(not_opened) => {
-            let NotOpened { disk, remote, .. } = not_opened;
-            not_served(alloc, Status::NoMemory, disk, remote)
+            let NotOpened {
+                cause,
+                disk,
+                remote,
+                ..
+            } = not_opened;
+            not_served(alloc, by_opening(cause), disk, remote)
         }
     }
 }

@@ -2,8 +2,9 @@
 
 ghost use Rattle.std.specs.Prelude.{◌≡◌};
 ghost use Rattle.lane.specs.Entries.{has_kind};
-ghost use Rattle.pbs_server.specs.Statuses.{status_by, status_of_ending};
+ghost use Rattle.pbs_server.specs.Statuses.{status_by, status_of_ending, status_of_opening};
 
+use core_opening::OpenFault;
 use lane::Ending;
 use store_types::Entry;
 
@@ -99,6 +100,16 @@ fn by_ending(ending: Ending) -> Status
         Ending::SinkFault => Status::SinkFault,
         Ending::SourceTooLong => Status::SourceTooLong,
         Ending::NoMemory => Status::NoMemory,
+    }
+}
+
+/// By why the datastore was not opened.
+pub fn by_opening(cause: OpenFault) -> Status
+    ensures { result ≡ status_of_opening cause }
+{
+    match cause {
+        OpenFault::DiskFault => Status::DiskFault,
+        OpenFault::NoMemory => Status::NoMemory,
     }
 }
 

@@ -2,7 +2,8 @@ ghost use Rattle.std.specs.Prelude.{◌<◌};
 ghost use Rattle.store_history.specs.Acts.{IsPlain};
 
 use crate::asserts::same;
-use core_state::{Act, Core, open_on};
+use core_opening::open_on;
+use core_state::{Act, Core};
 use disk_trait::MemoryDisk;
 use lane::{Ending, LaneReport, Port, run_alone};
 use port_traits::{FreeGate, Gate, MemSink, MemSource, SetClock};

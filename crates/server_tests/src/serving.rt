@@ -2,15 +2,18 @@ mod archives;
 mod damaged;
 mod disk_faults;
 mod fixed;
+mod folders;
 mod frames;
 mod listings;
 mod manifests;
 mod memory;
+mod openings;
 mod port_faults;
 mod prunes;
 mod ranges;
 mod restore_faults;
 mod reuse;
+mod stops;
 mod talks;
 
 use crate::asserts::same;
@@ -371,11 +374,14 @@ fn try_session(rt: &impl Abort, alloc: Global, input: &[u8], left: &Left<'_>) ->
     try_source(rt, alloc, source_of(alloc, input)?.at_most(1), left)
 }
 
-/// The counts of the disk's calls beside the entries: FINISH installs and syncs, DOWNLOAD asks the size and reads; CHUNK asks the size,
+/// What opening calls on an empty folder: sync, a list of all names, those of three folders of snapshots, and that of the chunks.
+const OPENING: u64 = 6;
+
+/// The counts of the disk's calls beside the entries, those of opening first: FINISH installs and syncs, DOWNLOAD asks the size and reads; CHUNK asks the size,
 /// and installs only where no file was there.
 static COUNTED: [(&[u8], &[u64]); 2] = [
-    (READ_BACK, &[0, 0, 4, 4, 6, 6]),
-    (SENT_AGAIN, &[0, 4, 4, 4, 5, 5]),
+    (READ_BACK, &[6, 6, 10, 10, 12, 12]),
+    (SENT_AGAIN, &[6, 10, 10, 10, 11, 11]),
 ];
 
 #[test]

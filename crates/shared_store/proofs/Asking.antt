@@ -74,6 +74,7 @@ is_step act no_short no_end = refl
 -- a writer's act asks for a file of its base alone
 pub writers_ask : (act : Act) (session : Session) (catalogue : List Listed) → IsWriters act → asked act session catalogue ≡ asked_of_writer act session catalogue
 writers_ask (Plain (Download file offset)) session catalogue h = absurd h
+writers_ask (Plain (OpenReader snapshot)) session catalogue h = absurd h
 writers_ask (Plain (FilesOf snapshot)) session catalogue h = absurd h
 writers_ask act session catalogue h = refl
 

@@ -18,8 +18,8 @@ is_readers (Plain (Range file offset len)) = true
 is_readers (Plain CloseReader) = true
 is_readers _ = false
 
--- the file that an act asks for: one of the base of the lane's writer or of the snapshot of its reader, or the manifest of the snapshot whose
--- files it tells
+-- the file that an act asks for: one of the base of the lane's writer or of the snapshot of its reader, the manifest of the snapshot whose
+-- files it tells, or the file that makes a snapshot damaged
 abbrev pub asked : Act → Session → List Listed → Option Asked
 asked (Plain (Previous file offset)) session catalogue = asked_of_base file offset session catalogue
 asked (Plain (FilesOf snapshot)) session catalogue = asked_files snapshot catalogue

@@ -1,5 +1,4 @@
 -- A snapshot is there once its FINISH was answered 0, and stays unless a FORGET of it is entered.
--- `lasts` and `finish_puts` wait for opening: nothing names them yet.
 use Rattle.std.proofs.Common.{◌≡◌, ℕ, zero, suc, Bool, true, false, List, [], ◌∷◌, cond, Option, Some, None, Result, Ok, Err, refl, sym, subst, ap, ◌∙◌, is_some, if◌then◌else◌, nat_le, nat_lt, length, map, not}
 use Rattle.store_types.specs.declared.names.SnapshotKey.{SnapshotKey}
 use Rattle.store_types.specs.declared.refusal.Refusal.{Refusal}

@@ -1,5 +1,4 @@
 -- The plain store after a beginning of a history, and what opening a crashed disk may give. A crash point is a count of the disk's calls.
--- All of it waits for opening: no clause names it yet.
 use Rattle.std.specs.Prelude.{ℕ, ◌≡◌, ◌+◌, ◌⊎◌, Bool, true, false, not, ◌&&◌, List, [], ◌∷◌, take, Option, is_none, if◌then◌else◌, ◌==◌, nat_le}
 use Rattle.store_files.specs.Archive.{Snapshot}
 use Rattle.store_model.specs.Store.{Store}

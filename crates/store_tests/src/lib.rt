@@ -12,6 +12,8 @@ mod faults;
 #[cfg(test)]
 mod fixtures;
 #[cfg(test)]
+mod opening;
+#[cfg(test)]
 mod restore;
 #[cfg(test)]
 mod snapshots;

@@ -25,7 +25,11 @@ fn list_many(parts: &mut Parts<MemoryDisk>, alloc: Global, count: u64) -> Result
             return Err("no snapshot".into());
         };
         let files = Rows::from_vec(Vec::new(alloc));
-        let kept = Kept { key, files };
+        let kept = Kept {
+            key,
+            files,
+            unreadable: None,
+        };
         parts.catalogue.push(Listed { number, kept })?;
     }
     Ok(())

@@ -1,4 +1,4 @@
-//! Each call of the disk fails in turn, and the store is stopped after each.
+//! Each call of the disk behind opening fails in turn, and the store is stopped after each.
 
 use super::*;
 use disk_trait::{FailingDisk, Step};
@@ -333,7 +333,7 @@ static STORED_FAULTS: [Fault; 9] = [
     },
 ];
 
-/// The disk's call with this number, from 0, fails.
+/// The disk's call with this number behind opening, from 0, fails.
 fn try_disk(
     rt: &impl Abort,
     alloc: Global,
@@ -341,7 +341,8 @@ fn try_disk(
     call: u64,
     fault: &Fault,
 ) -> Result<(), Fail> {
-    let disk = FailingDisk::at_calls(MemoryDisk::new(alloc), [call].to_vec(alloc)?);
+    let plan = [OPENING.saturating_add(call)].to_vec(alloc)?;
+    let disk = FailingDisk::at_calls(MemoryDisk::new(alloc), plan);
     let mut ports: Ports<MemSink> = [Port {
         source: source_of(alloc, session.input)?,
         sink: empty_sink(alloc),
@@ -382,8 +383,8 @@ fn each_call_of_the_disk_fails(rt: HostRuntime) -> Result<(), Fail> {
     Ok(())
 }
 
-/// What is left of a session whose disk stops after some call, and then is lost by a crash: beside temporary names, none but these
-/// files, each whole; the first of them, so many, are there once so many calls were made.
+/// What is left of a session whose disk stops after some call behind opening, and then is lost by a crash: beside temporary names,
+/// none but these files, each whole; the first of them, so many, are there once so many calls were made.
 #[derive(Clone, Copy)]
 struct Crash {
     whole: Files,
@@ -448,7 +449,7 @@ fn assert_whole(
     Ok(())
 }
 
-/// The disk stops after so many calls, and a crash of each kind then leaves whole files alone.
+/// The disk stops after so many calls behind opening, and a crash of each kind then leaves whole files alone.
 fn try_stop(
     rt: &impl Abort,
     alloc: Global,
@@ -456,7 +457,8 @@ fn try_stop(
     calls: u64,
     crash: Crash,
 ) -> Result<(), Fail> {
-    let disk = FailingDisk::stopping_after(MemoryDisk::new(alloc), calls);
+    let count = OPENING.saturating_add(calls);
+    let disk = FailingDisk::stopping_after(MemoryDisk::new(alloc), count);
     let mut ports: Ports<MemSink> = [Port {
         source: source_of(alloc, session.input)?,
         sink: empty_sink(alloc),
@@ -525,7 +527,7 @@ fn try_writings(rt: &impl Abort, alloc: Global, input: &[u8], acts: &[&str]) -> 
     }];
     let served = run_on(alloc, &mut ports, MemoryDisk::new(alloc))?;
     same(rt, served.report.calls.len(), acts.len());
-    let mut before = 0;
+    let mut before = OPENING;
     for (now, act) in served.report.calls.iter().zip(acts) {
         let found = letters(alloc, &served.disk, before, *now)?;
         same(rt, found.as_str(), *act);

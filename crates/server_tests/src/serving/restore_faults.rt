@@ -1,4 +1,4 @@
-//! Each call of the disk fails in turn: in two backups and a restore, and where snapshots are forgotten and pruned.
+//! Each call of the disk behind opening fails in turn: in two backups and a restore, and where snapshots are forgotten and pruned.
 
 use super::prunes::GONE;
 use super::reuse::AGAIN;
@@ -55,10 +55,10 @@ fn is_made(rt: &impl Abort, alloc: Global, steps: Steps, call: u64) -> Result<bo
 }
 
 fn try_each_call(rt: &impl Abort, alloc: Global, steps: Steps) -> Result<(), Fail> {
-    for call in 0..ENOUGH {
+    for call in OPENING..ENOUGH {
         if !is_made(rt, alloc, steps, call)? {
             // it is none of the first
-            same(rt, call > 18, true);
+            same(rt, call > 24, true);
             return Ok(());
         }
     }

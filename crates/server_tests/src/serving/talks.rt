@@ -47,7 +47,7 @@ fn add_run(bytes: &mut Vec<u8>, count: usize, byte: u8) -> Result<(), AllocError
 }
 
 /// Serves a session to its end, on a disk that is handed back.
-fn try_talk(
+pub fn try_talk(
     rt: &impl Abort,
     alloc: Global,
     disk: MemoryDisk,

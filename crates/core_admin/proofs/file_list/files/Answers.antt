@@ -1,20 +1,20 @@
-use Rattle.std.proofs.Common.{◌≡◌, ◌∙◌, ℕ, true, false, List, Some, None, Ok, rules, refl, sym, ap, subst}
+use Rattle.std.proofs.Common.{◌≡◌, ◌∙◌, ℕ, true, false, List, Option, Some, None, Ok, rules, refl, sym, ap, subst, arith}
 use Rattle.store_types.specs.Names.{IsKey, key_of}
 use Rattle.store_types.specs.declared.names.SnapshotKey.{SnapshotKey}
 use Rattle.store_types.specs.declared.refusal.Refusal.TheVariants.{BadName, NoSnapshot, Unreadable}
 use Rattle.wire_commands.specs.declared.command.Command.TheVariants as commands
-use Rattle.wire_commands.specs.declared.reply.Reply.TheVariants.{Files, Refused}
+use Rattle.wire_commands.specs.declared.reply.Reply.TheVariants.{Refused}
 use Rattle.store_history.specs.declared.act.Act.TheVariants.{Plain}
 use Rattle.core_state.specs.Found.{kept_named, named_kept}
 use Rattle.core_state.specs.declared.kept.Kept.{Kept}
 use Rattle.core_state.specs.declared.kept.Listed.{Listed}
 use Rattle.core_state.proofs.Commanding.{read_does, read_leaves, refused_does, same_kept, stopped_does, stopped_leaves}
-use Rattle.core_state.proofs.Texts.{bad_name_has_text, no_snapshot_has_text}
+use Rattle.core_state.proofs.Naming.{damage_short, kept_key, kept_whole, named_is, none_kept, none_named}
+use Rattle.core_state.proofs.Texts.{bad_name_has_text, no_snapshot_has_text, unreadable_has_text}
 use Rattle.core_admin.specs.FilesTold.{AnswersFiles}
 use Rattle.core_admin.proofs.FilesRead.{files_refused}
-use Rattle.core_admin.proofs.FilesTelling.{answers_stopped, as_rows, called, files_rows, files_stop, none_kept, none_named, refuses_unread, tells_refused, tells_rows, tells_stopped, told_refused, told_rows, told_stopped}
+use Rattle.core_admin.proofs.FilesTelling.{answers_damaged, answers_rows, answers_stopped, as_rows, called, files_rows, files_stop, refuses_unread, tells_damaged, tells_refused, tells_rows, tells_stopped, told_damaged, told_refused, told_rows, told_stopped}
 use Rattle.core_admin.proofs.RowTexts.{files_has_text}
-use Rattle.core_admin.proofs.TakenOut.{kept_key, named_is}
 use Rattle.core_admin.proofs.file_list.files.Goals as goal
 
 -- ---- the text names no snapshot
@@ -91,6 +91,51 @@ rows_read-requires g c =
 found : (text : List ℕ) (items seen : List Listed) (key : SnapshotKey) (k : Kept) → key_of text ≡ Some key → seen ≡ items → Some k ≡ kept_named key seen → named_kept text items ≡ Ok k
 found text items seen key k named same there = named_is text items key k named (ap (kept_named key) (sym same) ∙ sym there)
 
+-- ---- it is damaged
+
+none_some : (o : Option (List ℕ)) (name : List ℕ) → o ≡ None → o ≡ Some name → ⊥
+none_some o name is e = cc
+
+pub returns-in-Some-unreadable-clause-does : goal.returns-in-Some-unreadable-clause-does
+returns-in-Some-unreadable-clause-does g c =
+    let old = c.args.parts.now in
+    let items = old.catalogue.items in
+    let k = c.in-Some.kept.now in
+    let name = c.in_ok-name.name in
+    let there : kept_named c.in-Ok.key items ≡ Some k = search rules in
+    let damage : k.unreadable ≡ Some name = search rules in
+    let short = damage_short items c.in-Ok.key k there name old.finished_named damage in
+    refused_does g.D.Disk old _ c.args._at (Plain (commands.Files c.args.snapshot.now)) (Unreadable name) _ refl refl (record { catalogue = refl; sessions = refl; locks = refl })
+    (unreadable_has_text name (omega (arith, short))) refl
+    (λ s shows. absurd (none_some k.unreadable name (kept_whole items c.in-Ok.key k there s.snapshots shows.catalogue) damage))
+
+pub returns-in-Some-unreadable-clause-by_kept : goal.returns-in-Some-unreadable-clause-by_kept
+returns-in-Some-unreadable-clause-by_kept g c =
+    let items = c.args.parts.now.catalogue.items in
+    let k = c.in-Some.kept.now in
+    let named : key_of c.args.snapshot.now ≡ Some c.in-Ok.key = search rules in
+    let is = found c.args.snapshot.now items c.deref.result.now c.in-Ok.key k named c.deref.ensures.value c.in-Some.ensures in
+    let damage : k.unreadable ≡ Some c.in_ok-name.name = search rules in
+    answers_damaged c.args.snapshot.now items k c.in_ok-name.name is damage
+
+pub returns-in-Some-unreadable-clause-told : goal.returns-in-Some-unreadable-clause-told
+returns-in-Some-unreadable-clause-told g c = λ h.
+    let items = c.args.parts.now.catalogue.items in
+    let k = c.in-Some.kept.now in
+    let named : key_of c.args.snapshot.now ≡ Some c.in-Ok.key = search rules in
+    let is = found c.args.snapshot.now items c.deref.result.now c.in-Ok.key k named c.deref.ensures.value c.in-Some.ensures in
+    let damage : k.unreadable ≡ Some c.in_ok-name.name = search rules in
+    (refl, told_damaged ((g.D.Disk).content c.args.parts.now.disk) c.args.snapshot.now items k c.in_ok-name.name is damage)
+
+pub returns-in-Some-unreadable-clause-unreadable : goal.returns-in-Some-unreadable-clause-unreadable
+returns-in-Some-unreadable-clause-unreadable g c =
+    let items = c.args.parts.now.catalogue.items in
+    let k = c.in-Some.kept.now in
+    let named : key_of c.args.snapshot.now ≡ Some c.in-Ok.key = search rules in
+    let is = found c.args.snapshot.now items c.deref.result.now c.in-Ok.key k named c.deref.ensures.value c.in-Some.ensures in
+    let damage : k.unreadable ≡ Some c.in_ok-name.name = search rules in
+    tells_damaged g.D.Disk c.args.parts.now.disk c.args.snapshot.now items k c.in_ok-name.name is damage
+
 -- ---- its manifest isn't read
 
 no_end : false ≡ true → ⊥
@@ -116,21 +161,24 @@ returns-in_err-rows-clause-by_kept g c =
     let items = c.args.parts.now.catalogue.items in
     let named : key_of c.args.snapshot.now ≡ Some c.in-Ok.key = search rules in
     let is = found c.args.snapshot.now items c.deref.result.now c.in-Ok.key c.in-Some.kept.now named c.deref.ensures.value c.in-Some.ensures in
-    answers_stopped c.args.snapshot.now items c.in-Some.kept.now is c.in_err-rows.field-0.0 _ c.from_residual-in_err-rows.ensures.1 c.in_err-rows.ensures.named
+    let whole : c.in-Some.kept.now.unreadable ≡ None = search rules in
+    answers_stopped c.args.snapshot.now items c.in-Some.kept.now is whole c.in_err-rows.field-0.0 _ c.from_residual-in_err-rows.ensures.1 c.in_err-rows.ensures.named
 
 pub returns-in_err-rows-clause-told : goal.returns-in_err-rows-clause-told
 returns-in_err-rows-clause-told g c = λ h.
     let items = c.args.parts.now.catalogue.items in
     let named : key_of c.args.snapshot.now ≡ Some c.in-Ok.key = search rules in
     let is = found c.args.snapshot.now items c.deref.result.now c.in-Ok.key c.in-Some.kept.now named c.deref.ensures.value c.in-Some.ensures in
-    ((c.rows_read.ensures.reads).same h, told_stopped c.args.snapshot.now items c.in-Some.kept.now is ((g.D.Disk).content c.args.parts.now.disk) c.in_err-rows.field-0.0 _ c.from_residual-in_err-rows.ensures.1 (c.in_err-rows.ensures.value h))
+    let whole : c.in-Some.kept.now.unreadable ≡ None = search rules in
+    ((c.rows_read.ensures.reads).same h, told_stopped c.args.snapshot.now items c.in-Some.kept.now is whole ((g.D.Disk).content c.args.parts.now.disk) c.in_err-rows.field-0.0 _ c.from_residual-in_err-rows.ensures.1 (c.in_err-rows.ensures.value h))
 
 pub returns-in_err-rows-clause-unreadable : goal.returns-in_err-rows-clause-unreadable
 returns-in_err-rows-clause-unreadable g c =
     let items = c.args.parts.now.catalogue.items in
     let named : key_of c.args.snapshot.now ≡ Some c.in-Ok.key = search rules in
     let is = found c.args.snapshot.now items c.deref.result.now c.in-Ok.key c.in-Some.kept.now named c.deref.ensures.value c.in-Some.ensures in
-    tells_stopped g.D.Disk c.args.parts.now.disk c.args.snapshot.now items c.in-Some.kept.now c.in_err-rows.field-0.0 _ c.from_residual-in_err-rows.ensures.1 is c.in_err-rows.ensures.named c.in_err-rows.ensures.value
+    let whole : c.in-Some.kept.now.unreadable ≡ None = search rules in
+    tells_stopped g.D.Disk c.args.parts.now.disk c.args.snapshot.now items c.in-Some.kept.now c.in_err-rows.field-0.0 _ c.from_residual-in_err-rows.ensures.1 is whole c.in_err-rows.ensures.named c.in_err-rows.ensures.value
 
 -- ---- its rows
 
@@ -150,19 +198,24 @@ returns-clause-leaves g c =
 
 pub returns-clause-by_kept : goal.returns-clause-by_kept
 returns-clause-by_kept g c =
+    let items = c.args.parts.now.catalogue.items in
     let named : key_of c.args.snapshot.now ≡ Some c.in-Ok.key = search rules in
-    subst (λ r. AnswersFiles r (Files c.in_ok-rows.rows)) (sym (found c.args.snapshot.now c.args.parts.now.catalogue.items c.deref.result.now c.in-Ok.key c.in-Some.kept.now named c.deref.ensures.value c.in-Some.ensures)) tt
+    let is = found c.args.snapshot.now items c.deref.result.now c.in-Ok.key c.in-Some.kept.now named c.deref.ensures.value c.in-Some.ensures in
+    let whole : c.in-Some.kept.now.unreadable ≡ None = search rules in
+    answers_rows c.args.snapshot.now items c.in-Some.kept.now is whole c.in_ok-rows.rows
 
 pub returns-clause-told : goal.returns-clause-told
 returns-clause-told g c = λ h.
     let items = c.args.parts.now.catalogue.items in
     let named : key_of c.args.snapshot.now ≡ Some c.in-Ok.key = search rules in
     let is = found c.args.snapshot.now items c.deref.result.now c.in-Ok.key c.in-Some.kept.now named c.deref.ensures.value c.in-Some.ensures in
-    ((c.rows_read.ensures.reads).same h, told_rows ((g.D.Disk).content c.args.parts.now.disk) c.args.snapshot.now items c.in-Some.kept.now is ∙ ap as_rows (c.in_ok-rows.ensures.value h))
+    let whole : c.in-Some.kept.now.unreadable ≡ None = search rules in
+    ((c.rows_read.ensures.reads).same h, told_rows ((g.D.Disk).content c.args.parts.now.disk) c.args.snapshot.now items c.in-Some.kept.now is whole ∙ ap as_rows (c.in_ok-rows.ensures.value h))
 
 pub returns-clause-unreadable : goal.returns-clause-unreadable
 returns-clause-unreadable g c =
     let items = c.args.parts.now.catalogue.items in
     let named : key_of c.args.snapshot.now ≡ Some c.in-Ok.key = search rules in
     let is = found c.args.snapshot.now items c.deref.result.now c.in-Ok.key c.in-Some.kept.now named c.deref.ensures.value c.in-Some.ensures in
-    tells_rows g.D.Disk c.args.parts.now.disk c.args.snapshot.now items c.in-Some.kept.now c.in_ok-rows.rows is c.in_ok-rows.ensures.value
+    let whole : c.in-Some.kept.now.unreadable ≡ None = search rules in
+    tells_rows g.D.Disk c.args.parts.now.disk c.args.snapshot.now items c.in-Some.kept.now c.in_ok-rows.rows is whole c.in_ok-rows.ensures.value

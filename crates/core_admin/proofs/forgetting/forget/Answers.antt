@@ -112,8 +112,10 @@ returns-in_err-forget-clause-leaves g c =
     let named : key_of c.args.snapshot.now ≡ Some c.in-Ok.key = search rules in
     let there = ap (kept_named c.in-Ok.key) (sym c.deref.ensures.value) ∙ sym c.in-Some.ensures in
     let names = c.deref-2.ensures.value ∙ c.in_ok-names.ensures ∙ ap names_beside c.as_slice.ensures in
+    let told = free c.args.snapshot.now old.catalogue.items old.locks (session_at old c.args.at.lane) c.in-Ok.key c.in-Some.kept.now (c.idle.ensures.value ∙ c.in_ok-idle.was) named there
+    (ap (reduce min) c.in_default-free_for_removal.ensures.free) in
     undone_leaves g.D.Disk old _ c.args.at c.args.snapshot.now c.in-Ok.key c.in-Some.kept.now c.deref-2.result.now named there names
-    c.forget.result c.in_err-forget.field-0.0 _ c.from_residual-in_err-forget.ensures.1 c.in_err-forget.was (record { catalogue = refl; sessions = refl; locks = refl })
+    c.forget.result c.in_err-forget.field-0.0 _ c.from_residual-in_err-forget.ensures.1 c.in_err-forget.was (record { catalogue = refl; sessions = refl; locks = refl }) c.requires told
     c.forget.ensures.crash (λ short. (c.forget.ensures.unchanged short).0) (λ short. (c.forget.ensures.unchanged short).1)
 
 -- ---- the snapshot is taken out

@@ -1,11 +1,12 @@
 use Rattle.std.proofs.Common.{◌≡◌, ◌∙◌, ℕ, List, Bool, length, sym, ap, subst, rules, arith}
 use Rattle.std.specs.List.{All}
+use Rattle.std.proofs.lemmas.Bool.{and_parts}
 use Rattle.std.proofs.lemmas.List.{length_push}
 use Rattle.std.proofs.lemmas.List.Elements.{All-push}
 use Rattle.store_types.specs.declared.names.GroupKey.{GroupKey}
 use Rattle.store_types.specs.Names.{IsKey, key_text}
 use Rattle.core_state.specs.declared.kept.Listed.{Listed}
-use Rattle.core_state.specs.Named.{is_named_snapshot}
+use Rattle.core_state.specs.Named.{has_text, is_named_snapshot, is_short_name}
 use Rattle.core_state.proofs.NamedLemmas.{is_key, list_all-at}
 use Rattle.snapshot_files.proofs.PathLengths.{key_short}
 use Rattle.core_admin.specs.Listings.{IsShort, is_in}
@@ -38,7 +39,8 @@ loop-listed-preserved c =
     let old = c.loop-listed.texts.items in
     let new = c.if-is_of.texts.items in
     let so_far = c.loop-listed.invariant in
-    let key : IsKey (x.kept).key = is_key (x.kept).key (list_all-at is_named_snapshot xs i x c.requires (omega arith) c.listed-item.is) in
+    let named = list_all-at is_named_snapshot xs i x c.requires (omega arith) c.listed-item.is in
+    let key : IsKey (x.kept).key = is_key (x.kept).key (and_parts (has_text (x.kept).key) (is_short_name (x.kept).unreadable) named).0 in
     elim c.if-is_of.branch [
       | then-is_of+in_ok-text+in_ok-push w ↦
           let text = w.from_vec-then-is_of.result in

@@ -1,6 +1,6 @@
-use Rattle.std.specs.Option.{is_none}
-use Rattle.std.proofs.Common.{rules, ◌≡◌, ◌<◌, ◌∙◌, refl, sym, ap, arith, length, [], Some, None, false}
-use Rattle.store_types.specs.declared.refusal.Refusal.TheVariants.{BadName, NoSnapshot}
+use Rattle.std.proofs.Common.{rules, ◌≡◌, ◌<◌, ◌∙◌, ℕ, refl, sym, ap, arith, length, List, [], Option, Some, None}
+use Rattle.store_types.specs.declared.refusal.Refusal.TheVariants.{BadName, NoSnapshot, Unreadable, WrongState}
+use Rattle.store_types.specs.declared.refusal.SessionState.{SessionState}
 use Rattle.store_types.specs.Names.{key_of}
 use Rattle.wire_commands.specs.declared.command.Command.TheVariants.{OpenReader}
 use Rattle.wire_commands.specs.declared.reply.Reply.TheVariants.{Done}
@@ -10,25 +10,46 @@ use Rattle.store_model.specs.Store.{reader, with_session, snapshot_named}
 use Rattle.core_state.specs.Found.{kept_named}
 use Rattle.core_state.specs.Named.{is_named}
 use Rattle.core_state.specs.Shown.{shown_snapshot}
-use Rattle.core_state.specs.declared.kept.Kept.{Kept}
+use Rattle.core_state.specs.Wanted.{session_at}
 use Rattle.core_state.specs.declared.kept.Session.TheVariants.{Reader}
-use Rattle.core_state.proofs.Commanding.{busy_does, changed_does, idle_shown, refused_does, same_kept}
+use Rattle.core_state.specs.declared.stop.Stop.TheVariants.{Refused}
+use Rattle.core_state.proofs.Commanding.{busy_by_state, busy_does, changed_does, idle_shown, refused_does, same_kept}
 use Rattle.core_state.proofs.Found.{kept_is, not_kept}
-use Rattle.core_state.proofs.Finding.{mapped, is_some, there_is}
+use Rattle.core_state.proofs.Finding.{mapped, is_some}
 use Rattle.core_state.proofs.LockLemmas.{locked_reader}
 use Rattle.core_state.proofs.NamedLemmas.{list_all-set}
+use Rattle.core_state.proofs.Naming.{damage_short, kept_whole, named_is, none_kept, none_named}
 use Rattle.core_state.proofs.Soundness.{shows_changed}
-use Rattle.core_state.proofs.Texts.{bad_name_has_text, no_snapshot_has_text, done_has_text}
-use Rattle.core_reader.proofs.OpenSteps.{open_busy, open_bad, open_missing, open_found, sound_reader, disk_reader}
+use Rattle.core_state.proofs.Texts.{bad_name_has_text, no_snapshot_has_text, done_has_text, unreadable_has_text}
+use Rattle.core_reader.proofs.OpenSteps.{asks_busy, open_busy, open_bad, open_missing, open_found, sound_reader, disk_reader, tells_damaged, tells_refused, tells_whole}
+use Rattle.core_reader.proofs.Telling.{tells_unread}
 use Rattle.core_reader.proofs.opening.open_reader.Goals as goal
 
 pub invariant_of-parts-2-clause-named : goal.invariant_of-parts-2-clause-named
 invariant_of-parts-2-clause-named g c = list_all-set is_named c.args.parts.now.sessions.items c.args.at.lane _ c.args.parts.now.named refl
 
+-- ---- the lane has a session
+
+state_apart : (state : SessionState) (name : List ℕ) → WrongState state ≡ Unreadable name → ⊥
+state_apart state name e = cc
+
 pub returns-in_err-idle-clause-does : goal.returns-in_err-idle-clause-does
 returns-in_err-idle-clause-does g c =
     busy_does g.D.Disk c.args.parts.now c.args.at (Plain (OpenReader c.args.snapshot.now)) _ _ c.from_residual.ensures.1 c.requires
     c.in_err-idle.ensures.value c.in_err-idle.ensures.text (λ state. refl) (λ s. open_busy s c.args.at.lane c.args.at.moment c.args.snapshot.now _)
+
+pub returns-in_err-idle-clause-unreadable : goal.returns-in_err-idle-clause-unreadable
+returns-in_err-idle-clause-unreadable g c =
+    let old = c.args.parts.now in
+    let f = session_at old c.args.at.lane in
+    let busy = c.in_err-idle.ensures.value in
+    tells_unread g.D.Disk old.disk _ (Refused _) _ c.from_residual.ensures.1
+    (asks_busy c.args.snapshot.now f old.catalogue.items _ busy, busy_by_state f _ (λ r. (name : List ℕ) → r ≡ Unreadable name → ⊥) state_apart busy)
+
+-- ---- the text names no snapshot
+
+bad_apart : (name : List ℕ) → BadName ≡ Unreadable name → ⊥
+bad_apart name e = cc
 
 pub returns-in_default-clause-does : goal.returns-in_default-clause-does
 returns-in_default-clause-does g c =
@@ -36,8 +57,20 @@ returns-in_default-clause-does g c =
     refused_does g.D.Disk c.args.parts.now _ c.args.at (Plain (OpenReader c.args.snapshot.now)) BadName _ refl refl (same_kept _) bad_name_has_text refl
     (λ s shows. open_bad s c.args.at.lane c.args.at.moment c.args.snapshot.now (idle_shown c.args.parts.now s c.args.at.lane shows c.requires c.in_ok-idle.ensures.value) bad)
 
-pub returns-then-is_none-clause-does : goal.returns-then-is_none-clause-does
-returns-then-is_none-clause-does g c =
+pub returns-in_default-clause-unreadable : goal.returns-in_default-clause-unreadable
+returns-in_default-clause-unreadable g c =
+    let old = c.args.parts.now in
+    let items = old.catalogue.items in
+    let bad : key_of c.args.snapshot.now ≡ None = search rules in
+    tells_refused c.args.snapshot.now (session_at old c.args.at.lane) items g.D.Disk old.disk BadName c.in_ok-idle.ensures.value (none_named c.args.snapshot.now items bad) bad_apart
+
+-- ---- there is no such snapshot
+
+none_apart : (name : List ℕ) → NoSnapshot ≡ Unreadable name → ⊥
+none_apart name e = cc
+
+pub returns-in_default-snapshot_named-clause-does : goal.returns-in_default-snapshot_named-clause-does
+returns-in_default-snapshot_named-clause-does g c =
     let old = c.args.parts.now in
     let named : key_of c.args.snapshot.now ≡ Some c.in-Ok.key = search rules in
     let missing : kept_named c.in-Ok.key old.catalogue.items ≡ None = search rules in
@@ -45,17 +78,54 @@ returns-then-is_none-clause-does g c =
     (λ s shows. open_missing s c.args.at.lane c.args.at.moment c.args.snapshot.now c.in-Ok.key (idle_shown old s c.args.at.lane shows c.requires c.in_ok-idle.ensures.value) named
     (not_kept old.catalogue.items s.snapshots c.in-Ok.key shows.catalogue missing))
 
+pub returns-in_default-snapshot_named-clause-unreadable : goal.returns-in_default-snapshot_named-clause-unreadable
+returns-in_default-snapshot_named-clause-unreadable g c =
+    let old = c.args.parts.now in
+    let items = old.catalogue.items in
+    let named : key_of c.args.snapshot.now ≡ Some c.in-Ok.key = search rules in
+    let missing : kept_named c.in-Ok.key items ≡ None = search rules in
+    tells_refused c.args.snapshot.now (session_at old c.args.at.lane) items g.D.Disk old.disk NoSnapshot c.in_ok-idle.ensures.value (none_kept c.args.snapshot.now items c.in-Ok.key named missing) none_apart
+
+-- ---- it is damaged
+
+none_some : (o : Option (List ℕ)) (name : List ℕ) → o ≡ None → o ≡ Some name → ⊥
+none_some o name is e = cc
+
+pub returns-in-Some-unreadable-clause-does : goal.returns-in-Some-unreadable-clause-does
+returns-in-Some-unreadable-clause-does g c =
+    let old = c.args.parts.now in
+    let items = old.catalogue.items in
+    let k = c.in-Some.kept.now in
+    let name = c.in_ok-name.name in
+    let there : kept_named c.in-Ok.key items ≡ Some k = search rules in
+    let damage : k.unreadable ≡ Some name = search rules in
+    let short = damage_short items c.in-Ok.key k there name old.finished_named damage in
+    refused_does g.D.Disk old _ c.args.at (Plain (OpenReader c.args.snapshot.now)) (Unreadable name) _ refl refl (same_kept _) (unreadable_has_text name (omega (arith, short))) refl
+    (λ s shows. absurd (none_some k.unreadable name (kept_whole items c.in-Ok.key k there s.snapshots shows.catalogue) damage))
+
+pub returns-in-Some-unreadable-clause-unreadable : goal.returns-in-Some-unreadable-clause-unreadable
+returns-in-Some-unreadable-clause-unreadable g c =
+    let old = c.args.parts.now in
+    let items = old.catalogue.items in
+    let k = c.in-Some.kept.now in
+    let named : key_of c.args.snapshot.now ≡ Some c.in-Ok.key = search rules in
+    let there : kept_named c.in-Ok.key items ≡ Some k = search rules in
+    let damage : k.unreadable ≡ Some c.in_ok-name.name = search rules in
+    tells_damaged c.args.snapshot.now (session_at old c.args.at.lane) items g.D.Disk old.disk k c.in_ok-idle.ensures.value (named_is c.args.snapshot.now items c.in-Ok.key k named there) c.in_ok-name.name damage
+
+-- ---- it is opened
+
 pub returns-clause-does : goal.returns-clause-does
 returns-clause-does g c =
     let old = c.args.parts.now in
     let lane = c.args.at.lane in
+    let k = c.in-Some.kept.now in
     let named : key_of c.args.snapshot.now ≡ Some c.in-Ok.key = search rules in
-    let some : is_none c.snapshot_named.result ≡ false = search rules in
-    let there : (k : Kept) × (kept_named c.in-Ok.key old.catalogue.items ≡ Some k) = there_is (λ k. k.now) c.snapshot_named.result _ (c.snapshot_named.ensures ∙ ap (kept_named c.in-Ok.key) c.deref.ensures.value) some in
+    let there : kept_named c.in-Ok.key old.catalogue.items ≡ Some k = search rules in
     let new : model.Reader = record { key = c.in-Ok.key; noted = [] } in
     changed_does g.D.Disk old _ c.args.at (Plain (OpenReader c.args.snapshot.now)) Done refl done_has_text refl tt
     (λ s h.
-    let shown = mapped shown_snapshot (snapshot_named c.in-Ok.key s.snapshots) there.0 (sym (kept_is old.catalogue.items s.snapshots c.in-Ok.key (h.shows).catalogue) ∙ there.1) in
+    let shown = mapped shown_snapshot (snapshot_named c.in-Ok.key s.snapshots) k (sym (kept_is old.catalogue.items s.snapshots c.in-Ok.key (h.shows).catalogue) ∙ there) in
     let l : lane < length s.sessions = omega (arith, ((h.shows).sound).lanes, c.requires) in
     let none = idle_shown old s lane h.shows c.requires c.in_ok-idle.ensures.value in
     let sound = sound_reader s lane new c.requires (record { finished = is_some _ shown.0 shown.1 }) (h.shows).sound in (
@@ -65,3 +135,13 @@ returns-clause-does g c =
           (locked_reader _ _ s lane new l (h.shows).sound sound none c.in_ok-shared_take.ensures.ok (h.shows).locks) sound h.shows,
       disk_reader _ s lane new l h.files,
     ))
+
+pub returns-clause-unreadable : goal.returns-clause-unreadable
+returns-clause-unreadable g c =
+    let old = c.args.parts.now in
+    let items = old.catalogue.items in
+    let k = c.in-Some.kept.now in
+    let named : key_of c.args.snapshot.now ≡ Some c.in-Ok.key = search rules in
+    let there : kept_named c.in-Ok.key items ≡ Some k = search rules in
+    let whole : k.unreadable ≡ None = search rules in
+    tells_whole c.args.snapshot.now (session_at old c.args.at.lane) items g.D.Disk old.disk k c.in_ok-idle.ensures.value (named_is c.args.snapshot.now items c.in-Ok.key k named there) whole

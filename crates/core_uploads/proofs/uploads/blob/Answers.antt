@@ -77,7 +77,7 @@ returns-in_err-keep_pending-clause-leaves g c =
     unput_leaves g.D.Disk old _ c.args.at (Blob c.args.name.now c.args.checked) c.index_mut-session.result.now c.take_blob.new.session (blob_put c.args.name.now c.args.checked) c.requires.lane c.index_mut-session.ensures.value refl refl
     c.in_ok-new.new c.take_blob.result c.in_ok-new.was (c.take_blob.ensures) c.keep_pending.new.session refl c.keep_pending.result c.keep_pending.ensures.puts
     _ _ c.from_residual-in_err-keep_pending.ensures.1 c.in_err-keep_pending.was (list_all-at is_named old.sessions.items c.args.at.lane c.index_mut-session.result.now old.named within c.index_mut-session.ensures.value)
-    c.in_err-keep_pending.ensures.err refl refl refl
+    c.in_err-keep_pending.ensures.err refl refl refl (λ s h. tt)
 
 pub returns-clause-does : goal.returns-clause-does
 returns-clause-does g c =

@@ -13,7 +13,7 @@ use Rattle.core_state.proofs.Commanding.{failed_does, failed_leaves, no_admins, 
 use Rattle.core_state.proofs.NamedLemmas.{list_all-set, list_all-at}
 use Rattle.core_state.proofs.Texts.{no_file_has_text, done_has_text}
 use Rattle.core_writer.specs.Finished.{manifest_in}
-use Rattle.core_writer.proofs.FinishLemmas.{not_writing, tests_refuse, tests_there, finish_change, finish_done, finish_adds, named_closed, settled_by}
+use Rattle.core_writer.proofs.FinishLemmas.{not_writing, tests_refuse, tests_there, tests_done, finish_change, finish_done, finish_adds, named_closed, settled_by}
 use Rattle.core_writer.proofs.Stopping.{early_does, err_as, idle_set, session_found}
 use Rattle.core_writer.proofs.finishing.finish.Goals as goal
 
@@ -52,6 +52,7 @@ returns-in_err-finish-clause-leaves g c = let d = g.D.Disk in
     failed_leaves d old _ c.args.at (Plain Finish) c.finish.result _ _ c.from_residual-in_err-finish.ensures.1 c.in_err-finish.was
     (λ none h. (c.finish.ensures.unchanged none).0 h) (λ none. inr (c.finish.ensures.unchanged none).1)
     (subst (LeavesChange d old.disk _) (sym change) (inr c.finish.ensures.crash)) (record { catalogue = c.reserve.ensures.items; sessions = refl; locks = refl }) refl (λ none closing. cc)
+    (λ s h. tests_done old s c.args.at _ h.shows c.requires c.in_ok-writer.ensures.value c.in_ok-check.ensures.plain)
 
 pub returns-clause-does : goal.returns-clause-does
 returns-clause-does g c =

@@ -1,0 +1,153 @@
+-- What a datastore is opened with, and what opening leaves.
+use Rattle.std.specs.Prelude.{◌≡◌, ◌+◌, ◌^◌, ◌↔◌, ℕ, Bool, true, ◌&&◌, List, [], ◌∷◌, map, replicate, Option, None, Some, Result, Ok, Err, IsTrue, IfOk}
+use Rattle.std.specs.List.{Contains, list_all}
+use Rattle.disk_trait.specs.Disk.{Serves}
+use Rattle.disk_trait.specs.declared.disk.DiskError.{DiskError}
+use Rattle.disk_trait.specs.declared.disk.DiskError.TheVariants.{NoMemory as Wanting, Failed}
+use Rattle.disk_trait.specs.declared.disk.Disk.{Ghosts}
+use Rattle.port_traits.specs.Readings.{Readings}
+use Rattle.lock_book.specs.Locks.{no_locks}
+use Rattle.store_types.specs.declared.names.SnapshotKey.{SnapshotKey}
+use Rattle.store_types.specs.FileNames.{manifest_name}
+use Rattle.store_types.specs.Names.{name_lt}
+use Rattle.store_files.specs.Archive.{Snapshot}
+use Rattle.store_files.specs.Folder.{Files, file_path}
+use Rattle.store_files.specs.Manifest.{Manifest}
+use Rattle.store_model.specs.Clash.{chunk_pieces}
+use Rattle.store_model.specs.Manifests.{listed_names}
+use Rattle.store_model.specs.Stands.{StandsFor as Stands}
+use Rattle.snapshot_files.specs.Scanned.{FoundSnapshot, Lists}
+use Rattle.opening_files.specs.Leaving.{Cleans, MayClean}
+use Rattle.opening_files.specs.Opened.{MayOpen}
+use Rattle.store_history.specs.History.{Opening}
+use Rattle.core_state.specs.declared.kept.Kept.{Kept}
+use Rattle.core_state.specs.declared.kept.Listed.{Listed}
+use Rattle.core_state.specs.declared.kept.Session.TheVariants.{Idle}
+use Rattle.core_state.specs.declared.kept.StoredFile.{StoredFile}
+use Rattle.core_opening.specs.declared.opening.NotOpened.{NotOpened}
+use Rattle.core_opening.specs.declared.opening.Opened.{Opened}
+use Rattle.core_opening.specs.declared.opening.OpenFault.{OpenFault}
+use Rattle.core_opening.specs.declared.opening.OpenFault.TheVariants.{DiskFault, NoMemory}
+use Rattle.core_state.specs.declared.state.Core.{Core}
+use Rattle.core_state.specs.Entering.{AllHeld}
+use Rattle.core_state.specs.History.{StandsFor, began}
+use Rattle.core_state.specs.Named.{is_named_snapshot}
+use Rattle.core_state.specs.Records.{Records}
+
+-- ---- the catalogue
+
+-- the names that a manifest lists beside its own, if it reads
+abbrev pub names_listed : Option Manifest → List (List ℕ)
+names_listed None = []
+names_listed (Some m) = listed_names m
+
+-- these are its own name and those that it lists, if it reads
+abbrev pub ListsNames : Option Manifest → List (List ℕ) → Type 0
+ListsNames manifest names = (name : List ℕ) → Contains names name ↔ Contains (manifest_name ∷ names_listed manifest) name
+
+-- the snapshot's file of this name, and where it stands
+abbrev pub stored_at : SnapshotKey → List ℕ → StoredFile
+stored_at key name = record { name = name; path = file_path key name }
+
+abbrev pub stored_names_rise : List StoredFile → Bool
+stored_names_rise [] = true
+stored_names_rise (f ∷ []) = true
+stored_names_rise (f ∷ g ∷ fs) = name_lt f.name g.name && stored_names_rise (g ∷ fs)
+
+-- what is kept of a snapshot that was found: its manifest and the files that it lists, each once and in byte order of their names
+pub record IsKeptOf (x : FoundSnapshot) (k : Kept) : Type 0 where
+  pub key : k.key ≡ x.key
+  pub unreadable : k.unreadable ≡ x.unreadable
+  pub rising : IsTrue (stored_names_rise k.files)
+  pub files : ListsNames x.manifest (map (λ f. f.name) k.files)
+  pub paths : map (λ f. f.path) k.files ≡ map (λ f. file_path x.key f.name) k.files
+
+-- the number of the first snapshot that was found: those of entries of the order are less
+abbrev pub first_number : ℕ
+first_number = 2 ^ 63
+
+-- the snapshots that were found are listed by these numbers, one after another
+abbrev pub AreListed : ℕ → List FoundSnapshot → List Listed → Type 0
+AreListed n [] [] = Unit {0}
+AreListed n (x ∷ xs) (y ∷ ys) = (y.number ≡ n) × IsKeptOf x y.kept × AreListed (n + 1) xs ys
+AreListed n _ _ = ⊥
+
+-- the catalogue is of the snapshots whose manifests are there, damaged ones too
+pub record IsCatalogue (files : Files) (catalogue : List Listed) : Type 0 where
+  pub found : List FoundSnapshot
+  pub lists : Lists files found
+  pub listed : AreListed first_number found catalogue
+
+-- that of an honest disk, as it reads when it was opened
+abbrev pub CataloguesDisk : {D E : Type 0} → Ghosts D → D → D → Result Opened E → Type 0
+CataloguesDisk d old new result = d.honest old → IfOk result (λ x. IsCatalogue (d.content new) x.catalogue.items)
+
+abbrev pub ListsFound : {D E C : Type 0} → Ghosts D → Core D E C → Type 0
+ListsFound d core = IsCatalogue (d.content (core.parts).disk) (core.parts).catalogue.items
+
+-- ---- the core
+
+-- the snapshots that the disk stood for, no moment of a book, the disk's calls once it was opened, and the pieces of the chunk files
+abbrev pub opening_of : {D : Type 0} → Ghosts D → D → D → List Snapshot → Opening
+opening_of d old new snapshots = record { snapshots = snapshots; moment = 0; calls = d.calls new; chunks = chunk_pieces (d.content old) }
+
+-- no act is in the order, each reserve is whole, and no lane has a session
+pub record IsNew (x : Opened) : Type 0 where
+  pub entries : (x.journal).entries.items ≡ []
+  pub calls : (x.journal).calls.items ≡ []
+  pub held : AllHeld x.journal
+  pub sessions : x.sessions.items ≡ replicate 64 Idle
+  pub named : IsTrue (list_all is_named_snapshot x.catalogue.items)
+
+-- nothing has happened yet, and no lane has a session
+pub record HasBegun {D E C : Type 0} (core : Core D E C) : Type 0 where
+  pub fault : core.fault ≡ None
+  pub last : core.last ≡ 0
+  pub entries : (core.journal).entries.items ≡ []
+  pub calls : (core.journal).calls.items ≡ []
+  pub sessions : (core.parts).sessions.items ≡ replicate 64 Idle
+  pub locks : (core.parts).locks ≡ no_locks
+
+-- Where an honest disk stands for a list of snapshots, the core stands for the history without events that was opened with it, whatever the
+-- remote has.
+abbrev pub StandsOpened : {D E C : Type 0} → Ghosts D → (C → Option Readings) → D → C → Core D E C → Type 0
+StandsOpened d readings disk clock core =
+    (L : List Snapshot) (R : Option (List Snapshot)) → d.honest disk → Stands (d.content disk) L
+    → StandsFor d readings core (began (opening_of d disk (core.parts).disk L) R (readings clock))
+
+-- on any disk it keeps each history without events
+abbrev pub RecordsOpened : {D E C : Type 0} → (C → Option Readings) → C → Core D E C → Type 0
+RecordsOpened readings clock core = (o : Opening) (R : Option (List Snapshot)) → o.moment ≡ 0 → Records readings core (began o R (readings clock))
+
+-- ---- the disk
+
+abbrev pub disk_after : {D E C : Type 0} → Result (Core D E C) (NotOpened D E C) → D
+disk_after (Ok core) = (core.parts).disk
+disk_after (Err e) = e.disk
+
+-- the disk's fault is told
+abbrev pub IsFaulted : {D E C : Type 0} → Result (Core D E C) (NotOpened D E C) → Type 0
+IsFaulted (Ok core) = ⊥
+IsFaulted (Err e) = e.cause ≡ DiskFault
+
+abbrev pub fault_of : DiskError → OpenFault
+fault_of Wanting = NoMemory
+fault_of Failed = DiskFault
+
+-- opening serves the disk: it is honest where it was, and a fault is told only where its count rose
+abbrev pub ServesOpening : {D E C : Type 0} → Ghosts D → D → Result (Core D E C) (NotOpened D E C) → Type 0
+ServesOpening d disk result = Serves d.honest d.faults disk (disk_after result) (IsFaulted result)
+
+-- in what a crash leaves, nothing was removed before a sync, and then only what opening takes away
+abbrev pub LeavesOpened : {D E C : Type 0} → Ghosts D → D → Result (Core D E C) (NotOpened D E C) → Type 0
+LeavesOpened d disk result = MayOpen d disk (disk_after result)
+
+-- what opening takes away is gone of an honest disk, and all else is as it was
+abbrev pub CleansOpening : {D E C : Type 0} → Ghosts D → D → Result (Core D E C) (NotOpened D E C) → Type 0
+CleansOpening d disk result = d.honest disk → IfOk result (λ core. Cleans (d.content disk) (d.content (core.parts).disk))
+
+-- Remote and clock are handed back. Where memory was wanting, an honest disk reads as before, without some of the files that opening takes away.
+pub record IsGivenBack {D E C : Type 0} (d : Ghosts D) (disk : D) (remote : Option E) (clock : C) (e : NotOpened D E C) : Type 0 where
+  pub remote_is : e.remote ≡ remote
+  pub clock_is : e.clock ≡ clock
+  pub want : d.honest disk → e.cause ≡ NoMemory → MayClean (d.content disk) (d.content disk) (d.content e.disk)

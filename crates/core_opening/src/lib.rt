@@ -1,0 +1,7 @@
+//! A datastore is opened: its folder is put in order, and the core begins with what was found.
+#![tactic(auto)]
+
+mod cataloguing;
+mod opening;
+
+pub use opening::{NotOpened, OpenFault, open_on};

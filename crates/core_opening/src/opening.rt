@@ -1,0 +1,151 @@
+//! Opening a datastore.
+
+ghost use Rattle.std.specs.Prelude.{◌≡◌, [], replicate, IfOk, IfErr, OnOk, IsErrOf};
+ghost use Rattle.disk_trait.specs.Disk.{Serves};
+ghost use Rattle.core_state.specs.Entering.{AllHeld};
+ghost use Rattle.core_state.specs.declared.kept.Session.TheVariants.{Idle};
+ghost use Rattle.opening_files.specs.Opened.{CleansDisk, MayOpen, Opens, WantsMemory};
+ghost use Rattle.core_opening.specs.Opening.{CataloguesDisk, CleansOpening, HasBegun, IsGivenBack, IsNew, LeavesOpened, ListsFound, RecordsOpened, ServesOpening, StandsOpened, fault_of};
+
+use crate::cataloguing::listed_of;
+use core_state::{Core, Journal, Listed, Parts, Session};
+use disk_trait::{Disk, DiskError};
+use lock_book::LockBook;
+use opening_files::open_files;
+use port_traits::Clock;
+use std::alloc::{AllocError, Global};
+use store_types::LANES;
+use thiserror::Error;
+
+/// Why a datastore was not opened.
+#[derive(Clone, Copy, Debug, PartialEq, Eq, Drop, Error)]
+pub enum OpenFault {
+    #[error("the disk failed")]
+    DiskFault,
+    #[error("out of memory")]
+    NoMemory,
+}
+
+impl From<DiskError> for OpenFault {
+    ghost from_gives = { λ e fault. fault ≡ fault_of e };
+
+    fn from(e: DiskError) -> Self {
+        match e {
+            DiskError::NoMemory => OpenFault::NoMemory,
+            DiskError::Failed => OpenFault::DiskFault,
+        }
+    }
+}
+
+/// All that was handed in, and why it was not opened.
+#[derive(Drop)]
+pub struct NotOpened<D, E, C> {
+    pub cause: OpenFault,
+    pub disk: D,
+    pub remote: Option<E>,
+    pub clock: C,
+}
+
+/// No session on any lane.
+fn idle_sessions(alloc: Global) -> Result<Vec<Session>, AllocError>
+    ensures { IfOk result (λ v. v.items ≡ replicate 64 Idle) }
+{
+    let mut sessions = Vec::with_capacity(alloc, LANES)?;
+    while sessions.len() < LANES {
+        sessions.push(Session::Idle)?;
+    }
+    Ok(sessions)
+}
+
+/// What memory an opening takes beside the catalogue.
+fn state_of(alloc: Global) -> Result<(Journal, Vec<Session>), AllocError>
+    ensures entries { IfOk result (λ x. x.0.entries.items ≡ []) }
+    ensures calls { IfOk result (λ x. x.0.calls.items ≡ []) }
+    ensures held { IfOk result (λ x. AllHeld x.0) }
+    ensures sessions { IfOk result (λ x. x.1.items ≡ replicate 64 Idle) }
+{
+    let journal = Journal::new(alloc)?;
+    let sessions = idle_sessions(alloc)?;
+    Ok((journal, sessions))
+}
+
+/// What opening took of memory and of the disk.
+#[derive(Drop)]
+struct Opened {
+    journal: Journal,
+    sessions: Vec<Session>,
+    catalogue: Vec<Listed>,
+}
+
+/// Opens the folder, and lists what was found.
+fn opened_of<D: Disk>(disk: &mut D, alloc: Global) -> Result<Opened, DiskError>
+    ensures serves { Serves D.honest D.faults disk.old disk.new (IsErrOf result DiskError.Failed) }
+    ensures crash { MayOpen D.Disk disk.old disk.new }
+    ensures opened { OnOk result (Opens D.Disk disk.old disk.new) }
+    ensures cleaned { CleansDisk D.Disk disk.old disk.new result }
+    ensures want { WantsMemory D.Disk disk.old disk.new result }
+    ensures catalogue { CataloguesDisk D.Disk disk.old disk.new result }
+    ensures begins { IfOk result IsNew }
+{
+    let (journal, sessions) = state_of(alloc)?;
+    let inventory = open_files(disk, alloc)?;
+    let catalogue = listed_of(alloc, inventory.snapshots)?;
+    Ok(Opened {
+        journal,
+        sessions,
+        catalogue,
+    })
+}
+
+/// Opens a datastore, whatever moment its last run was stopped at. It syncs the disk; removes each temporary file, and each
+/// file of a snapshot without a manifest; then reads each manifest once. No other file is touched, and no index or chunk
+/// is read.
+///
+/// The catalogue has each snapshot whose manifest is there, damaged ones too. Where the disk failed or memory was wanting,
+/// all that was handed in is handed back; some of the files that opening removes may be gone then.
+pub fn open_on<D: Disk, E, C: Clock>(
+    alloc: Global,
+    mut disk: D,
+    remote: Option<E>,
+    clock: C,
+) -> Result<Core<D, E, C>, NotOpened<D, E, C>>
+    // it stands for a history without events, opened with the list that the disk stood for
+    ensures opened { IfOk result (StandsOpened D.Disk C.readings disk clock) }
+    // on any disk it keeps a history without events
+    ensures records { IfOk result (RecordsOpened C.readings clock) }
+    ensures begun { IfOk result HasBegun }
+    ensures reserve { IfOk result (λ core. AllHeld core.journal) }
+    // the snapshots that were found, by numbers of their own
+    ensures catalogue { D.honest disk → IfOk result (ListsFound D.Disk) }
+    // on any disk a fault comes only where its count rose
+    ensures serves { ServesOpening D.Disk disk result }
+    ensures crash { LeavesOpened D.Disk disk result }
+    ensures since { IfOk result (λ core. Opens D.Disk disk core.parts.disk) }
+    // what opening takes away is gone, and all else is as it was
+    ensures cleaned { CleansOpening D.Disk disk result }
+    // all is handed on, or back
+    ensures handed { IfOk result (λ core. (core.remote ≡ remote) × (core.clock ≡ clock)) }
+    ensures not_opened { IfErr result (IsGivenBack D.Disk disk remote clock) }
+{
+    match opened_of(&mut disk, alloc) {
+        Ok(opened) => Ok(Core {
+            parts: Parts {
+                disk,
+                catalogue: opened.catalogue,
+                sessions: opened.sessions,
+                locks: LockBook::new(alloc),
+            },
+            remote,
+            clock,
+            journal: opened.journal,
+            last: 0,
+            fault: None,
+        }),
+        Err(e) => Err(NotOpened {
+            cause: OpenFault::from(e),
+            disk,
+            remote,
+            clock,
+        }),
+    }
+}

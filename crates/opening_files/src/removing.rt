@@ -1,0 +1,63 @@
+//! Files that opening takes away are removed.
+
+ghost use Rattle.std.specs.Prelude.{◌∷◌, [], IsErrOf};
+ghost use Rattle.disk_trait.specs.Disk.{Serves};
+ghost use Rattle.disk_trait.specs.Effects.{StepsOn};
+ghost use Rattle.opening_files.specs.Opened.{CleansDisk, WantsMemory};
+ghost use Rattle.opening_files.specs.Removed.{MayLeave, OkAllGo, OkGoes, OnlyLoses, StepsClean};
+
+use crate::leaving::{is_leaving, manifests_among};
+use disk_trait::{Disk, DiskError};
+use std::alloc::Global;
+use std::collections::BTreeSet;
+
+/// Removes the file of this name, if it leaves.
+fn remove_leaving<D: Disk>(
+    disk: &mut D,
+    alloc: Global,
+    name: &str,
+    manifests: &BTreeSet<String>,
+) -> Result<(), DiskError>
+    ensures serves { Serves D.honest D.faults disk.old disk.new (IsErrOf result DiskError.Failed) }
+    ensures crash { StepsOn D.Disk disk.old disk.new (MayLeave manifests.now) }
+    ensures gone { OkGoes D.Disk disk.old disk.new manifests.now (name.now ∷ []) result }
+    ensures only { OnlyLoses D.Disk disk.old disk.new manifests.now result }
+{
+    if is_leaving(alloc, name, manifests)? {
+        let _ = disk.remove(name)?;
+    }
+    Ok(())
+}
+
+/// Removes those of the files of these names that leave.
+fn remove_all_leaving<D: Disk>(
+    disk: &mut D,
+    alloc: Global,
+    names: &[String],
+    manifests: &BTreeSet<String>,
+) -> Result<(), DiskError>
+    ensures serves { Serves D.honest D.faults disk.old disk.new (IsErrOf result DiskError.Failed) }
+    ensures crash { StepsOn D.Disk disk.old disk.new (MayLeave manifests.now) }
+    ensures gone { OkAllGo D.Disk disk.old disk.new manifests.now names.now result }
+    ensures only { OnlyLoses D.Disk disk.old disk.new manifests.now result }
+{
+    for name in names {
+        remove_leaving(disk, alloc, name.as_str(), manifests)?;
+    }
+    Ok(())
+}
+
+/// Removes each temporary file, and each file of a snapshot without a manifest.
+///
+/// Tests count its calls: one list of all names, and a remove for each that leaves.
+pub fn clean<D: Disk>(disk: &mut D, alloc: Global) -> Result<(), DiskError>
+    ensures serves { Serves D.honest D.faults disk.old disk.new (IsErrOf result DiskError.Failed) }
+    ensures crash { StepsClean D.Disk disk.old disk.new }
+    ensures cleaned { CleansDisk D.Disk disk.old disk.new result }
+    ensures want { WantsMemory D.Disk disk.old disk.new result }
+{
+    let names = disk.list(alloc, "")?;
+    let manifests = manifests_among(alloc, &names)?;
+    remove_all_leaving(disk, alloc, &names, &manifests)?;
+    Ok(())
+}

@@ -1,0 +1,186 @@
+//! Folders that a run left, opened again: at each call the disk fails, or a crash comes.
+
+use crate::asserts::{same, same_at};
+use disk_trait::{Disk, DiskError, FailingDisk, MemoryDisk};
+use opening_files::{Inventory, open_files};
+use std::alloc::Global;
+use std::process::Abort;
+use std::test::Fail;
+
+/// The blob of a manifest of `host/a-b` that lists nothing.
+const EMPTY: &[u8] =
+    b"B\xab8\x07\xbe\x83p\xa1\xd8\x04\xd8h{\"backup-type\":\"host\",\"backup-id\":\"a-b\",\"backup-time\":1579069803,\"files\":[]}";
+
+/// Two snapshots, one of them damaged, with files that no manifest lists; a chunk; names of no form of ours.
+static STAYING: [&str; 10] = [
+    ".chunks/ba78/ba7816bf8f01cfea414140de5dae2223b00361a396177a9cb410ff61f20015ad",
+    ".chunks/ba78/other",
+    ".chunks/book",
+    "ct/z/2020-01-15T06:30:03Z/index.json.blob",
+    "host/a/2020-01-15T06:30:03Z/index.json.blob",
+    "host/a/2020-01-15T06:30:03Z/set.blob",
+    "host/a/2021-01-15T06:30:03Z/notes.txt",
+    "host/a/2021-01-15T06:30:03Z/x/set.blob",
+    "host/a/set.blob",
+    "set.blob",
+];
+
+/// Temporary files, and those of a snapshot without a manifest.
+static LEAVING: [&str; 7] = [
+    ".chunks/ba78/ba7816bf8f01cfea414140de5dae2223b00361a396177a9cb410ff61f20015ad.tmp",
+    ".tmp",
+    "host/a/2020-01-15T06:30:03Z/index.json.blob.tmp",
+    "host/a/2021-01-15T06:30:03Z/a.fidx",
+    "host/a/2021-01-15T06:30:03Z/root.didx",
+    "host/a/2021-01-15T06:30:03Z/set.blob",
+    "notes.tmp",
+];
+
+fn put_all(disk: &mut MemoryDisk, alloc: Global, names: &[&str]) -> Result<(), Fail> {
+    for name in names {
+        if name.len() > 255 {
+            return Err("a long name".into());
+        }
+        let bytes = if name.starts_with("host/") {
+            EMPTY
+        } else {
+            b"abc"
+        };
+        disk.put(alloc, name, bytes)?;
+    }
+    Ok(())
+}
+
+fn folder(alloc: Global) -> Result<MemoryDisk, Fail> {
+    let mut disk = MemoryDisk::new(alloc);
+    put_all(&mut disk, alloc, &LEAVING)?;
+    put_all(&mut disk, alloc, &STAYING)?;
+    Ok(disk)
+}
+
+/// How many of these stand there.
+fn count(disk: &mut MemoryDisk, names: &[&str]) -> Result<usize, Fail> {
+    let mut count = 0;
+    for name in names {
+        if disk.size(name)?.is_some() {
+            count += 1;
+        }
+    }
+    Ok(count)
+}
+
+/// The snapshots' types with what makes them damaged, and how many chunks there are.
+fn told(alloc: Global, found: &Inventory) -> Result<String, Fail> {
+    let mut text = String::new(alloc);
+    for found in &found.snapshots {
+        write!(text, "{:?} {} ", found.key.kind, found.unreadable.is_some())?;
+    }
+    write!(text, "{}", found.chunks.len())?;
+    Ok(text)
+}
+
+const TOLD: &str = "Ct true Host false 1";
+
+/// A sync, a list, seven removes; then the snapshots' three folders, two manifests, and the chunks' folder.
+const CALLS: u64 = 15;
+
+#[test]
+fn a_folder_is_opened(rt: HostRuntime) -> Result<(), Fail> {
+    let alloc = rt.alloc();
+    let mut disk = folder(alloc)?;
+    let before = disk.calls();
+    let found = open_files(&mut disk, alloc)?;
+    same(&rt, disk.calls() - before, CALLS);
+    let text = told(alloc, &found)?;
+    same(&rt, text.as_str(), TOLD);
+    same(&rt, disk.list(alloc, "")?.len(), STAYING.len());
+    same(&rt, count(&mut disk, &STAYING)?, STAYING.len());
+    Ok(())
+}
+
+/// What a crash leaves is opened: all that stays is there, and nothing else.
+fn open_left(
+    rt: &impl Abort,
+    alloc: Global,
+    left: &MemoryDisk,
+    k: u64,
+    choice: u8,
+) -> Result<(), Fail> {
+    let mut crashed = left.crashed(alloc, choice)?;
+    let found = open_files(&mut crashed, alloc)?;
+    let text = told(alloc, &found)?;
+    same_at(rt, (k, choice), text.as_str(), TOLD);
+    let names = crashed.list(alloc, "")?;
+    same_at(rt, (k, choice), names.len(), STAYING.len());
+    let staying = count(&mut crashed, &STAYING)?;
+    same_at(rt, (k, choice), staying, STAYING.len());
+    Ok(())
+}
+
+/// The disk fails at its call k, from 0, alone or from there on. Files leave from the third call on.
+fn try_opening(
+    rt: &impl Abort,
+    alloc: Global,
+    mut disk: FailingDisk<MemoryDisk>,
+    k: u64,
+) -> Result<(), Fail> {
+    let outcome = open_files(&mut disk, alloc);
+    let has_failed = matches!(&outcome, Err(DiskError::Failed));
+    same_at(rt, k, has_failed, k < CALLS);
+    same_at(rt, k, disk.faults(), if k < CALLS { 1 } else { 0 });
+    let mut left = disk.into_inner();
+    let staying = count(&mut left, &STAYING)?;
+    same_at(rt, k, staying, STAYING.len());
+    let leaving = count(&mut left, &LEAVING)?;
+    same_at(rt, k, leaving as u64, 9u64.saturating_sub(k.max(2)));
+    for choice in 0..3u8 {
+        open_left(rt, alloc, &left, k, choice)?;
+    }
+    Ok(())
+}
+
+/// All is synced, so that the first sync is not missed where it fails.
+fn synced(alloc: Global) -> Result<MemoryDisk, Fail> {
+    let mut disk = folder(alloc)?;
+    disk.sync()?;
+    Ok(disk)
+}
+
+#[test]
+fn each_call_of_an_opening_fails(rt: HostRuntime) -> Result<(), Fail> {
+    let alloc = rt.alloc();
+    for k in 0..CALLS + 1 {
+        let plan = Vec::from_slice(alloc, &[k])?;
+        try_opening(&rt, alloc, FailingDisk::at_calls(synced(alloc)?, plan), k)?;
+        try_opening(
+            &rt,
+            alloc,
+            FailingDisk::stopping_after(synced(alloc)?, k),
+            k,
+        )?;
+    }
+    Ok(())
+}
+
+/// Where the first sync fails, what was not synced may be lost, and nothing is removed.
+#[test]
+fn nothing_is_removed_before_the_sync(rt: HostRuntime) -> Result<(), Fail> {
+    let alloc = rt.alloc();
+    let mut disk = FailingDisk::stopping_after(folder(alloc)?, 0);
+    let outcome = open_files(&mut disk, alloc);
+    same(&rt, matches!(&outcome, Err(DiskError::Failed)), true);
+    let mut left = disk.into_inner();
+    same(&rt, count(&mut left, &LEAVING)?, LEAVING.len());
+    same(&rt, count(&mut left, &STAYING)?, STAYING.len());
+    Ok(())
+}
+
+#[test]
+fn an_empty_folder_is_opened(rt: HostRuntime) -> Result<(), Fail> {
+    let alloc = rt.alloc();
+    let mut disk = MemoryDisk::new(alloc);
+    let found = open_files(&mut disk, alloc)?;
+    let text = told(alloc, &found)?;
+    same(&rt, text.as_str(), "0");
+    Ok(())
+}
