@@ -311,8 +311,8 @@ def rest(data):
 
 
 def rows(*snapshots):
-    """Snapshots as LIST tells them, with their number of files, none of them damaged."""
-    return b"\0" + u16(len(snapshots)) + b"".join(text(it) + bytes([0, count]) for it, count in snapshots)
+    """Snapshots as LIST tells them, with their number of files, or None for a damaged one."""
+    return b"\0" + u16(len(snapshots)) + b"".join(text(it) + bytes([count is None, count or 0]) for it, count in snapshots)
 
 
 def keys(*snapshots):

@@ -36,6 +36,7 @@ TABLES = {
         "FIRST_BASE": [frame(base(A))],
         "SECOND_BASE": [frame(base(A_LATER))],
         "NONE_THERE": [frame(keys())],
+        "ONE_LISTED": [frame(rows((A, 1)))],
     },
     "core_tests/src/damage.rt": {
         "ABC_BLOB": [blob(b"abc")],
@@ -51,7 +52,6 @@ TABLES = {
         "CHUNKS": [frame(rest(blob(b"abc")))],
     },
     "core_tests/src/dispatch.rt": {
-        "ONE_LISTED": [frame(rows((A, 1)))],
         "ONE_KEY": [frame(keys(A))],
         "STEPS": [
             frame(group_busy(3)),
@@ -72,6 +72,14 @@ TABLES = {
         "ABC": [sha256(b"abc")],
         "DE": [sha256(b"de")],
         "NOTHING": [sha256(b"")],
+    },
+    "core_tests/src/opening.rt": {
+        "ALL_LISTED": [frame(rows((A, 1), (A_LATER, None), (B, None)))],
+        "SECOND_UNREADABLE": [frame(unreadable(f"{A_LATER}/{MANIFEST}"))],
+        "OTHER_UNREADABLE": [frame(unreadable(f"{B}/a.conf.blob"))],
+        "BOTH": [frame(keys(A, A_LATER))],
+        "NOT_NEWER": [frame(not_newer(A_LATER))],
+        "TOLD": [frame(file_rows((MANIFEST, 86, sha256(blob(manifest(A))))))],
     },
     "core_tests/src/reader.rt": {
         "REST": [frame(part(blob(manifest(A_LATER)), 80))],

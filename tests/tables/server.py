@@ -2,6 +2,9 @@
 from session import *
 from tables.common import *
 
+# What a manifest lists of a blob and an archive.
+BOTH_LISTED = [listed_blob("a.conf.blob", blob(b"123456789")), listed("root.didx", 5, dynamic_csum([b"abc", b"de"]))]
+
 TABLES = {
     "server_tests/src/lanes.rt": {
         "FINISH": [frame(finish())],
@@ -353,6 +356,59 @@ TABLES = {
             frame(range_of("root.fidx", 8191, 2)),
             frame(bad_range(8192)),
         ],
+    },
+    "server_tests/src/serving/folders.rt": {
+        "FIRST_RUN": [frame(put_manifest(A, *BOTH_LISTED))],
+        "FILES": [frame(files(A))],
+        "FOUND": [
+            frame(rows((A, 3))),
+            frame(
+                file_rows(
+                    ("a.conf.blob", 21, sha256(blob(b"123456789"))),
+                    (MANIFEST, 344, sha256(blob(manifest(A, *BOTH_LISTED)))),
+                    ("root.didx", 5, dynamic_csum([b"abc", b"de"])),
+                ),
+            ),
+            frame(download("a.conf.blob")),
+            frame(part(blob(b"123456789"))),
+        ],
+        "NOT_NEWER": [frame(not_newer(A))],
+        "FIVE_BYTES": [frame(rest(b"abcde"))],
+        "OVER": [
+            frame(previous("root.didx", 4136)),
+            frame(part(ROOT, 4136)),
+            frame(put_manifest(A_LATER, listed("root.didx", 5, dynamic_csum([b"abc", b"de"])))),
+        ],
+        "FORGOTTEN": [frame(rows((A, 3), (A_LATER, 2)))],
+        "LATER_LISTED": [frame(rows((A_LATER, 2)))],
+        "CONF": [blob(b"123456789")],
+        "BOTH_LISTED": [blob(manifest(A, *BOTH_LISTED))],
+        "ROOT_LISTED": [blob(manifest(A, listed("root.didx", 5, dynamic_csum([b"abc", b"de"]))))],
+        "PLAIN": [blob(manifest(A))],
+        "ONE_DAMAGED": [frame(rows((A, None)))],
+        "NO_MANIFEST": [frame(unreadable(f"{A}/{MANIFEST}"))],
+        "CONF_MISSING": [frame(unreadable(f"{A}/a.conf.blob"))],
+        "NO_INDEX": [frame(unreadable(f"{A}/root.didx"))],
+        "INDEX_DAMAGED": [frame(rows((A, 2))), frame(download("root.didx")), frame(previous("root.didx"))],
+        "NEWER_DAMAGED": [
+            frame(rows((A, 1), (A_LATER, None))),
+            frame(keys(A, A_LATER)),
+            frame(not_newer(A_LATER)),
+            frame(open_writer("host/a/2020-01-15T06:30:05Z")),
+            frame(prune("host/a", last=1)),
+            frame(marks((A_LATER, 1), (A, 0))),
+            frame(open_writer("host/a/2020-01-15T06:30:05Z")),
+            frame(forget(A_LATER)),
+        ],
+        "MANY_HEADER": [
+            blob(manifest(A, *(listed_blob(f"x{number}.blob", blob(b"")) for number in range(10, 74))))[:12],
+        ],
+    },
+    "server_tests/src/serving/openings.rt": {
+        "TOLD": [frame(rows((A, 2)))],
+    },
+    "server_tests/src/serving/stops.rt": {
+        "STATES": [frame(rows((A, 2))), frame(rows((A, 2), (A_LATER, 2)))],
     },
     "server_tests/src/serving/frames.rt": {
         "OPEN": [frame(open_writer(A))],
