@@ -2,6 +2,9 @@
 from session import *
 from tables.common import *
 
+# Of a manifest of `host/a-b` that lists nothing.
+OTHER_BLOB = blob(b'{"backup-type":"host","backup-id":"a-b","backup-time":1579069803,"files":[]}')
+
 TABLES = {
     "store_tests/src/backup.rt": {
         "CSUM": [dynamic_csum([b"abc", b"de"])],
@@ -22,7 +25,10 @@ TABLES = {
         "DE": [sha256(b"de")],
         "NOTHING": [sha256(b"")],
     },
+    "store_tests/src/opening.rt": {
+        "EMPTY": [OTHER_BLOB],
+    },
     "store_tests/src/snapshots.rt": {
-        "OTHER_BLOB": [blob(b'{"backup-type":"host","backup-id":"a-b","backup-time":1579069803,"files":[]}')],
+        "OTHER_BLOB": [OTHER_BLOB],
     },
 }
