@@ -2,7 +2,19 @@
 from session import *
 from tables.common import *
 
+
+def many_listed(count):
+    """The blob of a manifest that lists so many empty blobs."""
+    return blob(manifest(A, *(listed_blob(f"x{number}.blob", blob(b"")) for number in range(10, 10 + count))))
+
+
 TABLES = {
+    "plain_tests/src/loading.rt": {
+        "NO_JSON": [blob(b"x")],
+        "FULL_HEADER": [many_listed(63)[:12]],
+        "MANY_HEADER": [many_listed(64)[:12]],
+        "LIST": [frame(list_after())],
+    },
     "plain_tests/src/reading.rt": {
         "CHUNK_MAGIC": [blob(b"", crc=0xc71c0011)],
         "MANIFEST_BLOB": [

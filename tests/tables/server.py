@@ -4,6 +4,11 @@ from tables.common import *
 
 # What a manifest lists of a blob and an archive.
 BOTH_LISTED = [listed_blob("a.conf.blob", blob(b"123456789")), listed("root.didx", 5, dynamic_csum([b"abc", b"de"]))]
+# What one lists of an archive of one piece of a fixed size.
+FIXED_LISTED = listed("root.fidx", 3, fixed_csum([b"abc"]))
+# The third snapshot of a group, and one of another group that stands behind all others.
+A_THIRD = "host/a/2020-01-15T06:30:05Z"
+OTHER = "vm/z/2020-01-15T06:30:03Z"
 
 TABLES = {
     "server_tests/src/lanes.rt": {
@@ -408,7 +413,54 @@ TABLES = {
         "TOLD": [frame(rows((A, 2)))],
     },
     "server_tests/src/serving/stops.rt": {
-        "STATES": [frame(rows((A, 2))), frame(rows((A, 2), (A_LATER, 2)))],
+        "FIRST_LEFT": [frame(rows((A, 2)))],
+        "BOTH_LEFT": [frame(rows((A, 2), (A_LATER, 2)))],
+        "CHUNK_FAILS": [frame(disk_fault()), frame(halted(9))],
+    },
+    "server_tests/src/serving/stopped_acts.rt": {
+        "LIST_CONF": [frame(put_manifest(A, listed_blob("a.conf.blob", blob(b"123456789"))))],
+        "CONF": [frame(download("a.conf.blob"))],
+        "CONF_TOLD": [frame(part(blob(b"123456789")))],
+        "FIRST_LISTED": [frame(rows((A, 2)))],
+        "PUT_B": [frame(put("b.blob", b""))],
+        "PRUNED_STEPS": [
+            frame(open_writer(A_THIRD)),
+            frame(base(A_LATER)),
+            frame(put_manifest(A_THIRD)),
+            frame(prune("host/a", last=1)),
+            frame(marks((A_THIRD, 1), (A_LATER, 0), (A, 0))),
+        ],
+        "TWO_LEFT": [frame(rows((A, 2), (A_LATER, 1)))],
+        "THREE_LEFT": [frame(rows((A, 2), (A_LATER, 1), (A_THIRD, 1)))],
+        "FIRST_AND_LAST_LEFT": [frame(rows((A, 2), (A_THIRD, 1)))],
+        "LAST_LEFT": [frame(rows((A_THIRD, 1)))],
+        "FIXED_END": [frame(download("root.fidx", 4128))],
+        "AT_FIXED_END": [frame(part(fixed_index(A, "root.fidx", NOW, [b"abc"]), 4128))],
+        "ALL_THREE": [frame(range_of("root.fidx", 0, 3))],
+        "THREE_BYTES": [frame(rest(b"abc"))],
+        "FIXED_STEPS": [
+            frame(new_fixed("root.fidx", 3, 4096)),
+            frame(close_index(0, 1, 3, fixed_csum([b"abc"]))),
+            frame(put_manifest(A, FIXED_LISTED)),
+        ],
+        "FIXED_RESTORED": [
+            frame(
+                file_rows(
+                    (MANIFEST, 213, sha256(blob(manifest(A, FIXED_LISTED)))),
+                    ("root.fidx", 3, fixed_csum([b"abc"])),
+                ),
+            ),
+        ],
+    },
+    "server_tests/src/serving/beside.rt": {
+        "EARLIER": [
+            frame(open_writer(OTHER)),
+            frame(put_manifest(OTHER, listed("root.didx", 5, dynamic_csum([b"abc", b"de"])))),
+        ],
+        "EARLIER_ROW": [rows((OTHER, 2))[3:]],
+        "BACKED_UP_BESIDE": [frames(base(), done(), done(), rows((A, 1), (OTHER, 2)))],
+        "LIST_AND_NOTHING": [frames(list_after(), b"")],
+        "LISTED_BROKEN": [frame(rows((OTHER, 2))) + frame(bad_frame(6))],
     },
     "server_tests/src/serving/frames.rt": {
         "OPEN": [frame(open_writer(A))],

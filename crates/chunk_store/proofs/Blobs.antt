@@ -78,13 +78,14 @@ blob_told digest bytes p (Err fault) text are is named value = apart fault (sym 
     apart fault e = cc
 
 -- what holds a piece with this digest
-pub piece_is : (digest bytes p : List ℕ) → piece_in digest bytes ≡ Ok p → IsPiece p × (sha256 p ≡ digest)
-piece_is digest bytes p is = by_case (data_of bytes) refl is
+pub piece_is : (digest bytes p : List ℕ) → AreBytes bytes → piece_in digest bytes ≡ Ok p → IsPiece p × (sha256 p ≡ digest)
+piece_is digest bytes p are is = by_case (data_of bytes) refl is
   where
     by_case : (r : Result (List ℕ) BadBlob) → data_of bytes ≡ r → by_data digest r ≡ Ok p → IsPiece p × (sha256 p ≡ digest)
     by_case (Ok q) e is =
         let test = checked_piece digest q p is in
-        subst (λ x. IsPiece x × (sha256 x ≡ digest)) test.0 ((test.1, (HasParts-from_data_of bytes q e).fits), test.2)
+        let spelled = blob-from_data_of bytes q are e in
+        subst (λ x. IsPiece x × (sha256 x ≡ digest)) test.0 ((test.1, spelled.1, data_are_bytes q (subst AreBytes spelled.0 are)), test.2)
     by_case (Err cause) e is = absurd (not_ok is)
       where
         not_ok : ◌≡◌ {A = Result (List ℕ) ChunkFault} (Err NotABlob) (Ok p) → ⊥

@@ -71,7 +71,7 @@ same_digest a b is_a is_b e =
 -- ---- a temporary name is no chunk's
 
 -- digits of either are below `g`, which `t` is not
-abbrev AreSmall : List ℕ → Type 0
+abbrev pub AreSmall : List ℕ → Type 0
 AreSmall = All (λ b. b < 103)
 
 small_at : (bs : List ℕ) → AreSmall bs → (i : ℕ) → slice_index bs i < 103
@@ -84,7 +84,7 @@ digit_small =
     small_at lower_digits
     (All-weaker (λ b. nat_lt b 103 ≡ true) (λ b. b < 103) (λ b e. ltb-true b 103 e) lower_digits (AllPass-from_list_all (λ b. nat_lt b 103) lower_digits refl))
 
-digits_small : (digest : List ℕ) → AreSmall (encode_lower digest)
+pub digits_small : (digest : List ℕ) → AreSmall (encode_lower digest)
 unfolding encode_with
 digits_small [] = All-nil (λ b. b < 103)
 digits_small (b ∷ rest) =

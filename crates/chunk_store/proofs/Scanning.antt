@@ -195,15 +195,18 @@ each_is (n ∷ ns) = by_case (digest_named n) refl (each_is ns)
 
 -- ---- the disk's names
 
-pub lists : (files : Files) → Lists files (digests (filter in_folder (keys files)))
-lists files = subst (Lists files) (sym (digests_in_folder (keys files))) (record {
+pub lists_all : (files : Files) → Lists files (digests (keys files))
+lists_all files = record {
   rising = rise (entries files) (entries_sorted files);
   each = each_is (keys files);
   exactly = λ d is. (
     λ has. contains_key-keys files (chunk_name d.0) ∙ unlisted d is (keys files) has,
     λ there. listed d is (keys files) (sym (contains_key-keys files (chunk_name d.0)) ∙ there),
   );
-})
+}
+
+pub lists : (files : Files) → Lists files (digests (filter in_folder (keys files)))
+lists files = subst (Lists files) (sym (digests_in_folder (keys files))) (lists_all files)
 
 -- names that are texts
 pub filter_map-map : {A B C : Type 0} (f : B → Option C) (g : A → B) (xs : List A) → filter_map (λ x. f (g x)) xs ≡ filter_map f (map g xs)

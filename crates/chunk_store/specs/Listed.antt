@@ -1,9 +1,9 @@
 -- The chunk names that files have, as digests.
-use Rattle.std.specs.Prelude.{◌↔◌, ℕ, Bool, true, ◌&&◌, List, [], ◌∷◌, if◌then◌else◌, Option, Some, None, drop, IsSome, IsTrue, Result, Ok, Err, IfOk, String, Vec, string_bytes}
+use Rattle.std.specs.Prelude.{◌≡◌, ◌↔◌, ℕ, Bool, true, ◌&&◌, List, [], ◌∷◌, if◌then◌else◌, Option, Some, None, drop, map, IsSome, IsTrue, Result, Ok, Err, IfOk, String, Vec, string_bytes}
 use Rattle.std.specs.List.{All, Contains, filter_map}
 use Rattle.std.specs.Str.{bytes_eq}
 use Rattle.std.specs.declared.alloc.Global.{Global}
-use Rattle.std.specs.FinMap.{get}
+use Rattle.std.specs.FinMap.{get, keys}
 use Rattle.hex.specs.Hex.{decode_sized}
 use Rattle.hex.specs.declared.error.FromHexError.{FromHexError}
 use Rattle.disk_trait.specs.Files.{Files}
@@ -35,6 +35,10 @@ digest_named name = by_digits name (decode_sized (drop 13 name) 32)
 -- the digests whose chunks have these names
 abbrev pub digests_in : List (String Global) → List Digest32
 digests_in names = filter_map (λ n. digest_named (string_bytes n)) names
+
+-- where these are all names, the digests are those under whose names a file stands
+abbrev pub ListsAmong : List (String Global) → List Digest32 → Type 0
+ListsAmong names digests = (files : Files) → map string_bytes names ≡ keys files → Lists files digests
 
 -- the answer is the digests of an honest disk's chunks
 abbrev pub ListsChunks : {D E : Type 0} → Ghosts D → D → Result (Vec Digest32 Global) E → Type 0

@@ -1,7 +1,9 @@
 //! Chunks as they are read.
 
-ghost use Rattle.std.specs.Prelude.{◌≡◌};
+ghost use Rattle.std.specs.Prelude.{◌≡◌, IfOk};
+ghost use Rattle.sha2.specs.Sha256.{sha256};
 ghost use Rattle.blob_codec.specs.Blob.{blob as blob_of};
+ghost use Rattle.store_files.specs.Folder.{IsPiece};
 ghost use Rattle.chunk_store.specs.Pieces.{TellsChecked, TellsPiece, TakesBlob};
 ghost use Rattle.chunk_store.specs.declared.chunk.LoadFault.TheVariants.{Failed as FailedDisk, NoMemory};
 ghost use Rattle.chunk_store.specs.Faults.{load_fault};
@@ -91,6 +93,7 @@ fn check_piece(digest: &Digest32, piece: &[u8]) -> Result<(), ChunkFault>
 /// The chunk whose file has these bytes, or why there is none with this digest.
 pub fn check(digest: &Digest32, text: Vec<u8>) -> Result<Chunk, ChunkFault>
     ensures value { TellsPiece digest.now.0 text.items result }
+    ensures piece { IfOk result (λ chunk. IsPiece chunk × (sha256 chunk ≡ digest.now.0)) }
     // the blob of a piece with the digest
     ensures blob { TakesBlob digest.now.0 text.items result }
 {

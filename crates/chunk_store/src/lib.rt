@@ -10,6 +10,6 @@ mod name;
 mod store;
 
 pub use chunk::{Chunk, LoadFault};
-pub use listing::scan;
+pub use listing::{digests_named, scan};
 pub use name::ChunkName;
 pub use store::{insert, insert_blob, load, remove};

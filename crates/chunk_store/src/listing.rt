@@ -3,7 +3,7 @@
 ghost use Rattle.std.specs.Prelude.{◌≡◌, IfOk, IsErrOf};
 ghost use Rattle.disk_trait.specs.Disk.{Ticks};
 ghost use Rattle.disk_trait.specs.Effects.{OnlyReads};
-ghost use Rattle.chunk_store.specs.Listed.{ListsChunks, digest_named, digests_in};
+ghost use Rattle.chunk_store.specs.Listed.{ListsAmong, ListsChunks, digest_named, digests_in};
 
 use crate::name::ChunkName;
 use disk_trait::{Disk, DiskError};
@@ -24,8 +24,12 @@ fn digest_of(name: &str) -> Option<Digest32>
     }
 }
 
-fn digests_of(alloc: Global, names: &[String]) -> Result<Vec<Digest32>, AllocError>
-    ensures { IfOk result (λ digests. digests.items ≡ digests_in names.now) }
+/// The digests whose chunks have these names, in the order of the names. Names of another form are passed over.
+///
+/// Where they are all names of a disk, these are the digests that `scan` gives.
+pub fn digests_named(alloc: Global, names: &[String]) -> Result<Vec<Digest32>, AllocError>
+    ensures value { IfOk result (λ digests. digests.items ≡ digests_in names.now) }
+    ensures digests { IfOk result (λ digests. ListsAmong names.now digests.items) }
 {
     let mut digests = Vec::new(alloc);
     for name in names {
@@ -43,6 +47,6 @@ pub fn scan<D: Disk>(disk: &mut D, alloc: Global) -> Result<Vec<Digest32>, DiskE
     ensures digests { ListsChunks D.Disk disk.old result }
 {
     let names = disk.list(alloc, ".chunks/")?;
-    let digests = digests_of(alloc, &names)?;
+    let digests = digests_named(alloc, &names)?;
     Ok(digests)
 }

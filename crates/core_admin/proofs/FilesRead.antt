@@ -30,7 +30,8 @@ use Rattle.core_state.proofs.Naming.{kept_by, named_by}
 use Rattle.core_admin.specs.FileRows.{rows_by}
 use Rattle.core_admin.specs.FilesTold.{HasBytes, rows_in, rows_read}
 use Rattle.core_state.specs.Found.{named_kept}
-use Rattle.core_admin.proofs.FactLemmas.{has_manifest, rows_are}
+use Rattle.snapshot_files.proofs.Manifests.{has_manifest}
+use Rattle.core_admin.proofs.FactLemmas.{rows_are}
 use Rattle.core_admin.proofs.Filtering.{map_twice}
 use Rattle.core_admin.proofs.ListingRead.{listing_is}
 use Rattle.core_admin.proofs.Told.{tells}

@@ -2,7 +2,6 @@ pub mod Filtering
 pub mod RowTexts
 pub mod FactLemmas
 pub mod FactRows
-pub mod Stopping
 pub mod Told
 pub mod ListLemmas
 pub mod Freeing

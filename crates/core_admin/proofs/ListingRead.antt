@@ -9,7 +9,8 @@ use Rattle.store_files.specs.Manifest.{Manifest}
 use Rattle.store_files.specs.Folder.{manifest_path}
 use Rattle.core_state.specs.Listing.{listing_in, listing_at}
 use Rattle.core_admin.specs.FilesTold.{HasBytes}
-use Rattle.core_admin.proofs.FactLemmas.{HasManifest, manifest_read}
+use Rattle.snapshot_files.proofs.Manifests.{HasManifest}
+use Rattle.core_admin.proofs.FactLemmas.{manifest_read}
 
 abbrev with_listed : List ℕ → Option Manifest → Option (List ℕ × Manifest)
 with_listed bytes o = o >>= λ x. Some (bytes, x)

@@ -11,13 +11,14 @@ use Rattle.store_files.specs.Archive.{File, Snapshot}
 use Rattle.store_files.specs.Folder.{Files, file_path}
 use Rattle.store_model.specs.Stands.{StandsFor as Stands, IsSnapshot, HoldsFiles, keys_rise, names_rise}
 use Rattle.snapshot_files.specs.Scanned.{FoundSnapshot, Lists, found_at, found_rise}
+use Rattle.snapshot_files.proofs.Manifests.{has_listing}
+use Rattle.snapshot_files.proofs.Rising.{rises, one_list}
 use Rattle.core_state.specs.declared.kept.Kept.{Kept}
 use Rattle.core_state.specs.declared.kept.Listed.{Listed}
 use Rattle.core_state.specs.declared.kept.StoredFile.{StoredFile}
 use Rattle.core_state.specs.Shown.{shown_file, shown_files, shown_snapshot}
 use Rattle.core_opening.specs.Opening.{AreListed, IsKeptOf, names_listed, stored_names_rise}
-use Rattle.core_opening.proofs.Manifests.{has_listing, its_manifest, not_damaged}
-use Rattle.core_opening.proofs.Rising.{rises, one_list}
+use Rattle.core_opening.proofs.Manifests.{its_manifest, not_damaged}
 
 -- ---- order
 

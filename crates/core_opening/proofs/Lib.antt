@@ -1,8 +1,8 @@
-pub mod Bytes
-pub mod Rising
 pub mod Manifests
 pub mod KeptShown
 pub mod Naming
 pub mod Keeping
+pub mod Numbered
 pub mod Opened
 pub mod Recovering
+pub mod Synced

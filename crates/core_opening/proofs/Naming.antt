@@ -20,10 +20,10 @@ use Rattle.store_types.specs.FileNames.{manifest_name}
 use Rattle.store_types.specs.Names.{text_cmp}
 use Rattle.store_files.specs.Folder.{file_path}
 use Rattle.store_model.proofs.Insertions.{Contains-here, Contains-later, Contains-cases}
+use Rattle.snapshot_files.proofs.Rising.{rises, sorted_rises}
 use Rattle.core_state.specs.declared.kept.StoredFile.{StoredFile}
 use Rattle.core_opening.specs.Opening.{ListsNames, stored_at, stored_names_rise}
 use Rattle.core_opening.proofs.KeptShown.{stored_rises}
-use Rattle.core_opening.proofs.Rising.{sorted_rises}
 
 -- ---- a set
 
@@ -138,7 +138,7 @@ paths_stored_at key (n ∷ ns) = ap (λ (l : List (List ℕ)). file_path key n �
 
 pub rise_stored_at : (key : SnapshotKey) (names : List (List ℕ)) → IsStrictlySortedBy text_cmp names → stored_names_rise (map (stored_at key) names) ≡ true
 rise_stored_at key names sorted =
-    stored_rises (map (stored_at key) names) ∙ ap (Rattle.core_opening.proofs.Rising.rises text_cmp) (names_stored_at key names) ∙ sorted_rises text_cmp names sorted
+    stored_rises (map (stored_at key) names) ∙ ap (rises text_cmp) (names_stored_at key names) ∙ sorted_rises text_cmp names sorted
 
 -- one file more
 pub stored_more : (key : SnapshotKey) (old new all : List StoredFile) (n p : List ℕ) (left rest : List (List ℕ)) → p ≡ file_path key n → new ≡ old ++ record { name = n; path = p } ∷ [] → left ≡ n ∷ rest

@@ -1,6 +1,6 @@
 -- A core that was opened with the snapshots that its disk stands for.
 use Rattle.disk_trait.specs.declared.disk.Disk.{Ghosts}
-use Rattle.std.proofs.Common.{◌≡◌, ◌⊎◌, inl, inr, ◌≤◌, ℕ, zero, suc, List, [], ◌∷◌, map, replicate, Option, Some, None, IfSome, refl, sym, ap, subst, ◌∙◌, arith}
+use Rattle.std.proofs.Common.{◌≡◌, ◌⊎◌, inl, inr, ◌≤◌, ℕ, zero, suc, List, [], ◌∷◌, length, map, replicate, Option, Some, None, IfSome, refl, sym, ap, subst, ◌∙◌, arith}
 use Rattle.std.specs.FinMap.{get}
 use Rattle.std.specs.List.{Contains}
 use Rattle.std.proofs.lemmas.Bool.{cases_lt}
@@ -26,7 +26,8 @@ use Rattle.core_state.specs.Holds.{IsSound}
 use Rattle.core_state.specs.History.{StandsFor, began}
 use Rattle.core_state.proofs.Chunks.{opened_only, only_same}
 use Rattle.core_state.proofs.LockLemmas.{locked_none}
-use Rattle.core_opening.specs.Opening.{HasBegun, IsCatalogue, first_number, opening_of}
+use Rattle.core_state.specs.Numbers.{first_number}
+use Rattle.core_opening.specs.Opening.{HasBegun, IsCatalogue, NumbersAll, RecordsOpened, opening_of}
 use Rattle.core_opening.proofs.KeptShown.{kept_shown}
 
 -- no lane has a session
@@ -106,3 +107,16 @@ module _ {D E C : Type 0} (d : Ghosts D) (readings : C → Option Readings) (old
         files = λ _. record { snapshots = after; writers = λ lane w e. absurd (no_writer L lane w e) };
         chunks = λ _. only_same c (chunk_pieces m) [] (only_before m c (chunk_pieces m) may (opened_only m stands.chunks));
       }
+
+-- on any disk
+pub opened_records : {D E C : Type 0} (readings : C → Option Readings) (core : Core D E C) → HasBegun core → NumbersAll (core.parts).catalogue.items
+    → RecordsOpened readings core.clock core
+opened_records readings core begun numbers o R start = record {
+  kept = tt;
+  entries = begun.entries;
+  calls = begun.calls;
+  fault = begun.fault;
+  last = begun.last ∙ sym start;
+  time = keeps_time readings core.clock (readings core.clock) refl;
+  numbers = numbers (length (core.journal).entries.items);
+}

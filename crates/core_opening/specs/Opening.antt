@@ -1,7 +1,8 @@
 -- What a datastore is opened with, and what opening leaves.
-use Rattle.std.specs.Prelude.{◌≡◌, ◌+◌, ◌^◌, ◌↔◌, ℕ, Bool, true, ◌&&◌, List, [], ◌∷◌, map, replicate, Option, None, Some, Result, Ok, Err, IsTrue, IfOk}
+use Rattle.std.specs.Prelude.{◌≡◌, ◌≤◌, ◌+◌, ◌↔◌, ℕ, Bool, true, ◌&&◌, List, [], ◌∷◌, map, replicate, Option, None, Some, Result, Ok, Err, IsTrue, IfOk}
 use Rattle.std.specs.List.{Contains, list_all}
-use Rattle.disk_trait.specs.Disk.{Serves}
+use Rattle.disk_trait.specs.Disk.{Serves, Same}
+use Rattle.disk_trait.specs.Effects.{StepsOn}
 use Rattle.disk_trait.specs.declared.disk.DiskError.{DiskError}
 use Rattle.disk_trait.specs.declared.disk.DiskError.TheVariants.{NoMemory as Wanting, Failed}
 use Rattle.disk_trait.specs.declared.disk.Disk.{Ghosts}
@@ -18,7 +19,7 @@ use Rattle.store_model.specs.Manifests.{listed_names}
 use Rattle.store_model.specs.Stands.{StandsFor as Stands}
 use Rattle.snapshot_files.specs.Scanned.{FoundSnapshot, Lists}
 use Rattle.opening_files.specs.Leaving.{Cleans, MayClean}
-use Rattle.opening_files.specs.Opened.{MayOpen}
+use Rattle.opening_files.specs.Opened.{Opens}
 use Rattle.store_history.specs.History.{Opening}
 use Rattle.core_state.specs.declared.kept.Kept.{Kept}
 use Rattle.core_state.specs.declared.kept.Listed.{Listed}
@@ -27,12 +28,14 @@ use Rattle.core_state.specs.declared.kept.StoredFile.{StoredFile}
 use Rattle.core_opening.specs.declared.opening.NotOpened.{NotOpened}
 use Rattle.core_opening.specs.declared.opening.Opened.{Opened}
 use Rattle.core_opening.specs.declared.opening.OpenFault.{OpenFault}
-use Rattle.core_opening.specs.declared.opening.OpenFault.TheVariants.{DiskFault, NoMemory}
+use Rattle.core_opening.specs.declared.opening.OpenFault.TheVariants.{NotSynced, DiskFault, NoMemory}
 use Rattle.core_state.specs.declared.state.Core.{Core}
 use Rattle.core_state.specs.Entering.{AllHeld}
 use Rattle.core_state.specs.History.{StandsFor, began}
 use Rattle.core_state.specs.Named.{is_named_snapshot}
+use Rattle.core_state.specs.Numbers.{AreNumbered, first_number}
 use Rattle.core_state.specs.Records.{Records}
+use Rattle.core_state.specs.Recovers.{Recovers}
 
 -- ---- the catalogue
 
@@ -62,15 +65,15 @@ pub record IsKeptOf (x : FoundSnapshot) (k : Kept) : Type 0 where
   pub files : ListsNames x.manifest (map (λ f. f.name) k.files)
   pub paths : map (λ f. f.path) k.files ≡ map (λ f. file_path x.key f.name) k.files
 
--- the number of the first snapshot that was found: those of entries of the order are less
-abbrev pub first_number : ℕ
-first_number = 2 ^ 63
-
 -- the snapshots that were found are listed by these numbers, one after another
 abbrev pub AreListed : ℕ → List FoundSnapshot → List Listed → Type 0
 AreListed n [] [] = Unit {0}
 AreListed n (x ∷ xs) (y ∷ ys) = (y.number ≡ n) × IsKeptOf x y.kept × AreListed (n + 1) xs ys
 AreListed n _ _ = ⊥
+
+-- no two have one number, nor that of an act
+abbrev pub NumbersAll : List Listed → Type 0
+NumbersAll catalogue = (acts : ℕ) → AreNumbered acts catalogue
 
 -- the catalogue is of the snapshots whose manifests are there, damaged ones too
 pub record IsCatalogue (files : Files) (catalogue : List Listed) : Type 0 where
@@ -98,6 +101,8 @@ pub record IsNew (x : Opened) : Type 0 where
   pub held : AllHeld x.journal
   pub sessions : x.sessions.items ≡ replicate 64 Idle
   pub named : IsTrue (list_all is_named_snapshot x.catalogue.items)
+  -- whatever acts are to come
+  pub numbers : NumbersAll x.catalogue.items
 
 -- nothing has happened yet, and no lane has a session
 pub record HasBegun {D E C : Type 0} (core : Core D E C) : Type 0 where
@@ -115,6 +120,13 @@ StandsOpened d readings disk clock core =
     (L : List Snapshot) (R : Option (List Snapshot)) → d.honest disk → Stands (d.content disk) L
     → StandsFor d readings core (began (opening_of d disk (core.parts).disk L) R (readings clock))
 
+-- From the moment of opening on at which what a crash leaves lacks only what opening takes away, it stands for each list of snapshots that the
+-- disk stood for.
+pub record RecoversOpened {D E C : Type 0} (d : Ghosts D) (readings : C → Option Readings) (disk : D) (clock : C) (core : Core D E C) : Type 0 where
+  pub opens : Opens d disk (core.parts).disk
+  pub recovers : (L : List Snapshot) (R : Option (List Snapshot)) → Stands (d.content disk) L
+      → Recovers d opens.start core (began (opening_of d disk (core.parts).disk L) R (readings clock))
+
 -- on any disk it keeps each history without events
 abbrev pub RecordsOpened : {D E C : Type 0} → (C → Option Readings) → C → Core D E C → Type 0
 RecordsOpened readings clock core = (o : Opening) (R : Option (List Snapshot)) → o.moment ≡ 0 → Records readings core (began o R (readings clock))
@@ -125,10 +137,16 @@ abbrev pub disk_after : {D E C : Type 0} → Result (Core D E C) (NotOpened D E 
 disk_after (Ok core) = (core.parts).disk
 disk_after (Err e) = e.disk
 
+-- it is the disk that failed
+abbrev pub TellsDisk : OpenFault → Type 0
+TellsDisk NotSynced = Unit {0}
+TellsDisk DiskFault = Unit {0}
+TellsDisk NoMemory = ⊥
+
 -- the disk's fault is told
 abbrev pub IsFaulted : {D E C : Type 0} → Result (Core D E C) (NotOpened D E C) → Type 0
 IsFaulted (Ok core) = ⊥
-IsFaulted (Err e) = e.cause ≡ DiskFault
+IsFaulted (Err e) = TellsDisk e.cause
 
 abbrev pub fault_of : DiskError → OpenFault
 fault_of Wanting = NoMemory
@@ -138,9 +156,20 @@ fault_of Failed = DiskFault
 abbrev pub ServesOpening : {D E C : Type 0} → Ghosts D → D → Result (Core D E C) (NotOpened D E C) → Type 0
 ServesOpening d disk result = Serves d.honest d.faults disk (disk_after result) (IsFaulted result)
 
--- in what a crash leaves, nothing was removed before a sync, and then only what opening takes away
+-- It was synced, and then not opened: from such a moment on, too.
+pub record StopsSynced {D : Type 0} (d : Ghosts D) (old new : D) : Type 0 where
+  pub opens : Opens d old new
+  pub stops : (L : List Snapshot) → Stands (d.content old) L → (t : ℕ) (c : Files) → opens.start ≤ t → d.images new t c → Stands c L
+
+-- What a crash leaves where it was not opened: as before, where the disk could not be synced.
+abbrev pub StopsOpening : {D : Type 0} → Ghosts D → D → D → OpenFault → Type 0
+StopsOpening d old new NotSynced = StepsOn d old new Same
+StopsOpening d old new DiskFault = StopsSynced d old new
+StopsOpening d old new NoMemory = StopsSynced d old new
+
 abbrev pub LeavesOpened : {D E C : Type 0} → Ghosts D → D → Result (Core D E C) (NotOpened D E C) → Type 0
-LeavesOpened d disk result = MayOpen d disk (disk_after result)
+LeavesOpened d disk (Ok core) = Opens d disk (core.parts).disk
+LeavesOpened d disk (Err e) = StopsOpening d disk e.disk e.cause
 
 -- what opening takes away is gone of an honest disk, and all else is as it was
 abbrev pub CleansOpening : {D E C : Type 0} → Ghosts D → D → Result (Core D E C) (NotOpened D E C) → Type 0

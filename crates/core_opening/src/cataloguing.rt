@@ -6,7 +6,8 @@ ghost use Rattle.manifest.specs.Views.{manifest_view};
 ghost use Rattle.store_types.specs.Names.{IsKey};
 ghost use Rattle.snapshot_files.specs.Scanned.{HasNames};
 ghost use Rattle.core_state.specs.Named.{is_named_snapshot};
-ghost use Rattle.core_opening.specs.Opening.{AreListed, IsKeptOf, ListsNames, first_number, stored_at, stored_names_rise};
+ghost use Rattle.core_state.specs.Numbers.{first_number};
+ghost use Rattle.core_opening.specs.Opening.{AreListed, IsKeptOf, ListsNames, NumbersAll, stored_at, stored_names_rise};
 
 use core_state::{Kept, Listed, StoredFile};
 use manifest::Manifest;
@@ -75,6 +76,7 @@ pub fn listed_of(alloc: Global, found: Vec<Found>) -> Result<Vec<Listed>, AllocE
     requires { All HasNames found.items }
     ensures listed { IfOk result (λ listed. AreListed first_number found.items listed.items) }
     ensures named { IfOk result (λ listed. IsTrue (list_all is_named_snapshot listed.items)) }
+    ensures numbers { IfOk result (λ listed. NumbersAll listed.items) }
 {
     let mut listed = Vec::with_capacity(alloc, found.len())?;
     for found in found {

@@ -1,11 +1,12 @@
 //! Opening a datastore.
 
-ghost use Rattle.std.specs.Prelude.{◌≡◌, [], replicate, IfOk, IfErr, OnOk, IsErrOf};
+ghost use Rattle.std.specs.Prelude.{◌≡◌, [], replicate, IfOk, IfErr, IsErrOf};
 ghost use Rattle.disk_trait.specs.Disk.{Serves};
 ghost use Rattle.core_state.specs.Entering.{AllHeld};
 ghost use Rattle.core_state.specs.declared.kept.Session.TheVariants.{Idle};
-ghost use Rattle.opening_files.specs.Opened.{CleansDisk, MayOpen, Opens, WantsMemory};
-ghost use Rattle.core_opening.specs.Opening.{CataloguesDisk, CleansOpening, HasBegun, IsGivenBack, IsNew, LeavesOpened, ListsFound, RecordsOpened, ServesOpening, StandsOpened, fault_of};
+ghost use Rattle.opening_files.specs.Opened.{CleansDisk, WantsMemory};
+ghost use Rattle.opening_files.specs.Removed.{StepsClean};
+ghost use Rattle.core_opening.specs.Opening.{CataloguesDisk, CleansOpening, HasBegun, IsGivenBack, IsNew, LeavesOpened, ListsFound, RecordsOpened, RecoversOpened, ServesOpening, StandsOpened, fault_of};
 
 use crate::cataloguing::listed_of;
 use core_state::{Core, Journal, Listed, Parts, Session};
@@ -20,8 +21,13 @@ use thiserror::Error;
 /// Why a datastore was not opened.
 #[derive(Clone, Copy, Debug, PartialEq, Eq, Drop, Error)]
 pub enum OpenFault {
+    /// The disk failed as it was to be synced. Nothing was removed.
+    #[error("the disk could not be synced")]
+    NotSynced,
+    /// The disk failed once it was synced.
     #[error("the disk failed")]
     DiskFault,
+    /// Memory was wanting once the disk was synced.
     #[error("out of memory")]
     NoMemory,
 }
@@ -77,11 +83,10 @@ struct Opened {
     catalogue: Vec<Listed>,
 }
 
-/// Opens the folder, and lists what was found.
+/// Opens the folder of a disk that was synced, and lists what was found.
 fn opened_of<D: Disk>(disk: &mut D, alloc: Global) -> Result<Opened, DiskError>
     ensures serves { Serves D.honest D.faults disk.old disk.new (IsErrOf result DiskError.Failed) }
-    ensures crash { MayOpen D.Disk disk.old disk.new }
-    ensures opened { OnOk result (Opens D.Disk disk.old disk.new) }
+    ensures crash { StepsClean D.Disk disk.old disk.new }
     ensures cleaned { CleansDisk D.Disk disk.old disk.new result }
     ensures want { WantsMemory D.Disk disk.old disk.new result }
     ensures catalogue { CataloguesDisk D.Disk disk.old disk.new result }
@@ -102,7 +107,8 @@ fn opened_of<D: Disk>(disk: &mut D, alloc: Global) -> Result<Opened, DiskError>
 /// is read.
 ///
 /// The catalogue has each snapshot whose manifest is there, damaged ones too. Where the disk failed or memory was wanting,
-/// all that was handed in is handed back; some of the files that opening removes may be gone then.
+/// all that was handed in is handed back; some of the files that opening removes may be gone then, unless the disk could not
+/// be synced.
 pub fn open_on<D: Disk, E, C: Clock>(
     alloc: Global,
     mut disk: D,
@@ -119,14 +125,25 @@ pub fn open_on<D: Disk, E, C: Clock>(
     ensures catalogue { D.honest disk → IfOk result (ListsFound D.Disk) }
     // on any disk a fault comes only where its count rose
     ensures serves { ServesOpening D.Disk disk result }
+    // opened or not: up to a moment a crash leaves what it could before, and from it on what was read without some of what
+    // opening takes away; where the disk could not be synced, what it could before
     ensures crash { LeavesOpened D.Disk disk result }
-    ensures since { IfOk result (λ core. Opens D.Disk disk core.parts.disk) }
+    // from such a moment on it stands for the list that the disk stood for
+    ensures recovers { IfOk result (RecoversOpened D.Disk C.readings disk clock) }
     // what opening takes away is gone, and all else is as it was
     ensures cleaned { CleansOpening D.Disk disk result }
     // all is handed on, or back
     ensures handed { IfOk result (λ core. (core.remote ≡ remote) × (core.clock ≡ clock)) }
     ensures not_opened { IfErr result (IsGivenBack D.Disk disk remote clock) }
 {
+    let Ok(()) = disk.sync() else {
+        return Err(NotOpened {
+            cause: OpenFault::NotSynced,
+            disk,
+            remote,
+            clock,
+        });
+    };
     match opened_of(&mut disk, alloc) {
         Ok(opened) => Ok(Core {
             parts: Parts {

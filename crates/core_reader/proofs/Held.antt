@@ -1,5 +1,5 @@
 -- The pieces of a finished snapshot stand on the disk.
-use Rattle.std.proofs.Common.{◌≡◌, ℕ, List, [], ◌∷◌, ◌++◌, Option, Some, None, refl, sym, ap}
+use Rattle.std.proofs.Common.{◌≡◌, ℕ, List, [], ◌∷◌, Option, Some, None, refl, sym, ap}
 use Rattle.std.proofs.lemmas.List.Elements.{All-nil, All-cons, All-head, All-tail, All-append}
 use Rattle.std.proofs.lemmas.Slice.Eq.{bytes_eq-Decides}
 use Rattle.std.specs.FinMap.{get}
@@ -14,23 +14,12 @@ use Rattle.store_model.specs.Store.{Reader, Store, snapshot_named}
 use Rattle.store_model.specs.ReaderSteps.{pieces_at, noted_pieces, reader_files}
 use Rattle.store_model.specs.Stands.{IsSnapshot, FitsContent, HoldsPieces}
 use Rattle.store_files.specs.Folder.{IsPiece, chunk_name}
+use Rattle.snapshot_files.proofs.Contents.{all_inside}
 use Rattle.chunk_store.specs.Pieces.{IsHeld}
 use Rattle.core_state.specs.Holds.{IsOnDisk}
 use Rattle.core_state.proofs.Finding.{found_in, found_passes}
 
 -- ---- lists
-
-all_left : {A : Type 0} (P : A → Type 0) (xs ys : List A) → All P (xs ++ ys) → All P xs
-all_left P [] ys all = All-nil P
-all_left P (x ∷ xs) ys all = All-cons P x xs (All-head P x (xs ++ ys) all) (all_left P xs ys (All-tail P x (xs ++ ys) all))
-
-all_right : {A : Type 0} (P : A → Type 0) (xs ys : List A) → All P (xs ++ ys) → All P ys
-all_right P [] ys all = all
-all_right P (x ∷ xs) ys all = all_right P xs ys (All-tail P x (xs ++ ys) all)
-
-all_inside : {A B : Type 0} (P : B → Type 0) (f : A → List B) (xs : List A) → All P (flat_map f xs) → All (λ x. All P (f x)) xs
-all_inside P f [] all = All-nil (λ x. All P (f x))
-all_inside P f (x ∷ xs) all = All-cons (λ y. All P (f y)) x xs (all_left P (f x) (flat_map f xs) all) (all_inside P f xs (all_right P (f x) (flat_map f xs) all))
 
 all_outside : {A B : Type 0} (P : B → Type 0) (f : A → List B) (xs : List A) → ((x : A) → All P (f x)) → All P (flat_map f xs)
 all_outside P f [] each = All-nil P

@@ -1,14 +1,16 @@
 -- OPEN_READER is the store's.
-use Rattle.std.proofs.Common.{◌≡◌, ◌<◌, ℕ, List, [], length, Option, Some, None, Result, Ok, Err, refl, ap, subst, ◌∙◌, arith}
+use Rattle.std.proofs.Common.{◌≡◌, ◌<◌, ℕ, List, [], length, Option, Some, None, Result, Ok, Err, refl, sym, ap, subst, ◌∙◌, arith}
 use Rattle.std.specs.Option.{option_map}
 use Rattle.disk_trait.specs.declared.disk.Disk.{Ghosts}
 use Rattle.disk_trait.specs.Files.{Files}
 use Rattle.store_types.specs.declared.names.SnapshotKey.{SnapshotKey}
 use Rattle.store_types.specs.declared.refusal.Refusal.{Refusal}
 use Rattle.store_types.specs.declared.refusal.Refusal.TheVariants.{BadName, NoSnapshot, Unreadable}
-use Rattle.store_types.specs.Chain.Refusing.{◌>>=◌}
+use Rattle.store_types.specs.Chain.Refusing.{◌>>=◌, if_none}
+use Rattle.lock_book.specs.Locks.{Locks}
 use Rattle.store_types.specs.Names.{key_of}
 use Rattle.store_files.specs.Archive.{Snapshot}
+use Rattle.wire_commands.specs.declared.reply.Reply.{Reply}
 use Rattle.wire_commands.specs.declared.reply.Reply.TheVariants.{Done, Refused}
 use Rattle.wire_commands.specs.declared.command.Command.TheVariants.{OpenReader}
 use Rattle.store_model.specs.Store as model
@@ -20,10 +22,12 @@ use Rattle.core_state.specs.declared.kept.Listed.{Listed}
 use Rattle.core_state.specs.declared.kept.Session.{Session}
 use Rattle.core_state.specs.Found.{named_kept}
 use Rattle.core_state.specs.Holds.{IsSound, IsReader, IsOnDisk}
+use Rattle.core_state.specs.Replies.{reply_told}
 use Rattle.core_state.specs.Unreadables.{TellsUnreadable}
 use Rattle.core_state.specs.Wanted.{want_idle as wants_idle}
 use Rattle.core_state.proofs.Sessions.{changed, no_writer_reader}
 use Rattle.core_state.proofs.Unreadables.{tells_other, tells_read}
+use Rattle.core_reader.specs.AnsweredBy.{opens_whole, reader_told}
 use Rattle.core_reader.specs.Asked.{as_known, asked_open, damage_of}
 
 -- ---- the step
@@ -101,3 +105,33 @@ module _ (text : List ℕ) (f : Session) (catalogue : List Listed) where
       where
         apart : (name : List ℕ) → Some Done ≡ Some (Refused (Unreadable name)) → ⊥
         apart name e = cc
+
+-- ---- what it answers
+
+module _ (text : List ℕ) (lane : ℕ) (f : Session) (catalogue : List Listed) (locks : Locks) where
+  pub told_busy : (r : Refusal) → wants_idle f ≡ Err r → reader_told text lane f catalogue locks ≡ Err r
+  told_busy r busy = ap (λ (i : Result (Unit {0}) Refusal). (i >>= λ _. named_kept text catalogue) >>= opens_whole) busy
+
+  told_named : (r : Result Kept Refusal) → wants_idle f ≡ Ok tt → named_kept text catalogue ≡ r → reader_told text lane f catalogue locks ≡ (r >>= opens_whole)
+  told_named r idle is =
+      ap (λ (i : Result (Unit {0}) Refusal). (i >>= λ _. named_kept text catalogue) >>= opens_whole) idle ∙ ap (λ (n : Result Kept Refusal). n >>= opens_whole) is
+
+  -- no snapshot is named
+  pub told_unnamed : (r : Refusal) → wants_idle f ≡ Ok tt → named_kept text catalogue ≡ Err r → Refused r ≡ reply_told (reader_told text lane f catalogue locks)
+  told_unnamed r idle is = sym (ap reply_told (told_named (Err r) idle is))
+
+  abbrev answer_by : Option (List ℕ) → Result Reply Refusal
+  answer_by damage = if_none Unreadable damage >>= λ _. Ok Done
+
+  told_kept : (k : Kept) (damage : Option (List ℕ)) → wants_idle f ≡ Ok tt → named_kept text catalogue ≡ Ok k → k.unreadable ≡ damage
+      → reply_told (reader_told text lane f catalogue locks) ≡ reply_told (answer_by damage)
+  told_kept k damage idle is damaged = ap reply_told (told_named (Ok k) idle is ∙ ap answer_by damaged)
+
+  -- it is damaged
+  pub told_damaged : (k : Kept) (name : List ℕ) → wants_idle f ≡ Ok tt → named_kept text catalogue ≡ Ok k → k.unreadable ≡ Some name
+      → Refused (Unreadable name) ≡ reply_told (reader_told text lane f catalogue locks)
+  told_damaged k name idle is damaged = sym (told_kept k (Some name) idle is damaged)
+
+  -- it is opened
+  pub told_opened : (k : Kept) → wants_idle f ≡ Ok tt → named_kept text catalogue ≡ Ok k → k.unreadable ≡ None → Done ≡ reply_told (reader_told text lane f catalogue locks)
+  told_opened k idle is whole = sym (told_kept k None idle is whole)

@@ -5,6 +5,7 @@ ghost use Rattle.core_state.specs.Applies.{ActApplies, ActKeeps};
 ghost use Rattle.core_state.specs.Commands.{ActDoes, ActLeaves};
 ghost use Rattle.core_state.specs.Reserved.{HasRoom};
 ghost use Rattle.core_state.specs.Unreadables.{ActUnreadable, CoreUnreadable};
+ghost use Rattle.core_reader.specs.AnsweredBy.{ActAnswersBy, CoreAnswersBy};
 ghost use Rattle.core_reader.specs.Asked.{asked_file};
 ghost use Rattle.core_reader.specs.Damages.{ActDamaged, CoreDamaged};
 ghost use Rattle.core_reader.specs.ReaderActs.{IsReaders};
@@ -25,6 +26,7 @@ fn perform<D: Disk>(parts: &mut Parts<D>, alloc: Global, at: Place, act: Act) ->
     requires kind { IsReaders act }
     ensures does { ActDoes D.Disk parts.old parts.new at act result }
     ensures leaves { ActLeaves D.Disk parts.old parts.new at act result }
+    ensures by_kept { ActAnswersBy parts.old at act result }
     ensures unreadable { ActUnreadable D.Disk (asked_file act) parts.old at result }
     ensures damaged { ActDamaged D.Disk parts.old at act result }
 {
@@ -60,6 +62,8 @@ pub fn reader_act<D: Disk, E, C: Clock>(
     requires kind { IsReaders act }
     ensures applies { ActApplies D.Disk C.Clock core.old core.new lane act result }
     ensures keeps { ActKeeps D.Disk core.old core.new lane act result }
+    // on any disk OPEN_READER answers what the core keeps
+    ensures by_kept { CoreAnswersBy core.old lane act result }
     ensures unreadable { CoreUnreadable D.Disk (asked_file act) core.old lane result }
     ensures damaged { CoreDamaged D.Disk core.old lane act result }
 {

@@ -1,9 +1,8 @@
 use Rattle.store_files.specs.Folder.{HasWholeChunks}
 use Rattle.core_state.specs.Chunks.{HoldsOnly, IsSafe}
 -- The two records of a command, lifted once over the beginning and the entry of an act.
-use Rattle.std.proofs.Common.{◌≡◌, ◌<◌, ◌≤◌, ℕ, true, false, length, is_some, Option, Some, None, Result, Ok, Err, IfOk, IfSome, IsSome, IsTrue, IsErrOf, inl, ⊎_elim, arith, refl, sym, ap, subst, ◌∙◌}
+use Rattle.std.proofs.Common.{◌≡◌, ◌<◌, ◌≤◌, ℕ, true, false, length, is_some, Option, Some, None, Result, Ok, Err, IfOk, IfSome, IsSome, IsTrue, IsErrOf, inl, refl, sym, ap, subst, ◌∙◌}
 use Rattle.disk_trait.specs.Disk.{Serves}
-use Rattle.disk_trait.specs.Effects.{LeavesBy}
 use Rattle.disk_trait.specs.Files.{Files}
 use Rattle.disk_trait.specs.declared.disk.Disk.{Ghosts}
 use Rattle.disk_trait.specs.declared.disk.DiskError.TheVariants as disks
@@ -40,11 +39,13 @@ use Rattle.core_state.specs.Stops.{told}
 use Rattle.core_state.specs.Wanted.{session_at}
 use Rattle.core_state.proofs.Answered.{refused_stands, short_stands, done_stands}
 use Rattle.core_state.proofs.Answering.{refused_answered, short_answered, done_answered, refused_told, short_told, where_some, where_none, refused_same}
+use Rattle.core_state.proofs.Calls.{later}
 use Rattle.core_state.proofs.Caused.{refused_caused, short_caused, done_caused, step_caused, want_caused}
 use Rattle.core_state.proofs.Chunks.{clear_safe}
 use Rattle.core_state.proofs.Commanding.{same_leaves, unlisted}
 use Rattle.core_state.proofs.ForeignLemmas.{never_told}
 use Rattle.core_state.proofs.Recorded.{records_more, refused_timely, settled_timely, short_timely, step_kind, tells_reply, wanting_kind}
+use Rattle.core_state.proofs.Recovering.{StandsMore, recovers_more}
 use Rattle.core_state.proofs.Reserves.{refused_keeps, done_keeps, closing_kind, closing_before, no_end_keeps}
 use Rattle.core_state.proofs.Unchanging.{refused_parts, refused_unchanged, done_unchanged}
 
@@ -112,10 +113,6 @@ module _ {D : Type 0} (d : Ghosts D) where
   crash_told old new change (Err NoMemory) plain leaves = leaves
   crash_told old new change (Err DiskFailed) plain leaves = leaves
 
-  -- the count of calls doesn't fall
-  pub later : (old new : D) (step : Files → Files → Type 0) → LeavesBy d old new step → d.calls old ≤ d.calls new
-  later old new step leaves = ⊎_elim (λ same. let e = ap d.calls same in omega (arith, e)) (λ steps. steps.later) leaves
-
 -- ---- by the class
 
 true_false : true ≡ false → ⊥
@@ -158,22 +155,12 @@ safe_for : (m : Files) (h : History) (act : Act) (answer : Answer) (calls : ℕ)
 safe_for m h (Chunk digest checked) answer calls formed clear whole only = clear_safe m h (event_of (Chunk digest checked) answer calls) formed clear whole only
 safe_for m h act answer calls formed clear whole only = tt
 
-module _ {D E C : Type 0} (d : Ghosts D) (clock : clocks.Ghosts C) where
-  -- refused before it is done
-  pub refused_applies : (old new : Core D E C) (lane : ℕ) (act : Act) (answer : Answer) → lane < 64 → IsWellFormed act → class_of act ≡ stepping
-      → Refuses d clock.readings old new lane answer → AdmittedHasText (Answered answer) → (is_closing old lane act ≡ true → IsNotShort (Answered answer)) → ActApplies d clock old new lane act answer
-  refused_applies old new lane act answer lt formed step refuses text memory =
-      let answers = refused_answered d clock.readings old new lane answer refuses text in
-      let timely = refused_timely d clock.readings old new lane answer refuses in
-      let cause = refused_caused d clock.readings old new lane act answer refuses in record {
-        history = λ h s clear. refused_stands d clock.readings old new h lane act answer s lt formed step refuses memory;
-        records = λ h. records_more d clock.readings old new lane act answer h answers timely (step_kind d old new act answer step cause) (tells_reply d old new act answer cause answers.text);
-        answers = answers;
-        timely = timely;
-        told = class_told act answer (step_no_end act step) (refused_told d clock.readings old new lane answer refuses);
-        cause = step_caused d old new act answer step cause;
-      }
+-- want of memory ends no session
+wanting_closes : (act : Act) (x : Session) → class_of act ≡ wanting → closes act x ≡ false
+wanting_closes Short x want = refl
+wanting_closes act x want = cc
 
+module _ {D E C : Type 0} (d : Ghosts D) (clock : clocks.Ghosts C) where
   refused_remote : (old new : Core D E C) (lane : ℕ) (answer : Answer) → Refuses d clock.readings old new lane answer → new.remote ≡ old.remote
   refused_remote old new lane answer (short is) = (is.entered).remote ∙ (is.begun).remote
   refused_remote old new lane answer (halted is) = (is.entered).remote ∙ (is.begun).remote
@@ -212,55 +199,51 @@ module _ {D E C : Type 0} (d : Ghosts D) (clock : clocks.Ghosts C) where
       → Refuses d clock.readings old new lane answer → (is_closing old lane act ≡ true → IsNotShort (Answered answer)) → ActKeeps d old new lane act answer
   refused_keeps_all old new lane act answer step refuses memory = refused_kept old new lane act answer (step_no_end act step) refuses memory
 
+  -- refused before it is done
+  pub refused_applies : (old new : Core D E C) (lane : ℕ) (act : Act) (answer : Answer) → lane < 64 → IsWellFormed act → class_of act ≡ stepping
+      → Refuses d clock.readings old new lane answer → AdmittedHasText (Answered answer) → (is_closing old lane act ≡ true → IsNotShort (Answered answer)) → ActApplies d clock old new lane act answer
+  refused_applies old new lane act answer lt formed step refuses text memory =
+      let answers = refused_answered d clock.readings old new lane answer refuses text in
+      let timely = refused_timely d clock.readings old new lane answer refuses in
+      let cause = refused_caused d clock.readings old new lane act answer refuses in
+      let keeps = refused_kept old new lane act answer (step_no_end act step) refuses memory in
+      let more : StandsMore d clock old new act answer = λ h s clear. refused_stands d clock.readings old new h lane act answer s lt formed step refuses memory in record {
+        history = more;
+        records = λ h. records_more d clock.readings old new lane act answer h answers timely (step_kind d old new act answer step cause) (tells_reply d old new act answer cause answers.text) keeps.listed;
+        recovers = recovers_more d clock old new lane act answer lt more answers (step_caused d old new act answer step cause) keeps;
+        answers = answers;
+        timely = timely;
+        told = class_told act answer (step_no_end act step) (refused_told d clock.readings old new lane answer refuses);
+        cause = step_caused d old new act answer step cause;
+      }
+
   -- want of memory that was met outside the core
+  short_kept : (old new : Core D E C) (lane : ℕ) (act : Act) (answer : Answer) → class_of act ≡ wanting → IsShort d clock.readings old new lane answer → ActKeeps d old new lane act answer
+  short_kept old new lane act answer want is =
+      refused_kept old new lane act answer (want_no_end act want) (short is)
+      (λ closing. absurd (closes_none old.fault act (session_at old.parts lane) (wanting_closes act (session_at old.parts lane) want) closing))
+
+  pub short_keeps_all : (old new : Core D E C) (lane : ℕ) (answer : Answer) → IsShort d clock.readings old new lane answer → ActKeeps d old new lane Short answer
+  short_keeps_all old new lane answer is = short_kept old new lane Short answer refl is
+
   pub short_applies : (old new : Core D E C) (lane : ℕ) (act : Act) (answer : Answer) → lane < 64 → IsWellFormed act → class_of act ≡ wanting
       → IsShort d clock.readings old new lane answer → ActApplies d clock old new lane act answer
   short_applies old new lane act answer lt formed want is =
       let answers = short_answered d clock.readings old new lane answer is in
       let timely = short_timely d clock.readings old new lane answer is in
-      let cause = short_caused d clock.readings old new lane act answer is in record {
-        history = λ h s clear. short_stands d clock.readings old new h lane act answer s lt formed (want_no_end act want) (λ step closing. want_no_step act want step) is;
-        records = λ h. records_more d clock.readings old new lane act answer h answers timely (wanting_kind old act answer want (ap (λ x. x.kind) (is.entered).entry)) (tells_reply d old new act answer cause answers.text);
+      let cause = short_caused d clock.readings old new lane act answer is in
+      let keeps = short_kept old new lane act answer want is in
+      let more : StandsMore d clock old new act answer = λ h s clear. short_stands d clock.readings old new h lane act answer s lt formed (want_no_end act want) (λ step closing. want_no_step act want step) is in record {
+        history = more;
+        records = λ h. records_more d clock.readings old new lane act answer h answers timely (wanting_kind old act answer want (ap (λ x. x.kind) (is.entered).entry)) (tells_reply d old new act answer cause answers.text) keeps.listed;
+        recovers = recovers_more d clock old new lane act answer lt more answers (want_caused d clock.readings old new lane act answer want is) keeps;
         answers = answers;
         timely = timely;
         told = class_told act answer (want_no_end act want) (short_told d clock.readings old new lane answer is);
         cause = want_caused d clock.readings old new lane act answer want is;
       }
 
-  pub short_keeps_all : (old new : Core D E C) (lane : ℕ) (answer : Answer) → IsShort d clock.readings old new lane answer → ActKeeps d old new lane Short answer
-  short_keeps_all old new lane answer is =
-      refused_kept old new lane Short answer (want_no_end Short refl) (short is) (λ closing. absurd (closes_none old.fault Short (session_at old.parts lane) refl closing))
-
   -- ---- done on these parts, and entered
-
-  done_at : (old mid acted new : Core D E C) (at : Place) (act : Act) (result : Result Reply Stop) (answer : Answer) → at.lane < 64 → IsWellFormed act → class_of act ≡ stepping
-      → IsReady clock.readings old mid at.lane at.moment → SameRest mid acted → ActDoes d mid.parts acted.parts at act result → ActLeaves d mid.parts acted.parts at act result
-      → Settles d acted new at.lane at.moment (told result) answer → ActApplies d clock old new at.lane act answer
-  done_at old mid acted new at act result answer lt formed step ready rest does leaves settles =
-      let answers = done_answered d clock.readings old mid acted new at.lane at.moment (told result) answer ready rest.journal rest.fault (serves_told d (mid.parts).disk (acted.parts).disk result does.serves) does.text settles in
-      let timely = settled_timely d clock.readings old acted new at.lane at.moment (told result) answer
-      (subst (λ k. ReadsClock clock.readings old.clock k old.last at.moment) (sym rest.clock) (ready.begun).clock) settles in
-      let cause = done_caused d clock.readings old mid acted new at.lane at.moment act (told result) answer ready (serves_told d (mid.parts).disk (acted.parts).disk result does.serves) does.answers settles in record {
-        history = λ h s clear.
-            done_stands d clock.readings old mid acted new h at.lane at.moment act (λ st. act_outcome h.remote (record (world h) { store = st }) at.lane at.moment act) (told result) answer s lt formed step refl
-            (record { ready = ready; journal = rest.journal; clock = rest.clock; fault = rest.fault; later = later d (mid.parts).disk (acted.parts).disk _ leaves.crash }) (λ safe. does.step safe h.remote (world h)) leaves.adds leaves.closed settles
-            (λ whole only. safe_for (d.content (mid.parts).disk) h act answer (d.calls (new.parts).disk) formed clear whole only);
-        records = λ h. records_more d clock.readings old new at.lane act answer h answers timely (step_kind d old new act answer step cause) (tells_reply d old new act answer cause answers.text);
-        answers = answers;
-        timely = timely;
-        told = class_told act answer (step_no_end act step) (ap is_some settles.reply_is);
-        cause = step_caused d old new act answer step cause;
-      }
-
-  ready_at : (old mid : Core D E C) (lane : ℕ) (at : Place) → IsAdmitted clock.readings old mid lane at → IsReady clock.readings old mid at.lane at.moment
-  ready_at old mid lane at admitted = subst (λ l. IsReady clock.readings old mid l at.moment) (sym admitted.lane_is) admitted.ready
-
-  pub done_applies : (old mid acted new : Core D E C) (lane : ℕ) (at : Place) (act : Act) (result : Result Reply Stop) (answer : Answer) → lane < 64 → IsWellFormed act → class_of act ≡ stepping
-      → IsAdmitted clock.readings old mid lane at → SameRest mid acted → ActDoes d mid.parts acted.parts at act result → ActLeaves d mid.parts acted.parts at act result
-      → Settles d acted new at.lane at.moment (told result) answer → ActApplies d clock old new lane act answer
-  done_applies old mid acted new lane at act result answer lt formed step admitted rest does leaves settles =
-      subst (λ l. ActApplies d clock old new l act answer) admitted.lane_is
-      (done_at old mid acted new at act result answer (subst (λ l. l < 64) (sym admitted.lane_is) lt) formed step (ready_at old mid lane at admitted) rest does leaves settles)
 
   kept_at : (old mid acted new : Core D E C) (at : Place) (act : Act) (result : Result Reply Stop) (answer : Answer) → (class_of act ≡ ending → ⊥)
       → IsReady clock.readings old mid at.lane at.moment → at.number ≡ length (mid.journal).entries.items
@@ -302,6 +285,42 @@ module _ {D E C : Type 0} (d : Ghosts D) (clock : clocks.Ghosts C) where
           (subst (λ r. d.content (acted.parts).disk ≡ after (by_reply (change_at mid.parts at.lane act) r) (d.content (mid.parts).disk)) (sym reply)
           (content_told d (mid.parts).disk (acted.parts).disk (change_at mid.parts at.lane act) result does.plain fine
           (leaves.content (no_fault result fine) (subst (λ p. d.honest p.disk) (sym before) h))))
+
+  done_at : (old mid acted new : Core D E C) (at : Place) (act : Act) (result : Result Reply Stop) (answer : Answer) → at.lane < 64 → IsWellFormed act → class_of act ≡ stepping
+      → IsReady clock.readings old mid at.lane at.moment → at.number ≡ length (mid.journal).entries.items
+      → (is_closing old at.lane act ≡ false → (3 ≤ held_by mid.journal at.lane) × (0 < (mid.journal).spare)) → SameRest mid acted → ActDoes d mid.parts acted.parts at act result → ActLeaves d mid.parts acted.parts at act result
+      → Settles d acted new at.lane at.moment (told result) answer → ActApplies d clock old new at.lane act answer
+  done_at old mid acted new at act result answer lt formed step ready number filled rest does leaves settles =
+      let answers = done_answered d clock.readings old mid acted new at.lane at.moment (told result) answer ready rest.journal rest.fault (serves_told d (mid.parts).disk (acted.parts).disk result does.serves) does.text settles in
+      let timely = settled_timely d clock.readings old acted new at.lane at.moment (told result) answer
+      (subst (λ k. ReadsClock clock.readings old.clock k old.last at.moment) (sym rest.clock) (ready.begun).clock) settles in
+      let cause = done_caused d clock.readings old mid acted new at.lane at.moment act (told result) answer ready (serves_told d (mid.parts).disk (acted.parts).disk result does.serves) does.answers settles in
+      let keeps = kept_at old mid acted new at act result answer (step_no_end act step) ready number filled rest does leaves settles in record {
+        history = more;
+        records = λ h. records_more d clock.readings old new at.lane act answer h answers timely (step_kind d old new act answer step cause) (tells_reply d old new act answer cause answers.text) keeps.listed;
+        recovers = recovers_more d clock old new at.lane act answer lt more answers (step_caused d old new act answer step cause) keeps;
+        answers = answers;
+        timely = timely;
+        told = class_told act answer (step_no_end act step) (ap is_some settles.reply_is);
+        cause = step_caused d old new act answer step cause;
+      }
+    where
+      more : StandsMore d clock old new act answer
+      more h s clear =
+          done_stands d clock.readings old mid acted new h at.lane at.moment act (λ st. act_outcome h.remote (record (world h) { store = st }) at.lane at.moment act) (told result) answer s lt formed step refl
+          (record { ready = ready; journal = rest.journal; clock = rest.clock; fault = rest.fault; later = later d (mid.parts).disk (acted.parts).disk _ leaves.crash }) (λ safe. does.step safe h.remote (world h)) leaves.adds leaves.closed settles
+          (λ whole only. safe_for (d.content (mid.parts).disk) h act answer (d.calls (new.parts).disk) formed clear whole only)
+
+  ready_at : (old mid : Core D E C) (lane : ℕ) (at : Place) → IsAdmitted clock.readings old mid lane at → IsReady clock.readings old mid at.lane at.moment
+  ready_at old mid lane at admitted = subst (λ l. IsReady clock.readings old mid l at.moment) (sym admitted.lane_is) admitted.ready
+
+  pub done_applies : (old mid acted new : Core D E C) (lane : ℕ) (at : Place) (act : Act) (result : Result Reply Stop) (answer : Answer) → lane < 64 → IsWellFormed act → class_of act ≡ stepping
+      → IsAdmitted clock.readings old mid lane at → (is_closing old lane act ≡ false → (3 ≤ held_by mid.journal lane) × (0 < (mid.journal).spare)) → SameRest mid acted → ActDoes d mid.parts acted.parts at act result → ActLeaves d mid.parts acted.parts at act result
+      → Settles d acted new at.lane at.moment (told result) answer → ActApplies d clock old new lane act answer
+  done_applies old mid acted new lane at act result answer lt formed step admitted filled rest does leaves settles =
+      subst (λ l. ActApplies d clock old new l act answer) admitted.lane_is
+      (done_at old mid acted new at act result answer (subst (λ l. l < 64) (sym admitted.lane_is) lt) formed step (ready_at old mid lane at admitted) admitted.number_is
+      (subst (λ l. is_closing old l act ≡ false → (3 ≤ held_by mid.journal l) × (0 < (mid.journal).spare)) (sym admitted.lane_is) filled) rest does leaves settles)
 
   pub done_keeps_all : (old mid acted new : Core D E C) (lane : ℕ) (at : Place) (act : Act) (result : Result Reply Stop) (answer : Answer) → class_of act ≡ stepping
       → IsAdmitted clock.readings old mid lane at → (is_closing old lane act ≡ false → (3 ≤ held_by mid.journal lane) × (0 < (mid.journal).spare)) → SameRest mid acted

@@ -1,20 +1,17 @@
 -- Chunk files and the pieces of a history.
 use Rattle.disk_trait.specs.declared.disk.Disk.{Ghosts}
-use Rattle.std.proofs.Common.{◌≡◌, inl, ⊎_elim, ℕ, zero, suc, ◌<◌, ◌≤◌, Bool, true, false, cond, if◌then◌else◌, List, [], ◌∷◌, ◌++◌, length, drop, get_or, append_assoc, Option, Some, None, Result, Ok, Err, refl, sym, ap, subst, ◌∙◌, arith}
+use Rattle.std.proofs.Common.{◌≡◌, inl, ⊎_elim, ℕ, zero, suc, ◌<◌, ◌≤◌, true, if◌then◌else◌, List, [], ◌∷◌, ◌++◌, length, drop, get_or, append_assoc, Some, None, Result, Ok, Err, refl, sym, ap, subst, ◌∙◌, arith}
 use Rattle.std.specs.Int.{w32, to_be_bytes}
-use Rattle.std.specs.List.{All, Contains, filter_map, cons_option}
-use Rattle.std.specs.Ordering.{eq_by_cmp}
+use Rattle.std.specs.List.{All}
 use Rattle.std.specs.Str.{bytes_eq}
-use Rattle.std.specs.FinMap.{get, find, entries, get-entries}
+use Rattle.std.specs.FinMap.{get, entries}
 use Rattle.std.proofs.lemmas.Bool.{and_from, le-leb}
 use Rattle.std.proofs.lemmas.List.Elements.{All-append, Contains-append_left, Contains-append_right, Contains-push}
-use Rattle.std.proofs.lemmas.Map.Text.{is_eq-slice_cmp}
 use Rattle.std.proofs.lemmas.Slice.Eq.{bytes_eq-Decides}
 use Rattle.sha2.specs.Sha256.{sha256, digest_bytes}
 use Rattle.sha2.proofs.Facts256.{length-sha256}
 use Rattle.store_types.specs.declared.names.Digest32.{Digest32}
 use Rattle.store_types.specs.declared.refusal.Refusal.{Refusal}
-use Rattle.store_types.specs.Names.{text_cmp}
 use Rattle.blob_codec.specs.Blob.{blob, data_limit}
 use Rattle.disk_trait.specs.Files.{Files}
 use Rattle.disk_trait.specs.declared.disk.DiskError.{DiskError}
@@ -22,6 +19,7 @@ use Rattle.disk_trait.specs.declared.disk.DiskError.TheVariants.{NoMemory, Faile
 use Rattle.wire_commands.specs.declared.reply.Reply.{Reply}
 use Rattle.store_files.specs.Folder.{chunk_name, IsDigest, HasWholeChunks}
 use Rattle.store_model.specs.Clash.{NoClash, is_chunk, chunk_piece, chunk_pieces}
+use Rattle.snapshot_files.proofs.Mapped.{contains_given, entry_there}
 use Rattle.store_history.specs.declared.act.Act.{Act}
 use Rattle.store_history.specs.declared.act.Act.TheVariants as acts
 use Rattle.store_history.specs.declared.act.Event.{Event}
@@ -60,47 +58,8 @@ behind : (p : List ℕ) → drop 12 (blob p) ≡ p
 unfolding blob
 behind p = refl
 
-same_text : (a b : List ℕ) → bytes_eq a b ≡ true → a ≡ b
-same_text a b e = (bytes_eq-Decides a b).0 e
-
 eq_refl : (a : List ℕ) → bytes_eq a a ≡ true
 eq_refl a = (bytes_eq-Decides a a).1 refl
-
-contains_first : {A : Type 0} (x : A) (xs : List A) → Contains (x ∷ xs) x
-contains_first x xs = (0, omega arith, refl)
-
-contains_later : {A : Type 0} (y x : A) (xs : List A) → Contains xs x → Contains (y ∷ xs) x
-contains_later y x xs c = Contains-append_right (y ∷ []) xs x c
-
-find_contains : (es : List (List ℕ × List ℕ)) (q v : List ℕ) → find text_cmp q es ≡ Some v → Contains es (q, v)
-find_contains [] q v e = cc
-find_contains (x ∷ es) q v e = by_test (λ t. find_contains es q v t) (eq_by_cmp text_cmp q x.0) refl e
-  where
-    by_test : (find text_cmp q es ≡ Some v → Contains es (q, v)) → (b : Bool) → eq_by_cmp text_cmp q x.0 ≡ b → cond b (Some x.1) (find text_cmp q es) ≡ Some v → Contains (x ∷ es) (q, v)
-    by_test later true is e =
-        let name : q ≡ x.0 = same_text q x.0 (sym (is_eq-slice_cmp q x.0) ∙ is) in
-        let text : x.1 ≡ v = some_same x.1 v e in
-        subst (λ y. Contains (x ∷ es) y) (ap (λ n. (n, x.1)) (sym name) ∙ ap (λ t. (q, t)) text) (contains_first x es)
-      where
-        some_same : (a b : List ℕ) → Some a ≡ Some b → a ≡ b
-        some_same a b e = cc
-    by_test later false is e = contains_later x (q, v) es (later e)
-
-entry_there : (m : Files) (q v : List ℕ) → get m q ≡ Some v → Contains (entries m) (q, v)
-entry_there m q v e = find_contains (entries m) q v (sym (get-entries m q) ∙ e)
-
-mapped : (files : List (List ℕ × List ℕ)) (x : List ℕ × List ℕ) (p : List ℕ) → chunk_piece x ≡ Some p → Contains files x → Contains (filter_map chunk_piece files) p
-mapped files x p is (k, lt, at) = by_place files k lt at
-  where
-    put_later : (o : Option (List ℕ)) (ps : List (List ℕ)) → Contains ps p → Contains (cons_option o ps) p
-    put_later None ps c = c
-    put_later (Some y) ps c = contains_later y p ps c
-
-    by_place : (files : List (List ℕ × List ℕ)) (k : ℕ) → k < length files → get_or files k x ≡ x → Contains (filter_map chunk_piece files) p
-    by_place [] k lt at = absurd (omega (arith, lt))
-    by_place (f ∷ fs) zero lt at =
-        subst (λ o. Contains (cons_option o (filter_map chunk_piece fs)) p) (sym (ap chunk_piece at ∙ is)) (contains_first p (filter_map chunk_piece fs))
-    by_place (f ∷ fs) (suc k) lt at = put_later (chunk_piece f) (filter_map chunk_piece fs) (by_place fs k (omega (arith, lt)) at)
 
 chunk_is : (p : List ℕ) → length p ≤ data_limit → chunk_piece (chunk_name (sha256 p), blob p) ≡ Some p
 chunk_is p fits =
@@ -114,7 +73,8 @@ pub opened_only : (m : Files) → HasWholeChunks m → HoldsOnly m (chunk_pieces
 opened_only m whole p there =
     let (q, piece, is, digest) = whole (sha256 p) (blob p) (is_digest p) there in
     let same : p ≡ q = sym (behind p) ∙ ap (drop 12) is ∙ behind q in
-    mapped (entries m) (chunk_name (sha256 p), blob p) p (chunk_is p (subst (λ x. length x ≤ data_limit) (sym same) piece.1)) (entry_there m _ _ there)
+    contains_given chunk_piece (entries m) (chunk_name (sha256 p), blob p) p (chunk_is p (subst (λ x. length x ≤ data_limit) (sym same) piece.1))
+    (entry_there m (chunk_name (sha256 p)) (blob p) there)
 
 -- ---- one event more
 

@@ -67,7 +67,7 @@ pub record HasManifest (w : Writer) (path text : List ℕ) : Type 0 where
   pub is_path : path ≡ manifest_path w.key
   pub is_text : text ≡ file_text file.content
 
-has_manifest : (w : Writer) (path text : List ℕ) → kept_manifest (shown_writer w) ≡ Some (path, text) → HasManifest w path text
+pub has_manifest : (w : Writer) (path text : List ℕ) → kept_manifest (shown_writer w) ≡ Some (path, text) → HasManifest w path text
 has_manifest w path text e = by_file (file_named manifest_name w.files) refl (sym (kept_manifest-shown w) ∙ e)
   where
     by_file : (o : Option File) → file_named manifest_name w.files ≡ o → manifest_of w.key o ≡ Some (path, text) → HasManifest w path text
@@ -76,7 +76,7 @@ has_manifest w path text e = by_file (file_named manifest_name w.files) refl (sy
         let both = some_pair_parts (file_path w.key g.name) path (file_text g.content) text e in
         record { file = g; found = is; is_path = sym both.0 ∙ ap (file_path w.key) (found_name w.files g is); is_text = sym both.1 }
 
-no_manifest : (w : Writer) → kept_manifest (shown_writer w) ≡ None → file_named manifest_name w.files ≡ None
+pub no_manifest : (w : Writer) → kept_manifest (shown_writer w) ≡ None → file_named manifest_name w.files ≡ None
 no_manifest w e = by_file (file_named manifest_name w.files) refl (sym (kept_manifest-shown w) ∙ e)
   where
     by_file : (o : Option File) → file_named manifest_name w.files ≡ o → manifest_of w.key o ≡ None → file_named manifest_name w.files ≡ None
@@ -85,7 +85,7 @@ no_manifest w e = by_file (file_named manifest_name w.files) refl (sym (kept_man
 
 -- ---- what the check makes sure of
 
-listed : (w : Writer) (m : Manifest) → finish_check w ≡ Ok m → listing_of w.key w.files ≡ Ok m
+pub listed : (w : Writer) (m : Manifest) → finish_check w ≡ Ok m → listing_of w.key w.files ≡ Ok m
 unfolding finish_check
 listed w m is = by_test (length w.begun == 0) is
   where
@@ -93,7 +93,8 @@ listed w m is = by_test (length w.begun == 0) is
     by_test true e = e
     by_test false e = cc
 
-no_listing : (key : SnapshotKey) (files : List File) (m : Manifest) → file_named manifest_name files ≡ None → listing_of key files ≡ Ok m → ⊥
+-- the manifest is there
+pub no_listing : (key : SnapshotKey) (files : List File) (m : Manifest) → file_named manifest_name files ≡ None → listing_of key files ≡ Ok m → ⊥
 unfolding listing_of
 no_listing key files m absent is = by_data (manifest_data files) (ap data_in absent) is
   where

@@ -24,10 +24,12 @@ use Rattle.core_state.specs.Settles.{IsEntered, Settles, with_fault, reply_by}
 use Rattle.core_state.specs.Stops.{ended_as}
 use Rattle.core_state.specs.Wanted.{session_at}
 use Rattle.core_state.proofs.Answering.{ended_answered, ended_told, end_failed_answered, end_failed_told, untouched, where_none, where_some}
-use Rattle.core_state.proofs.Applying.{SameRest, closes_none, later, undone}
+use Rattle.core_state.proofs.Applying.{SameRest, closes_none, undone}
+use Rattle.core_state.proofs.Calls.{later}
 use Rattle.core_state.proofs.Caused.{ended_caused, end_failed_caused}
 use Rattle.core_state.proofs.Clocks.{next_begun}
 use Rattle.core_state.proofs.Ended.{IsClosed, ended_stands, end_failed_stands, end_halted_stands}
+use Rattle.core_state.proofs.Recovering.{StandsMore, recovers_more}
 use Rattle.core_state.proofs.Recorded.{records_more, entered_timely, end_kind, end_tells_reply}
 use Rattle.core_state.proofs.Reserves.{ended_keeps, end_failed_keeps}
 use Rattle.core_state.proofs.Unchanging.{untold_unchanged, unchanged_between}
@@ -54,36 +56,6 @@ module _ {D E C : Type 0} (d : Ghosts D) (clock : clocks.Ghosts C) where
 
   -- its session has ended, and its files are gone
 
-  ended_at : (old mid acted new : Core D E C) (at : Place) (answer : Answer) → at.lane < 64 → old.fault ≡ None → IsNext clock.readings old mid at.lane at → SameRest mid acted
-      → ActDoes d mid.parts acted.parts at End (Ok replies.Done) → ActLeaves d mid.parts acted.parts at End (Ok replies.Done)
-      → IsEntered d acted new at.lane at.moment 6 None answer → ActApplies d clock old new at.lane End answer
-  unfolding act_outcome
-  ended_at old mid acted new at answer lt none next rest does leaves entered =
-      let begun = next_begun clock.readings old mid at.lane at next in
-      let answers = ended_answered d clock.readings _ old mid acted new at.lane at.moment answer begun rest.journal rest.fault does.serves entered in
-      let timely = entered_timely d clock.readings old acted new at.lane at.moment 6 None answer (acted_clock old mid acted at next rest) entered in
-      let cause = ended_caused d old acted new at.lane at.moment answer entered in record {
-        history = λ h s clear.
-            let held = held_before old mid h next.parts none s in
-            let did : Does d acted.parts (world h).store (ended_store (world h).store at.lane, replies.Done) (Ok replies.Done) = does.step tt h.remote (world h) (world h).store held in
-            ended_stands d clock.readings old mid acted new h at.lane at.moment answer s lt
-            (closed_at old mid acted at next rest (later d (mid.parts).disk (acted.parts).disk _ leaves.crash)) did.1 (λ _. leaves.adds (world h).store held) entered;
-        records = λ h. records_more d clock.readings old new at.lane End answer h answers timely (end_kind d old new End answer refl cause) (end_tells_reply d old new End answer cause);
-        answers = answers;
-        timely = timely;
-        told = ended_told d acted new at.lane at.moment answer entered;
-        cause = cause;
-      }
-
-  pub ended_applies : (old mid acted new : Core D E C) (lane : ℕ) (at : Place) (result : Result (Unit {0}) Failed) (answer : Answer) → lane < 64 → old.fault ≡ None
-      → IsNext clock.readings old mid lane at → SameRest mid acted → result ≡ Ok tt
-      → ActDoes d mid.parts acted.parts at End (ended_as result) → ActLeaves d mid.parts acted.parts at End (ended_as result)
-      → IsEntered d acted new at.lane at.moment 6 None answer → ActApplies d clock old new lane End answer
-  ended_applies old mid acted new lane at result answer lt none next rest is does leaves entered =
-      subst (λ l. ActApplies d clock old new l End answer) next.lane_is
-      (ended_at old mid acted new at answer (subst (λ l. l < 64) (sym next.lane_is) lt) none (next_at old mid lane at next) rest
-      (subst (λ r. ActDoes d mid.parts acted.parts at End (ended_as r)) is does) (subst (λ r. ActLeaves d mid.parts acted.parts at End (ended_as r)) is leaves) entered)
-
   ended_kept_at : (old mid acted new : Core D E C) (at : Place) (answer : Answer) → old.fault ≡ None → IsNext clock.readings old mid at.lane at → SameRest mid acted
       → ActLeaves d mid.parts acted.parts at End (Ok replies.Done) → IsEntered d acted new at.lane at.moment 6 None answer → ActKeeps d old new at.lane End answer
   ended_kept_at old mid acted new at answer none next rest leaves entered = record {
@@ -108,6 +80,41 @@ module _ {D E C : Type 0} (d : Ghosts D) (clock : clocks.Ghosts C) where
     reserve = ended_keeps d clock.readings old mid acted new at.lane at.moment answer next.journal rest.journal entered;
   }
 
+  ended_at : (old mid acted new : Core D E C) (at : Place) (answer : Answer) → at.lane < 64 → old.fault ≡ None → IsNext clock.readings old mid at.lane at → SameRest mid acted
+      → ActDoes d mid.parts acted.parts at End (Ok replies.Done) → ActLeaves d mid.parts acted.parts at End (Ok replies.Done)
+      → IsEntered d acted new at.lane at.moment 6 None answer → ActApplies d clock old new at.lane End answer
+  unfolding act_outcome
+  ended_at old mid acted new at answer lt none next rest does leaves entered =
+      let begun = next_begun clock.readings old mid at.lane at next in
+      let answers = ended_answered d clock.readings _ old mid acted new at.lane at.moment answer begun rest.journal rest.fault does.serves entered in
+      let timely = entered_timely d clock.readings old acted new at.lane at.moment 6 None answer (acted_clock old mid acted at next rest) entered in
+      let cause = ended_caused d old acted new at.lane at.moment answer entered in
+      let keeps = ended_kept_at old mid acted new at answer none next rest leaves entered in record {
+        history = more;
+        records = λ h. records_more d clock.readings old new at.lane End answer h answers timely (end_kind d old new End answer refl cause) (end_tells_reply d old new End answer cause) keeps.listed;
+        recovers = recovers_more d clock old new at.lane End answer lt more answers cause keeps;
+        answers = answers;
+        timely = timely;
+        told = ended_told d acted new at.lane at.moment answer entered;
+        cause = cause;
+      }
+    where
+      more : StandsMore d clock old new End answer
+      more h s clear =
+          let held = held_before old mid h next.parts none s in
+          let did : Does d acted.parts (world h).store (ended_store (world h).store at.lane, replies.Done) (Ok replies.Done) = does.step tt h.remote (world h) (world h).store held in
+          ended_stands d clock.readings old mid acted new h at.lane at.moment answer s lt
+          (closed_at old mid acted at next rest (later d (mid.parts).disk (acted.parts).disk _ leaves.crash)) did.1 (λ _. leaves.adds (world h).store held) entered
+
+  pub ended_applies : (old mid acted new : Core D E C) (lane : ℕ) (at : Place) (result : Result (Unit {0}) Failed) (answer : Answer) → lane < 64 → old.fault ≡ None
+      → IsNext clock.readings old mid lane at → SameRest mid acted → result ≡ Ok tt
+      → ActDoes d mid.parts acted.parts at End (ended_as result) → ActLeaves d mid.parts acted.parts at End (ended_as result)
+      → IsEntered d acted new at.lane at.moment 6 None answer → ActApplies d clock old new lane End answer
+  ended_applies old mid acted new lane at result answer lt none next rest is does leaves entered =
+      subst (λ l. ActApplies d clock old new l End answer) next.lane_is
+      (ended_at old mid acted new at answer (subst (λ l. l < 64) (sym next.lane_is) lt) none (next_at old mid lane at next) rest
+      (subst (λ r. ActDoes d mid.parts acted.parts at End (ended_as r)) is does) (subst (λ r. ActLeaves d mid.parts acted.parts at End (ended_as r)) is leaves) entered)
+
   pub ended_keeps_all : (old mid acted new : Core D E C) (lane : ℕ) (at : Place) (result : Result (Unit {0}) Failed) (answer : Answer) → old.fault ≡ None
       → IsNext clock.readings old mid lane at → SameRest mid acted → result ≡ Ok tt → ActLeaves d mid.parts acted.parts at End (ended_as result)
       → IsEntered d acted new at.lane at.moment 6 None answer → ActKeeps d old new lane End answer
@@ -116,34 +123,6 @@ module _ {D E C : Type 0} (d : Ghosts D) (clock : clocks.Ghosts C) where
       (ended_kept_at old mid acted new at answer none (next_at old mid lane at next) rest (subst (λ r. ActLeaves d mid.parts acted.parts at End (ended_as r)) is leaves) entered)
 
   -- the disk failed
-
-  end_failed_at : (old mid acted new : Core D E C) (at : Place) (answer : Answer) → at.lane < 64 → old.fault ≡ None → IsNext clock.readings old mid at.lane at → SameRest mid acted
-      → ActDoes d mid.parts acted.parts at End (Err DiskFailed) → ActLeaves d mid.parts acted.parts at End (Err DiskFailed)
-      → Settles d acted new at.lane at.moment (Err disks.Failed) answer → ActApplies d clock old new at.lane End answer
-  end_failed_at old mid acted new at answer lt none next rest does leaves settles =
-      let begun = next_begun clock.readings old mid at.lane at next in
-      let answers = end_failed_answered d clock.readings _ old mid acted new at.lane at.moment answer begun none rest.journal rest.fault refl does.serves settles in
-      let timely = entered_timely d clock.readings old (with_fault acted (Some (length (acted.journal).entries.items))) new at.lane at.moment 5 _ answer (acted_clock old mid acted at next rest) settles in
-      let cause = end_failed_caused d clock.readings _ old mid (with_fault acted (Some (length (acted.journal).entries.items))) new at.lane at.moment answer begun none refl does.serves refl settles in record {
-        history = λ h s clear.
-            let did = does.step tt h.remote (world h) (world h).store (held_before old mid h next.parts none s) in
-            end_failed_stands d clock.readings old mid acted new h at.lane at.moment answer s lt
-            (closed_at old mid acted at next rest (later d (mid.parts).disk (acted.parts).disk _ leaves.crash)) none did.0 did.1 settles;
-        records = λ h. records_more d clock.readings old new at.lane End answer h answers timely (end_kind d old new End answer refl cause) (end_tells_reply d old new End answer cause);
-        answers = answers;
-        timely = timely;
-        told = end_failed_told d mid acted new at.lane at.moment answer rest.fault settles;
-        cause = cause;
-      }
-
-  pub end_failed_applies : (old mid acted new : Core D E C) (lane : ℕ) (at : Place) (result : Result (Unit {0}) Failed) (failed : Failed) (answer : Answer) → lane < 64 → old.fault ≡ None
-      → IsNext clock.readings old mid lane at → SameRest mid acted → result ≡ Err failed
-      → ActDoes d mid.parts acted.parts at End (ended_as result) → ActLeaves d mid.parts acted.parts at End (ended_as result)
-      → Settles d acted new at.lane at.moment (Err disks.Failed) answer → ActApplies d clock old new lane End answer
-  end_failed_applies old mid acted new lane at result failed answer lt none next rest is does leaves settles =
-      subst (λ l. ActApplies d clock old new l End answer) next.lane_is
-      (end_failed_at old mid acted new at answer (subst (λ l. l < 64) (sym next.lane_is) lt) none (next_at old mid lane at next) rest
-      (subst (λ r. ActDoes d mid.parts acted.parts at End (ended_as r)) is does) (subst (λ r. ActLeaves d mid.parts acted.parts at End (ended_as r)) is leaves) settles)
 
   end_failed_kept_at : (old mid acted new : Core D E C) (at : Place) (answer : Answer) → old.fault ≡ None → (session_at old.parts at.lane ≡ Idle → ⊥) → IsNext clock.readings old mid at.lane at → SameRest mid acted
       → ActLeaves d mid.parts acted.parts at End (Err DiskFailed) → Settles d acted new at.lane at.moment (Err disks.Failed) answer → ActKeeps d old new at.lane End answer
@@ -166,6 +145,39 @@ module _ {D E C : Type 0} (d : Ghosts D) (clock : clocks.Ghosts C) where
     reserve = end_failed_keeps d clock.readings old mid (with_fault acted (Some (length (acted.journal).entries.items))) new at.lane at.moment answer none busy next.journal rest.journal _ refl settles;
   }
 
+  end_failed_at : (old mid acted new : Core D E C) (at : Place) (answer : Answer) → at.lane < 64 → old.fault ≡ None → (session_at old.parts at.lane ≡ Idle → ⊥) → IsNext clock.readings old mid at.lane at → SameRest mid acted
+      → ActDoes d mid.parts acted.parts at End (Err DiskFailed) → ActLeaves d mid.parts acted.parts at End (Err DiskFailed)
+      → Settles d acted new at.lane at.moment (Err disks.Failed) answer → ActApplies d clock old new at.lane End answer
+  end_failed_at old mid acted new at answer lt none busy next rest does leaves settles =
+      let begun = next_begun clock.readings old mid at.lane at next in
+      let answers = end_failed_answered d clock.readings _ old mid acted new at.lane at.moment answer begun none rest.journal rest.fault refl does.serves settles in
+      let timely = entered_timely d clock.readings old (with_fault acted (Some (length (acted.journal).entries.items))) new at.lane at.moment 5 _ answer (acted_clock old mid acted at next rest) settles in
+      let cause = end_failed_caused d clock.readings _ old mid (with_fault acted (Some (length (acted.journal).entries.items))) new at.lane at.moment answer begun none refl does.serves refl settles in
+      let keeps = end_failed_kept_at old mid acted new at answer none busy next rest leaves settles in record {
+        history = more;
+        records = λ h. records_more d clock.readings old new at.lane End answer h answers timely (end_kind d old new End answer refl cause) (end_tells_reply d old new End answer cause) keeps.listed;
+        recovers = recovers_more d clock old new at.lane End answer lt more answers cause keeps;
+        answers = answers;
+        timely = timely;
+        told = end_failed_told d mid acted new at.lane at.moment answer rest.fault settles;
+        cause = cause;
+      }
+    where
+      more : StandsMore d clock old new End answer
+      more h s clear =
+          let did = does.step tt h.remote (world h) (world h).store (held_before old mid h next.parts none s) in
+          end_failed_stands d clock.readings old mid acted new h at.lane at.moment answer s lt
+          (closed_at old mid acted at next rest (later d (mid.parts).disk (acted.parts).disk _ leaves.crash)) none did.0 did.1 settles
+
+  pub end_failed_applies : (old mid acted new : Core D E C) (lane : ℕ) (at : Place) (result : Result (Unit {0}) Failed) (failed : Failed) (answer : Answer) → lane < 64 → old.fault ≡ None
+      → (session_at old.parts lane ≡ Idle → ⊥) → IsNext clock.readings old mid lane at → SameRest mid acted → result ≡ Err failed
+      → ActDoes d mid.parts acted.parts at End (ended_as result) → ActLeaves d mid.parts acted.parts at End (ended_as result)
+      → Settles d acted new at.lane at.moment (Err disks.Failed) answer → ActApplies d clock old new lane End answer
+  end_failed_applies old mid acted new lane at result failed answer lt none busy next rest is does leaves settles =
+      subst (λ l. ActApplies d clock old new l End answer) next.lane_is
+      (end_failed_at old mid acted new at answer (subst (λ l. l < 64) (sym next.lane_is) lt) none (subst (λ l. session_at old.parts l ≡ Idle → ⊥) (sym next.lane_is) busy) (next_at old mid lane at next) rest
+      (subst (λ r. ActDoes d mid.parts acted.parts at End (ended_as r)) is does) (subst (λ r. ActLeaves d mid.parts acted.parts at End (ended_as r)) is leaves) settles)
+
   pub end_failed_keeps_all : (old mid acted new : Core D E C) (lane : ℕ) (at : Place) (result : Result (Unit {0}) Failed) (failed : Failed) (answer : Answer) → old.fault ≡ None
       → (session_at old.parts lane ≡ Idle → ⊥) → IsNext clock.readings old mid lane at → SameRest mid acted → result ≡ Err failed → ActLeaves d mid.parts acted.parts at End (ended_as result)
       → Settles d acted new at.lane at.moment (Err disks.Failed) answer → ActKeeps d old new lane End answer
@@ -175,32 +187,6 @@ module _ {D E C : Type 0} (d : Ghosts D) (clock : clocks.Ghosts C) where
       (subst (λ r. ActLeaves d mid.parts acted.parts at End (ended_as r)) is leaves) settles)
 
   -- after a fault its session ends without a call of the disk
-
-  end_halted_at : (old mid acted new : Core D E C) (at : Place) (first : ℕ) (answer : Answer) → at.lane < 64 → old.fault ≡ Some first → IsNext clock.readings old mid at.lane at → SameRest mid acted
-      → (acted.parts).disk ≡ (mid.parts).disk → ((s : Store) → Shows mid.parts s → Shows acted.parts (ended_store s at.lane))
-      → IsEntered d acted new at.lane at.moment 6 None answer → ActApplies d clock old new at.lane End answer
-  end_halted_at old mid acted new at first answer lt some next rest same shows entered =
-      let begun = next_begun clock.readings old mid at.lane at next in
-      let answers = ended_answered d clock.readings ⊥ old mid acted new at.lane at.moment answer begun rest.journal rest.fault (untouched d (mid.parts).disk (acted.parts).disk same) entered in
-      let timely = entered_timely d clock.readings old acted new at.lane at.moment 6 None answer (acted_clock old mid acted at next rest) entered in
-      let cause = ended_caused d old acted new at.lane at.moment answer entered in record {
-        history = λ h s clear.
-            end_halted_stands d clock.readings old mid acted new h at.lane at.moment first answer s lt
-            (closed_at old mid acted at next rest (let e = ap d.calls same in omega (arith, e))) some
-            (subst d.honest (sym (same ∙ ap (λ p. p.disk) next.parts)) s.honest) (shows (world h).store (subst (λ p. Shows p (world h).store) (sym next.parts) s.shows)) entered;
-        records = λ h. records_more d clock.readings old new at.lane End answer h answers timely (end_kind d old new End answer refl cause) (end_tells_reply d old new End answer cause);
-        answers = answers;
-        timely = timely;
-        told = ended_told d acted new at.lane at.moment answer entered;
-        cause = cause;
-      }
-
-  pub end_halted_applies : (old mid acted new : Core D E C) (lane : ℕ) (at : Place) (first : ℕ) (answer : Answer) → lane < 64 → old.fault ≡ Some first → IsNext clock.readings old mid lane at → SameRest mid acted
-      → (acted.parts).disk ≡ (mid.parts).disk → ((s : Store) → Shows mid.parts s → Shows acted.parts (ended_store s at.lane))
-      → IsEntered d acted new at.lane at.moment 6 None answer → ActApplies d clock old new lane End answer
-  end_halted_applies old mid acted new lane at first answer lt some next rest same shows entered =
-      subst (λ l. ActApplies d clock old new l End answer) next.lane_is
-      (end_halted_at old mid acted new at first answer (subst (λ l. l < 64) (sym next.lane_is) lt) some (next_at old mid lane at next) rest same shows entered)
 
   end_halted_kept_at : (old mid acted new : Core D E C) (at : Place) (first : ℕ) (answer : Answer) → old.fault ≡ Some first → IsNext clock.readings old mid at.lane at → SameRest mid acted
       → (acted.parts).disk ≡ (mid.parts).disk → (acted.parts).catalogue.items ≡ (mid.parts).catalogue.items → session_at acted.parts at.lane ≡ Idle
@@ -222,6 +208,37 @@ module _ {D E C : Type 0} (d : Ghosts D) (clock : clocks.Ghosts C) where
         memory = λ closing. absurd (closes_none old.fault End (session_at old.parts at.lane) refl closing);
         reserve = ended_keeps d clock.readings old mid acted new at.lane at.moment answer next.journal rest.journal entered;
       }
+
+  end_halted_at : (old mid acted new : Core D E C) (at : Place) (first : ℕ) (answer : Answer) → at.lane < 64 → old.fault ≡ Some first → IsNext clock.readings old mid at.lane at → SameRest mid acted
+      → (acted.parts).disk ≡ (mid.parts).disk → (acted.parts).catalogue.items ≡ (mid.parts).catalogue.items → session_at acted.parts at.lane ≡ Idle → ((s : Store) → Shows mid.parts s → Shows acted.parts (ended_store s at.lane))
+      → IsEntered d acted new at.lane at.moment 6 None answer → ActApplies d clock old new at.lane End answer
+  end_halted_at old mid acted new at first answer lt some next rest same catalogue idle shows entered =
+      let begun = next_begun clock.readings old mid at.lane at next in
+      let answers = ended_answered d clock.readings ⊥ old mid acted new at.lane at.moment answer begun rest.journal rest.fault (untouched d (mid.parts).disk (acted.parts).disk same) entered in
+      let timely = entered_timely d clock.readings old acted new at.lane at.moment 6 None answer (acted_clock old mid acted at next rest) entered in
+      let cause = ended_caused d old acted new at.lane at.moment answer entered in
+      let keeps = end_halted_kept_at old mid acted new at first answer some next rest same catalogue idle entered in record {
+        history = more;
+        records = λ h. records_more d clock.readings old new at.lane End answer h answers timely (end_kind d old new End answer refl cause) (end_tells_reply d old new End answer cause) keeps.listed;
+        recovers = recovers_more d clock old new at.lane End answer lt more answers cause keeps;
+        answers = answers;
+        timely = timely;
+        told = ended_told d acted new at.lane at.moment answer entered;
+        cause = cause;
+      }
+    where
+      more : StandsMore d clock old new End answer
+      more h s clear =
+          end_halted_stands d clock.readings old mid acted new h at.lane at.moment first answer s lt
+          (closed_at old mid acted at next rest (let e = ap d.calls same in omega (arith, e))) some
+          (subst d.honest (sym (same ∙ ap (λ p. p.disk) next.parts)) s.honest) (shows (world h).store (subst (λ p. Shows p (world h).store) (sym next.parts) s.shows)) entered
+
+  pub end_halted_applies : (old mid acted new : Core D E C) (lane : ℕ) (at : Place) (first : ℕ) (answer : Answer) → lane < 64 → old.fault ≡ Some first → IsNext clock.readings old mid lane at → SameRest mid acted
+      → (acted.parts).disk ≡ (mid.parts).disk → (acted.parts).catalogue.items ≡ (mid.parts).catalogue.items → session_at acted.parts at.lane ≡ Idle → ((s : Store) → Shows mid.parts s → Shows acted.parts (ended_store s at.lane))
+      → IsEntered d acted new at.lane at.moment 6 None answer → ActApplies d clock old new lane End answer
+  end_halted_applies old mid acted new lane at first answer lt some next rest same catalogue idle shows entered =
+      subst (λ l. ActApplies d clock old new l End answer) next.lane_is
+      (end_halted_at old mid acted new at first answer (subst (λ l. l < 64) (sym next.lane_is) lt) some (next_at old mid lane at next) rest same catalogue idle shows entered)
 
   pub end_halted_keeps_all : (old mid acted new : Core D E C) (lane : ℕ) (at : Place) (first : ℕ) (answer : Answer) → old.fault ≡ Some first → IsNext clock.readings old mid lane at → SameRest mid acted
       → (acted.parts).disk ≡ (mid.parts).disk → (acted.parts).catalogue.items ≡ (mid.parts).catalogue.items → session_at acted.parts at.lane ≡ Idle

@@ -45,7 +45,7 @@ use Rattle.core_state.specs.Holds.{Holds}
 use Rattle.core_state.specs.Due.{IsDue}
 use Rattle.core_state.specs.Recovers.{TellsMoments}
 use Rattle.core_state.specs.Wanted.{session_at}
-use Rattle.core_state.proofs.Applying.{later}
+use Rattle.core_state.proofs.Calls.{later}
 use Rattle.core_state.proofs.Commanding.{session_shown}
 use Rattle.core_state.proofs.Completing.{FinishIs, completes, fails as finish_fails, finish_changes, finish_is, finished, gives as finish_gives}
 use Rattle.core_state.proofs.Removing.{ForgetIs, are_files, beside, fails as forget_fails, forget_changes, forget_is, forgot, found_key, found_whole, gives as forget_gives}

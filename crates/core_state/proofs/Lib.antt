@@ -14,6 +14,7 @@ pub mod Texts
 pub mod Answering
 pub mod Unchanging
 pub mod Caused
+pub mod Numbering
 pub mod Recorded
 pub mod Finding
 pub mod Found
@@ -21,6 +22,8 @@ pub mod Naming
 pub mod Unreadables
 pub mod Readers
 pub mod Commanding
+pub mod Calls
+pub mod ByKept
 pub mod Applying
 pub mod Ending
 pub mod ForeignLemmas

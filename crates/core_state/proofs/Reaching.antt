@@ -12,7 +12,7 @@ use Rattle.core_state.specs.History.{History, event_of, then_event}
 use Rattle.core_state.specs.Records.{Reaches, Records, opened_with}
 use Rattle.core_state.proofs.Chunks.{clear_before}
 use Rattle.core_state.proofs.ForeignLemmas.{foreign_kept, no_fault_before}
-use Rattle.core_state.proofs.Recovering.{clear_for, recovers_reached}
+use Rattle.core_state.proofs.Recovering.{clear_for}
 
 pub reaches_first : {D E C : Type 0} (d : Ghosts D) (readings : C → Option Readings) (core : Core D E C) (h : History)
     → Records readings core h → Reaches d readings core h core h
@@ -32,5 +32,6 @@ reaches_more d clock first began old new lane act answer lt applies keeps h x =
           let before = no_fault_before _ (answer.entry).kind old.fault (sym (applies.answers).fault ∙ none) in
           foreign_kept d old new _ lane _ act answer lt so.shows so.honest (applies.answers).fault applies.cause keeps none q own ∙ x.foreign L R s was before q own;
       recovers = λ told start L R s r clear.
-          recovers_reached d clock told first began old new lane act answer lt applies keeps keeps.due h x L R s clear start (x.recovers told start L R s r (clear_before h e clear));
+          let was = clear_before h e clear in
+          applies.recovers told start (opened_with L R h) (x.stands L R s was) clear (x.recovers told start L R s r was);
     }

@@ -1,6 +1,6 @@
 -- What the core keeps of a history after one act more, on any disk.
 use Rattle.disk_trait.specs.declared.disk.Disk.{Ghosts}
-use Rattle.std.proofs.Common.{◌≡◌, ◌≤◌, ◌+◌, inl, inr, ℕ, suc, List, [], ◌∷◌, ◌++◌, length, Option, Some, None, IfSome, Result, sym, ap, subst, ◌∙◌, arith}
+use Rattle.std.proofs.Common.{◌≡◌, ◌<◌, ◌≤◌, ◌+◌, ◌^◌, inl, inr, ℕ, suc, List, [], ◌∷◌, ◌++◌, length, length-append, Option, Some, None, IfSome, Result, sym, ap, subst, ◌∙◌, arith}
 use Rattle.std.proofs.lemmas.List.{map-append, length-map}
 use Rattle.port_traits.specs.Readings.{Readings}
 use Rattle.disk_trait.specs.declared.disk.DiskError.{DiskError}
@@ -22,7 +22,11 @@ use Rattle.core_state.specs.Settles.{IsEntered, Settles, with_fault, fault_by, k
 use Rattle.core_state.specs.Begins.{ReadsClock, IsShort, Refuses, short, halted}
 use Rattle.core_state.specs.Answers.{IsAnswered, fault_after, HasCause, done, short as was_short, failed, halted as was_halted, EndHasCause, ended, end_failed}
 use Rattle.core_state.specs.Records.{IsTimely, FitsKind, FitsReply, IsKept, AreKept, fault_in, Records}
+use Rattle.core_state.specs.Catalogue.{Lists, listed_by}
+use Rattle.core_state.specs.Numbers.{AreNumbered}
+use Rattle.core_state.specs.Wanted.{session_at}
 use Rattle.core_state.proofs.Entered.{time_more}
+use Rattle.core_state.proofs.Numbering.{numbered_by}
 
 -- ---- one event more
 
@@ -45,11 +49,23 @@ fault_more place fault (v ∷ h) e =
     let first = fault_after place (kind v) fault in
     fault_more (place + 1) first h e ∙ ap (λ n. fault_after n (kind e) (fault_in (place + 1) first h)) on
 
+numbers_more : {D E C : Type 0} (old new : Core D E C) (lane : ℕ) (act : Act) (answer : Answer)
+    → answer.place ≡ length (old.journal).entries.items → (new.journal).entries.items ≡ (old.journal).entries.items ++ answer.entry ∷ [] → Lists old new lane act answer
+    → AreNumbered (length (old.journal).entries.items) (old.parts).catalogue.items → AreNumbered (length (new.journal).entries.items) (new.parts).catalogue.items
+numbers_more old new lane act answer place entered lists numbers =
+    let was = length (old.journal).entries.items in
+    let few : was < 2 ^ 63 = omega (arith, (old.journal).entries.ok.0, (old.journal).entries.ok.1, (old.journal).entries.small) in
+    let count : length (new.journal).entries.items ≡ was + 1 = let n = ap length entered in omega (arith, n, length-append (old.journal).entries.items (answer.entry ∷ [])) in
+    let items : (new.parts).catalogue.items ≡ listed_by act answer.reply was (session_at old.parts lane) (old.parts).catalogue.items =
+    lists ∙ ap (λ n. listed_by act answer.reply n (session_at old.parts lane) (old.parts).catalogue.items) place in
+    subst (λ n. AreNumbered n (new.parts).catalogue.items) (sym count)
+    (subst (AreNumbered (was + 1)) (sym items) (numbered_by was few (old.parts).catalogue.items numbers act answer.reply (session_at old.parts lane)))
+
 pub records_more : {D E C : Type 0} (d : Ghosts D) (readings : C → Option Readings) (old new : Core D E C) (lane : ℕ) (act : Act) (answer : Answer) (h : History)
     → IsAnswered d old new lane answer → IsTimely readings old new answer → FitsKind (class_of act) old.fault (answer.entry).kind
-    → FitsReply old.fault act (kind_of (answer.entry).kind) answer.reply
+    → FitsReply old.fault act (kind_of (answer.entry).kind) answer.reply → Lists old new lane act answer
     → Records readings old h → Records readings new (then_event h (event_of act answer (d.calls (new.parts).disk)))
-records_more d readings old new lane act answer h a t fits tells r = record {
+records_more d readings old new lane act answer h a t fits tells lists r = record {
   kept = kept_more 0 None (h.opening).moment h.events e r.kept (record {
     kind_is = subst (λ o. FitsKind (class_of act) o (answer.entry).kind) r.fault fits;
     tells = subst (λ o. FitsReply o act (kind_of (answer.entry).kind) answer.reply) r.fault tells;
@@ -64,6 +80,7 @@ records_more d readings old new lane act answer h a t fits tells r = record {
       ∙ sym (fault_more 0 None h.events e);
   last = t.last ∙ sym (moment_more (h.opening).moment h.events e);
   time = time_more readings old.clock new.clock old.last h e r.last r.time t.clock;
+  numbers = numbers_more old new lane act answer a.place a.entries lists r.numbers;
 }
   where
     e : Event

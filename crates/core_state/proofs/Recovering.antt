@@ -19,14 +19,12 @@ use Rattle.store_history.specs.Legal.{IsLegal, IsRight}
 use Rattle.store_history.proofs.Longer.{calls_risen}
 use Rattle.store_history.proofs.Prefixes.{reopens_before, reopens_from, reopens_halted, reopens_to}
 use Rattle.core_state.specs.declared.state.Core.{Core}
-use Rattle.core_state.specs.Applies.{ActApplies, ActKeeps, IsClearFor}
+use Rattle.core_state.specs.Answers.{IsAnswered, IsCaused, fault_after}
+use Rattle.core_state.specs.Applies.{ActKeeps, IsClearFor}
 use Rattle.core_state.specs.History.{History, IsClear, StandsFor, event_of, then_event, world}
 use Rattle.core_state.specs.Holds.{Holds}
-use Rattle.core_state.specs.Records.{Reaches, opened_with}
-use Rattle.core_state.specs.Due.{DueAt}
 use Rattle.core_state.specs.Recovers.{Recovers, TellsMoments}
-use Rattle.core_state.proofs.Applying.{later}
-use Rattle.core_state.proofs.Chunks.{clear_before}
+use Rattle.core_state.proofs.Calls.{later}
 use Rattle.core_state.proofs.ForeignLemmas.{not_faulted}
 use Rattle.core_state.proofs.Leading.{IsCalm, Leads, leads}
 use Rattle.core_state.proofs.SameSnapshots.{next_store}
@@ -70,8 +68,9 @@ module _ {D E C : Type 0} (d : Ghosts D) (clock : clocks.Ghosts C) (told : Tells
   abbrev Found : ℕ → Files → Type 0
   Found t c = (found : List Snapshot) × Stands c found × Reopens h.remote start (h.events ++ e ∷ []) t found
 
-  module _ (inside : k < 64) (applies : ActApplies d clock old new k act answer) (keeps : ActKeeps d old new k act answer) (due : DueAt d old k act answer)
-      (s : StandsFor d clock.readings old h) (clear : IsClear (then_event h e)) (begin : ℕ) (recovers : Recovers d begin old h) where
+  module _ (inside : k < 64) (so : StandsFor d clock.readings new (then_event h e)) (fault : new.fault ≡ fault_after (length (old.journal).entries.items) (answer.entry).kind old.fault)
+      (cause : IsCaused d old new act answer) (keeps : ActKeeps d old new k act answer)
+      (s : StandsFor d clock.readings old h) (begin : ℕ) (recovers : Recovers d begin old h) where
     -- after a fault the disk is not called
     halted : (first : ℕ) → old.fault ≡ Some first → (t : ℕ) (c : Files) → begin ≤ t → d.images (new.parts).disk t c → Found t c
     halted first is t c from image =
@@ -80,9 +79,6 @@ module _ {D E C : Type 0} (d : Ghosts D) (clock : clocks.Ghosts C) (told : Tells
         (x.0, x.1, reopens_halted h.remote start h.events e t x.0 (some_is w.fault first (sym s.fault ∙ is)) x.2)
 
     module _ (none : old.fault ≡ None) where
-      so : StandsFor d clock.readings new (then_event h e)
-      so = applies.history h s (clear_for act (then_event h e) clear)
-
       right : IsRight h.remote w e
       right = last_right h.remote start h.events e so.legal
 
@@ -93,7 +89,7 @@ module _ {D E C : Type 0} (d : Ghosts D) (clock : clocks.Ghosts C) (told : Tells
       calm = ap is_none none_there
 
       unhurt : (kind e == 5) ≡ false → new.fault ≡ None
-      unhurt calm = (applies.answers).fault ∙ ap (λ b. if b then first_fault (length (old.journal).entries.items) old.fault else old.fault) calm ∙ none
+      unhurt calm = fault ∙ ap (λ b. if b then first_fault (length (old.journal).entries.items) old.fault else old.fault) calm ∙ none
 
       facts : IsCalm d old new h.remote w act answer
       facts = record {
@@ -104,9 +100,9 @@ module _ {D E C : Type 0} (d : Ghosts D) (clock : clocks.Ghosts C) (told : Tells
         holds = holds;
         formed = right.formed;
         right = right.says;
-        unhurt = λ calm is. not_faulted d old new act answer applies.cause (unhurt calm) is;
+        unhurt = λ calm is. not_faulted d old new act answer cause (unhurt calm) is;
         whole = λ calm. ((so.files (sym so.fault ∙ unhurt calm)).snapshots).chunks;
-        due = λ is. due none is w.store holds;
+        due = λ is. keeps.due none is w.store holds;
       }
         where
           holds : Holds d old.parts w.store
@@ -186,22 +182,19 @@ module _ {D E C : Type 0} (d : Ghosts D) (clock : clocks.Ghosts C) (told : Tells
         by_fault None none = unhalted none
         by_fault (Some first) is = halted first is
 
--- with one act more
-pub recovers_more : {D E C : Type 0} (d : Ghosts D) (clock : clocks.Ghosts C) (told : TellsMoments d) (old new : Core D E C) (lane : ℕ) (act : Act) (answer : Answer)
-    → lane < 64 → ActApplies d clock old new lane act answer → ActKeeps d old new lane act answer → DueAt d old lane act answer
-    → (h : History) → StandsFor d clock.readings old h → IsClear (then_event h (event_of act answer (d.calls (new.parts).disk)))
-    → (begin : ℕ) → Recovers d begin old h → Recovers d begin new (then_event h (event_of act answer (d.calls (new.parts).disk)))
-recovers_more d clock told old new lane act answer lt applies keeps due h s clear begin recovers =
-    let is = (applies.answers).lane_is in
-    recovers_here d clock told old new act answer h (subst (λ l. l < 64) (sym is) lt) (subst (λ l. ActApplies d clock old new l act answer) (sym is) applies)
-    (subst (λ l. ActKeeps d old new l act answer) (sym is) keeps) (subst (λ l. DueAt d old l act answer) (sym is) due) s clear begin recovers
+-- By this the core stands for a history with the act's event more.
+abbrev pub StandsMore : {D E C : Type 0} → Ghosts D → (clock : clocks.Ghosts C) → Core D E C → Core D E C → Act → Answer → Type 0
+StandsMore d clock old new act answer =
+    (h : History) → StandsFor d clock.readings old h → IsClearFor act (then_event h (event_of act answer (d.calls (new.parts).disk)))
+    → StandsFor d clock.readings new (then_event h (event_of act answer (d.calls (new.parts).disk)))
 
--- and from a first core on, opened with whatever snapshots
-pub recovers_reached : {D E C : Type 0} (d : Ghosts D) (clock : clocks.Ghosts C) (told : TellsMoments d) (first : Core D E C) (began : History) (old new : Core D E C) (lane : ℕ) (act : Act) (answer : Answer)
-    → lane < 64 → ActApplies d clock old new lane act answer → ActKeeps d old new lane act answer → DueAt d old lane act answer
-    → (h : History) → Reaches d clock.readings first began old h
-    → (L : List Snapshot) (R : Option (List Snapshot)) → StandsFor d clock.readings first (opened_with L R began) → IsClear (then_event h (event_of act answer (d.calls (new.parts).disk)))
-    → (begin : ℕ) → Recovers d begin old (opened_with L R h) → Recovers d begin new (opened_with L R (then_event h (event_of act answer (d.calls (new.parts).disk))))
-recovers_reached d clock told first began old new lane act answer lt applies keeps due h x L R s clear begin recovers =
-    let e = event_of act answer (d.calls (new.parts).disk) in
-    recovers_more d clock told old new lane act answer lt applies keeps due (opened_with L R h) (x.stands L R s (clear_before h e clear)) clear begin recovers
+-- with one act more
+pub recovers_more : {D E C : Type 0} (d : Ghosts D) (clock : clocks.Ghosts C) (old new : Core D E C) (lane : ℕ) (act : Act) (answer : Answer)
+    → lane < 64 → StandsMore d clock old new act answer → IsAnswered d old new lane answer → IsCaused d old new act answer → ActKeeps d old new lane act answer
+    → TellsMoments d → (begin : ℕ) (h : History) → StandsFor d clock.readings old h → IsClear (then_event h (event_of act answer (d.calls (new.parts).disk)))
+    → Recovers d begin old h → Recovers d begin new (then_event h (event_of act answer (d.calls (new.parts).disk)))
+recovers_more d clock old new lane act answer lt more answers cause keeps told begin h s clear recovers =
+    let is = answers.lane_is in
+    recovers_here d clock told old new act answer h (subst (λ l. l < 64) (sym is) lt)
+    (more h s (clear_for act (then_event h (event_of act answer (d.calls (new.parts).disk))) clear)) answers.fault cause
+    (subst (λ l. ActKeeps d old new l act answer) (sym is) keeps) s begin recovers

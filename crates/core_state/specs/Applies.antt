@@ -18,6 +18,7 @@ use Rattle.core_state.specs.Commands.{IsNoRefusal, change_at, ends_session, is_a
 use Rattle.core_state.specs.Due.{DueAt}
 use Rattle.core_state.specs.History.{History, IsClear, StandsFor, then_event, event_of}
 use Rattle.core_state.specs.Records.{IsTimely, Records}
+use Rattle.core_state.specs.Recovers.{Recovers, TellsMoments}
 use Rattle.core_state.specs.Reserved.{Keeps}
 use Rattle.core_state.specs.Unchanged.{Unchanged}
 use Rattle.core_state.specs.Wanted.{session_at}
@@ -37,6 +38,9 @@ pub record ActApplies {D E C : Type 0} (d : Ghosts D) (clock : clocks.Ghosts C) 
   pub history : (h : History) → StandsFor d clock.readings old h → IsClearFor act (then_event h (event_of act answer (d.calls (new.parts).disk)))
       → StandsFor d clock.readings new (then_event h (event_of act answer (d.calls (new.parts).disk)))
   pub records : (h : History) → Records clock.readings old h → Records clock.readings new (then_event h (event_of act answer (d.calls (new.parts).disk)))
+  -- what a crash leaves since a moment of the opening stands for what the history gives by then, with this act's event more too
+  pub recovers : TellsMoments d → (start : ℕ) (h : History) → StandsFor d clock.readings old h → IsClear (then_event h (event_of act answer (d.calls (new.parts).disk)))
+      → Recovers d start old h → Recovers d start new (then_event h (event_of act answer (d.calls (new.parts).disk)))
   pub answers : IsAnswered d old new lane answer
   pub timely : IsTimely clock.readings old new answer
   pub told : IsTold act answer

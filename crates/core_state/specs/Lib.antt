@@ -17,6 +17,7 @@ pub mod Records
 pub mod Found
 pub mod Foreign
 pub mod Catalogue
+pub mod Numbers
 pub mod Changes
 pub mod Listing
 pub mod Unreadables
@@ -24,5 +25,6 @@ pub mod Stops
 pub mod Wanted
 pub mod Due
 pub mod Commands
+pub mod ByKept
 pub mod Applies
 pub mod Recovers

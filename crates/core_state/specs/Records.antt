@@ -1,6 +1,6 @@
 -- What the core keeps of a history, on any disk.
 use Rattle.disk_trait.specs.declared.disk.Disk.{Ghosts}
-use Rattle.std.specs.Prelude.{◌≡◌, ◌≤◌, ◌+◌, ◌⊎◌, ℕ, true, List, [], ◌∷◌, map, Option, Some, None, IsTrue}
+use Rattle.std.specs.Prelude.{◌≡◌, ◌≤◌, ◌+◌, ◌⊎◌, ℕ, true, List, [], ◌∷◌, length, map, Option, Some, None, IsTrue}
 use Rattle.port_traits.specs.Readings.{Readings}
 use Rattle.store_types.specs.Times.{last_moment}
 use Rattle.store_types.specs.declared.refusal.Refusal.TheVariants.{NoMemory}
@@ -20,6 +20,7 @@ use Rattle.core_state.specs.Answers.{fault_after}
 use Rattle.core_state.specs.Begins.{ReadsClock}
 use Rattle.core_state.specs.Foreign.{KeepsForeign}
 use Rattle.core_state.specs.History.{History, KeepsTime, IsClear, StandsFor}
+use Rattle.core_state.specs.Numbers.{AreNumbered}
 use Rattle.core_state.specs.Recovers.{Recovers, TellsMoments}
 use Rattle.core_state.specs.Replies.{may_answer}
 
@@ -74,6 +75,8 @@ pub record Records {D E C : Type 0} (readings : C → Option Readings) (core : C
   pub fault : core.fault ≡ fault_in 0 None h.events
   pub last : core.last ≡ moment_after (h.opening).moment h.events
   pub time : KeepsTime readings core.clock h
+  -- no two snapshots of the catalogue have one number
+  pub numbers : AreNumbered (length (core.journal).entries.items) (core.parts).catalogue.items
 
 -- opened with these snapshots, beside those of the remote
 abbrev pub opened_with : List Snapshot → Option (List Snapshot) → History → History

@@ -18,8 +18,10 @@ use Rattle.store_history.specs.Acts.{IsChecked}
 use Rattle.store_history.specs.History.{data_in}
 use Rattle.store_model.specs.Store.{Store, Writer, writer, session}
 use Rattle.store_files.specs.Folder.{file_path}
+use Rattle.store_model.specs.Stands.{FitsContent}
 use Rattle.store_model.specs.WriterCalls as calls
 use Rattle.store_model.specs.WriterSteps.{checked_blob}
+use Rattle.chunk_store.proofs.Blobs.{data_are_bytes}
 use Rattle.backup_session.specs.Answers.{Does, DoesPlainly, Leaves, LeavesShown, takes_blob}
 use Rattle.backup_session.specs.Session as rows_of
 use Rattle.backup_session.specs.Session.{Writing, held}
@@ -65,7 +67,7 @@ checked_ok text h = by_data (blobs.data_of text) h
 pub record IsBlobOf (text : List ℕ) (p : List ℕ) : Type 0 where
   pub wanted : data_in (Ok text) ≡ Ok p
   pub text_is : text ≡ blobs.blob p
-  pub fits : blobs.FitsBlob p
+  pub fits : FitsContent (blob p)
 
 pub blob_of : (text : List ℕ) → IsChecked (Ok text) → AreBytes text → (p : List ℕ) × IsBlobOf text p
 blob_of text h bytes =
@@ -75,13 +77,13 @@ blob_of text h bytes =
       record {
         wanted = ap (λ r. elim r [ Ok piece ↦ Ok piece | Err fault ↦ Err (BadBlob fault) ]) ok.1;
         text_is = spelling.0;
-        fits = spelling.1;
+        fits = (spelling.1, data_are_bytes ok.0 (subst AreBytes spelling.0 bytes));
       },
     )
 
 -- ---- the file may be added
 
-pub blob_may_add : (s : Store) (w : Writer) (name p : List ℕ) (after : Writer) → IsWriter s.snapshots w → IsTaken name p w after → blobs.FitsBlob p → MayAdd w (blob_file name p) w.begun
+pub blob_may_add : (s : Store) (w : Writer) (name p : List ℕ) (after : Writer) → IsWriter s.snapshots w → IsTaken name p w after → FitsContent (blob p) → MayAdd w (blob_file name p) w.begun
 blob_may_add s w name p after h is fits =
     let room : HasRoom name w = has_room name w is.room in
     let below = room.room in

@@ -19,7 +19,6 @@ use Rattle.store_types.specs.Chain.Refusing.{◌>>=◌, unless}
 use Rattle.store_types.specs.FileNames.{manifest_name}
 use Rattle.blob_codec.specs.Blob.{blob, data_of}
 use Rattle.blob_codec.specs.Laws.{AreBytes}
-use Rattle.blob_codec.proofs.Reading.{HasParts-from_data_of}
 use Rattle.blob_codec.proofs.RoundTrips.{blob-from_data_of}
 use Rattle.store_files.specs.Archive.{Snapshot, digest_of, piece_with}
 use Rattle.wire_commands.specs.declared.reply.Reply.TheVariants.{Done}
@@ -35,7 +34,7 @@ use Rattle.store_history.specs.Acts.{IsCheckedChunk}
 use Rattle.store_history.specs.History.{sent_by}
 use Rattle.store_history.proofs.Checking.{checked_digest}
 use Rattle.chunk_store.specs.Pieces.{IsChunk, with_chunk}
-use Rattle.chunk_store.proofs.Blobs.{same_data}
+use Rattle.chunk_store.proofs.Blobs.{data_are_bytes, same_data}
 use Rattle.file_install.proofs.InstallLaws.{installed_name}
 use Rattle.chunk_store.proofs.Maps.{with_absent, with_present, with_other_chunk, with_kept, with_file, whole_with}
 use Rattle.backup_session.specs.Session.{length_at}
@@ -59,11 +58,10 @@ false_true e = cc
 
 -- the bytes' data are this piece, which has the digest
 pub record IsRead (digest : Digest32) (bytes p : List ℕ) : Type 0 where
-  pub piece : IsPiece p
   pub digest_is : sha256 p ≡ digest.0
   pub data_is : want_data bytes ≡ Ok p
 
--- and the bytes are its blob
+-- it is a piece, and the bytes are its blob
 pub record IsSent (digest : Digest32) (bytes p : List ℕ) : Type 0 where
   pub piece : IsPiece p
   pub text : bytes ≡ blob p
@@ -95,7 +93,7 @@ pub read : (digest : Digest32) (bytes : List ℕ) → IsOk (check_chunk digest b
 read digest bytes ok =
     let (p, is, some) = data_sent digest bytes ok in
     let told : want_data bytes ≡ Ok p = ap (λ (d : Result (List ℕ) BadBlob). elim d [ Ok piece ↦ Ok piece | Err fault ↦ Err (BadBlobOf fault) ]) is in
-    (p, record { piece = (some, (HasParts-from_data_of bytes p is).fits); digest_is = checked_digest digest bytes p ok told; data_is = told })
+    (p, record { digest_is = checked_digest digest bytes p ok told; data_is = told })
 
 same_piece : (p q : List ℕ) → ◌≡◌ {A = Result (List ℕ) Refusal} (Ok p) (Ok q) → p ≡ q
 same_piece p q e = cc
@@ -104,9 +102,11 @@ pub sent : (digest : Digest32) (bytes p : List ℕ) → AreBytes bytes → IsOk 
 sent digest bytes p are ok h =
     let (q, is, some) = data_sent digest bytes ok in
     let told : want_data bytes ≡ Ok q = ap (λ (d : Result (List ℕ) BadBlob). elim d [ Ok piece ↦ Ok piece | Err fault ↦ Err (BadBlobOf fault) ]) is in
+    let spelled = blob-from_data_of bytes q are is in
+    let same : q ≡ p = same_piece q p (sym told ∙ h.data_is) in
     record {
-      piece = h.piece;
-      text = (blob-from_data_of bytes q are is).0 ∙ ap blob (same_piece q p (sym told ∙ h.data_is));
+      piece = subst IsPiece same (some, spelled.1, data_are_bytes q (subst AreBytes spelled.0 are));
+      text = spelled.0 ∙ ap blob same;
       digest_is = h.digest_is;
       data_is = h.data_is;
     }
@@ -223,11 +223,11 @@ piece_known digest (x ∷ ps) e = by_test (bytes_eq (sha256 x) digest.0) refl e 
     by_test true t e go = (x, (0, omega arith, refl), (bytes_eq-Decides (sha256 x) digest.0).0 t)
     by_test false t e go = let (q, c, same) = go e in (q, Contains-append_right (x ∷ []) ps q c, same)
 
--- its chunk is there
-pub known_there : (m : Files) (w : Writer) (digest : Digest32) → is_some (length_at (pool_of w.pool) digest.0) ≡ true → HasUploads m w → (q : List ℕ) × (get m (chunk_name digest.0) ≡ Some (blob q))
+-- it is one of the pool, and its chunk is there
+pub known_there : (m : Files) (w : Writer) (digest : Digest32) → is_some (length_at (pool_of w.pool) digest.0) ≡ true → HasUploads m w → (q : List ℕ) × Contains w.pool q × (get m (chunk_name digest.0) ≡ Some (blob q))
 known_there m w digest known h =
     let (q, c, same) = piece_known digest w.pool (ap is_some (sym (known_in-pool w.pool digest)) ∙ mapped digest.0 (length_at (pool_of w.pool) digest.0) known) in
-    (q, ap (λ d. get m (chunk_name d)) (sym same) ∙ All-contains (HasChunk m) w.pool q h.pool c)
+    (q, c, ap (λ d. get m (chunk_name d)) (sym same) ∙ All-contains (HasChunk m) w.pool q h.pool c)
 
 -- ---- the act
 

@@ -4,8 +4,8 @@ use Rattle.std.proofs.Common.{◌≡◌, ◌↔◌, ℕ, ◌+◌, ◌-◌, ◌<�
 use Rattle.std.specs.FinMap.{get, put}
 use Rattle.std.proofs.lemmas.Bool.{and_parts, and_from}
 use Rattle.std.proofs.lemmas.List.{get_or_default}
-use Rattle.std.specs.List.{list_all}
-use Rattle.std.proofs.lemmas.List.Elements.{All-nil, All-cons, All-append, All-from_get_or}
+use Rattle.std.specs.List.{All, list_all}
+use Rattle.std.proofs.lemmas.List.Elements.{All-nil, All-cons, All-append, All-contains, All-from_get_or}
 use Rattle.sha2.specs.Sha256.{sha256}
 use Rattle.disk_trait.specs.Files.{Files}
 use Rattle.disk_trait.specs.declared.disk.DiskError.{DiskError}
@@ -16,13 +16,14 @@ use Rattle.blob_codec.specs.Blob.{blob}
 use Rattle.blob_codec.specs.Laws.{AreBytes}
 use Rattle.wire_commands.specs.declared.reply.Reply.TheVariants.{Done}
 use Rattle.store_model.specs.Store.{Store, Writer, writer, session, with_session}
-use Rattle.store_files.specs.Folder.{chunk_name}
+use Rattle.store_files.specs.Folder.{IsPiece, chunk_name}
 use Rattle.store_model.specs.WriterCalls as calls
 use Rattle.store_model.specs.ArchiveSteps.{checked_chunk}
 use Rattle.store_history.specs.declared.act.Act.TheVariants.{Chunk}
 use Rattle.store_history.specs.Acts.{IsCheckedChunk}
 use Rattle.store_history.specs.History.{data_in}
 use Rattle.chunk_store.specs.Pieces.{IsChunk, with_chunk}
+use Rattle.chunk_store.proofs.Blobs.{same_data}
 use Rattle.backup_session.specs.Session.{Pool, IsPool, length_at, with_length, settled}
 use Rattle.backup_session.specs.Shown.{shown, pool_of}
 use Rattle.backup_session.proofs.Pools.{pool_of-more}
@@ -126,9 +127,15 @@ may_put m digest checked bytes p is was may = subst (MayStand m digest) (ap data
 -- where it is known, its chunk is there
 uploads_known : (m : Files) (v : Writer) (digest : Digest32) (p : List ℕ) → sha256 p ≡ digest.0 → is_some (length_at (pool_of v.pool) digest.0) ≡ true → MayStand m digest (Ok p) → HasUploads m v → HasUploads m (calls.chunk v p)
 uploads_known m v digest p is known may h =
-    let (q, at) = known_there m v digest known h in
+    let (q, in_pool, at) = known_there m v digest known h in
     let there : HasChunk m p = ap (λ d. get m (chunk_name d)) is ∙ at ∙ ap (λ t. Some t) (may (blob q) at) in
     record { files = h.files; pool = All-append (HasChunk m) v.pool (p ∷ []) h.pool (All-cons (HasChunk m) p [] there (All-nil (HasChunk m))) }
+
+-- and it is a piece, as that of the pool is
+known_piece : (m : Files) (v : Writer) (digest : Digest32) (p : List ℕ) → is_some (length_at (pool_of v.pool) digest.0) ≡ true → MayStand m digest (Ok p) → HasUploads m v → All IsPiece v.pool → IsPiece p
+known_piece m v digest p known may h pool =
+    let (q, in_pool, at) = known_there m v digest known h in
+    subst IsPiece (same_data q p (may (blob q) at)) (All-contains IsPiece v.pool q pool in_pool)
 
 -- what the session has to have for its writer to note it
 pub may_note : (digest : List ℕ) (items : List Session) (lane : ℕ) (found : Session) (w : Writing) (known : Bool) → list_all is_named items ≡ true → lane < length items → found ≡ get_or items lane found → want_writer (get_or items lane Idle) ≡ Ok w
@@ -195,8 +202,11 @@ module _ {D : Type 0} (g : Ghosts D) where
       let known_is : is_some (length_at (pool_of v.pool) digest.0) ≡ true = ap (λ ps. is_some (length_at ps digest.0)) (sym pool) ∙ sym value ∙ there in
       let same : x ≡ kept.Writer (shown_writer (calls.chunk v p)) =
       x_is ∙ ap (λ u. kept.Writer u) (sym shows ∙ sym (shown_known v p (ap (λ d. is_some (length_at (pool_of v.pool) d)) is.digest_is ∙ known_is))) in
-      let uploads = uploads_known (g.content parts.disk) v digest p is.digest_is known_is (may_put (g.content parts.disk) digest checked bytes p is was may) (holds.files.writers lane v at) in
-      let more = is_writer_more s v p is.piece ((holds.shows).sound.writers lane v at) in
+      let stands = may_put (g.content parts.disk) digest checked bytes p is was may in
+      let writer_is = (holds.shows).sound.writers lane v at in
+      let uploads = uploads_known (g.content parts.disk) v digest p is.digest_is known_is stands (holds.files.writers lane v at) in
+      let piece = known_piece (g.content parts.disk) v digest p known_is stands (holds.files.writers lane v at) writer_is.pool in
+      let more = is_writer_more s v p piece writer_is in
       let set_back : set parts.sessions.items lane x ≡ parts.sessions.items = found_stays parts.sessions.items lane x (sym (get_or_default parts.sessions.items lane x Idle within)) in
       let sound = (holds.shows).sound in
       let l : lane < length s.sessions = omega (arith, sound.lanes, lt) in

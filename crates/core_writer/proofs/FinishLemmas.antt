@@ -3,12 +3,9 @@ use Rattle.disk_trait.specs.declared.disk.Disk.{Ghosts}
 use Rattle.std.proofs.Common.{◌≡◌, ◌≢◌, ℕ, ◌<◌, Bool, true, false, not, ◌==◌, cond, length, get_or, set, map, List, [], ◌∷◌, ◌++◌, append_assoc, eqb-true, inl, Option, Some, None, Result, Ok, Err, IfErr, IsErrAnd, MatchResult, refl, sym, ap, subst, ◌∙◌, arith}
 use Rattle.std.proofs.lemmas.Bool.{eqb-false, and_parts, and_from, false_from_ne_true}
 use Rattle.std.proofs.lemmas.List.{length-set}
-use Rattle.std.proofs.lemmas.Option.{some_pair_parts}
-use Rattle.std.proofs.lemmas.Slice.Eq.{bytes_eq-Decides}
 use Rattle.std.specs.FinMap.{get, remove}
-use Rattle.std.specs.List.{All, AllByRecursion, find, list_all}
-use Rattle.std.specs.Prelude.{IsOk, option_map, is_some, codes}
-use Rattle.std.specs.Str.{bytes_eq}
+use Rattle.std.specs.List.{All, AllByRecursion, list_all}
+use Rattle.std.specs.Prelude.{IsOk, is_some, codes}
 use Rattle.disk_trait.specs.Files.{Files}
 use Rattle.disk_trait.specs.Laws.{placed_same, placed_other, differs}
 use Rattle.file_install.specs.Install.{temporary, installed}
@@ -18,7 +15,7 @@ use Rattle.store_types.specs.declared.refusal.Refusal.TheVariants.{NoFile, OpenI
 use Rattle.store_types.specs.Chain.Refusing.{◌>>=◌, unless, or_else, if_none}
 use Rattle.store_types.specs.FileNames.{manifest_name, is_dynamic_name, is_fixed_name}
 use Rattle.store_types.specs.Names.{key_lt, key_text, same_group, group_of_key}
-use Rattle.store_files.specs.Archive.{File, Snapshot, Content, Layout, archive, blob, dynamic, fixed, file_text, file_named}
+use Rattle.store_files.specs.Archive.{File, Snapshot, Content, Layout, archive, blob, dynamic, fixed, file_text}
 use Rattle.store_files.specs.Manifest.{Manifest, manifest_of as manifest_of_bytes}
 use Rattle.store_files.specs.Manifest.Mismatch.{Mismatch}
 use Rattle.lock_book.specs.Locks.{Releases}
@@ -26,8 +23,8 @@ use Rattle.wire_commands.specs.HasText.{FitsRefusal, ReplyHasText}
 use Rattle.wire_commands.specs.declared.command.Command.TheVariants.{Finish}
 use Rattle.wire_commands.specs.declared.reply.Reply.TheVariants.{Done, Refused}
 use Rattle.store_model.specs.Store as model
-use Rattle.store_model.specs.Manifests.{data_in, manifest_data, want_manifest, mismatch_refusal, want_listed, listing_of, finish_check}
-use Rattle.store_model.specs.Store.{Begun, Store, Writer, none, writer, session, with_session, Outcome, in_group, insert_snapshot}
+use Rattle.store_model.specs.Manifests.{want_manifest, mismatch_refusal, finish_check}
+use Rattle.store_model.specs.Store.{Begun, Store, Writer, none, writer, session, Outcome, in_group, insert_snapshot}
 use Rattle.store_files.specs.Folder.{file_path}
 use Rattle.store_model.specs.WriterSteps.{snapshot_of, finish}
 use Rattle.store_model.specs.Steps.{outcome}
@@ -40,7 +37,7 @@ use Rattle.store_model.proofs.StandsLemmas.{Apart, Puts, IsReady, agrees_off, ap
 use Rattle.store_model.proofs.ListingLemmas.{listing_lists}
 use Rattle.backup_session.specs.Finish as checks
 use Rattle.backup_session.specs.Session as rows
-use Rattle.backup_session.specs.Shown.{IsOpen, Shows, shown, manifest_text}
+use Rattle.backup_session.specs.Shown.{IsOpen, Shows, shown}
 use Rattle.core_state.specs.declared.kept.Kept.{Kept}
 use Rattle.core_state.specs.declared.kept.Listed.{Listed}
 use Rattle.core_state.specs.declared.kept.Writing.{Writing}
@@ -48,7 +45,7 @@ use Rattle.core_state.specs.declared.kept.Session.{Session}
 use Rattle.core_state.specs.declared.kept.Session.TheVariants as sessions
 use Rattle.core_state.specs.declared.parts.Parts.{Parts}
 use Rattle.core_state.specs.Named.{has_text, is_named, is_named_snapshot}
-use Rattle.core_state.specs.Shown.{shown_file, shown_files, shown_snapshot, shown_writer, shown_session}
+use Rattle.core_state.specs.Shown.{shown_snapshot, shown_writer, shown_session}
 use Rattle.core_state.specs.Holds as plain
 use Rattle.core_state.specs.Holds.{IsBegun, IsSound, IsWriter, IsReader, IsOlder, HasUploads, IsOnDisk, Holds}
 use Rattle.core_state.proofs.Sessions.{changed, shown_set, no_writer_none, no_reader_none}
@@ -57,6 +54,7 @@ use Rattle.core_state.proofs.Soundness.{sound_idle}
 use Rattle.core_state.proofs.OnDisk.{IsOff, fresh, names_plain, off_other, keys_apart, uploads_off, pieces_there}
 use Rattle.core_state.proofs.Commanding.{is_writing, writer_shown}
 use Rattle.core_state.proofs.Commanding.{session_shown}
+use Rattle.core_state.proofs.Completing.{HasManifest, finished, has_manifest, listed, no_listing, no_manifest}
 use Rattle.core_state.proofs.NamedLemmas.{list_all-at, writer_named}
 use Rattle.core_state.specs.declared.entering.Place.{Place}
 use Rattle.core_state.specs.declared.stop.Stop.{Stop}
@@ -76,52 +74,9 @@ use Rattle.core_state.proofs.Readers.{sessions_finished}
 use Rattle.core_state.proofs.Texts.{wrong_state_has_text, no_file_has_text, open_indexes_has_text, bad_manifest_has_text, mismatch_has_text}
 use Rattle.core_state.specs.Catalogue.{insert_listed, listed_of, closed}
 use Rattle.core_state.specs.Changes as changes
-use Rattle.core_state.specs.Changes.{finish_by, finish_put, manifest_by, kept_manifest}
+use Rattle.core_state.specs.Changes.{finish_by, finish_put, kept_manifest}
 
 -- ---- the manifest
-
-find_shown : (key : SnapshotKey) (fs : List File) → find (λ f. bytes_eq f.name manifest_name) (shown_files key fs) ≡ option_map (shown_file key) (file_named manifest_name fs)
-find_shown key [] = refl
-find_shown key (f ∷ fs) = by_test (bytes_eq f.name manifest_name) (find_shown key fs)
-  where
-    by_test : (b : Bool) → find (λ f. bytes_eq f.name manifest_name) (shown_files key fs) ≡ option_map (shown_file key) (file_named manifest_name fs)
-        → cond b (Some (shown_file key f)) (find (λ f. bytes_eq f.name manifest_name) (shown_files key fs)) ≡ option_map (shown_file key) (cond b (Some f) (file_named manifest_name fs))
-    by_test true e = refl
-    by_test false e = e
-
-found_name : (fs : List File) (g : File) → file_named manifest_name fs ≡ Some g → g.name ≡ manifest_name
-found_name [] g e = cc
-found_name (f ∷ fs) g e = by_test (bytes_eq f.name manifest_name) refl (found_name fs g) e
-  where
-    by_test : (b : Bool) → bytes_eq f.name manifest_name ≡ b → (file_named manifest_name fs ≡ Some g → g.name ≡ manifest_name) → cond b (Some f) (file_named manifest_name fs) ≡ Some g → g.name ≡ manifest_name
-    by_test true is go e = ap (λ (x : File). x.name) (sym (same f g e)) ∙ (bytes_eq-Decides f.name manifest_name).0 is
-      where
-        same : (a b : File) → Some a ≡ Some b → a ≡ b
-        same a b e = cc
-    by_test false is go e = go e
-
-abbrev manifest_of : SnapshotKey → Option File → Option (List ℕ × List ℕ)
-manifest_of key o = manifest_by (option_map (λ f. file_text f.content) o) (option_map (shown_file key) o)
-
-kept_manifest-shown : (w : Writer) → kept_manifest (shown_writer w) ≡ manifest_of w.key (file_named manifest_name w.files)
-unfolding shown
-kept_manifest-shown w = ap (manifest_by (manifest_text w.files)) (find_shown w.key w.files)
-
--- the manifest is among the files, with this name on the disk and this text
-pub record HasManifest (w : Writer) (path text : List ℕ) : Type 0 where
-  pub file : File
-  pub found : file_named manifest_name w.files ≡ Some file
-  pub is_path : path ≡ manifest_path w.key
-  pub is_text : text ≡ file_text file.content
-
-has_manifest : (w : Writer) (path text : List ℕ) → kept_manifest (shown_writer w) ≡ Some (path, text) → HasManifest w path text
-has_manifest w path text e = by_file (file_named manifest_name w.files) refl (sym (kept_manifest-shown w) ∙ e)
-  where
-    by_file : (o : Option File) → file_named manifest_name w.files ≡ o → manifest_of w.key o ≡ Some (path, text) → HasManifest w path text
-    by_file None is e = cc
-    by_file (Some g) is e =
-        let both = some_pair_parts (file_path w.key g.name) path (file_text g.content) text e in
-        record { file = g; found = is; is_path = sym both.0 ∙ ap (file_path w.key) (found_name w.files g is); is_text = sym both.1 }
 
 -- where the manifest of a session stands
 manifest_there : (snapshots : List Snapshot) (x : model.Session) (path text : List ℕ) → manifest_in (shown_session snapshots x) ≡ Some (path, text) → (key : SnapshotKey) × (path ≡ manifest_path key)
@@ -129,17 +84,7 @@ manifest_there snapshots model.none path text e = cc
 manifest_there snapshots (model.writer w) path text e = (w.key, (has_manifest w path text e).is_path)
 manifest_there snapshots (model.reader r) path text e = cc
 
-no_manifest : (w : Writer) → kept_manifest (shown_writer w) ≡ None → file_named manifest_name w.files ≡ None
-no_manifest w e = by_file (file_named manifest_name w.files) refl (sym (kept_manifest-shown w) ∙ e)
-  where
-    by_file : (o : Option File) → file_named manifest_name w.files ≡ o → manifest_of w.key o ≡ None → file_named manifest_name w.files ≡ None
-    by_file None is e = is
-    by_file (Some g) is e = cc
-
 -- ---- the step
-
-abbrev pub finished : Store → ℕ → Writer → Store
-finished s lane w = record (with_session s lane none) { snapshots = insert_snapshot (snapshot_of w) s.snapshots }
 
 abbrev finish_then : Store → ℕ → Result Writer Refusal → Outcome
 finish_then s lane r = r >>= λ w. finish_check w >>= λ _. Ok (finished s lane w, Done)
@@ -162,23 +107,6 @@ module _ (s : Store) (lane moment : ℕ) where
   finishes w m at is = writing_is w at ∙ ap (λ (x : Result Manifest Refusal). x >>= λ _. let o : Outcome = Ok (finished s lane w, Done) in o) is
 
 -- ---- what the check makes sure of
-
-pub listed : (w : Writer) (m : Manifest) → finish_check w ≡ Ok m → listing_of w.key w.files ≡ Ok m
-unfolding finish_check
-listed w m is = by_test (length w.begun == 0) is
-  where
-    by_test : (b : Bool) → (unless (OpenIndexes (length w.begun)) b >>= λ _. listing_of w.key w.files) ≡ Ok m → listing_of w.key w.files ≡ Ok m
-    by_test true e = e
-    by_test false e = cc
-
--- the manifest is there
-no_listing : (key : SnapshotKey) (files : List File) (m : Manifest) → file_named manifest_name files ≡ None → listing_of key files ≡ Ok m → ⊥
-unfolding listing_of
-no_listing key files m absent is = by_data (manifest_data files) (ap data_in absent) is
-  where
-    by_data : (o : Option (List ℕ)) → o ≡ None → (or_else NoFile o >>= λ bytes. want_manifest bytes >>= λ m. want_listed m key files >>= λ _. Ok m) ≡ Ok m → ⊥
-    by_data None e f = cc
-    by_data (Some bytes) e f = cc
 
 pub checked_there : (w : Writer) (m : Manifest) → finish_check w ≡ Ok m → kept_manifest (shown_writer w) ≡ None → ⊥
 checked_there w m is absent = no_listing w.key w.files m (no_manifest w absent) (listed w m is)

@@ -2,6 +2,7 @@ pub mod CatalogueLemmas
 pub mod EndingLemmas
 pub mod OpenedLemmas
 pub mod OpeningLemmas
+pub mod OpenedTold
 pub mod Stopping
 pub mod FinishLemmas
 pub mod AbortLemmas

@@ -1,4 +1,5 @@
 pub mod Opened
+pub mod AnsweredBy
 pub mod Ended
 pub mod WriterActs
 pub mod Finished

@@ -7,6 +7,7 @@ ghost use Rattle.core_state.specs.Applies.{ActApplies, ActKeeps};
 ghost use Rattle.core_state.specs.Commands.{ActDoes, ActLeaves};
 ghost use Rattle.core_state.specs.Reserved.{HasRoom};
 ghost use Rattle.core_state.specs.Unreadables.{ActUnreadable, CoreUnreadable};
+ghost use Rattle.core_writer.specs.AnsweredBy.{ActAnswersBy, CoreAnswersBy};
 ghost use Rattle.core_writer.specs.WriterActs.{IsWriters, asked_of_writer};
 
 use crate::ending::{abort, end};
@@ -28,6 +29,7 @@ fn perform<D: Disk>(parts: &mut Parts<D>, alloc: Global, at: Place, act: Act) ->
     requires kind { IsWriters act }
     ensures does { ActDoes D.Disk parts.old parts.new at act result }
     ensures leaves { ActLeaves D.Disk parts.old parts.new at act result }
+    ensures by_kept { ActAnswersBy parts.old at act result }
     ensures unreadable { ActUnreadable D.Disk (asked_of_writer act) parts.old at result }
 {
     match act {
@@ -78,6 +80,8 @@ pub fn writer_act<D: Disk, E, C: Clock>(
     requires kind { IsWriters act }
     ensures applies { ActApplies D.Disk C.Clock core.old core.new lane act result }
     ensures keeps { ActKeeps D.Disk core.old core.new lane act result }
+    // on any disk OPEN_WRITER answers what the core keeps
+    ensures by_kept { CoreAnswersBy core.old lane act result }
     // a file of the base is unreadable exactly where it is, as far as the disk tells
     ensures unreadable { CoreUnreadable D.Disk (asked_of_writer act) core.old lane result }
 {

@@ -9,10 +9,12 @@ ghost use Rattle.store_types.specs.Chain.Refusing.{if_none};
 ghost use Rattle.store_types.specs.declared.refusal.Refusal.TheVariants.{GroupBusy};
 ghost use Rattle.wire_commands.specs.declared.command.Command.TheVariants.{OpenWriter};
 ghost use Rattle.store_model.specs.WriterSteps.{base_text as text_of_base};
+ghost use Rattle.store_history.specs.declared.act.Act.TheVariants.{Plain};
 ghost use Rattle.core_state.specs.Commands.{PlainDoes, PlainLeaves};
 ghost use Rattle.core_state.specs.Found.{lent_key};
 ghost use Rattle.core_state.specs.Named.{is_named_snapshot};
 ghost use Rattle.core_state.specs.Replies.{refuses_writer};
+ghost use Rattle.core_writer.specs.AnsweredBy.{ActAnswersBy};
 ghost use Rattle.core_writer.specs.Opened.{LendsBase, TakesBase, TellsBase, base_for, base_on, other_holder};
 ghost use Rattle.core_writer.specs.Stopping.{RefusesBy, StopsBy};
 
@@ -125,6 +127,8 @@ pub fn open_writer<D: Disk>(
     requires in_time { at.moment ≤ last_moment }
     ensures does { PlainDoes D.Disk parts.old parts.new at (OpenWriter snapshot.now) result }
     ensures leaves { PlainLeaves D.Disk parts.old parts.new at (OpenWriter snapshot.now) result }
+    // on any disk
+    ensures by_kept { ActAnswersBy parts.old at (Plain (OpenWriter snapshot.now)) result }
 {
     parts.idle(at.lane)?;
     let Ok(key) = SnapshotKey::parse(alloc, snapshot)? else {

@@ -1,14 +1,14 @@
 -- The last letter of a temporary name is that of no other file's.
-use Rattle.std.proofs.Common.{◌≡◌, ◌≢◌, ◌<◌, ◌-◌, ◌/◌, ◌%◌, ℕ, zero, suc, true, List, [], ◌∷◌, ◌++◌, length, take, drop, append_assoc, refl, sym, ap, ◌∙◌, arith}
-use Rattle.std.specs.Prelude.{codes, nat_lt, nat_eq, slice_index}
+use Rattle.std.proofs.Common.{◌≡◌, ◌≢◌, ◌<◌, ◌-◌, ℕ, true, List, [], ◌∷◌, ◌++◌, length, take, drop, append_assoc, refl, sym, ap, ◌∙◌, arith}
+use Rattle.std.specs.Prelude.{codes, nat_eq}
 use Rattle.std.specs.Cmp.Lexicographic.{same_text}
 use Rattle.std.proofs.lemmas.List.{take-append-drop}
-use Rattle.std.specs.List.{All, ends_with}
-use Rattle.std.proofs.lemmas.Bool.{ltb-true, and_parts}
-use Rattle.std.proofs.lemmas.List.Elements.{All-weaker, All-nil, All-cons, All-head, All-tail}
-use Rattle.std.proofs.lemmas.List.Sums.{AllPass-from_list_all}
-use Rattle.hex.specs.Hex.{encode_lower, encode_with, lower_digits}
+use Rattle.std.specs.List.{ends_with}
+use Rattle.std.proofs.lemmas.Bool.{and_parts}
+use Rattle.std.proofs.lemmas.List.Elements.{All-cons, All-head, All-tail}
+use Rattle.hex.specs.Hex.{encode_lower}
 use Rattle.file_install.specs.Install.{temporary}
+use Rattle.chunk_store.proofs.Names.{AreSmall, digits_small}
 use Rattle.store_types.specs.declared.names.SnapshotKey.{SnapshotKey}
 use Rattle.store_types.specs.FileNames.{is_id, is_fixed_name, is_dynamic_name, has_ending, fixed_ending, dynamic_ending, blob_ending, manifest_name}
 use Rattle.store_types.specs.Names.{key_text}
@@ -31,26 +31,6 @@ pub last_temporary : (name : List ℕ) → last (temporary name) ≡ 112
 last_temporary name = last_behind name 46 (codes "tmp")
 
 -- ---- a chunk's name
-
-abbrev AreSmall : List ℕ → Type 0
-AreSmall = All (λ b. b < 103)
-
-small_at : (bs : List ℕ) → AreSmall bs → (i : ℕ) → slice_index bs i < 103
-small_at [] are i = omega arith
-small_at (b ∷ bs) are zero = are 0 0 (omega arith)
-small_at (b ∷ bs) are (suc i) = small_at bs (All-tail (λ x. x < 103) b bs are) i
-
-digit_small : (i : ℕ) → slice_index lower_digits i < 103
-digit_small =
-    small_at lower_digits
-    (All-weaker (λ b. nat_lt b 103 ≡ true) (λ b. b < 103) (λ b e. ltb-true b 103 e) lower_digits (AllPass-from_list_all (λ b. nat_lt b 103) lower_digits refl))
-
-digits_small : (digest : List ℕ) → AreSmall (encode_lower digest)
-unfolding encode_with
-digits_small [] = All-nil (λ b. b < 103)
-digits_small (b ∷ rest) =
-    All-cons (λ x. x < 103) (slice_index lower_digits (b / 16)) (slice_index lower_digits (b % 16) ∷ encode_lower rest) (digit_small (b / 16))
-    (All-cons (λ x. x < 103) (slice_index lower_digits (b % 16)) (encode_lower rest) (digit_small (b % 16)) (digits_small rest))
 
 last_small : (xs : List ℕ) → AreSmall xs → last xs < 103
 last_small [] are = omega arith

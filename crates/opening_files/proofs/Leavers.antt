@@ -33,49 +33,50 @@ has_key [] k d lt = absurd (omega (arith, lt))
 has_key (x ∷ xs) zero d lt = Contains-here x.key (keys_of xs)
 has_key (x ∷ xs) (suc k) d lt = Contains-later x.key (keys_of xs) (get_or xs k d).key (has_key xs k d (omega (arith, lt)))
 
+-- as it was, or gone
+abbrev Told : Files → Files → List ℕ → Type 0
+Told m c q = (get c q ≡ get m q) ⊎ ((get c q ≡ None) × IsLeaving m q)
+
+-- where a manifest was not there, nothing is there after it
+pub manifest_stays : (m c : Files) → MayClean m m c → (key : SnapshotKey) → IsKey key → get c (manifest_path key) ≡ get m (manifest_path key)
+manifest_stays m c may key is = told (may (manifest_path key))
+  where
+    told : Told m c (manifest_path key) → get c (manifest_path key) ≡ get m (manifest_path key)
+    told (inl same) = same
+    told (inr (none, inl (name, e))) = absurd (manifest_not_temporary key name e)
+    told (inr (none, inr (k, is_k, (name, grammar, at), lacks))) =
+        let same = same_path key k manifest_name name is is_k manifest_plain (name_plain name grammar) at in
+        none ∙ sym (ap (λ (x : SnapshotKey). get m (manifest_path x)) same.0 ∙ lacks)
+
+pub chunk_stays : (m c : Files) → MayClean m m c → (digest : List ℕ) → get c (chunk_name digest) ≡ get m (chunk_name digest)
+chunk_stays m c may digest = told (may (chunk_name digest))
+  where
+    told : Told m c (chunk_name digest) → get c (chunk_name digest) ≡ get m (chunk_name digest)
+    told (inl same) = same
+    told (inr (none, inl (name, e))) = absurd (chunk_not_temporary digest name e)
+    told (inr (none, inr (k, is_k, (name, grammar, at), lacks))) = absurd (chunk_apart digest k name at)
+
 module _ (m c : Files) (snapshots : List Snapshot) (s : StandsFor m snapshots) (may : MayClean m m c) where
-  abbrev Told : List ℕ → Type 0
-  Told q = (get c q ≡ get m q) ⊎ ((get c q ≡ None) × IsLeaving m q)
-
-  -- where its manifest was not there, nothing is there after it
-  same_manifest : (key : SnapshotKey) → IsKey key → get c (manifest_path key) ≡ get m (manifest_path key)
-  same_manifest key is = told (may (manifest_path key))
-    where
-      told : Told (manifest_path key) → get c (manifest_path key) ≡ get m (manifest_path key)
-      told (inl same) = same
-      told (inr (none, inl (name, e))) = absurd (manifest_not_temporary key name e)
-      told (inr (none, inr (k, is_k, (name, grammar, at), lacks))) =
-          let same = same_path key k manifest_name name is is_k manifest_plain (name_plain name grammar) at in
-          none ∙ sym (ap (λ (x : SnapshotKey). get m (manifest_path x)) same.0 ∙ lacks)
-
   -- a file of a snapshot in the list is no orphan
   same_file : (key : SnapshotKey) (f : File) → IsKey key → Contains (keys_of snapshots) key → names_content f.content f.name ≡ true
       → get c (file_path key f.name) ≡ get m (file_path key f.name)
   same_file key f is has named = told (may (file_path key f.name))
     where
-      told : Told (file_path key f.name) → get c (file_path key f.name) ≡ get m (file_path key f.name)
+      told : Told m c (file_path key f.name) → get c (file_path key f.name) ≡ get m (file_path key f.name)
       told (inl same) = same
       told (inr (none, inl (name, e))) = absurd (stored_not_temporary f.content key f.name name named e)
       told (inr (none, inr (k, is_k, (name, grammar, at), lacks))) =
           let same = same_path key k f.name name is is_k (content_plain f.content f.name named) (name_plain name grammar) at in
           absurd (no_some (get m (manifest_path key)) (ap (λ (x : SnapshotKey). get m (manifest_path x)) same.0 ∙ lacks) ((s.manifests key is).1 has))
 
-  same_chunk : (digest : List ℕ) → get c (chunk_name digest) ≡ get m (chunk_name digest)
-  same_chunk digest = told (may (chunk_name digest))
-    where
-      told : Told (chunk_name digest) → get c (chunk_name digest) ≡ get m (chunk_name digest)
-      told (inl same) = same
-      told (inr (none, inl (name, e))) = absurd (chunk_not_temporary digest name e)
-      told (inr (none, inr (k, is_k, (name, grammar, at), lacks))) = absurd (chunk_apart digest k name at)
-
   agrees : Agrees m c snapshots
   agrees = record {
-    manifests = same_manifest;
+    manifests = manifest_stays m c may;
     files = λ k d lt. λ i e lt2.
         let x = get_or snapshots k d in
         let is = s.each k d lt in
         same_file x.key (get_or x.files i e) is.key (has_key snapshots k d lt) (is.kinds i e lt2);
-    chunks = same_chunk;
+    chunks = chunk_stays m c may;
   }
 
   pub stands_cleaned : StandsFor c snapshots

@@ -4,5 +4,6 @@ pub mod Telling
 pub mod Orphans
 pub mod Names
 pub mod Leavers
+pub mod Listed
 pub mod Answering
 pub mod Openings

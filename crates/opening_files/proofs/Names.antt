@@ -1,53 +1,26 @@
 -- Which names stand in a set, in a list and in a map.
-use Rattle.std.proofs.Common.{◌≡◌, ◌⊎◌, inl, inr, ⊎_elim, ℕ, Bool, true, false, cond, eqb, filter, List, [], ◌∷◌, ◌++◌, ◌||◌, is_some, refl, sym, ap, subst, ◌∙◌, arith}
+use Rattle.std.proofs.Common.{◌≡◌, ◌⊎◌, inl, inr, ⊎_elim, ℕ, Bool, true, false, cond, eqb, filter, List, [], ◌∷◌, ◌++◌, is_some, refl, sym, ap, subst, ◌∙◌, arith}
 use Rattle.std.specs.Prelude.{codes, String, string_bytes}
 use Rattle.std.specs.Cmp.Lexicographic.{slice_cmp}
 use Rattle.std.specs.List.{Contains, list_any, starts_with, ends_with}
-use Rattle.std.specs.Ordering.{eq_by_cmp, is_eq, nat_cmp}
+use Rattle.std.specs.Ordering.{is_eq, nat_cmp}
 use Rattle.std.specs.FinMap.{get, keys, contains_key-keys}
 use Rattle.std.specs.BTreeSet.{BTreeSet, contains_text}
 use Rattle.std.specs.Str.{bytes_eq}
 use Rattle.std.specs.declared.alloc.Global.{Global}
 use Rattle.std.proofs.lemmas.Bool.Decides.{Decides-eqb}
 use Rattle.std.proofs.lemmas.List.Elements.{Contains-append_left, Contains-append_right, Contains-push_cases}
-use Rattle.std.proofs.lemmas.Map.Text.{is_eq-slice_cmp}
 use Rattle.std.proofs.lemmas.Slice.Eq.{bytes_eq-Decides, ends_is}
 use Rattle.store_types.specs.FileNames.{manifest_name}
-use Rattle.store_types.specs.Names.{text_cmp, key_text}
+use Rattle.store_types.specs.Names.{key_text}
 use Rattle.store_files.specs.Folder.{Files, manifest_path}
-use Rattle.store_model.proofs.Insertions.{Contains-here, Contains-later, Contains-cases}
+use Rattle.store_model.proofs.Insertions.{Contains-here}
+use Rattle.snapshot_files.proofs.Listing.{any_has, has_any}
 use Rattle.opening_files.specs.Removed.{HasManifests}
 use Rattle.opening_files.proofs.Slashes.{path_is}
 
 abbrev Texts : Type 0
 Texts = List (List ℕ)
-
-same_text : (a b : List ℕ) → eq_by_cmp text_cmp a b ≡ true → a ≡ b
-same_text a b e = (bytes_eq-Decides a b).0 (sym (is_eq-slice_cmp a b) ∙ e)
-
-tied : (a b : List ℕ) → a ≡ b → eq_by_cmp text_cmp a b ≡ true
-tied a b e = is_eq-slice_cmp a b ∙ (bytes_eq-Decides a b).1 e
-
-any_has : (q : List ℕ) (names : Texts) → list_any (eq_by_cmp text_cmp q) names ≡ true → Contains names q
-any_has q [] h = cc
-any_has q (n ∷ ns) h = by_case (eq_by_cmp text_cmp q n) refl h (λ k. any_has q ns k)
-  where
-    by_case : (t : Bool) → eq_by_cmp text_cmp q n ≡ t → (t || list_any (eq_by_cmp text_cmp q) ns) ≡ true
-        → (list_any (eq_by_cmp text_cmp q) ns ≡ true → Contains ns q) → Contains (n ∷ ns) q
-    by_case true e h later = subst (Contains (n ∷ ns)) (sym (same_text q n e)) (Contains-here n ns)
-    by_case false e h later = Contains-later n ns q (later h)
-
-or_later : (a b : Bool) → b ≡ true → (a || b) ≡ true
-or_later true b e = refl
-or_later false b e = e
-
-has_any : (q : List ℕ) (names : Texts) → Contains names q → list_any (eq_by_cmp text_cmp q) names ≡ true
-has_any q [] (k, lt, at) = absurd (omega (arith, lt))
-has_any q (n ∷ ns) has =
-    ⊎_elim
-    (λ (e : n ≡ q). ap (λ t. t || list_any (eq_by_cmp text_cmp q) ns) (tied q n (sym e)))
-    (λ (later : Contains ns q). or_later (eq_by_cmp text_cmp q n) (list_any (eq_by_cmp text_cmp q) ns) (has_any q ns later))
-    (Contains-cases n ns q has)
 
 -- something stands at each of a map's names, and at no other
 pub there_is : (m : Files) (q : List ℕ) → is_some (get m q) ≡ true → Contains (keys m) q

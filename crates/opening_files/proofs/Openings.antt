@@ -1,10 +1,9 @@
--- What a sync, the removals behind it and reads leave of a crash.
-use Rattle.std.proofs.Common.{◌≡◌, ◌↔◌, ◌<◌, ◌≤◌, ◌-◌, ◌^◌, inl, inr, ⊎_elim, ℕ, sym, subst, arith}
-use Rattle.std.proofs.lemmas.Bool.{cases_lt}
+-- What a sync and the removals behind it leave of a crash.
+use Rattle.std.proofs.Common.{◌≡◌, ◌↔◌, ◌<◌, ◌≤◌, ◌-◌, ◌^◌, inl, inr, ℕ, sym, subst, arith}
 use Rattle.disk_trait.specs.Files.{Files}
 use Rattle.disk_trait.specs.Disk.{After, Same}
-use Rattle.disk_trait.specs.Effects.{LeavesSame, StepsOn, IsDurable}
-use Rattle.disk_trait.specs.Runs.{leaves_as, both_leave, same_after}
+use Rattle.disk_trait.specs.Effects.{StepsOn, IsDurable}
+use Rattle.disk_trait.specs.Runs.{leaves_as, both_leave}
 use Rattle.disk_trait.specs.declared.disk.Disk.{Ghosts}
 use Rattle.opening_files.specs.Leaving.{MayClean}
 use Rattle.opening_files.specs.Opened.{LeavesOne, Opens}
@@ -30,21 +29,6 @@ module _ {D : Type 0} (d : Ghosts D) (told : (x : D) (t : ℕ) (c : Files) → d
       all = both_leave (leaves_as sync before) removals (λ c x. inr (cleaned c x));
       start = d.calls synced;
       started = (sync.later, removals.later);
+      until = λ t c from lt i. let x = sync.each t c from (removals.past t c (omega (arith, lt)) i) in subst (d.images old (d.calls old)) (sym x.2) x.1;
       since = λ t c since i. cleaned c (removals.each t c since i);
     }
-
-  -- reads behind it
-  pub opens_then : (old mid new : D) → Opens d old mid → LeavesSame d mid new → Opens d old new
-  opens_then old mid new o (inl e) = subst (Opens d old) (sym e) o
-  opens_then old mid new o (inr reads) = record {
-    all = same_after o.all reads;
-    start = o.start;
-    started = (o.started.0, omega (arith, o.started, reads.later));
-    since = λ t c since i.
-        ⊎_elim {C = MayClean (d.content old) (d.content old) c}
-        (λ (lt : t < d.calls mid). o.since t c since (reads.past t c (omega (arith, lt)) i))
-        (λ (ge : d.calls mid ≤ t).
-        let x = reads.each t c ge i in
-        subst (MayClean (d.content old) (d.content old)) (sym x.2) (o.since (d.calls mid) x.0 o.started.1 x.1))
-        (cases_lt t (d.calls mid));
-  }

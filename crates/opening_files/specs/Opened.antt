@@ -1,10 +1,9 @@
 -- What opening does to a disk.
-use Rattle.std.specs.Prelude.{◌≤◌, ◌⊎◌, ℕ, Result, OnOk, IfOk, IsErrOf}
+use Rattle.std.specs.Prelude.{◌<◌, ◌≤◌, ◌⊎◌, ℕ, Result, OnOk, IfOk, IsErrOf}
 use Rattle.disk_trait.specs.declared.disk.Disk.{Ghosts}
 use Rattle.disk_trait.specs.declared.disk.DiskError.{DiskError}
 use Rattle.disk_trait.specs.declared.disk.DiskError.TheVariants.{NoMemory}
-use Rattle.disk_trait.specs.Disk.{LeavesOnly, Same}
-use Rattle.disk_trait.specs.Effects.{StepsOn}
+use Rattle.disk_trait.specs.Disk.{LeavesOnly}
 use Rattle.disk_trait.specs.Files.{Files}
 use Rattle.chunk_store.specs.Listed.{Lists as ListsDigests}
 use Rattle.snapshot_files.specs.Scanned.{Lists}
@@ -15,17 +14,14 @@ use Rattle.opening_files.specs.Leaving.{MayClean, Cleans}
 abbrev pub LeavesOne : {D : Type 0} → Ghosts D → D → Files → Type 0
 LeavesOne d old c = d.images old (d.calls old) c ⊎ MayClean (d.content old) (d.content old) c
 
--- Each image since is one of the moment before, or what was read without some of the files that opening takes away; from a moment on, that
--- of the sync, it is the latter.
+-- The disk was synced, and then opened. Each image since is one of the moment before, or what was read without some of the files that opening
+-- takes away: up to a moment, that of the sync, the former, and from it on the latter.
 pub record Opens {D : Type 0} (d : Ghosts D) (old new : D) : Type 0 where
   pub all : LeavesOnly d.calls d.images old new (LeavesOne d old)
   pub start : ℕ
   pub started : (d.calls old ≤ start) × (start ≤ d.calls new)
+  pub until : (t : ℕ) (c : Files) → d.calls old ≤ t → t < start → d.images new t c → d.images old (d.calls old) c
   pub since : (t : ℕ) (c : Files) → start ≤ t → d.images new t c → MayClean (d.content old) (d.content old) c
-
--- the disk was opened, or the sync failed and nothing was removed
-abbrev pub MayOpen : {D : Type 0} → Ghosts D → D → D → Type 0
-MayOpen d old new = StepsOn d old new Same ⊎ Opens d old new
 
 -- at Ok an honest disk reads so
 abbrev pub CleansDisk : {D A E : Type 0} → Ghosts D → D → D → Result A E → Type 0

@@ -31,6 +31,10 @@ HasManifests manifests read = (key : SnapshotKey) → IsKey key → contains_tex
 abbrev pub AreNames : List (String Global) → Files → Type 0
 AreNames names read = map string_bytes names ≡ keys read
 
+-- these are all names of an honest disk
+abbrev pub NamesAll : {D : Type 0} → Ghosts D → D → List (String Global) → Type 0
+NamesAll d disk names = d.honest disk → AreNames names (d.content disk)
+
 -- the set has the manifests' names, where these are the names at which something stands
 abbrev pub KnowsManifests : {E : Type 0} → List (String Global) → Result (BTreeSet (String Global)) E → Type 0
 KnowsManifests names result = IfOk result (λ manifests. (read : Files) → AreNames names read → HasManifests manifests read)

@@ -4,7 +4,7 @@ ghost use Rattle.std.specs.Prelude.{◌∷◌, [], IsErrOf};
 ghost use Rattle.disk_trait.specs.Disk.{Serves};
 ghost use Rattle.disk_trait.specs.Effects.{StepsOn};
 ghost use Rattle.opening_files.specs.Opened.{CleansDisk, WantsMemory};
-ghost use Rattle.opening_files.specs.Removed.{MayLeave, OkAllGo, OkGoes, OnlyLoses, StepsClean};
+ghost use Rattle.opening_files.specs.Removed.{MayLeave, NamesAll, OkAllGo, OkGoes, OnlyLoses, StepsClean};
 
 use crate::leaving::{is_leaving, manifests_among};
 use disk_trait::{Disk, DiskError};
@@ -47,17 +47,17 @@ fn remove_all_leaving<D: Disk>(
     Ok(())
 }
 
-/// Removes each temporary file, and each file of a snapshot without a manifest.
+/// Removes each temporary file, and each file of a snapshot without a manifest. All names are handed in.
 ///
-/// Tests count its calls: one list of all names, and a remove for each that leaves.
-pub fn clean<D: Disk>(disk: &mut D, alloc: Global) -> Result<(), DiskError>
+/// Tests count its calls: a remove for each file that leaves.
+pub fn clean<D: Disk>(disk: &mut D, alloc: Global, names: &[String]) -> Result<(), DiskError>
+    requires { NamesAll D.Disk disk.old names.now }
     ensures serves { Serves D.honest D.faults disk.old disk.new (IsErrOf result DiskError.Failed) }
     ensures crash { StepsClean D.Disk disk.old disk.new }
     ensures cleaned { CleansDisk D.Disk disk.old disk.new result }
     ensures want { WantsMemory D.Disk disk.old disk.new result }
 {
-    let names = disk.list(alloc, "")?;
-    let manifests = manifests_among(alloc, &names)?;
-    remove_all_leaving(disk, alloc, &names, &manifests)?;
+    let manifests = manifests_among(alloc, names)?;
+    remove_all_leaving(disk, alloc, names, &manifests)?;
     Ok(())
 }

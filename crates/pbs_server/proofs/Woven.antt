@@ -7,6 +7,7 @@ use Rattle.disk_trait.specs.Files.{Files}
 use Rattle.store_types.specs.declared.order.Entry.{Entry}
 use Rattle.store_files.specs.Archive.{Snapshot}
 use Rattle.store_model.specs.Clash.{NoClash, chunk_pieces}
+use Rattle.store_model.specs.Load.{load}
 use Rattle.store_model.specs.Stands.{StandsFor as Stands}
 use Rattle.store_model.specs.Weave.{weave}
 use Rattle.store_history.specs.declared.act.Event.{Event}
@@ -16,6 +17,7 @@ use Rattle.store_history.proofs.Alone.{served_alone}
 use Rattle.store_history.proofs.Whole.{served_woven}
 use Rattle.store_history.specs.Legal.{IsTimed, readings_left}
 use Rattle.store_files.specs.Order.{keeps_rules}
+use Rattle.snapshot_files.proofs.Loading.{loaded}
 use Rattle.core_state.specs.declared.state.Core.{Core}
 use Rattle.core_state.specs.History.{StandsFor, began, world}
 use Rattle.core_state.specs.Chunks.{HoldsOnly}
@@ -23,9 +25,7 @@ use Rattle.core_state.specs.Foreign.{IsForeign}
 use Rattle.core_state.specs.Records.{Records, Reaches}
 use Rattle.core_state.specs.Recovers.{TellsMoments}
 use Rattle.opening_files.specs.Leaving.{IsFileOf, IsLeaving, Cleans}
-use Rattle.opening_files.specs.Opened.{Opens}
-use Rattle.core_opening.specs.Opening.{opening_of, StandsOpened}
-use Rattle.core_opening.proofs.Recovering.{recovers_began}
+use Rattle.core_opening.specs.Opening.{RecoversOpened, StandsOpened, opening_of}
 use Rattle.lane.specs.declared.port.LaneReport.{LaneReport}
 use Rattle.lane.specs.Entries.{has_kind}
 use Rattle.lane.specs.Ran.{RanAlone, with_events}
@@ -115,13 +115,13 @@ pub record HasBoth {D : Type 0} (d : Ghosts D) (clock : Option Readings) (start 
 
 pub has_both : {D E C : Type 0} (d : Ghosts D) (readings : C → Option Readings) (clock : C) (disk : D) (first core : Core D E C)
     (left left' taken taken' : Option (List ℕ)) (order : List Entry) (calls : List ℕ) (report : LaneReport) (last : D)
-    → TellsMoments d → StandsOpened d readings disk clock first → (since : Opens d disk (first.parts).disk)
+    → TellsMoments d → StandsOpened d readings disk clock first → (recovers : RecoversOpened d readings disk clock first)
     → (d.honest disk → Cleans (d.content disk) (d.content (first.parts).disk))
     → RanAlone (Reaches d readings first (began (opening_of d disk (first.parts).disk []) None (readings clock)) core)
     (began (opening_of d disk (first.parts).disk []) None (readings clock)) 0 left left' taken taken' report
     → order ≡ (core.journal).entries.items → calls ≡ (core.journal).calls.items → last ≡ (core.parts).disk
-    → HasBoth d (readings clock) since.start disk (first.parts).disk last left left' taken taken' order calls report
-has_both d readings clock disk first core left left' taken taken' order calls report last moments opens since cleaned ran order_as calls_as disk_as = record {
+    → HasBoth d (readings clock) (recovers.opens).start disk (first.parts).disk last left left' taken taken' order calls report
+has_both d readings clock disk first core left left' taken taken' order calls report last moments opens recovers cleaned ran order_as calls_as disk_as = record {
   told = record {
     input = ran.input;
     events = ran.events;
@@ -141,9 +141,9 @@ has_both d readings clock disk first core left left' taken taken' order calls re
   };
   plain = λ L R honest stands clear.
       let stood = opens L R honest stands in
-      plain L R ((ran.stands_for).stands L R stood clear) (λ none q own. (ran.stands_for).foreign L R stood clear none q own ∙ foreign_cleaned _ _ (cleaned honest) q own);
+      plain L R (loaded (d.content disk) L stands) ((ran.stands_for).stands L R stood clear) (λ none q own. (ran.stands_for).foreign L R stood clear none q own ∙ foreign_cleaned _ _ (cleaned honest) q own);
   stops = λ L R honest stands clear t c from image.
-      ((ran.stands_for).recovers moments since.start L R (opens L R honest stands) (recovers_began d disk first (readings clock) L R since stands) clear).each t c from
+      ((ran.stands_for).recovers moments (recovers.opens).start L R (opens L R honest stands) (recovers.recovers L R stands) clear).each t c from
       (subst (λ x. d.images x t c) disk_as image);
 }
   where
@@ -164,16 +164,17 @@ has_both d readings clock disk first core left left' taken taken' order calls re
     calm : (L : List Snapshot) (R : Option (List Snapshot)) → has_kind 5 order ≡ false → (after_all R (opened (opening L)) ran.events).fault ≡ None
     calm L R is = no_fault R (opened (opening L)) ran.events (sym (ap (has_kind 5) order_is) ∙ is)
 
-    plain : (L : List Snapshot) (R : Option (List Snapshot)) → StandsFor d readings core (with_events (began (opening L) R (readings clock)) ran.events)
+    plain : (L : List Snapshot) (R : Option (List Snapshot)) → load (d.content disk) ≡ L → StandsFor d readings core (with_events (began (opening L) R (readings clock)) ran.events)
         → (core.fault ≡ None → (q : List ℕ) → IsForeign q → get (d.content (core.parts).disk) q ≡ get (d.content disk) q)
         → IsPlain (opening L) R (d.calls last) (d.honest last) ran.input ran.events (text ran.told) order report (d.content disk) (d.content last)
-    plain L R s foreign =
+    plain L R loads s foreign =
         let h = with_events (began (opening L) R (readings clock)) ran.events in
         let served = served_alone (opening L) R ran.events ran.input report.ending ran.told s.legal ran.lanes ran.ran in
         record {
           store = (world h).store;
-          woven = subst (λ es. weave L R es (ran.input ∷ []) (report.ending ∷ []) ≡ Ok (record { store = (world h).store; replies = text ran.told ∷ [] })) (sym order_is)
-              (served_woven (opening L) R ran.events (ran.input ∷ []) (report.ending ∷ []) (ran.told ∷ []) served);
+          woven = subst (λ xs. weave xs R order (ran.input ∷ []) (report.ending ∷ []) ≡ Ok (record { store = (world h).store; replies = text ran.told ∷ [] })) (sym loads)
+              (subst (λ es. weave L R es (ran.input ∷ []) (report.ending ∷ []) ≡ Ok (record { store = (world h).store; replies = text ran.told ∷ [] })) (sym order_is)
+              (served_woven (opening L) R ran.events (ran.input ∷ []) (report.ending ∷ []) (ran.told ∷ []) served));
           legal = s.legal;
           reached = subst (λ x. (world h).calls ≤ d.calls x) (sym disk_as) s.reached;
           honest = subst d.honest (sym disk_as) s.honest;

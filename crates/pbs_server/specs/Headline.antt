@@ -12,6 +12,7 @@ use Rattle.wire_commands.specs.declared.reply.Reply.{Reply}
 use Rattle.store_files.specs.Archive.{Snapshot}
 use Rattle.store_files.specs.Order.{keeps_rules}
 use Rattle.store_model.specs.Clash.{NoClash, chunk_pieces}
+use Rattle.store_model.specs.Load.{load}
 use Rattle.store_model.specs.Store.{Store}
 use Rattle.store_model.specs.Stands.{StandsFor}
 use Rattle.store_model.specs.Weave.{weave}
@@ -24,8 +25,9 @@ use Rattle.core_state.specs.Chunks.{HoldsOnly}
 use Rattle.core_state.specs.Foreign.{IsForeign}
 use Rattle.core_state.specs.Records.{AreKept}
 use Rattle.opening_files.specs.Leaving.{MayClean, Cleans}
-use Rattle.opening_files.specs.Opened.{Opens, MayOpen}
-use Rattle.core_opening.specs.Opening.{opening_of}
+use Rattle.opening_files.specs.Opened.{Opens}
+use Rattle.core_opening.specs.declared.opening.OpenFault.{OpenFault}
+use Rattle.core_opening.specs.Opening.{StopsOpening, opening_of}
 use Rattle.lane.specs.declared.port.LaneReport.{LaneReport}
 use Rattle.lane.specs.declared.port.Port.{Port}
 use Rattle.lane.specs.Acting.{gave_all}
@@ -35,7 +37,7 @@ use Rattle.lane.specs.Ran.{Took, EndsRead}
 use Rattle.pbs_server.specs.declared.served.Served.{Served}
 use Rattle.pbs_server.specs.declared.status.Status.TheVariants as statuses
 use Rattle.pbs_server.specs.Causes.{IsOrder, HasCause}
-use Rattle.pbs_server.specs.Statuses.{status_by}
+use Rattle.pbs_server.specs.Statuses.{status_by, status_of_opening}
 use Rattle.pbs_server.specs.Words.{reading}
 
 -- What a session did, on any disk: its acts are a run of the lane's program on the bytes that its source gave, its sink was given the
@@ -62,19 +64,19 @@ pub record HasTold (readings : Option Readings) (left left' taken taken' : Optio
   -- a session that ends cleanly, or where no command stands, was read to there
   pub read_out : EndsRead report.ending input events left'
 
--- What opening did to a disk: nothing was removed before a sync, and then only files that opening takes away. An honest disk lacks them all,
--- and else it reads as before.
+-- What opening did to a disk: up to a moment a crash leaves what it could before, and from it on only files that opening takes away are gone.
+-- An honest disk lacks them all, and else it reads as before.
 pub record WasOpened {D : Type 0} (d : Ghosts D) (disk opened : D) : Type 0 where
   pub opens : Opens d disk opened
   pub cleaned : d.honest disk → Cleans (d.content disk) (d.content opened)
 
--- The plain store of whole archives, opened with these snapshots and asked by the session's commands in the returned order, gives
+-- The plain store of whole archives, opened with what the disk is loaded as and asked by the session's commands in the returned order, gives
 -- the bytes of the replies and this last store. The answers are the plain store's. The disk is honest still, its count of calls is
 -- not below the last entry's. Where it did not fail, what it holds stands for the last store's snapshots, its chunk files are of pieces that
 -- were there or that the session sent, and what stood at names that are none of the store's stands there still.
 pub record IsPlain (opening : Opening) (remote : Option (List Snapshot)) (now : ℕ) (is_honest : Type 0) (input : List ℕ) (events : List Event) (replies : List ℕ) (order : List Entry) (report : LaneReport) (before files : Files) : Type 0 where
   pub store : Store
-  pub woven : weave opening.snapshots remote order (input ∷ []) (report.ending ∷ []) ≡ Ok (record { store = store; replies = replies ∷ [] })
+  pub woven : weave (load before) remote order (input ∷ []) (report.ending ∷ []) ≡ Ok (record { store = store; replies = replies ∷ [] })
   pub legal : IsLegal remote (opened opening) events
   pub reached : (after_all remote (opened opening) events).calls ≤ now
   pub honest : is_honest
@@ -100,7 +102,7 @@ pub record HasServed {D E S K : Type 0} (d : Ghosts D) (left : S → Option (Lis
   -- the chunk files at opening and those that the session sent
   pub plain : (L : List Snapshot) (R : Option (List Snapshot)) → d.honest disk → StandsFor (d.content disk) L → NoClash (chunk_pieces (d.content disk) ++ sent told.events)
       → IsPlain (opening_of d disk opened L) R (d.calls result.disk) (d.honest result.disk) told.input told.events told.replies (result.order).items report (d.content disk) (d.content result.disk)
-  -- under the same premises, what a crash leaves from the opening's sync on
+  -- under the same premises, what a crash leaves from that moment of opening on
   pub stops : (L : List Snapshot) (R : Option (List Snapshot)) → d.honest disk → StandsFor (d.content disk) L → NoClash (chunk_pieces (d.content disk) ++ sent told.events)
       → StopsLeave d ((was_opened.opens).start) result.disk R (opening_of d disk opened L) told.events
   -- on any disk
@@ -111,6 +113,12 @@ pub record HasServed {D E S K : Type 0} (d : Ghosts D) (left : S → Option (Lis
   pub budget : report.taken ≤ 2 ^ 40
   pub faults : d.faults disk ≤ d.faults result.disk
   pub remote_is : result.remote ≡ remote
+  pub not_opened : (result.report).not_opened ≡ None
+
+-- Where the run did not come to open the datastore, the disk was not called; else by why it was not opened.
+abbrev pub StopsUnserved : {D : Type 0} → Ghosts D → D → D → Option OpenFault → Type 0
+StopsUnserved d disk left None = left ≡ disk
+StopsUnserved d disk left (Some fault) = StopsOpening d disk left fault
 
 -- No session was served, and none was read: the words ask for none, or the datastore was not opened.
 pub record HasNotServed {D E P : Type 0} (d : Ghosts D) (disk : D) (remote : Option E) (old new : List P) (result : Served D E) : Type 0 where
@@ -123,8 +131,9 @@ pub record HasNotServed {D E P : Type 0} (d : Ghosts D) (disk : D) (remote : Opt
   pub disk_is : result.status ≡ statuses.Usage → result.disk ≡ disk
   -- on any disk, which is said to have failed only where its count of faults rose
   pub serves : Serves d.honest d.faults disk result.disk (result.status ≡ statuses.DiskFault)
-  -- in what a crash leaves, nothing was removed before a sync, and then only files that opening takes away
-  pub crash : (result.disk ≡ disk) ⊎ MayOpen d disk result.disk
+  -- what a crash leaves
+  pub stops : StopsUnserved d disk result.disk (result.report).not_opened
+  pub why : IfSome (result.report).not_opened (λ fault. result.status ≡ status_of_opening fault)
   -- an honest disk that did not fail reads as before, without some of these files
   pub left : d.honest disk → result.status ≢ statuses.DiskFault → MayClean (d.content disk) (d.content disk) (d.content result.disk)
 

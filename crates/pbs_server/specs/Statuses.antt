@@ -33,6 +33,7 @@ status_by order ending =
 
 -- by why the datastore was not opened
 abbrev pub status_of_opening : OpenFault → Status
+status_of_opening openings.NotSynced = statuses.DiskFault
 status_of_opening openings.DiskFault = statuses.DiskFault
 status_of_opening openings.NoMemory = statuses.NoMemory
 

@@ -6,7 +6,7 @@ ghost use Rattle.pbs_server.specs.Statuses.{status_by};
 
 use crate::served::{RunReport, Served};
 use crate::status::{Status, by_opening, status_of};
-use core_opening::{NotOpened, open_on};
+use core_opening::{NotOpened, OpenFault, open_on};
 use core_state::{Core, CoreParts};
 use disk_trait::Disk;
 use lane::{Ending, LaneReport, Port, run_alone};
@@ -14,8 +14,15 @@ use port_traits::{Clock, Gate, Sink, Source};
 use std::alloc::Global;
 
 /// No lane was served.
-pub fn not_served<D, E>(alloc: Global, status: Status, disk: D, remote: Option<E>) -> Served<D, E>
+pub fn not_served<D, E>(
+    alloc: Global,
+    status: Status,
+    not_opened: Option<OpenFault>,
+    disk: D,
+    remote: Option<E>,
+) -> Served<D, E>
     ensures status { result.status ≡ status }
+    ensures not_opened { result.report.not_opened ≡ not_opened }
     ensures order { result.order.items ≡ [] }
     ensures lanes { result.report.lanes.items ≡ [] }
     ensures calls { result.report.calls.items ≡ [] }
@@ -29,6 +36,7 @@ pub fn not_served<D, E>(alloc: Global, status: Status, disk: D, remote: Option<E
         report: RunReport {
             lanes: Vec::new(alloc),
             calls: Vec::new(alloc),
+            not_opened,
             unequal: None,
         },
         disk,
@@ -46,6 +54,7 @@ fn handed_back<D, E, C: Drop>(
     ensures order { result.order ≡ core.journal.entries }
     ensures lanes { result.report.lanes ≡ lanes }
     ensures calls { result.report.calls ≡ core.journal.calls }
+    ensures not_opened { result.report.not_opened ≡ None }
     ensures unequal { result.report.unequal ≡ None }
     ensures disk { result.disk ≡ core.parts.disk }
     ensures remote { result.remote ≡ core.remote }
@@ -65,6 +74,7 @@ fn handed_back<D, E, C: Drop>(
         report: RunReport {
             lanes,
             calls,
+            not_opened: None,
             unequal: None,
         },
         disk,
@@ -87,7 +97,7 @@ pub fn serve_alone<D: Disk, E, C: Clock + Drop, S: Source, K: Sink, G: Gate>(
     ensures unequal { result.report.unequal ≡ None }
 {
     let Ok(mut reports) = Vec::with_capacity(alloc, 1) else {
-        return not_served(alloc, Status::NoMemory, disk, remote);
+        return not_served(alloc, Status::NoMemory, None, disk, remote);
     };
     match open_on(alloc, disk, remote, clock) {
         Ok(mut core) => {
@@ -102,7 +112,7 @@ pub fn serve_alone<D: Disk, E, C: Clock + Drop, S: Source, K: Sink, G: Gate>(
                 remote,
                 ..
             } = not_opened;
-            not_served(alloc, by_opening(cause), disk, remote)
+            not_served(alloc, by_opening(cause), Some(cause), disk, remote)
         }
     }
 }

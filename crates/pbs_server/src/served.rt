@@ -1,6 +1,7 @@
 //! What a run leaves.
 
 use crate::status::Status;
+use core_opening::OpenFault;
 use lane::LaneReport;
 use store_types::Entry;
 
@@ -19,6 +20,8 @@ pub struct Unequal {
 pub struct RunReport {
     pub lanes: Vec<LaneReport>,
     pub calls: Vec<u64>,
+    /// Why the datastore was not opened. None where it was, or where the run did not come to it.
+    pub not_opened: Option<OpenFault>,
     /// Only a check of a run tells one.
     pub unequal: Option<Unequal>,
 }

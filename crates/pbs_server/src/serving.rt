@@ -34,6 +34,6 @@ pub fn serve<D: Disk, E: Disk, C: Clock + Drop, S: Source, K: Sink, J: Sink, G: 
         [port] if read_run(words).is_some() => {
             serve_alone(alloc, port, disk, remote, clock, gate)
         }
-        _ => not_served(alloc, Status::Usage, disk, remote),
+        _ => not_served(alloc, Status::Usage, None, disk, remote),
     }
 }

@@ -108,6 +108,7 @@ pub fn by_opening(cause: OpenFault) -> Status
     ensures { result ≡ status_of_opening cause }
 {
     match cause {
+        OpenFault::NotSynced => Status::DiskFault,
         OpenFault::DiskFault => Status::DiskFault,
         OpenFault::NoMemory => Status::NoMemory,
     }

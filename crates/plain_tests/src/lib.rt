@@ -1,6 +1,11 @@
-//! The tests of the plain store and of jobs: snapshots that are read, lanes that are woven, and prunes step by step.
+//! The tests of the plain store and of jobs: snapshots that are read, also beside an opening of the core; lanes that are woven,
+//! and prunes step by step.
 #![tactic(auto)]
 
+#[cfg(test)]
+mod asserts;
+#[cfg(test)]
+mod loading;
 #[cfg(test)]
 mod prunes;
 #[cfg(test)]

@@ -9,13 +9,13 @@ use std::alloc::{AllocError, Global};
 use std::process::Abort;
 use std::test::Fail;
 
-const MANIFEST: &str = "host/a/2020-01-15T06:30:03Z/index.json.blob";
+pub(crate) const MANIFEST: &str = "host/a/2020-01-15T06:30:03Z/index.json.blob";
 
 const FIXED: &str = "host/a/2020-01-15T06:30:03Z/root.fidx";
 
-const DYNAMIC: &str = "host/a/2020-01-15T06:30:03Z/root.didx";
+pub(crate) const DYNAMIC: &str = "host/a/2020-01-15T06:30:03Z/root.didx";
 
-const BLOB: &str = "host/a/2020-01-15T06:30:03Z/set.blob";
+pub(crate) const BLOB: &str = "host/a/2020-01-15T06:30:03Z/set.blob";
 
 const OTHER: &str = "host/a-b/2020-01-15T06:30:03Z/index.json.blob";
 
@@ -35,7 +35,7 @@ const MANIFEST_BLOB: &[u8] =
     b"B\xab8\x07\xbe\x83p\xa1\xdf\xd0\xbf\xb3{\"backup-type\":\"host\",\"backup-id\":\"a\",\"backup-time\":1579069803,\"files\":[{\"filename\":\"set.blob\",\"size\":15,\"csum\":\"0000000000000000000000000000000000000000000000000000000000000000\"},{\"filename\":\"root.fidx\",\"size\":4097,\"csum\":\"0000000000000000000000000000000000000000000000000000000000000000\"},{\"filename\":\"index.json.blob\",\"size\":1,\"csum\":\"0000000000000000000000000000000000000000000000000000000000000000\"},{\"filename\":\"root.didx\",\"size\":5,\"csum\":\"0000000000000000000000000000000000000000000000000000000000000000\"}]}";
 
 /// It lists nothing.
-const OTHER_BLOB: &[u8] =
+pub(crate) const OTHER_BLOB: &[u8] =
     b"B\xab8\x07\xbe\x83p\xa1\xd8\x04\xd8h{\"backup-type\":\"host\",\"backup-id\":\"a-b\",\"backup-time\":1579069803,\"files\":[]}";
 
 /// The first 80 bytes of an index of 4,097 bytes in pieces of 4,096: zeros, and `x`.
@@ -66,7 +66,7 @@ fn with_zeros(
 }
 
 /// A datastore with two snapshots, whose names stand in another order than the snapshots.
-fn datastore(alloc: Global) -> Result<MemoryDisk, DiskError> {
+pub(crate) fn datastore(alloc: Global) -> Result<MemoryDisk, DiskError> {
     let mut disk = MemoryDisk::new(alloc);
     let zeros = with_zeros(alloc, CHUNK_MAGIC, 4096, b"")?;
     let fixed = with_zeros(alloc, FIXED_HEAD, 4016, FIXED_DIGESTS)?;

@@ -347,7 +347,11 @@ fn ends_with(
 
 /// What one lane is told whose entries are a command and its end.
 #[tactic(auto, unfolding(store_files::specs::Order::keeps_rules))]
-fn asked(alloc: Global, store: &Plain, input: &[u8]) -> Result<Result<Woven, Misfit>, AllocError> {
+pub(crate) fn asked(
+    alloc: Global,
+    store: &Plain,
+    input: &[u8],
+) -> Result<Result<Woven, Misfit>, AllocError> {
     let input = Bytes::from_slice(alloc, input)?;
     store.weave(alloc, None, &[A, END], &[input], &[Ending::Clean])
 }

@@ -1,10 +1,12 @@
 mod archives;
+mod beside;
 mod damaged;
 mod disk_faults;
 mod fixed;
 mod folders;
 mod frames;
 mod listings;
+mod long_names;
 mod manifests;
 mod memory;
 mod openings;
@@ -13,6 +15,7 @@ mod prunes;
 mod ranges;
 mod restore_faults;
 mod reuse;
+mod stopped_acts;
 mod stops;
 mod talks;
 
@@ -374,14 +377,14 @@ fn try_session(rt: &impl Abort, alloc: Global, input: &[u8], left: &Left<'_>) ->
     try_source(rt, alloc, source_of(alloc, input)?.at_most(1), left)
 }
 
-/// What opening calls on an empty folder: sync, a list of all names, those of three folders of snapshots, and that of the chunks.
-const OPENING: u64 = 6;
+/// What opening calls on an empty folder: sync, and a list of all names.
+const OPENING: u64 = 2;
 
 /// The counts of the disk's calls beside the entries, those of opening first: FINISH installs and syncs, DOWNLOAD asks the size and reads; CHUNK asks the size,
 /// and installs only where no file was there.
 static COUNTED: [(&[u8], &[u64]); 2] = [
-    (READ_BACK, &[6, 6, 10, 10, 12, 12]),
-    (SENT_AGAIN, &[6, 10, 10, 10, 11, 11]),
+    (READ_BACK, &[2, 2, 6, 6, 8, 8]),
+    (SENT_AGAIN, &[2, 6, 6, 6, 7, 7]),
 ];
 
 #[test]

@@ -29,14 +29,6 @@ are_readers (Plain (Range file offset len)) h = tt
 are_readers (Plain CloseReader) h = tt
 are_readers act h = cc
 
-pub readers_not_admins : (act : Act) → is_readers act ≡ true → is_admins act ≡ false
-readers_not_admins (Plain (OpenReader snapshot)) h = refl
-readers_not_admins (Plain (Download file offset)) h = refl
-readers_not_admins (Plain (GetChunk digest)) h = refl
-readers_not_admins (Plain (Range file offset len)) h = refl
-readers_not_admins (Plain CloseReader) h = refl
-readers_not_admins act h = cc
-
 pub are_admins : (act : Act) → IsWellFormed act → is_admins act ≡ true → IsAdmins act
 are_admins (Plain (ListAll rest)) formed h = tt
 are_admins (Plain (FilesOf snapshot)) formed h = tt

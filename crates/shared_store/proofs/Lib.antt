@@ -1,2 +1,3 @@
 mod Damages
 mod Asking
+mod Answering

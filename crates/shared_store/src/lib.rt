@@ -1,14 +1,14 @@
 //! The dispatch of acts.
 #![tactic(auto)]
 
-ghost use Rattle.std.specs.Prelude.{◌≡◌, ◌<◌, true};
+ghost use Rattle.std.specs.Prelude.{◌≡◌, ◌<◌};
 ghost use Rattle.store_history.specs.Acts.{IsWellFormed};
 ghost use Rattle.core_state.specs.Applies.{ActApplies, ActKeeps};
 ghost use Rattle.core_state.specs.Commands.{is_admins};
 ghost use Rattle.core_state.specs.Reserved.{HasRoom};
 ghost use Rattle.core_state.specs.Unreadables.{CoreUnreadable};
 ghost use Rattle.core_reader.specs.Damages.{CoreDamaged};
-ghost use Rattle.core_admin.specs.AnsweredBy.{CoreAnswersBy};
+ghost use Rattle.shared_store.specs.AnsweredBy.{CoreAnswersBy};
 ghost use Rattle.shared_store.specs.Asked.{asked, is_readers};
 
 use core_admin::admin_act;
@@ -70,9 +70,9 @@ pub fn apply<D: Disk, E, C: Clock>(
     ensures keeps { ActKeeps D.Disk core.old core.new lane act result }
     ensures unreadable { CoreUnreadable D.Disk (asked act) core.old lane result }
     ensures damaged { CoreDamaged D.Disk core.old lane act result }
-    // on any disk the tests of a command on the store as a whole answer what the core keeps; of FILES, whether there is such a
-    // snapshot
-    ensures by_kept { is_admins act ≡ true → CoreAnswersBy core.old lane act result }
+    // on any disk OPEN_WRITER, OPEN_READER and the tests of a command on the store as a whole answer what the core keeps; of
+    // FILES, whether there is such a snapshot
+    ensures by_kept { CoreAnswersBy core.old lane act result }
     ensures short { act ≡ Act.Short → result.entry.kind ≡ 2 }
 {
     if is_readers(&act) {

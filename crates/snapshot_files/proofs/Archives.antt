@@ -7,7 +7,7 @@ use Rattle.std.proofs.lemmas.Bool.{and_parts, eqb-true, ltb-true, leb-true}
 use Rattle.std.specs.Str.{bytes_eq}
 use Rattle.std.proofs.lemmas.Slice.Eq.{bytes_eq-Decides}
 use Rattle.sha2.specs.Sha256.{sha256}
-use Rattle.store_types.specs.FileNames.{is_id, has_ending, fixed_ending, dynamic_ending, is_fixed_name, is_dynamic_name}
+use Rattle.store_types.specs.FileNames.{is_id, has_ending, fixed_ending, dynamic_ending, blob_ending, is_fixed_name, is_dynamic_name, is_blob_name}
 use Rattle.disk_trait.specs.Files.{Files}
 use Rattle.store_types.specs.Chain.Refusing.{◌>>=◌}
 use Rattle.store_files.specs.FixedIndex.{piece_len}
@@ -61,12 +61,26 @@ and_none true b c e = ap (λ x. x && c) e
 and_none false b c e = refl
 
 -- a name that ends so ends not so too
-dynamic_no_fixed : (name : List ℕ) → is_dynamic_name name ≡ true → is_fixed_name name ≡ false
+pub dynamic_no_fixed : (name : List ℕ) → is_dynamic_name name ≡ true → is_fixed_name name ≡ false
 dynamic_no_fixed name h =
     let last = drop (length name - 5) name in
     let ending = (and_parts (is_id name) (has_ending dynamic_ending name) h).1 in
     let five : bytes_eq dynamic_ending last ≡ true = (and_parts (bytes_eq dynamic_ending last) (nat_lt 5 (length name)) ending).0 in
     and_none (is_id name) (bytes_eq fixed_ending last) (nat_lt 5 (length name)) (not_both dynamic_ending fixed_ending last refl five)
+
+pub blob_no_fixed : (name : List ℕ) → is_blob_name name ≡ true → is_fixed_name name ≡ false
+blob_no_fixed name h =
+    let last = drop (length name - 5) name in
+    let ending = (and_parts (is_id name) (has_ending blob_ending name) h).1 in
+    let five : bytes_eq blob_ending last ≡ true = (and_parts (bytes_eq blob_ending last) (nat_lt 5 (length name)) ending).0 in
+    and_none (is_id name) (bytes_eq fixed_ending last) (nat_lt 5 (length name)) (not_both blob_ending fixed_ending last refl five)
+
+pub blob_no_dynamic : (name : List ℕ) → is_blob_name name ≡ true → is_dynamic_name name ≡ false
+blob_no_dynamic name h =
+    let last = drop (length name - 5) name in
+    let ending = (and_parts (is_id name) (has_ending blob_ending name) h).1 in
+    let five : bytes_eq blob_ending last ≡ true = (and_parts (bytes_eq blob_ending last) (nat_lt 5 (length name)) ending).0 in
+    and_none (is_id name) (bytes_eq dynamic_ending last) (nat_lt 5 (length name)) (not_both blob_ending dynamic_ending last refl five)
 
 named_by : (layout : Layout) (name : List ℕ) → IsTrue (elim layout [ dynamic ↦ is_dynamic_name name | fixed size chunk_size ↦ is_fixed_name name ]) →
     is_fixed_name name ≡ is_fixed_layout layout

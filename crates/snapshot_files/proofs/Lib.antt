@@ -10,11 +10,15 @@ pub mod Removals
 pub mod Leaving
 pub mod StandingLemmas
 pub mod OnlyReading
-pub mod Places
-pub mod InOrder
 pub mod Joined
 pub mod Damage
 pub mod FoundLemmas
 pub mod Named
 pub mod Listing
 pub mod Ordered
+pub mod Rising
+pub mod Manifests
+pub mod Mapped
+pub mod Contents
+mod FileLists
+pub mod Loading

@@ -1,4 +1,4 @@
--- The names in the folders of snapshots give each snapshot once.
+-- Names of which none stands twice give each snapshot once.
 use Rattle.std.proofs.Common.{◌≡◌, ◌≢◌, ◌⊎◌, inl, inr, ⊎_elim, ℕ, suc, List, [], ◌∷◌, ◌++◌, Bool, true, false, T, ◌&&◌, ◌||◌, get_or, map, eqb, Option, Some, None, append_assoc, refl, sym, ap, subst, ◌∙◌, arith}
 use Rattle.std.specs.Prelude.{codes, IsSome}
 use Rattle.std.specs.List.{All, AllPairs, Contains, cons_option, filter_map, list_any, starts_with}
@@ -25,12 +25,12 @@ use Rattle.store_types.specs.Names.{IsKey, text_cmp, same_key, kind_text, key_te
 use Rattle.store_types.proofs.OrderLaws.{same_keys}
 use Rattle.store_files.specs.Folder.{manifest_path}
 use Rattle.store_model.proofs.Insertions.{Contains-here, Contains-later, Contains-cases}
-use Rattle.snapshot_files.specs.Scanned.{FoundSnapshot, found_at, found_named, names_under, folder_names}
+use Rattle.snapshot_files.specs.Scanned.{FoundSnapshot, NamesManifests, found_at, found_named, names_under, folder_names}
 use Rattle.snapshot_files.proofs.Named.{named_is, at_name, at_there}
 
 -- ---- pairs
 
-pairs_nil : {A : Type 0} (R : A → A → Type 0) → AllPairs R []
+pub pairs_nil : {A : Type 0} (R : A → A → Type 0) → AllPairs R []
 pairs_nil R i j d lt within = absurd (omega (arith, within))
 
 pub pairs_tail : {A : Type 0} (R : A → A → Type 0) (x : A) (xs : List A) → AllPairs R (x ∷ xs) → AllPairs R xs
@@ -64,7 +64,7 @@ not_less Greater e f = cc
 below_differs : (a b : List ℕ) → is_lt (text_cmp a b) ≡ true → a ≢ b
 below_differs a b lt e = not_less (text_cmp a b) (is_eq-slice_cmp a b ∙ (bytes_eq-Decides a b).1 e) lt
 
-abbrev names_of : List (List ℕ × List ℕ) → List (List ℕ)
+abbrev pub names_of : List (List ℕ × List ℕ) → List (List ℕ)
 names_of es = map (λ e. e.0) es
 
 below_each : (name : List ℕ) (es : List (List ℕ × List ℕ)) → T (below_all text_cmp name es) → All (λ n. name ≢ n) (names_of es)
@@ -73,14 +73,18 @@ below_each name (e ∷ es) h =
     let parts = both_parts (is_lt (text_cmp name e.0)) (below_all text_cmp name es) h in
     All-cons (λ n. name ≢ n) e.0 (names_of es) (below_differs name e.0 (to_true (is_lt (text_cmp name e.0)) parts.0)) (below_each name es parts.1)
 
-abbrev Differ : List ℕ → List ℕ → Type 0
+abbrev pub Differ : List ℕ → List ℕ → Type 0
 Differ a b = a ≢ b
 
-entries_differ : (es : List (List ℕ × List ℕ)) → T (is_sorted text_cmp es) → AllPairs Differ (names_of es)
+pub entries_differ : (es : List (List ℕ × List ℕ)) → T (is_sorted text_cmp es) → AllPairs Differ (names_of es)
 entries_differ [] h = pairs_nil Differ
 entries_differ (e ∷ es) h =
     let parts = both_parts (below_all text_cmp e.0 es) (is_sorted text_cmp es) h in
     AllPairs-cons Differ e.0 (names_of es) (below_each e.0 es parts.0) (entries_differ es parts.1)
+
+-- no name of a map stands twice
+pub names_differ : (files : Files) → AllPairs Differ (keys files)
+names_differ files = entries_differ (entries files) (entries_sorted files)
 
 -- ---- folders
 
@@ -105,7 +109,7 @@ apart a b ne xs ys in_a in_b k d lt j e lt_j same = ne (sym (in_a k d lt) ∙ ap
 -- each name stands once
 pub folders_differ : (files : Files) → AllPairs Differ (folder_names files)
 folders_differ files =
-    let all : AllPairs Differ (keys files) = entries_differ (entries files) (entries_sorted files) in
+    let all : AllPairs Differ (keys files) = names_differ files in
     let ct = names_under (codes "ct/") files in
     let host = names_under (codes "host/") files in
     let vm = names_under (codes "vm/") files in
@@ -136,7 +140,7 @@ path_begins key =
     let is : manifest_path key ≡ kind_text key.kind ++ 47 ∷ rest = simp append_assoc refl in
     (rest, is)
 
-abbrev has_name : List ℕ → List (List ℕ) → Bool
+abbrev pub has_name : List ℕ → List (List ℕ) → Bool
 has_name name names = list_any (eq_by_cmp text_cmp name) names
 
 same_text : (a b : List ℕ) → eq_by_cmp text_cmp a b ≡ true → a ≡ b
@@ -159,6 +163,30 @@ or_right : (a b : Bool) → b ≡ true → (a || b) ≡ true
 or_right true b e = refl
 or_right false b e = e
 
+tied : (a b : List ℕ) → a ≡ b → eq_by_cmp text_cmp a b ≡ true
+tied a b e = is_eq-slice_cmp a b ∙ (bytes_eq-Decides a b).1 e
+
+-- a name that is found in a list stands there, and the other way round
+pub any_has : (q : List ℕ) (names : List (List ℕ)) → has_name q names ≡ true → Contains names q
+any_has q [] h = cc
+any_has q (n ∷ ns) h = by_case (eq_by_cmp text_cmp q n) refl h (λ k. any_has q ns k)
+  where
+    by_case : (t : Bool) → eq_by_cmp text_cmp q n ≡ t → (t || has_name q ns) ≡ true → (has_name q ns ≡ true → Contains ns q) → Contains (n ∷ ns) q
+    by_case true e h later = subst (Contains (n ∷ ns)) (sym (same_text q n e)) (Contains-here n ns)
+    by_case false e h later = Contains-later n ns q (later h)
+
+pub has_any : (q : List ℕ) (names : List (List ℕ)) → Contains names q → has_name q names ≡ true
+has_any q [] (k, lt, at) = absurd (omega (arith, lt))
+has_any q (n ∷ ns) has =
+    ⊎_elim
+    (λ (e : n ≡ q). ap (λ t. t || has_name q ns) (tied q n (sym e)))
+    (λ (c : Contains ns q). or_right (eq_by_cmp text_cmp q n) (has_name q ns) (has_any q ns c))
+    (Contains-cases n ns q has)
+
+-- a name of a map at which something stands
+pub there_among : (files : Files) (name : List ℕ) → IsSome (get files name) → Contains (keys files) name
+there_among files name there = any_has name (keys files) (sym (contains_key-keys files name) ∙ there)
+
 by_kind : (kind : Kind) (name : List ℕ) (files : Files) → has_name name (names_under (folder_of kind) files) ≡ true → has_name name (folder_names files) ≡ true
 by_kind kind name files h =
     let test = eq_by_cmp text_cmp name in
@@ -173,9 +201,12 @@ by_kind kind name files h =
     among Host h = or_left _ _ (or_right _ _ h)
     among Vm h = or_right _ _ h
 
-pub has_manifest : (key : SnapshotKey) (files : Files) → IsSome (get files (manifest_path key)) → has_name (manifest_path key) (folder_names files) ≡ true
+has_manifest : (key : SnapshotKey) (files : Files) → IsSome (get files (manifest_path key)) → has_name (manifest_path key) (folder_names files) ≡ true
 has_manifest key files there =
     by_kind key.kind (manifest_path key) files (in_its_folder key files (sym (contains_key-keys files (manifest_path key)) ∙ there))
+
+pub manifest_among : (key : SnapshotKey) (files : Files) → IsSome (get files (manifest_path key)) → Contains (folder_names files) (manifest_path key)
+manifest_among key files there = any_has (manifest_path key) (folder_names files) (has_manifest key files there)
 
 -- ---- what names give
 
@@ -186,7 +217,7 @@ Apart x y = same_key y.key x.key ≡ false
 abbrev pub keys_of : List FoundSnapshot → List SnapshotKey
 keys_of found = map (λ (x : FoundSnapshot). x.key) found
 
-not_true : (b : Bool) → (b ≡ true → ⊥) → b ≡ false
+pub not_true : (b : Bool) → (b ≡ true → ⊥) → b ≡ false
 not_true true h = absurd (h refl)
 not_true false h = refl
 
@@ -241,10 +272,11 @@ module _ (files : Files) where
       by_case false e rest h = later (found_named files n) (all_named ns) key (rest h)
 
   -- each whose manifest is there is found
-  pub all_found : (key : SnapshotKey) → IsKey key → IsSome (get files (manifest_path key)) → Contains (keys_of (all_named (folder_names files))) key
-  all_found key is there =
+  pub all_found : (names : List (List ℕ)) → NamesManifests files names → (key : SnapshotKey) → IsKey key → IsSome (get files (manifest_path key))
+      → Contains (keys_of (all_named names)) key
+  all_found names named key is there =
       let x = at_name files key is there in
-      is_found key x.0 x.1 x.2 (folder_names files) (has_manifest key files there)
+      is_found key x.0 x.1 x.2 names (has_any (manifest_path key) names (named.each key is there))
 
   -- and no other
   pub found_there : (xs : List FoundSnapshot) → All Stands xs → (key : SnapshotKey) → Contains (keys_of xs) key → IsSome (get files (manifest_path key))

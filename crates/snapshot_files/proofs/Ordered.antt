@@ -1,100 +1,75 @@
--- What is found in the folders of snapshots, in order, is all there is.
-use Rattle.std.proofs.Common.{◌≡◌, ⊎_elim, Bool, true, false, cond, ◌&&◌, List, [], ◌∷◌, map, refl, sym, ap, subst, ◌∙◌}
-use Rattle.std.specs.List.{All, AllPairs, Contains, filter_map}
-use Rattle.std.proofs.lemmas.Bool.{cond_both}
-use Rattle.std.proofs.lemmas.List.Elements.{All-nil, All-cons, All-head, All-tail}
+-- What is found at names, in order, is all there is.
+use Rattle.std.proofs.Common.{◌≡◌, ℕ, zero, suc, List, [], ◌∷◌, Bool, true, false, refl, ◌∙◌, arith}
+use Rattle.std.specs.Cmp.{IsEquivalence, IsStrictWeakOrder}
+use Rattle.std.specs.List.{All, AllPairs, filter_map}
+use Rattle.std.specs.List.Sorted.{IsPermutation, IsSortedBy}
+use Rattle.std.proofs.lemmas.Bool.{and_from}
+use Rattle.std.proofs.lemmas.List.Sorted.{All-permutation, Contains-permutation, IsPermutation-map, ranks_by, sorted_far}
+use Rattle.std.proofs.lemmas.Map.Keys.{IsDistinct-IsPermutation, IsDistinct-from_apart, apart_from_distinct}
 use Rattle.disk_trait.specs.Files.{Files}
-use Rattle.store_types.specs.declared.names.SnapshotKey.{SnapshotKey}
-use Rattle.store_types.specs.Names.{key_lt, same_key}
-use Rattle.store_files.specs.Archive.{Snapshot}
-use Rattle.store_model.specs.Store.{insert_snapshot}
-use Rattle.store_model.specs.Stands.{keys_rise}
-use Rattle.store_model.proofs.Insertions.{Contains-new, Contains-kept, Contains-cases, rise-insert}
-use Rattle.snapshot_files.specs.Scanned.{FoundSnapshot, Lists, found_rise, found_named, folder_names, insert_found, in_order}
-use Rattle.snapshot_files.proofs.Listing.{Stands, Apart, keys_of, all_named, each_stands, all_apart, all_found, found_there, folders_differ, pairs_head, pairs_tail}
+use Rattle.store_types.specs.KeyOrder.{key_cmp_total, same_key_equiv}
+use Rattle.store_types.specs.Names.{key_cmp, key_lt, same_key}
+use Rattle.store_model.proofs.Insertions.{lt_back}
+use Rattle.snapshot_files.specs.Scanned.{FoundSnapshot, IsInOrder, Lists, NamesManifests, found_lt, found_named, found_rise, folder_names}
+use Rattle.snapshot_files.proofs.Listing.{Apart, Stands, keys_of, all_named, each_stands, all_apart, all_found, found_there, folders_differ, manifest_among, pairs_tail}
 
--- its key alone
-abbrev keyed : FoundSnapshot → Snapshot
-keyed x = record { key = x.key; files = [] }
+-- ---- no two have one key
 
-abbrev keyed_all : List FoundSnapshot → List Snapshot
-keyed_all xs = map keyed xs
+abbrev same_found : FoundSnapshot → FoundSnapshot → Bool
+same_found x y = same_key y.key x.key
 
-keyed-insert : (x : FoundSnapshot) (xs : List FoundSnapshot) → keyed_all (insert_found x xs) ≡ insert_snapshot (keyed x) (keyed_all xs)
-keyed-insert x [] = refl
-keyed-insert x (y ∷ ys) = by_test (key_lt x.key y.key) (keyed-insert x ys)
-  where
-    by_test : (b : Bool) → keyed_all (insert_found x ys) ≡ insert_snapshot (keyed x) (keyed_all ys)
-        → keyed_all (cond b (x ∷ y ∷ ys) (y ∷ insert_found x ys)) ≡ cond b (keyed x ∷ keyed y ∷ keyed_all ys) (keyed y ∷ insert_snapshot (keyed x) (keyed_all ys))
-    by_test true rest = refl
-    by_test false rest = ap (λ l. keyed y ∷ l) rest
+flips_by : IsEquivalence same_key → (x y : FoundSnapshot) → same_found x y ≡ same_found y x
+flips_by e x y = e.symm y.key x.key
 
-keyed-keys : (xs : List FoundSnapshot) → map (λ (s : Snapshot). s.key) (keyed_all xs) ≡ keys_of xs
-keyed-keys [] = refl
-keyed-keys (x ∷ xs) = ap (λ l. x.key ∷ l) (keyed-keys xs)
+flips : (x y : FoundSnapshot) → same_found x y ≡ same_found y x
+flips = flips_by same_key_equiv
 
-keyed-rise : (xs : List FoundSnapshot) → found_rise xs ≡ keys_rise (keyed_all xs)
-keyed-rise [] = refl
-keyed-rise (x ∷ []) = refl
-keyed-rise (x ∷ y ∷ xs) = ap (λ b. key_lt x.key y.key && b) (keyed-rise (y ∷ xs))
-
-keyed-each : (P : SnapshotKey → Type 0) (xs : List FoundSnapshot) → All (λ x. P x.key) xs → All (λ (s : Snapshot). P s.key) (keyed_all xs)
-keyed-each P [] h = All-nil (λ (s : Snapshot). P s.key)
-keyed-each P (x ∷ xs) h =
-    All-cons (λ (s : Snapshot). P s.key) (keyed x) (keyed_all xs) (All-head (λ y. P y.key) x xs h) (keyed-each P xs (All-tail (λ y. P y.key) x xs h))
-
-keys-insert : (x : FoundSnapshot) (xs : List FoundSnapshot) → map (λ (s : Snapshot). s.key) (insert_snapshot (keyed x) (keyed_all xs)) ≡ keys_of (insert_found x xs)
-keys-insert x xs = ap (map (λ (s : Snapshot). s.key)) (sym (keyed-insert x xs)) ∙ keyed-keys (insert_found x xs)
-
-has_new : (x : FoundSnapshot) (xs : List FoundSnapshot) → Contains (keys_of (insert_found x xs)) x.key
-has_new x xs = subst (λ ks. Contains ks x.key) (keys-insert x xs) (Contains-new (keyed x) (keyed_all xs))
-
-has_still : (x : FoundSnapshot) (xs : List FoundSnapshot) (key : SnapshotKey) → Contains (keys_of xs) key → Contains (keys_of (insert_found x xs)) key
-has_still x xs key has =
-    subst (λ ks. Contains ks key) (keys-insert x xs) (Contains-kept (keyed x) (keyed_all xs) key (subst (λ ks. Contains ks key) (sym (keyed-keys xs)) has))
+still_apart : (xs ys : List FoundSnapshot) → IsPermutation xs ys → AllPairs Apart xs → AllPairs Apart ys
+still_apart xs ys same differ i j d lt within =
+    apart_from_distinct same_found ys i j d (IsDistinct-IsPermutation same_found flips xs ys same (IsDistinct-from_apart same_found xs differ)) lt within
 
 -- ---- in order
 
-All-insert : (P : FoundSnapshot → Type 0) (x : FoundSnapshot) (xs : List FoundSnapshot) → P x → All P xs → All P (insert_found x xs)
-All-insert P x [] p h = All-cons P x [] p h
-All-insert P x (y ∷ ys) p h =
-    cond_both (key_lt x.key y.key) (x ∷ y ∷ ys) (y ∷ insert_found x ys) (All P)
-    (λ _. All-cons P x (y ∷ ys) p h)
-    (λ _. All-cons P y (insert_found x ys) (All-head P y ys h) (All-insert P x ys p (All-tail P y ys h)))
+by_keys : IsStrictWeakOrder found_lt
+by_keys = ranks_by key_cmp_total (λ (x : FoundSnapshot). x.key)
 
-pub All-in_order : (P : FoundSnapshot → Type 0) (xs : List FoundSnapshot) → All P xs → All P (in_order xs)
-unfolding in_order
-All-in_order P [] h = All-nil P
-All-in_order P (x ∷ xs) h = All-insert P x (in_order xs) (All-head P x xs h) (All-in_order P xs (All-tail P x xs h))
+abbrev NotAfter : FoundSnapshot → FoundSnapshot → Type 0
+NotAfter x y = found_lt y x ≡ false
 
-has-in_order : (xs : List FoundSnapshot) (key : SnapshotKey) → Contains (keys_of xs) key → Contains (keys_of (in_order xs)) key
-unfolding in_order
-has-in_order [] key has = has
-has-in_order (x ∷ xs) key has =
-    ⊎_elim
-    (λ (e : x.key ≡ key). subst (λ k. Contains (keys_of (insert_found x (in_order xs))) k) e (has_new x (in_order xs)))
-    (λ (c : Contains (keys_of xs) key). has_still x (in_order xs) key (has-in_order xs key c))
-    (Contains-cases x.key (keys_of xs) key has)
+none_after : (ys : List FoundSnapshot) → IsSortedBy found_lt ys → AllPairs NotAfter ys
+none_after ys up i j d lt within = sorted_far found_lt by_keys ys up i j d (omega (arith, lt)) within
 
-rise-in_order : (xs : List FoundSnapshot) → AllPairs Apart xs → found_rise (in_order xs) ≡ true
-unfolding in_order
-rise-in_order [] h = refl
-rise-in_order (x ∷ xs) h =
-    keyed-rise (insert_found x (in_order xs)) ∙ ap keys_rise (keyed-insert x (in_order xs))
-    ∙ rise-insert (keyed x) (keyed_all (in_order xs))
-    (keyed-each (λ k. same_key k x.key ≡ false) (in_order xs) (All-in_order (Apart x) xs (pairs_head Apart x xs h)))
-    (sym (keyed-rise (in_order xs)) ∙ rise-in_order xs (pairs_tail Apart x xs h))
+rises : (ys : List FoundSnapshot) → AllPairs NotAfter ys → AllPairs Apart ys → found_rise ys ≡ true
+rises [] up differ = refl
+rises (x ∷ []) up differ = refl
+rises (x ∷ y ∷ ys) up differ =
+    let not_after : key_lt y.key x.key ≡ false = up zero (suc zero) x (omega arith) (omega arith) in
+    let other : same_key x.key y.key ≡ false = flips y x ∙ differ zero (suc zero) x (omega arith) (omega arith) in
+    and_from (key_lt x.key y.key) (found_rise (y ∷ ys)) (lt_back key_cmp key_cmp_total y.key x.key not_after other)
+    (rises (y ∷ ys) (pairs_tail NotAfter x (y ∷ ys) up) (pairs_tail Apart x (y ∷ ys) differ))
 
--- in order, these are all
-pub lists : (files : Files) → Lists files (in_order (filter_map (found_named files) (folder_names files)))
-lists files =
-    let found = all_named files (folder_names files) in
-    let each = All-in_order (Stands files) found (each_stands files (folder_names files)) in
+-- ---- all of them
+
+pub all_in_order : (P : FoundSnapshot → Type 0) (xs ys : List FoundSnapshot) → IsInOrder xs ys → All P xs → All P ys
+all_in_order P xs ys is h = All-permutation P xs ys is.same h
+
+-- of names among which each manifest's is, these are all snapshots
+pub lists_named : (files : Files) (names : List (List ℕ)) (sorted : List FoundSnapshot) → NamesManifests files names
+    → IsInOrder (filter_map (found_named files) names) sorted → Lists files sorted
+lists_named files names sorted named is =
+    let found = all_named files names in
+    let each = all_in_order (Stands files) found sorted is (each_stands files names) in
     record {
-      rising = rise-in_order found (all_apart files (folder_names files) (folders_differ files));
+      rising = rises sorted (none_after sorted is.rising) (still_apart found sorted is.same (all_apart files names named.once));
       each = each;
-      exactly = λ key is. (
-        λ has. found_there files (in_order found) each key has,
-        λ there. has-in_order found key (all_found files key is there),
+      exactly = λ key is_key. (
+        λ has. found_there files sorted each key has,
+        λ there.
+            Contains-permutation (keys_of found) (keys_of sorted) key (IsPermutation-map (λ (x : FoundSnapshot). x.key) found sorted is.same)
+            (all_found files names named key is_key there),
       );
     }
+
+-- the names in the folders of snapshots are such
+pub names_folders : (files : Files) → NamesManifests files (folder_names files)
+names_folders files = record { once = folders_differ files; each = λ key is there. manifest_among key files there }

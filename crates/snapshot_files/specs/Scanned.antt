@@ -1,7 +1,8 @@
 -- The snapshots that a datastore's files have, and which of them are damaged.
-use Rattle.std.specs.Prelude.{◌≡◌, ◌≤◌, ◌↔◌, ℕ, Bool, true, not, ◌&&◌, List, [], ◌∷◌, ◌++◌, map, filter, length, nat_le, eqb, if◌then◌else◌, Option, Some, None, is_some, option_map, codes, IsSome, IfSome, IsTrue, Result, OnOk, String, string_bytes}
+use Rattle.std.specs.Prelude.{◌≡◌, ◌≢◌, ◌≤◌, ◌↔◌, ℕ, Bool, true, not, ◌&&◌, List, [], ◌∷◌, ◌++◌, map, filter, length, nat_le, eqb, if◌then◌else◌, Option, Some, None, is_some, option_map, codes, IsSome, IfSome, IsTrue, Result, OnOk, IfOk, String, Vec, string_bytes}
 use Rattle.std.specs.declared.alloc.Global.{Global}
-use Rattle.std.specs.List.{All, Contains, starts_with, cons_option, filter_map}
+use Rattle.std.specs.List.{All, AllPairs, Contains, starts_with, cons_option, filter_map}
+use Rattle.std.specs.List.Sorted.{IsPermutation, IsSortedBy}
 use Rattle.std.specs.FinMap.{get, keys}
 use Rattle.disk_trait.specs.declared.disk.Disk.{Ghosts}
 use Rattle.disk_trait.specs.Files.{Files}
@@ -85,7 +86,28 @@ pub record Lists (files : Files) (found : List FoundSnapshot) : Type 0 where
 abbrev pub HasNames : FoundSnapshot → Type 0
 HasNames x = IsKey x.key × IfSome x.unreadable (λ name. length name ≤ 251)
 
+-- ---- in order
+
+-- its key is the lesser
+abbrev pub found_lt : FoundSnapshot → FoundSnapshot → Bool
+found_lt x y = key_lt x.key y.key
+
+-- They are the same, and none stands behind a greater one.
+pub record IsInOrder (found sorted : List FoundSnapshot) : Type 0 where
+  pub same : IsPermutation found sorted
+  pub rising : IsSortedBy found_lt sorted
+
 -- ---- by names
+
+-- No name stands twice, and that of each manifest that is there is among them.
+pub record NamesManifests (files : Files) (names : List (List ℕ)) : Type 0 where
+  pub once : AllPairs (λ a b. a ≢ b) names
+  pub each : (key : SnapshotKey) → IsKey key → IsSome (get files (manifest_path key)) → Contains names (manifest_path key)
+
+-- of such names of an honest disk, these are all its snapshots
+abbrev pub ListsNamed : {D E : Type 0} → Ghosts D → D → List (String Global) → Result (Vec FoundSnapshot Global) E → Type 0
+ListsNamed d disk names result =
+    d.honest disk → NamesManifests (d.content disk) (map string_bytes names) → IfOk result (λ all. Lists (d.content disk) all.items)
 
 -- the snapshot whose manifest has this name
 unfoldable pub found_named : Files → List ℕ → Option FoundSnapshot
@@ -108,11 +130,3 @@ names_under folder files = filter (λ name. starts_with eqb name folder) (keys f
 -- all names in the folders of snapshots
 abbrev pub folder_names : Files → List (List ℕ)
 folder_names files = names_under (codes "ct/") files ++ names_under (codes "host/") files ++ names_under (codes "vm/") files
-
-abbrev pub insert_found : FoundSnapshot → List FoundSnapshot → List FoundSnapshot
-insert_found new [] = new ∷ []
-insert_found new (x ∷ xs) = if key_lt new.key x.key then new ∷ x ∷ xs else x ∷ insert_found new xs
-
-unfoldable pub in_order : List FoundSnapshot → List FoundSnapshot
-in_order [] = []
-in_order (x ∷ xs) = insert_found x (in_order xs)

@@ -1,14 +1,15 @@
 //! A snapshot that stands on the disk, whole or damaged.
 
-ghost use Rattle.std.specs.Prelude.{◌≡◌, position, option_map, IfOk, OnOk, OnErr};
+ghost use Rattle.std.specs.Prelude.{◌≡◌, option_map, IfOk};
 ghost use Rattle.manifest.specs.Views.{manifest_view};
-ghost use Rattle.store_types.specs.Names.{key_lt};
+ghost use Rattle.store_types.specs.Names.{key_cmp};
 ghost use Rattle.store_model.specs.Load.{read_manifest as manifest_of};
-ghost use Rattle.snapshot_files.specs.Scanned.{insert_found as with_found};
+ghost use Rattle.snapshot_files.specs.Scanned.{IsInOrder};
 
 use blob_codec::decode;
 use manifest::Manifest;
 use std::alloc::{AllocError, Global};
+use std::cmp::Ordering;
 use std::marker::Model;
 use store_types::{Bytes, SnapshotKey};
 
@@ -34,10 +35,11 @@ impl Model for Found {
 }
 
 impl Found {
-    fn is_after(&self, key: &SnapshotKey) -> bool
-        ensures { result ≡ key_lt key.now self.now.key }
+    /// By their keys.
+    fn order(&self, other: &Found) -> Ordering
+        ensures { result ≡ key_cmp self.now.key other.now.key }
     {
-        key < &self.key
+        self.key.cmp(&other.key)
     }
 }
 
@@ -54,21 +56,10 @@ pub fn read_manifest(alloc: Global, bytes: &[u8]) -> Result<Option<Manifest>, Al
     }
 }
 
-/// The place of the first that is greater.
-fn first_after(all: &[Found], new: &Found) -> Option<usize>
-    ensures { result ≡ position (λ x. key_lt new.now.key x.key) all.now }
+/// The snapshots in their order. It takes no memory.
+pub fn in_order(mut all: Vec<Found>) -> Vec<Found>
+    ensures { IsInOrder all.items result.items }
 {
-    let key = &new.key;
-    all.iter().position(|found| found.is_after(key))
-}
-
-/// Places a snapshot before the first that is greater. At want of memory nothing has changed.
-pub fn insert_found(all: &mut Vec<Found>, new: Found) -> Result<(), AllocError>
-    ensures ok { OnOk result (all.new.items ≡ with_found new all.old.items) }
-    ensures err { OnErr result (all.new.items ≡ all.old.items) }
-{
-    let after = first_after(all, &new);
-    let place = after.unwrap_or(all.len());
-    all.insert(place, new)?;
-    Ok(())
+    all.sort_unstable_by(|a, b| a.order(b));
+    all
 }

@@ -6,6 +6,7 @@
 mod forgetting;
 mod found;
 mod index;
+pub mod laws;
 mod parts;
 mod path;
 mod putting;
@@ -19,4 +20,4 @@ pub use parts::read_part;
 pub use path::{FilePath, Stored, manifest_path_of, path_of};
 pub use putting::{finish, put_file};
 pub use read_error::ReadError;
-pub use scanning::scan;
+pub use scanning::{scan, scan_named};

@@ -9,9 +9,9 @@ ghost use Rattle.store_types.specs.Names.{IsKey};
 ghost use Rattle.store_model.specs.Load.{key_of_manifest as key_named};
 ghost use Rattle.store_files.specs.Folder.{manifest_path};
 ghost use Rattle.snapshot_files.specs.Reads.{ReadsItems, ReadsTexts, ReadsThere};
-ghost use Rattle.snapshot_files.specs.Scanned.{FindsInto, Lists, HasNames, lacks_file, with_missing, first_missing_file, unreadable_in, found_named as found_of, found_by, folder_names, in_order as ordered};
+ghost use Rattle.snapshot_files.specs.Scanned.{FindsInto, Lists, ListsNamed, HasNames, lacks_file, with_missing, first_missing_file, unreadable_in, found_named as found_of, found_by, folder_names};
 
-use crate::found::{Found, insert_found, read_manifest};
+use crate::found::{Found, in_order, read_manifest};
 use crate::path::{manifest_path_of, path_of};
 use disk_trait::{Disk, DiskError};
 use manifest::{FileFact, Manifest};
@@ -210,15 +210,22 @@ fn names_in_folders<D: Disk>(disk: &mut D, alloc: Global) -> Result<Vec<String>,
     Ok(names)
 }
 
-/// The snapshots in their order.
-fn in_order(alloc: Global, mut all: Vec<Found>) -> Result<Vec<Found>, AllocError>
-    ensures { IfOk result (λ sorted. sorted.items ≡ ordered all.items) }
+/// The snapshots whose manifest's file has one of these names, in the order of snapshots. Where each name stands once and
+/// none of a manifest is missing, these are those of `scan`.
+///
+/// Other names are passed over. The calls of the disk, all of which only read, are for each snapshot a read of its manifest
+/// and a `size` of each listed file.
+pub fn scan_named<D: Disk>(
+    disk: &mut D,
+    alloc: Global,
+    names: &[String],
+) -> Result<Vec<Found>, DiskError>
+    ensures reads { OnlyReads D.Disk disk.old disk.new (IsErrOf result DiskError.Failed) }
+    ensures found { ListsNamed D.Disk disk.old names.now result }
+    ensures names { IfOk result (λ found. All HasNames found.items) }
 {
-    let mut sorted = Vec::new(alloc);
-    while let Some(found) = all.pop() {
-        insert_found(&mut sorted, found)?;
-    }
-    Ok(sorted)
+    let all = all_named(disk, alloc, names)?;
+    Ok(in_order(all))
 }
 
 /// All snapshots whose manifest's file is there, each once, in the order of snapshots: by type, by the bytes of the id,
@@ -235,6 +242,5 @@ pub fn scan<D: Disk>(disk: &mut D, alloc: Global) -> Result<Vec<Found>, DiskErro
     ensures names { IfOk result (λ found. All HasNames found.items) }
 {
     let names = names_in_folders(disk, alloc)?;
-    let all = all_named(disk, alloc, &names)?;
-    Ok(in_order(alloc, all)?)
+    scan_named(disk, alloc, &names)
 }

@@ -26,7 +26,7 @@ manifest_path key = file_path key manifest_name
 
 -- a piece has 1 to 16,777,216 bytes
 abbrev pub IsPiece : List ℕ → Type 0
-IsPiece p = (1 ≤ length p) × (length p ≤ blobs.data_limit)
+IsPiece p = (1 ≤ length p) × (length p ≤ blobs.data_limit) × All (λ b. b < 256) p
 
 -- 32 bytes
 abbrev pub IsDigest : List ℕ → Type 0

@@ -6,6 +6,7 @@ mod LaneExamples
 mod AdminExamples
 mod LoadExamples
 pub mod Paths
+pub mod Finding
 pub mod Insertions
 pub mod FileInsertions
 pub mod StandsLemmas

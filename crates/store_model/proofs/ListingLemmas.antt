@@ -1,11 +1,13 @@
 -- What a manifest says that lists a snapshot's files.
-use Rattle.std.proofs.Common.{◌≡◌, ◌≤◌, ℕ, ◌+◌, Bool, true, false, not, ◌&&◌, ◌||◌, cond, map, length, get_or, List, [], ◌∷◌, Option, Some, None, Result, Ok, Err, refl, sym, ap, subst, ◌∙◌, arith}
+use Rattle.std.proofs.Common.{◌≡◌, ◌≢◌, ◌≤◌, ℕ, ◌+◌, Bool, true, false, not, ◌&&◌, ◌||◌, cond, map, length, get_or, List, [], ◌∷◌, Option, Some, None, Result, Ok, Err, refl, sym, ap, subst, ◌∙◌, arith}
 use Rattle.std.specs.Prelude.{codes, filter, is_some}
 use Rattle.std.specs.Option.{option_or}
-use Rattle.std.specs.List.{Contains, list_any}
+use Rattle.std.specs.List.{All, AllPairs, Contains, list_any}
 use Rattle.std.specs.Str.{bytes_eq}
-use Rattle.std.proofs.lemmas.List.Elements.{Contains-get_or, Contains-append_right}
+use Rattle.std.proofs.lemmas.Bool.{or_parts}
+use Rattle.std.proofs.lemmas.List.Elements.{All-nil, All-cons, All-weaker, Contains-get_or, Contains-append_right}
 use Rattle.std.proofs.lemmas.List.Folds.{list_any_at}
+use Rattle.std.proofs.lemmas.List.Kept.{AllPairs-cons}
 use Rattle.std.proofs.lemmas.List.{length-map}
 use Rattle.std.proofs.lemmas.Slice.Eq.{bytes_eq-Decides}
 use Rattle.serde_json.specs.Data.{Data, Items, no_items, item}
@@ -269,6 +271,52 @@ listed_once bytes m is = by_json (json_of bytes) is
     by_json : (o : Option Data) → (or_else bad_json o >>= (λ d. or_else bad_field (key_in d) >>= (λ key. or_else bad_field (list_in d) >>= (λ ds. files_in [] ds >>= (λ files. Ok (record { key = key; files = files })))))) ≡ Ok m → (ds : Items) × (files_in [] ds ≡ Ok m.files)
     by_json None is = cc
     by_json (Some d) is = by_key d (key_in d) is
+
+-- ---- no file is listed twice
+
+abbrev fact_names : List Fact → List (List ℕ)
+fact_names facts = map (λ (f : Fact). f.name) facts
+
+abbrev Differ : List ℕ → List ℕ → Type 0
+Differ a b = a ≢ b
+
+abbrev IsNew : List (List ℕ) → List ℕ → Type 0
+IsNew before name = list_any (bytes_eq name) before ≡ false
+
+-- they differ, and none is among those before
+record AreNew (before names : List (List ℕ)) : Type 0 where
+  differ : AllPairs Differ names
+  new : All (IsNew before) names
+
+none_new : (before : List (List ℕ)) → AreNew before []
+none_new before = record { differ = λ i j d lt within. absurd (omega (arith, within)); new = All-nil (IsNew before) }
+
+unlike : (n name : List ℕ) → bytes_eq n name ≡ false → name ≢ n
+unlike n name e same = not_both (sym ((bytes_eq-Decides n name).1 (sym same)) ∙ e)
+  where
+    not_both : true ≡ false → ⊥
+    not_both e = cc
+
+one_more_new : (before names : List (List ℕ)) (name : List ℕ) → IsNew before name → AreNew (name ∷ before) names → AreNew before (name ∷ names)
+one_more_new before names name new h = record {
+  differ = AllPairs-cons Differ name names
+      (All-weaker (IsNew (name ∷ before)) (Differ name) (λ n is. unlike n name (or_parts (bytes_eq n name) (list_any (bytes_eq n) before) is).0) names h.new) h.differ;
+  new = All-cons (IsNew before) name names new
+      (All-weaker (IsNew (name ∷ before)) (IsNew before) (λ n is. (or_parts (bytes_eq n name) (list_any (bytes_eq n) before) is).1) names h.new);
+}
+
+all_new : (before : List (List ℕ)) (ds : Items) (facts : List Fact) → files_in before ds ≡ Ok facts → AreNew before (fact_names facts)
+unfolding files_in
+all_new before no_items facts read = let e : [] ≡ facts = cc in subst (λ (l : List Fact). AreNew before (fact_names l)) e (none_new before)
+all_new before (item d ds) facts read =
+    let b = begins (fact_in d) (is_plain (get (codes "crypt-mode") d)) (λ f. list_any (bytes_eq f.name) before) (λ f. files_in (f.name ∷ before) ds) facts read in
+    subst (λ (l : List Fact). AreNew before (fact_names l)) b.all
+    (one_more_new before (fact_names b.others) (b.first).name b.new (all_new ((b.first).name ∷ before) ds b.others b.behind))
+
+pub listed_apart : (bytes : List ℕ) (m : Manifest) → manifest_of bytes ≡ Ok m → AllPairs (λ a b. a ≢ b) (map (λ f. f.name) m.files)
+listed_apart bytes m is = let once = listed_once bytes m is in (all_new [] once.0 m.files once.1).differ
+
+-- ---- names among others
 
 contains_has : (names : List (List ℕ)) (name : List ℕ) → Contains names name → has name names ≡ true
 contains_has names name c = list_any_at (λ n. bytes_eq n name) names c.0 name c.1 ((bytes_eq-Decides (get_or names c.0 name) name).1 c.2)

@@ -1,5 +1,5 @@
 -- When a map from names to bytes stands for a list of snapshots.
-use Rattle.std.specs.Prelude.{◌≡◌, ℕ, ◌+◌, ◌≤◌, Bool, true, ◌&&◌, ◌==◌, List, [], ◌∷◌, map, length, ◌↔◌, Some, IsTrue, IsSome}
+use Rattle.std.specs.Prelude.{◌≡◌, ℕ, ◌+◌, ◌≤◌, ◌<◌, Bool, true, ◌&&◌, ◌==◌, List, [], ◌∷◌, map, length, ◌↔◌, Some, IsTrue, IsSome}
 use Rattle.std.specs.List.{All, Contains, flat_map}
 use Rattle.std.specs.FinMap.{get}
 use Rattle.sha2.specs.Sha256.{sha256}
@@ -35,7 +35,7 @@ names_content (archive a) name = elim a.layout [ dynamic ↦ is_dynamic_name nam
 
 abbrev pub FitsContent : Content → Type 0
 FitsContent (archive a) = FitsLayout a.layout a × All IsPiece a.pieces
-FitsContent (blob bytes) = blobs.FitsBlob bytes
+FitsContent (blob bytes) = blobs.FitsBlob bytes × All (λ b. b < 256) bytes
 
 abbrev pub names_rise : List File → Bool
 names_rise [] = true

@@ -1,5 +1,8 @@
 //! Each call of the disk behind opening fails in turn, and the store is stopped after each.
 
+use super::prunes::GONE;
+use super::reuse::AGAIN;
+use super::talks::talk_of;
 use super::*;
 use disk_trait::{FailingDisk, Step};
 
@@ -499,6 +502,17 @@ static WRITINGS: [(&Session, &[&str]); 4] = [
 /// Two backups, a PRUNE that is dry, one of two steps, and a refused one.
 static PRUNINGS: [&str; 12] = ["", "", "psrs", "", "", "psrs", "", "", "ds", "", "", ""];
 
+/// Two backups of one archive, the second by PREVIOUS alone, and its restore.
+static RESTORINGS: [&str; 21] = [
+    "", "", "psr", "psr", "", "psr", "", "psrs", "", "", "", "", "psr", "", "psrs", "", "", "", "",
+    "", "",
+];
+
+/// Two backups, FILES, LIST, a FORGET of a snapshot with one file more, a third backup, and a PRUNE of two steps.
+static FORGETTINGS: [&str; 16] = [
+    "", "psr", "", "psrs", "", "", "psrs", "", "", "dsd", "", "", "psrs", "", "ds", "",
+];
+
 fn letter_of(step: &Step) -> char {
     match step {
         Step::Put { .. } => 'p',
@@ -509,7 +523,12 @@ fn letter_of(step: &Step) -> char {
 }
 
 /// The letters of the steps behind one count of calls, up to another.
-fn letters(alloc: Global, disk: &MemoryDisk, before: u64, now: u64) -> Result<String, AllocError> {
+pub fn letters(
+    alloc: Global,
+    disk: &MemoryDisk,
+    before: u64,
+    now: u64,
+) -> Result<String, AllocError> {
     let mut letters = String::new(alloc);
     for step in disk.steps() {
         if before < step.at && step.at <= now {
@@ -543,5 +562,9 @@ fn acts_have_their_writing_calls(rt: HostRuntime) -> Result<(), Fail> {
         let (session, acts) = row;
         try_writings(&rt, alloc, session.input, acts)?;
     }
-    try_writings(&rt, alloc, PRUNED, &PRUNINGS)
+    try_writings(&rt, alloc, PRUNED, &PRUNINGS)?;
+    let restored = talk_of(alloc, &[AGAIN])?;
+    try_writings(&rt, alloc, &restored.sent, &RESTORINGS)?;
+    let forgotten = talk_of(alloc, &[GONE])?;
+    try_writings(&rt, alloc, &forgotten.sent, &FORGETTINGS)
 }

@@ -10,7 +10,7 @@ pub const LIST: &[u8] = b"\x02\0\0\0\x1e\0";
 pub const GROUP: &[u8] = b"\x08\0\0\0(\x06host/a";
 
 /// FILES and FORGET of `host/a/2020-01-15T06:30:03Z`.
-const FILES: &[u8] = b"\x1d\0\0\0\x1f\x1bhost/a/2020-01-15T06:30:03Z";
+pub const FILES: &[u8] = b"\x1d\0\0\0\x1f\x1bhost/a/2020-01-15T06:30:03Z";
 
 pub const FORGET: &[u8] = b"\x1d\0\0\0 \x1bhost/a/2020-01-15T06:30:03Z";
 

@@ -1,9 +1,11 @@
-//! An opening that fails, at each call of the disk and for want of memory.
+//! The calls of an opening, which fails at each of them, and for want of memory.
 
+use super::disk_faults::letters;
 use super::folders::{CONF, INDEX_DAMAGED, ROOT_LISTED, disk_of};
 use super::listings::LIST;
 use super::talks::{talk_of, try_talk};
 use super::*;
+use core_opening::OpenFault;
 use disk_trait::FailingDisk;
 
 /// A snapshot, what is left of another, and a temporary file.
@@ -14,19 +16,50 @@ static OPENED: [(&str, &[u8]); 4] = [
     ("notes.tmp", b"abc"),
 ];
 
-/// What opening calls there: sync, a list of all names, two removals; the lists of three folders, the manifest, the size of the
-/// file that it lists; and the list of the chunks.
-const CALLS: u64 = 10;
+/// What opening calls there: sync, a list of all names, two removals, the manifest, and the size of the file that it lists.
+const CALLS: u64 = 6;
 
-/// A disk's call fails at opening: the status tells it. No command is read, and the snapshot is there.
-fn try_opening(rt: &impl Abort, alloc: Global, call: u64) -> Result<(), Fail> {
-    let disk = FailingDisk::at_calls(disk_of(alloc, &OPENED)?, [call].to_vec(alloc)?);
+/// How many of its files stand there once its disk has failed that call. Files leave from the third call on.
+static STANDING: [usize; 6] = [4, 4, 4, 3, 2, 2];
+
+/// How many of them stand there, each of its size.
+fn standing(disk: &mut MemoryDisk) -> Result<usize, Fail> {
+    let mut count = 0usize;
+    for (name, bytes) in &OPENED {
+        if disk.size(name)? == Some(bytes.len() as u64) {
+            count = count.saturating_add(1);
+        }
+    }
+    Ok(count)
+}
+
+/// All is synced there before.
+fn synced(alloc: Global) -> Result<MemoryDisk, Fail> {
+    let mut disk = disk_of(alloc, &OPENED)?;
+    disk.sync()?;
+    Ok(disk)
+}
+
+/// The disk fails at opening: the status tells it, and the report whether it was the sync. No command is read. The snapshot is
+/// there for a later run, whether a crash comes or not.
+fn try_opening(
+    rt: &impl Abort,
+    alloc: Global,
+    disk: FailingDisk<MemoryDisk>,
+    call: usize,
+) -> Result<(), Fail> {
     let mut ports: Ports<MemSink> = [Port {
         source: source_of(alloc, LIST)?,
         sink: empty_sink(alloc),
     }];
     let served = run_on(alloc, &mut ports, disk)?;
-    same(rt, served.status, Status::DiskFault);
+    same(rt, (call, served.status), (call, Status::DiskFault));
+    let cause = if call == 0 {
+        OpenFault::NotSynced
+    } else {
+        OpenFault::DiskFault
+    };
+    same(rt, served.report.not_opened, Some(cause));
     same(rt, told_to(&ports)?.len(), 0);
     let counts = (
         served.order.len(),
@@ -35,19 +68,46 @@ fn try_opening(rt: &impl Abort, alloc: Global, call: u64) -> Result<(), Fail> {
     );
     same(rt, counts, (0, 0, 0));
     same(rt, served.disk.faults(), 1);
-    let mut disk = served.disk.into_inner();
-    same(rt, disk.size(MANIFEST)?, Some(ROOT_LISTED.len() as u64));
+    let mut left = served.disk.into_inner();
+    let found = standing(&mut left)?;
+    same(rt, (call, Some(found)), (call, STANDING.get(call).copied()));
     let talk = talk_of(alloc, &[INDEX_DAMAGED])?;
-    let left = try_talk(rt, alloc, disk, &talk)?;
-    assert_holds(rt, alloc, left, NOTHING)
+    for choice in 0..3 {
+        let crashed = left.crashed(alloc, choice)?;
+        assert_holds(rt, alloc, try_talk(rt, alloc, crashed, &talk)?, NOTHING)?;
+    }
+    assert_holds(rt, alloc, try_talk(rt, alloc, left, &talk)?, NOTHING)
 }
 
+/// Each call fails alone, and from there on.
 #[test]
 fn each_call_of_an_opening_fails(rt: HostRuntime) -> Result<(), Fail> {
     let alloc = rt.alloc();
     for call in 0..CALLS {
-        try_opening(&rt, alloc, call)?;
+        let plan = [call].to_vec(alloc)?;
+        let failing = FailingDisk::at_calls(synced(alloc)?, plan);
+        try_opening(&rt, alloc, failing, call as usize)?;
+        let stopping = FailingDisk::stopping_after(synced(alloc)?, call);
+        try_opening(&rt, alloc, stopping, call as usize)?;
     }
+    Ok(())
+}
+
+/// Of its calls these write.
+#[test]
+fn an_opening_syncs_and_removes(rt: HostRuntime) -> Result<(), Fail> {
+    let alloc = rt.alloc();
+    let disk = disk_of(alloc, &OPENED)?;
+    let before = disk.calls();
+    let mut ports: Ports<MemSink> = [Port {
+        source: source_of(alloc, b"")?,
+        sink: empty_sink(alloc),
+    }];
+    let served = run_on(alloc, &mut ports, disk)?;
+    let now = served.disk.calls();
+    same(&rt, now, before.saturating_add(CALLS));
+    let made = letters(alloc, &served.disk, before, now)?;
+    same(&rt, made.as_str(), "sdd");
     Ok(())
 }
 

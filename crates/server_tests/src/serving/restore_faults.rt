@@ -58,7 +58,7 @@ fn try_each_call(rt: &impl Abort, alloc: Global, steps: Steps) -> Result<(), Fai
     for call in OPENING..ENOUGH {
         if !is_made(rt, alloc, steps, call)? {
             // it is none of the first
-            same(rt, call > 24, true);
+            same(rt, call > OPENING + 18, true);
             return Ok(());
         }
     }

@@ -5,9 +5,9 @@ use super::fixed::{BEGUN, DIGESTS, FILLED, FIXED_REFUSED};
 use super::frames::{ABORT, ALL_FIVE, DONE, EXISTS, FINISH, GET_ABC, LIST_BOTH, ROOT_SENT};
 use super::listings::{GROUP, LIST, LISTED, NONE_THERE, ORDERED, TAKEN_OUT, TOLD};
 use super::manifests::{FINISHED, MANIFESTS, PUT_CONF};
-use super::prunes::{ONE_EACH, WEEKS};
+use super::prunes::{GONE, ONE_EACH, WEEKS};
 use super::ranges::{RESTORED, UNASKED};
-use super::reuse::{NONE_BEFORE, REUSED};
+use super::reuse::{AGAIN, NONE_BEFORE, REUSED};
 use super::*;
 
 /// What is sent, and what is replied to it.
@@ -34,10 +34,14 @@ pub fn talk_of(alloc: Global, parts: &[&[(&[u8], &[u8])]]) -> Result<Talk, Alloc
 
 fn add_steps(talk: &mut Talk, steps: &[(&[u8], &[u8])]) -> Result<(), AllocError> {
     for (frame, reply) in steps {
-        talk.sent.extend_from_slice(frame)?;
-        talk.told.extend_from_slice(reply)?;
+        add_step(talk, frame, reply)?;
     }
     Ok(())
+}
+
+pub fn add_step(talk: &mut Talk, frame: &[u8], reply: &[u8]) -> Result<(), AllocError> {
+    talk.sent.extend_from_slice(frame)?;
+    talk.told.extend_from_slice(reply)
 }
 
 /// So many bytes more, all this one.
@@ -79,7 +83,7 @@ const DE_FILE: &str =
 const BOTH: Files = &[(DE_FILE, 14), (ABC_FILE, 15)];
 
 /// Sessions on an empty disk.
-static TALKS: [&[Steps]; 4] = [
+pub static TALKS: [&[Steps]; 4] = [
     &[UNASKED, ROOT_SENT, RESTORED],
     &[NONE_BEFORE, ROOT_SENT, REUSED],
     &[FIXED_REFUSED],
@@ -132,42 +136,81 @@ const LAST_DAY: Files = &[
     ("host/b/2020-01-15T06:30:03Z/index.json.blob", 86),
 ];
 
-#[test]
-fn snapshots_are_told_and_go(rt: HostRuntime) -> Result<(), Fail> {
-    let alloc = rt.alloc();
-    try_kept(&rt, alloc, &[LISTED], NOTHING)?;
-    try_kept(&rt, alloc, &[ROOT_SENT, TOLD], LATER)?;
-    try_kept(&rt, alloc, &[ROOT_SENT, TOLD, TAKEN_OUT], BOTH)?;
-    try_kept(&rt, alloc, &[ORDERED], FIVE)?;
-    try_kept(&rt, alloc, &[WEEKS], LAST_WEEK)?;
-    try_kept(&rt, alloc, &[ONE_EACH], LAST_DAY)
+const THIRD: Files = &[("host/a/2020-01-15T06:30:05Z/index.json.blob", 86)];
+
+const ROOTS: Files = &[
+    (DE_FILE, 14),
+    (ABC_FILE, 15),
+    (MANIFEST, 213),
+    ("host/a/2020-01-15T06:30:03Z/root.didx", 4176),
+    ("host/a/2020-01-15T06:30:04Z/index.json.blob", 213),
+    ("host/a/2020-01-15T06:30:04Z/root.didx", 4176),
+];
+
+/// Sessions with what they leave on an empty disk.
+pub static LISTINGS: [(&[Steps], Files); 2] = [(&[LISTED], NOTHING), (&[ROOT_SENT, TOLD], LATER)];
+
+pub static ORDERS: [(&[Steps], Files); 2] = [
+    (&[ROOT_SENT, TOLD, TAKEN_OUT], BOTH),
+    (&[ORDERED], FIVE),
+];
+
+pub static PRUNES: [(&[Steps], Files); 4] = [
+    (&[WEEKS], LAST_WEEK),
+    (&[ONE_EACH], LAST_DAY),
+    (&[GONE], THIRD),
+    (&[AGAIN], ROOTS),
+];
+
+fn try_rows(rt: &impl Abort, alloc: Global, rows: &[(&[Steps], Files)]) -> Result<(), Fail> {
+    for (parts, files) in rows {
+        try_kept(rt, alloc, parts, files)?;
+    }
+    Ok(())
 }
 
 #[test]
-fn fixed_archives_come_back(rt: HostRuntime) -> Result<(), Fail> {
+fn snapshots_are_told_and_go(rt: HostRuntime) -> Result<(), Fail> {
     let alloc = rt.alloc();
+    try_rows(&rt, alloc, &LISTINGS)?;
+    try_rows(&rt, alloc, &ORDERS)?;
+    try_rows(&rt, alloc, &PRUNES)
+}
+
+/// An archive of 4,097 bytes, and one of 8,192 over it.
+pub fn fixed_talk(alloc: Global) -> Result<Talk, AllocError> {
     let mut talk = talk_of(alloc, &[BEGUN])?;
     add_run(&mut talk.sent, 4096, b'x')?;
     add_steps(&mut talk, FILLED)?;
     add_run(&mut talk.told, 4016, 0)?;
     add_steps(&mut talk, DIGESTS)?;
-    try_talk(&rt, alloc, MemoryDisk::new(alloc), &talk)?;
+    Ok(talk)
+}
+
+#[test]
+fn fixed_archives_come_back(rt: HostRuntime) -> Result<(), Fail> {
+    let alloc = rt.alloc();
+    try_talk(&rt, alloc, MemoryDisk::new(alloc), &fixed_talk(alloc)?)?;
     Ok(())
 }
 
-/// After a refusal the writer goes on: its manifest is there, and it can be aborted.
+/// A manifest is refused. The writer goes on: the manifest is there, and it can be aborted.
+pub fn manifest_talk(alloc: Global, row: &(&[u8], &[u8])) -> Result<Talk, AllocError> {
+    let (manifest, reply) = row;
+    let mut talk = talk_of(alloc, &[ROOT_SENT])?;
+    add_step(&mut talk, PUT_CONF, DONE)?;
+    add_step(&mut talk, manifest, DONE)?;
+    add_step(&mut talk, FINISH, reply)?;
+    add_step(&mut talk, LIST_BOTH, EXISTS)?;
+    add_step(&mut talk, ABORT, DONE)?;
+    Ok(talk)
+}
+
 #[test]
 fn manifests_are_checked(rt: HostRuntime) -> Result<(), Fail> {
     let alloc = rt.alloc();
-    for (manifest, reply) in &MANIFESTS {
-        let refused: [(&[u8], &[u8]); 5] = [
-            (PUT_CONF, DONE),
-            (*manifest, DONE),
-            (FINISH, *reply),
-            (LIST_BOTH, EXISTS),
-            (ABORT, DONE),
-        ];
-        let talk = talk_of(alloc, &[ROOT_SENT, &refused])?;
+    for row in &MANIFESTS {
+        let talk = manifest_talk(alloc, row)?;
         let disk = try_talk(&rt, alloc, MemoryDisk::new(alloc), &talk)?;
         assert_holds(&rt, alloc, disk, BOTH)?;
     }

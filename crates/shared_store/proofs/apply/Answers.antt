@@ -8,16 +8,12 @@ use Rattle.core_state.specs.Commands.{is_admins}
 use Rattle.core_state.specs.Unreadables.{TellsUnreadable}
 use Rattle.core_state.specs.Wanted.{session_at}
 use Rattle.core_state.proofs.Applying.{short_applies, short_keeps_all}
+use Rattle.shared_store.specs.AnsweredBy.{CoreAnswersBy}
 use Rattle.shared_store.specs.Asked.{is_readers}
-use Rattle.shared_store.proofs.Asking.{are_readers, are_admins, are_writers, readers_not_admins, is_step, readers_ask, admins_ask, writers_ask, writers_need}
+use Rattle.shared_store.proofs.Answering.{admins_answer, end_answers, readers_answer, short_answers, writers_answer}
+use Rattle.shared_store.proofs.Asking.{are_readers, are_admins, are_writers, is_step, readers_ask, admins_ask, writers_ask, writers_need}
 use Rattle.shared_store.proofs.Damages.{tells_whole}
 use Rattle.shared_store.proofs.apply.Goals as goal
-
-not_both : {P : Type 0} (act : Act) → is_admins act ≡ false → is_admins act ≡ true → P
-not_both act not_so so = absurd (apart (sym not_so ∙ so))
-  where
-    apart : false ≡ true → ⊥
-    apart e = cc
 
 short_reads : (act : Act) → act ≡ acts.Short → is_readers act ≡ true → ⊥
 short_reads act is reads = apart (sym (ap is_readers is) ∙ reads)
@@ -43,7 +39,8 @@ returns-then-is_readers-clause-unreadable g c =
     (sym (readers_ask c.args.act (session_at old c.args.lane) old.catalogue.items (are_readers c.args.act (sym c.is_readers.ensures ∙ c.if-is_readers.true)))) c.reader_act.ensures.unreadable
 
 pub returns-then-is_readers-clause-by_kept : goal.returns-then-is_readers-clause-by_kept
-returns-then-is_readers-clause-by_kept g c = not_both c.args.act (readers_not_admins c.args.act (sym c.is_readers.ensures ∙ c.if-is_readers.true))
+returns-then-is_readers-clause-by_kept g c =
+    readers_answer c.args.core.now c.args.lane c.args.act c.reader_act.result (are_readers c.args.act (sym c.is_readers.ensures ∙ c.if-is_readers.true)) c.reader_act.ensures.by_kept
 
 pub returns-then-is_readers-clause-short : goal.returns-then-is_readers-clause-short
 returns-then-is_readers-clause-short g c = λ is. absurd (short_reads c.args.act is (sym c.is_readers.ensures ∙ c.if-is_readers.true))
@@ -59,6 +56,10 @@ returns-then-is_admins-clause-unreadable g c =
     subst (λ a. TellsUnreadable g.D.Disk old.disk a (c.admin_act.result.entry).kind c.admin_act.result.reply)
     (sym (admins_ask c.args.act (session_at old c.args.lane) old.catalogue.items (are_admins c.args.act c.requires.formed (sym c.is_admins.ensures ∙ c.if-is_admins.true)))) c.admin_act.ensures.unreadable
 
+pub returns-then-is_admins-clause-by_kept : goal.returns-then-is_admins-clause-by_kept
+returns-then-is_admins-clause-by_kept g c =
+    admins_answer c.args.core.now c.args.lane c.args.act c.admin_act.result (are_admins c.args.act c.requires.formed (sym c.is_admins.ensures ∙ c.if-is_admins.true)) c.admin_act.ensures.by_kept
+
 pub returns-then-is_admins-clause-short : goal.returns-then-is_admins-clause-short
 returns-then-is_admins-clause-short g c = λ is. absurd (short_asks c.args.act is (sym c.is_admins.ensures ∙ c.if-is_admins.true))
 
@@ -72,6 +73,16 @@ pub returns-in-Short-clause-keeps : goal.returns-in-Short-clause-keeps
 returns-in-Short-clause-keeps g c =
     subst (λ a. ActKeeps g.D.Disk c.args.core.now c.short.new.core c.args.lane a c.short.result) (sym c.in-Short.is)
     (short_keeps_all g.D.Disk g.C.Clock _ _ c.args.lane _ c.short.ensures)
+
+pub returns-in-Short-clause-by_kept : goal.returns-in-Short-clause-by_kept
+returns-in-Short-clause-by_kept g c =
+    subst (λ a. CoreAnswersBy c.args.core.now c.args.lane a c.short.result) (sym c.in-Short.is) (short_answers c.args.core.now c.args.lane c.short.result)
+
+-- ---- a lane's end
+
+pub returns-in-End-clause-by_kept : goal.returns-in-End-clause-by_kept
+returns-in-End-clause-by_kept g c =
+    subst (λ a. CoreAnswersBy c.args.core.now c.args.lane a c.end_act.result) (sym c.in-End.is) (end_answers c.args.core.now c.args.lane c.end_act.result)
 
 -- ---- a writer's act
 
@@ -95,7 +106,9 @@ returns-in_default-clause-damaged g c =
     (subst (λ k. ClassHasCause g.D.Disk k c.args.core.now c.writer_act.new.core c.args.act c.writer_act.result) step (c.writer_act.ensures.applies).cause) none.0 none.1
 
 pub returns-in_default-clause-by_kept : goal.returns-in_default-clause-by_kept
-returns-in_default-clause-by_kept g c = not_both c.args.act (sym c.is_admins.ensures ∙ c.if-is_admins.false)
+returns-in_default-clause-by_kept g c =
+    let writes = are_writers c.args.act c.requires.formed (is_step c.args.act c.in_default.not-Short c.in_default.not-End) (sym c.is_readers.ensures ∙ c.if-is_readers.false) (sym c.is_admins.ensures ∙ c.if-is_admins.false) in
+    writers_answer c.args.core.now c.args.lane c.args.act c.writer_act.result writes c.writer_act.ensures.by_kept
 
 pub returns-in_default-clause-short : goal.returns-in_default-clause-short
 returns-in_default-clause-short g c = λ is. absurd (c.in_default.not-Short is)

@@ -1,12 +1,8 @@
 use Rattle.std.proofs.Common.{◌≡◌, Some, sym, ap, ◌∙◌, option_map}
 use Rattle.std.specs.FinMap.{get}
 use Rattle.store_files.specs.Folder.{chunk_name}
-use Rattle.chunk_store.proofs.Blobs.{piece_is}
 use Rattle.chunk_store.proofs.Maps.{held_blob}
 use Rattle.chunk_store.proofs.store.load.Goals as goal
-
-pub returns-in-Ok-clause-checked : goal.returns-in-Ok-clause-checked
-returns-in-Ok-clause-checked g c = piece_is _ _ _ c.in-Ok.ensures.value
 
 pub returns-in-Ok-clause-held : goal.returns-in-Ok-clause-held
 returns-in-Ok-clause-held g c = let d = g.D.Disk in λ honest p held named.

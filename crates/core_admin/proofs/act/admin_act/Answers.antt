@@ -19,7 +19,7 @@ returns-in-Answered-clause-unreadable g c = tells_refused g.D.Disk g.C.Clock.rea
 pub returns-in-At-clause-applies : goal.returns-in-At-clause-applies
 returns-in-At-clause-applies g c =
     done_applies g.D.Disk g.C.Clock _ c.begin.new.core _ _ c.args.lane c.in-At.at c.args.act _ _ c.requires.lane (admins_formed c.args.act c.requires.kind) (admins_step c.args.act c.requires.kind)
-    c.in-At.ensures.begun (record { journal = refl; clock = refl; fault = refl; remote = refl }) c.perform-ended.ensures.does c.perform-ended.ensures.leaves c.settle.ensures
+    c.in-At.ensures.begun c.in-At.ensures.filled (record { journal = refl; clock = refl; fault = refl; remote = refl }) c.perform-ended.ensures.does c.perform-ended.ensures.leaves c.settle.ensures
 
 pub returns-in-At-clause-keeps : goal.returns-in-At-clause-keeps
 returns-in-At-clause-keeps g c =

@@ -17,7 +17,7 @@ use Rattle.core_state.proofs.Texts.{bad_name_has_text, no_snapshot_has_text}
 use Rattle.core_admin.specs.Forgotten.{forget_told}
 use Rattle.core_admin.proofs.ForgetLemmas.{done_does, done_leaves, forget_refused, list_all-filter, snapshot_busy_has_text, told_done, told_refused, undone_leaves}
 use Rattle.core_admin.proofs.Freeing.{least_found}
-use Rattle.core_admin.proofs.Stopping.{told_stopped}
+use Rattle.core_state.proofs.ByKept.{told_stopped}
 use Rattle.core_admin.proofs.TakenOut.{bad, busy, forget_refuses, free, held, missing}
 use Rattle.core_admin.proofs.forgetting.forget.Goals as goal
 

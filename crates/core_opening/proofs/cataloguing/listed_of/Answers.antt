@@ -5,8 +5,10 @@ use Rattle.std.proofs.lemmas.Iterator.Consumers.{YieldsList-turn}
 use Rattle.snapshot_files.specs.Scanned.{HasNames}
 use Rattle.core_state.specs.declared.kept.Listed.{Listed}
 use Rattle.core_state.specs.Named.{is_named_snapshot}
-use Rattle.core_opening.specs.Opening.{AreListed, first_number}
+use Rattle.core_state.specs.Numbers.{first_number}
+use Rattle.core_opening.specs.Opening.{AreListed}
 use Rattle.core_opening.proofs.Keeping.{listed_more, is_named, all_named_more}
+use Rattle.core_opening.proofs.Numbered.{found_numbered}
 use Rattle.core_opening.proofs.cataloguing.listed_of.Goals as goal
 
 pub loop-found-preserved : goal.loop-found-preserved
@@ -24,3 +26,6 @@ loop-found-preserved c =
       listed = subst (AreListed first_number (c.loop-found.yielded ++ x ∷ [])) (sym pushed) (listed_more first_number c.loop-found.yielded ys x y c.loop-found.invariant.listed refl c.in_ok-kept.ensures);
       named = subst (λ ls. list_all is_named_snapshot ls ≡ true) (sym pushed) (all_named_more ys y c.loop-found.invariant.named (is_named x y names c.in_ok-kept.ensures));
     }
+
+pub returns-clause-numbers : goal.returns-clause-numbers
+returns-clause-numbers c = found_numbered c.loop-found.yielded c.loop-found.listed.items c.loop-found.invariant.listed

@@ -7,7 +7,7 @@ use Rattle.core_state.proofs.Unreadables.{tells_refused, tells_done}
 use Rattle.core_reader.specs.Asked.{asked_file}
 use Rattle.core_reader.specs.Damages.{TellsDamaged, needed}
 use Rattle.core_reader.proofs.Damaging.{damages_refused, damages_done}
-use Rattle.core_reader.proofs.ActLemmas.{readers_formed, readers_step}
+use Rattle.core_reader.proofs.ActLemmas.{readers_done, readers_formed, readers_refused, readers_step}
 use Rattle.core_reader.proofs.act.reader_act.Goals as goal
 
 pub returns-in-Answered-clause-applies : goal.returns-in-Answered-clause-applies
@@ -25,15 +25,23 @@ returns-in-Answered-clause-unreadable g c = tells_refused g.D.Disk g.C.Clock.rea
 pub returns-in-Answered-clause-damaged : goal.returns-in-Answered-clause-damaged
 returns-in-Answered-clause-damaged g c = damages_refused g.D.Disk g.C.Clock.readings _ _ c.args.lane _ _ _ c.in-Answered.ensures.begun
 
+pub returns-in-Answered-clause-by_kept : goal.returns-in-Answered-clause-by_kept
+returns-in-Answered-clause-by_kept g c = readers_refused g.D.Disk g.C.Clock.readings _ _ c.args.lane c.args.act _ c.in-Answered.ensures.begun
+
 pub returns-in-At-clause-applies : goal.returns-in-At-clause-applies
 returns-in-At-clause-applies g c =
     done_applies g.D.Disk g.C.Clock _ c.begin.new.core _ _ c.args.lane c.in-At.at c.args.act _ _ c.requires.lane (readers_formed c.args.act c.requires.kind) (readers_step c.args.act c.requires.kind)
-    c.in-At.ensures.begun (record { journal = refl; clock = refl; fault = refl; remote = refl }) c.perform-ended.ensures.does c.perform-ended.ensures.leaves c.settle.ensures
+    c.in-At.ensures.begun c.in-At.ensures.filled (record { journal = refl; clock = refl; fault = refl; remote = refl }) c.perform-ended.ensures.does c.perform-ended.ensures.leaves c.settle.ensures
 
 pub returns-in-At-clause-keeps : goal.returns-in-At-clause-keeps
 returns-in-At-clause-keeps g c =
     done_keeps_all g.D.Disk g.C.Clock _ c.begin.new.core _ _ c.args.lane c.in-At.at c.args.act _ _ (readers_step c.args.act c.requires.kind)
     c.in-At.ensures.begun c.in-At.ensures.filled (record { journal = refl; clock = refl; fault = refl; remote = refl }) c.perform-ended.ensures.does c.perform-ended.ensures.leaves c.settle.ensures
+
+pub returns-in-At-clause-by_kept : goal.returns-in-At-clause-by_kept
+returns-in-At-clause-by_kept g c =
+    readers_done g.D.Disk g.C.Clock.readings c.args.core.now c.begin.new.core _ _ c.args.lane c.in-At.at c.args.act c.perform-ended.result c.settle.result
+    c.in-At.ensures.begun c.perform-ended.ensures.by_kept c.settle.ensures
 
 pub returns-in-At-clause-unreadable : goal.returns-in-At-clause-unreadable
 returns-in-At-clause-unreadable g c =

@@ -13,6 +13,7 @@ use Rattle.core_state.specs.Shown.{shown_snapshot}
 use Rattle.core_state.specs.Wanted.{session_at}
 use Rattle.core_state.specs.declared.kept.Session.TheVariants.{Reader}
 use Rattle.core_state.specs.declared.stop.Stop.TheVariants.{Refused}
+use Rattle.core_state.proofs.ByKept.{told_stopped}
 use Rattle.core_state.proofs.Commanding.{busy_by_state, busy_does, changed_does, idle_shown, refused_does, same_kept}
 use Rattle.core_state.proofs.Found.{kept_is, not_kept}
 use Rattle.core_state.proofs.Finding.{mapped, is_some}
@@ -21,7 +22,8 @@ use Rattle.core_state.proofs.NamedLemmas.{list_all-set}
 use Rattle.core_state.proofs.Naming.{damage_short, kept_whole, named_is, none_kept, none_named}
 use Rattle.core_state.proofs.Soundness.{shows_changed}
 use Rattle.core_state.proofs.Texts.{bad_name_has_text, no_snapshot_has_text, done_has_text, unreadable_has_text}
-use Rattle.core_reader.proofs.OpenSteps.{asks_busy, open_busy, open_bad, open_missing, open_found, sound_reader, disk_reader, tells_damaged, tells_refused, tells_whole}
+use Rattle.core_reader.specs.AnsweredBy.{reader_told}
+use Rattle.core_reader.proofs.OpenSteps.{asks_busy, open_busy, open_bad, open_missing, open_found, sound_reader, disk_reader, tells_damaged, tells_refused, tells_whole, told_busy, told_damaged, told_opened, told_unnamed}
 use Rattle.core_reader.proofs.Telling.{tells_unread}
 use Rattle.core_reader.proofs.opening.open_reader.Goals as goal
 
@@ -46,6 +48,13 @@ returns-in_err-idle-clause-unreadable g c =
     tells_unread g.D.Disk old.disk _ (Refused _) _ c.from_residual.ensures.1
     (asks_busy c.args.snapshot.now f old.catalogue.items _ busy, busy_by_state f _ (λ r. (name : List ℕ) → r ≡ Unreadable name → ⊥) state_apart busy)
 
+pub returns-in_err-idle-clause-by_kept : goal.returns-in_err-idle-clause-by_kept
+returns-in_err-idle-clause-by_kept g c =
+    let old = c.args.parts.now in
+    let lane = c.args.at.lane in
+    told_stopped (reader_told c.args.snapshot.now lane (session_at old lane) old.catalogue.items old.locks) _ _ c.from_residual.ensures.1
+    (told_busy c.args.snapshot.now lane (session_at old lane) old.catalogue.items old.locks _ c.in_err-idle.ensures.value)
+
 -- ---- the text names no snapshot
 
 bad_apart : (name : List ℕ) → BadName ≡ Unreadable name → ⊥
@@ -63,6 +72,14 @@ returns-in_default-clause-unreadable g c =
     let items = old.catalogue.items in
     let bad : key_of c.args.snapshot.now ≡ None = search rules in
     tells_refused c.args.snapshot.now (session_at old c.args.at.lane) items g.D.Disk old.disk BadName c.in_ok-idle.ensures.value (none_named c.args.snapshot.now items bad) bad_apart
+
+pub returns-in_default-clause-by_kept : goal.returns-in_default-clause-by_kept
+returns-in_default-clause-by_kept g c =
+    let old = c.args.parts.now in
+    let items = old.catalogue.items in
+    let lane = c.args.at.lane in
+    let bad : key_of c.args.snapshot.now ≡ None = search rules in
+    told_unnamed c.args.snapshot.now lane (session_at old lane) items old.locks BadName c.in_ok-idle.ensures.value (none_named c.args.snapshot.now items bad)
 
 -- ---- there is no such snapshot
 
@@ -85,6 +102,15 @@ returns-in_default-snapshot_named-clause-unreadable g c =
     let named : key_of c.args.snapshot.now ≡ Some c.in-Ok.key = search rules in
     let missing : kept_named c.in-Ok.key items ≡ None = search rules in
     tells_refused c.args.snapshot.now (session_at old c.args.at.lane) items g.D.Disk old.disk NoSnapshot c.in_ok-idle.ensures.value (none_kept c.args.snapshot.now items c.in-Ok.key named missing) none_apart
+
+pub returns-in_default-snapshot_named-clause-by_kept : goal.returns-in_default-snapshot_named-clause-by_kept
+returns-in_default-snapshot_named-clause-by_kept g c =
+    let old = c.args.parts.now in
+    let items = old.catalogue.items in
+    let lane = c.args.at.lane in
+    let named : key_of c.args.snapshot.now ≡ Some c.in-Ok.key = search rules in
+    let missing : kept_named c.in-Ok.key items ≡ None = search rules in
+    told_unnamed c.args.snapshot.now lane (session_at old lane) items old.locks NoSnapshot c.in_ok-idle.ensures.value (none_kept c.args.snapshot.now items c.in-Ok.key named missing)
 
 -- ---- it is damaged
 
@@ -112,6 +138,17 @@ returns-in-Some-unreadable-clause-unreadable g c =
     let there : kept_named c.in-Ok.key items ≡ Some k = search rules in
     let damage : k.unreadable ≡ Some c.in_ok-name.name = search rules in
     tells_damaged c.args.snapshot.now (session_at old c.args.at.lane) items g.D.Disk old.disk k c.in_ok-idle.ensures.value (named_is c.args.snapshot.now items c.in-Ok.key k named there) c.in_ok-name.name damage
+
+pub returns-in-Some-unreadable-clause-by_kept : goal.returns-in-Some-unreadable-clause-by_kept
+returns-in-Some-unreadable-clause-by_kept g c =
+    let old = c.args.parts.now in
+    let items = old.catalogue.items in
+    let lane = c.args.at.lane in
+    let k = c.in-Some.kept.now in
+    let named : key_of c.args.snapshot.now ≡ Some c.in-Ok.key = search rules in
+    let there : kept_named c.in-Ok.key items ≡ Some k = search rules in
+    let damage : k.unreadable ≡ Some c.in_ok-name.name = search rules in
+    told_damaged c.args.snapshot.now lane (session_at old lane) items old.locks k c.in_ok-name.name c.in_ok-idle.ensures.value (named_is c.args.snapshot.now items c.in-Ok.key k named there) damage
 
 -- ---- it is opened
 
@@ -145,3 +182,14 @@ returns-clause-unreadable g c =
     let there : kept_named c.in-Ok.key items ≡ Some k = search rules in
     let whole : k.unreadable ≡ None = search rules in
     tells_whole c.args.snapshot.now (session_at old c.args.at.lane) items g.D.Disk old.disk k c.in_ok-idle.ensures.value (named_is c.args.snapshot.now items c.in-Ok.key k named there) whole
+
+pub returns-clause-by_kept : goal.returns-clause-by_kept
+returns-clause-by_kept g c =
+    let old = c.args.parts.now in
+    let items = old.catalogue.items in
+    let lane = c.args.at.lane in
+    let k = c.in-Some.kept.now in
+    let named : key_of c.args.snapshot.now ≡ Some c.in-Ok.key = search rules in
+    let there : kept_named c.in-Ok.key items ≡ Some k = search rules in
+    let whole : k.unreadable ≡ None = search rules in
+    told_opened c.args.snapshot.now lane (session_at old lane) items old.locks k c.in_ok-idle.ensures.value (named_is c.args.snapshot.now items c.in-Ok.key k named there) whole

@@ -10,7 +10,8 @@ returns-then-is_some-clause-applies g c =
     let next = c.next_place-at.ensures in
     let fault = some_is _ (sym c.is_some.ensures ∙ c.if-is_some.true) in
     end_halted_applies g.D.Disk g.C.Clock _ c.next_place-at.new.core _ _ c.args.lane c.next_place-at.result fault.0 _ c.requires.lane (sym next.fault ∙ fault.1) next
-    (record { journal = refl; clock = refl; fault = refl; remote = refl }) c.end_session.ensures.disk (λ s shows. lane_shows c.end_session.new.parts _ _ _ next.lane_is (c.end_session.ensures.shows s shows)) c.enter.ensures
+    (record { journal = refl; clock = refl; fault = refl; remote = refl }) c.end_session.ensures.disk c.end_session.ensures.catalogue
+    (lane_idle c.end_session.new.parts _ _ next.lane_is c.end_session.ensures.ended) (λ s shows. lane_shows c.end_session.new.parts _ _ _ next.lane_is (c.end_session.ensures.shows s shows)) c.enter.ensures
 
 pub returns-then-is_some-clause-keeps : goal.returns-then-is_some-clause-keeps
 returns-then-is_some-clause-keeps g c =
@@ -34,7 +35,8 @@ returns-in-Ok-clause-keeps g c =
 pub returns-in-Err-clause-applies : goal.returns-in-Err-clause-applies
 returns-in-Err-clause-applies g c =
     let next = c.next_place-at.ensures in
-    end_failed_applies g.D.Disk g.C.Clock _ c.next_place-at.new.core _ _ c.args.lane c.next_place-at.result c.end.result _ _ c.requires.lane (sym next.fault ∙ none_is _ (sym c.is_some.ensures ∙ c.if-is_some.false)) next
+    end_failed_applies g.D.Disk g.C.Clock _ c.next_place-at.new.core _ _ c.args.lane c.next_place-at.result c.end.result _ _ c.requires.lane (sym next.fault ∙ none_is _ (sym c.is_some.ensures ∙ c.if-is_some.false))
+    (λ idle. never_failed c.end.result _ c.in-Err.is (c.end.ensures.idle (ap (λ p. session_at p c.next_place-at.result.lane) next.parts ∙ lane_idle c.args.core.now.parts _ _ next.lane_is idle))) next
     (record { journal = refl; clock = refl; fault = refl; remote = refl }) c.in-Err.is c.end.ensures.does c.end.ensures.leaves c.settle.ensures
 
 pub returns-in-Err-clause-keeps : goal.returns-in-Err-clause-keeps

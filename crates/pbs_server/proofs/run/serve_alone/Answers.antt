@@ -24,7 +24,7 @@ returns-in-Ok-open_on-clause-leaves g c = let d = g.D.Disk in let s = g.S.Source
     let both = has_both d readings c.args.clock disk c.in-Ok-open_on.core core
     (s.left c.args.port.now.source) (s.left c.run_alone-report.new.port.source) (k.taken c.args.port.now.sink) (k.taken c.run_alone-report.new.port.sink)
     (c.handed_back.result.order).items ((c.handed_back.result.report).calls).items report c.handed_back.result.disk
-    g.met.D.Disk.told opened.opened opened.since opened.cleaned
+    g.met.D.Disk.told opened.opened opened.recovers opened.cleaned
     (c.run_alone-report.ensures.ran (began (opening_of d disk first []) None (readings c.args.clock)) (opened.records (opening_of d disk first []) None refl) refl)
     (ap (λ v. v.items) back.order) (ap (λ v. v.items) back.calls) back.disk in
     leaves_one d s.left s.faults k.taken k.faults (readings c.args.clock) disk c.args.remote c.handed_back.result c.args.port.now c.run_alone-report.new.port _ report
@@ -32,7 +32,7 @@ returns-in-Ok-open_on-clause-leaves g c = let d = g.D.Disk in let s = g.S.Source
     (record {
       told = both.told;
       opened = first;
-      was_opened = record { opens = opened.since; cleaned = opened.cleaned };
+      was_opened = record { opens = (opened.recovers).opens; cleaned = opened.cleaned };
       plain = both.plain;
       stops = both.stops;
       status = status;
@@ -44,6 +44,7 @@ returns-in-Ok-open_on-clause-leaves g c = let d = g.D.Disk in let s = g.S.Source
       budget = c.run_alone-report.ensures.budget;
       faults = let a = (opened.serves).count in let b = ap d.faults back.disk in omega (arith, a, b, c.run_alone-report.ensures.entered.count);
       remote_is = back.remote ∙ c.run_alone-report.ensures.remote ∙ (opened.handed).0;
+      not_opened = back.not_opened;
     })
 
 pub returns-in-Ok-open_on-clause-status : goal.returns-in-Ok-open_on-clause-status
@@ -55,4 +56,4 @@ returns-in-Err-clause-leaves g c = let d = g.D.Disk in let s = g.S.Source in let
     let e = c.in-Err.ensures in
     leaves_none d s.left s.faults k.taken k.faults (g.C.Clock.readings c.args.clock) c.args.disk c.args.remote c.not_served-in-Err.result c.args.port.now _ given.lanes
     (unopened d c.args.disk c.args.remote c.args.clock (c.args.port.now ∷ []) c.in-Err.not_opened c.not_served-in-Err.result
-    (given.status ∙ c.by_opening.ensures) given.order given.calls given.disk given.remote e.serves e.crash e.not_opened)
+    (given.status ∙ c.by_opening.ensures) given.not_opened given.order given.calls given.disk given.remote e.serves e.crash e.not_opened)

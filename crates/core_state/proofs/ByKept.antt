@@ -1,0 +1,61 @@
+-- What is told by what the core keeps: at a command's exits, and by the core's answer.
+use Rattle.std.proofs.Common.{◌≡◌, ℕ, Option, Some, Result, Ok, Err, IfOk, IsErrAnd, sym, ap, subst, ◌∙◌, arith}
+use Rattle.disk_trait.specs.declared.disk.Disk.{Ghosts}
+use Rattle.disk_trait.specs.declared.disk.DiskError.{DiskError}
+use Rattle.disk_trait.specs.declared.disk.DiskError.TheVariants as disks
+use Rattle.port_traits.specs.Readings.{Readings}
+use Rattle.store_types.specs.declared.refusal.Refusal.{Refusal}
+use Rattle.wire_commands.specs.declared.reply.Reply.{Reply}
+use Rattle.store_history.specs.declared.act.Answer.{Answer}
+use Rattle.core_state.specs.declared.entering.Place.{Place}
+use Rattle.core_state.specs.declared.state.Core.{Core}
+use Rattle.core_state.specs.declared.stop.Stop.{Stop}
+use Rattle.core_state.specs.declared.stop.Stop.TheVariants.{Refused}
+use Rattle.core_state.specs.Begins.{IsAdmitted, Refuses, short as is_short, halted as is_halted}
+use Rattle.core_state.specs.ByKept.{ActTells, ByKept, CoreTells, kept_reply}
+use Rattle.core_state.specs.Replies.{reply_told}
+use Rattle.core_state.specs.Settles.{Settles, kind_by, reply_by}
+use Rattle.core_state.specs.Stops.{told}
+
+-- ---- exits by `?`, where the result is an error with this stop
+
+abbrev pub Stops : Result Reply Stop → Stop → Type 0
+Stops result stop = IsErrAnd result (λ x. x ≡ stop)
+
+pub stopped : (P : Result Reply Stop → Type 0) (result : Result Reply Stop) (stop : Stop) → Stops result stop → P (Err stop) → P result
+stopped P (Ok reply) stop is p = absurd is
+stopped P (Err x) stop is p = subst (λ y. P (Err y)) (sym is) p
+
+-- refused as the command's own tests refuse it
+pub told_stopped : (wanted : Result Reply Refusal) (refusal : Refusal) (result : Result Reply Stop) → Stops result (Refused refusal) → wanted ≡ Err refusal → IfOk (told result) (λ reply. reply ≡ reply_told wanted)
+told_stopped wanted refusal result stops is = stopped (λ r. IfOk (told r) (λ reply. reply ≡ reply_told wanted)) result (Refused refusal) stops (sym (ap reply_told is))
+
+-- ---- the core's answer
+
+-- an act that was refused before it was done is none that was done
+pub undone_kind : {D E C : Type 0} (d : Ghosts D) (readings : C → Option Readings) (old new : Core D E C) (lane : ℕ) (answer : Answer)
+    → Refuses d readings old new lane answer → (answer.entry).kind ≡ 0 → ⊥
+undone_kind d readings old new lane answer (is_short is) k =
+    let kind : (answer.entry).kind ≡ 2 = ap (λ x. x.kind) (is.entered).entry in
+    omega (arith, k, kind)
+undone_kind d readings old new lane answer (is_halted is) k =
+    let kind : (answer.entry).kind ≡ 5 = ap (λ x. x.kind) (is.entered).entry in
+    omega (arith, k, kind)
+
+pub refused_tells : {D E C : Type 0} (d : Ghosts D) (readings : C → Option Readings) (old new : Core D E C) (lane : ℕ) (wanted : ByKept) (answer : Answer)
+    → Refuses d readings old new lane answer → CoreTells wanted old lane answer
+refused_tells d readings old new lane wanted answer refuses k = absurd (undone_kind d readings old new lane answer refuses k)
+
+told_by : (wanted : Reply) (outcome : Result Reply DiskError) → IfOk outcome (λ reply. reply ≡ wanted) → kind_by outcome ≡ 0 → Some (reply_by outcome) ≡ Some wanted
+told_by wanted (Ok reply) is k = ap (λ r. Some r) is
+told_by wanted (Err disks.NoMemory) is k = absurd (omega (arith, k))
+told_by wanted (Err disks.Failed) is k = absurd (omega (arith, k))
+
+-- an act that was done, as its command tells
+pub done_tells : {D E C : Type 0} (d : Ghosts D) (readings : C → Option Readings) (old mid acted new : Core D E C) (lane : ℕ) (at : Place) (wanted : ByKept) (result : Result Reply Stop) (answer : Answer)
+    → IsAdmitted readings old mid lane at → ActTells wanted mid.parts at result → Settles d acted new at.lane at.moment (told result) answer → CoreTells wanted old lane answer
+done_tells d readings old mid acted new lane at wanted result answer admitted tells e k =
+    let before = ((admitted.ready).begun).parts in
+    let done : kind_by (told result) ≡ 0 = sym (ap (λ x. x.kind) e.entry) ∙ k in
+    e.reply_is ∙ told_by (kept_reply wanted mid.parts at.lane) (told result) tells done ∙ ap (λ p. Some (kept_reply wanted p at.lane)) before
+    ∙ ap (λ l. Some (kept_reply wanted old.parts l)) admitted.lane_is

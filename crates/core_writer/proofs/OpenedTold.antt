@@ -1,0 +1,56 @@
+-- What OPEN_WRITER is told by what the core keeps.
+use Rattle.std.proofs.Common.{◌≡◌, ℕ, List, Option, Some, None, Result, Ok, Err, IfOk, sym, ap, ◌∙◌}
+use Rattle.lock_book.specs.Locks.{Locks}
+use Rattle.store_types.specs.declared.names.SnapshotKey.{SnapshotKey}
+use Rattle.store_types.specs.declared.refusal.Refusal.{Refusal}
+use Rattle.store_types.specs.declared.refusal.Refusal.TheVariants.{BadName}
+use Rattle.store_types.specs.Chain.Refusing.{◌>>=◌, or_else}
+use Rattle.store_types.specs.Names.{key_of}
+use Rattle.wire_commands.specs.declared.reply.Reply.{Reply}
+use Rattle.wire_commands.specs.declared.reply.Reply.TheVariants as replies
+use Rattle.core_state.specs.declared.kept.Listed.{Listed}
+use Rattle.core_state.specs.declared.kept.Session.{Session}
+use Rattle.core_state.specs.declared.stop.Stop.{Stop}
+use Rattle.core_state.specs.declared.stop.Stop.TheVariants.{Refused, NoMemory, DiskFailed}
+use Rattle.core_state.specs.Replies.{reply_told}
+use Rattle.core_state.specs.Stops.{told}
+use Rattle.core_state.specs.Wanted.{want_idle}
+use Rattle.core_state.proofs.ByKept.{Stops, stopped}
+use Rattle.core_writer.specs.declared.opening.Beginning.{Beginning}
+use Rattle.core_writer.specs.AnsweredBy.{tells_base, writer_told}
+use Rattle.core_writer.specs.Opened.{TellsBase, base_for}
+
+module _ (text : List ℕ) (lane : ℕ) (f : Session) (catalogue : List Listed) (locks : Locks) where
+  abbrev answer : Result Reply Refusal
+  answer = writer_told text lane f catalogue locks
+
+  abbrev by_tests : Result (Unit {0}) Refusal → Option SnapshotKey → Result Reply Refusal
+  by_tests idle named = idle >>= λ _. or_else BadName named >>= λ key. base_for locks catalogue lane key >>= tells_base
+
+  pub told_busy : (r : Refusal) → want_idle f ≡ Err r → answer ≡ Err r
+  told_busy r busy = ap (λ i. by_tests i (key_of text)) busy
+
+  idle_by : want_idle f ≡ Ok tt → answer ≡ by_tests (Ok tt) (key_of text)
+  idle_by idle = ap (λ i. by_tests i (key_of text)) idle
+
+  pub told_unnamed : want_idle f ≡ Ok tt → key_of text ≡ None → replies.Refused BadName ≡ reply_told answer
+  told_unnamed idle none = sym (ap reply_told (idle_by idle ∙ ap (by_tests (Ok tt)) none))
+
+  module _ (key : SnapshotKey) (listed : List Listed) (idle : want_idle f ≡ Ok tt) (named : key_of text ≡ Some key) (lent : listed ≡ catalogue) where
+    based : (r : Result (Option SnapshotKey) Refusal) → base_for locks listed lane key ≡ r → reply_told answer ≡ reply_told (r >>= tells_base)
+    based r is =
+        let step : base_for locks catalogue lane key ≡ r = ap (λ xs. base_for locks xs lane key) (sym lent) ∙ is in
+        ap reply_told (idle_by idle ∙ ap (by_tests (Ok tt)) named ∙ ap (λ (b : Result (Option SnapshotKey) Refusal). b >>= tells_base) step)
+
+    -- the locks or the catalogue refuse it, or memory is wanting
+    pub told_unbased : (stop : Stop) (result : Result Reply Stop) → Stops result stop → TellsBase (base_for locks listed lane key) (Err stop) → IfOk (told result) (λ reply. reply ≡ reply_told answer)
+    told_unbased stop result stops tells = stopped (λ r. IfOk (told r) (λ reply. reply ≡ reply_told answer)) result stop stops (by_stop stop tells)
+      where
+        by_stop : (stop : Stop) → TellsBase (base_for locks listed lane key) (Err stop) → IfOk (told (Err stop)) (λ reply. reply ≡ reply_told answer)
+        by_stop (Refused r) is = sym (based (Err r) is)
+        by_stop NoMemory is = tt
+        by_stop DiskFailed is = tt
+
+    -- the writer begins
+    pub told_based : (b : Beginning) → TellsBase (base_for locks listed lane key) (Ok b) → replies.Base b.text ≡ reply_told answer
+    told_based b tells = ap (λ t. replies.Base t) tells.1 ∙ sym (based (Ok b.base) tells.0)
