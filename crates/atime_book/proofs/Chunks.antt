@@ -28,7 +28,7 @@ AllBefore k (e ∷ es) = (text_cmp k (e.0).0 ≡ Greater) × AllBefore k es
 abbrev Follows : Option (List ℕ) → List (Digest32 × ℕ) → Type 0
 Follows before es = (k : List ℕ) → above before k ≡ true → AllBefore k es
 
-greater : (a b : List ℕ) → text_cmp a b ≡ Less → text_cmp b a ≡ Greater
+pub greater : (a b : List ℕ) → text_cmp a b ≡ Less → text_cmp b a ≡ Greater
 greater a b e = nat_list_cmp_total.antisymm b a ∙ ap ordering_reverse e
 
 lesser : (a b : List ℕ) → text_cmp b a ≡ Greater → text_cmp a b ≡ Less
@@ -49,7 +49,7 @@ insert_at_end (e ∷ es) d n all =
     ap (λ r. match_ordering r ((d, n) ∷ e ∷ es) ((e.0, n) ∷ es) (e ∷ insert_entry digest_cmp es d n)) all.0
     ∙ ap (λ xs. e ∷ xs) (insert_at_end es d n all.1)
 
-touches_of-push : (es : List (Digest32 × ℕ)) (d : Digest32) (n : ℕ) → touches_of (es ++ (d, n) ∷ []) ≡ touches_of es ++ record { digest = d.0; moment = n } ∷ []
+pub touches_of-push : (es : List (Digest32 × ℕ)) (d : Digest32) (n : ℕ) → touches_of (es ++ (d, n) ∷ []) ≡ touches_of es ++ record { digest = d.0; moment = n } ∷ []
 touches_of-push [] d n = refl
 touches_of-push (e ∷ es) d n = ap (λ xs. record { digest = (e.0).0; moment = e.1 } ∷ xs) (touches_of-push es d n)
 

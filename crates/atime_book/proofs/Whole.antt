@@ -16,7 +16,7 @@ swap false true true m = refl
 swap false true false m = refl
 swap false false r m = refl
 
-abbrev within : ℕ → List Touch → Bool
+abbrev pub within : ℕ → List Touch → Bool
 within moment ts = list_all (λ t. nat_le t.moment moment) ts
 
 pass_after : (moment : ℕ) (b : Touch) (ts : List Touch) → pass_from moment (Some b.digest) ts ≡ (digests_rise (b ∷ ts) && within moment ts)
@@ -25,7 +25,7 @@ pass_after moment b (t ∷ ts) =
     ap (λ x. nat_le t.moment moment && name_lt b.digest t.digest && x) (pass_after moment t ts)
     ∙ swap (nat_le t.moment moment) (name_lt b.digest t.digest) (digests_rise (t ∷ ts)) (within moment ts)
 
-pass_is : (moment : ℕ) (ts : List Touch) → pass_from moment None ts ≡ (digests_rise ts && within moment ts)
+pub pass_is : (moment : ℕ) (ts : List Touch) → pass_from moment None ts ≡ (digests_rise ts && within moment ts)
 pass_is moment [] = refl
 pass_is moment (t ∷ ts) =
     ap (λ x. nat_le t.moment moment && true && x) (pass_after moment t ts)
@@ -40,7 +40,7 @@ unfolding book_of
 short_is_none bytes short =
     sym (ap (λ b. cond b None (cond (is_book bytes (fields_of bytes)) (Some (fields_of bytes)) None)) (lt-ltb _ _ short))
 
-tests : (bytes : List ℕ) → 56 ≤ length bytes → (a m p : Bool) → bytes_eq bytes (book_text (fields_of bytes)) ≡ a →
+pub tests : (bytes : List ℕ) → 56 ≤ length bytes → (a m p : Bool) → bytes_eq bytes (book_text (fields_of bytes)) ≡ a →
     nat_le (fields_of bytes).moment last_moment ≡ m → pass_from (fields_of bytes).moment None (fields_of bytes).touches ≡ p →
     book_of bytes ≡ cond (a && m && p) (Some (fields_of bytes)) None
 unfolding book_of

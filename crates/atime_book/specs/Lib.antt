@@ -1,2 +1,5 @@
 pub mod Touches
 pub mod Reading
+pub mod Present
+pub mod Counts
+pub mod Laws

@@ -1,8 +1,9 @@
 -- What the book knows of chunks, and what changes it.
-use Rattle.std.specs.Prelude.{◌≡◌, ℕ, ◌-◌, Bool, false, ◌&&◌, List, [], ◌∷◌, nat_lt, if◌then◌else◌, Option, Some, None, IfSome, map, min, ◌≤◌}
+use Rattle.std.specs.Prelude.{◌≡◌, ℕ, ◌-◌, Bool, false, ◌&&◌, List, [], ◌∷◌, nat_lt, if◌then◌else◌, Option, Some, None, IfSome, IsSome, IsTrue, length, map, min, max, ◌≤◌}
+use Rattle.std.specs.List.{All}
 use Rattle.std.specs.Str.{bytes_eq}
 use Rattle.store_types.specs.declared.names.Digest32.{Digest32}
-use Rattle.store_files.specs.Book.{Touch, Book}
+use Rattle.store_files.specs.Book.{Touch, Book, digests_rise}
 
 -- an ordered map's entries as touches
 abbrev pub touches_of : List (Digest32 × ℕ) → List Touch
@@ -19,26 +20,50 @@ last_of book digest = last_in book.touches digest
 abbrev pub empty : Book
 empty = record { moment = 0; touches = [] }
 
--- The chunk's last touch is now this, and nothing else has changed.
+-- the greatest moment of a touch, with one more
+abbrev pub greatest : Option ℕ → ℕ → ℕ
+greatest None when = when
+greatest (Some last) when = max last when
+
+-- The chunk was touched at this moment, and nothing else has changed.
 pub record TouchedAt (old new : Book) (digest : List ℕ) (when : ℕ) : Type 0 where
   pub read : new.moment ≡ old.moment
-  pub last : (d : List ℕ) → last_of new d ≡ (if bytes_eq digest d then Some when else last_of old d)
+  pub last : (d : List ℕ) → last_of new d ≡ (if bytes_eq digest d then Some (greatest (last_of old d) when) else last_of old d)
 
 -- whether the chunk was touched, and never at the cutoff or later
 abbrev pub is_stale : Option ℕ → ℕ → Bool
 is_stale None cutoff = false
 is_stale (Some when) cutoff = nat_lt when cutoff
 
+-- so was a chunk that was known, and of another nothing was noted
+pub record TouchesKnown (old new : Book) (digest : List ℕ) (when : ℕ) : Type 0 where
+  pub known : IsSome (last_of old digest) → TouchedAt old new digest when
+  pub unknown : last_of old digest ≡ None → new ≡ old
+
 -- Where the chunk was taken out, the book has no touch of it, and nothing else has changed.
 pub record SweptAt (old new : Book) (digest : List ℕ) (taken : Bool) : Type 0 where
   pub read : new.moment ≡ old.moment
   pub last : (d : List ℕ) → last_of new d ≡ (if taken && bytes_eq digest d then None else last_of old d)
 
+-- at another moment
+abbrev pub as_of : ℕ → Book → Book
+as_of moment book = record book { moment = moment }
+
 -- no chunk was touched after the moment
 abbrev pub NoneAfter : Book → ℕ → Type 0
 NoneAfter book moment = (digest : List ℕ) → IfSome (last_of book digest) (λ when. when ≤ moment)
 
--- a day and five minutes before the start, or five minutes before the oldest writer that ran then
+-- nor after the book's own
+abbrev pub IsEarly : Book → Type 0
+IsEarly book = NoneAfter book book.moment
+
+-- Each chunk stands once: its digest, of 32 bytes, is above the one before it, and what is found at it is its touch.
+pub record IsInOrder (book : Book) : Type 0 where
+  pub digests : All (λ t. length t.digest ≡ 32) book.touches
+  pub rise : IsTrue (digests_rise book.touches)
+  pub found : All (λ t. last_of book t.digest ≡ Some t.moment) book.touches
+
+-- the earlier of a day and five minutes before the start and five minutes before the oldest writer that ran then
 abbrev pub cutoff_of : ℕ → Option ℕ → ℕ
 cutoff_of start None = start - 86_700
 cutoff_of start (Some oldest) = min (start - 86_700) (oldest - 300)

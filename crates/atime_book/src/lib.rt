@@ -4,15 +4,21 @@
 //! the digest and its last touch; then the SHA-256 of all bytes before it. Numbers are u64, little-endian.
 #![tactic(auto)]
 
-ghost use Rattle.std.specs.Prelude.{◌≡◌, ◌≤◌, ◌++◌, IsOk, IsSome, IfOk, OnOk, OnErr, codes};
+ghost use Rattle.std.specs.Prelude.{◌≡◌, ◌≤◌, [], ◌++◌, true, All, length, IsOk, IsSome, IfSome, IfOk, OnOk, OnErr, Some, None, codes};
 ghost use Rattle.std.specs.Int.{w64, to_le_bytes};
 ghost use Rattle.std.specs.List.{flat_map};
 ghost use Rattle.store_types.specs.Times.{last_moment};
-ghost use Rattle.store_files.specs.Book.{touch_text, signed_text, book_text, book_of};
-ghost use Rattle.atime_book.specs.Touches.{touches_of, cutoff_of, empty, last_of, is_stale, TouchedAt, SweptAt, NoneAfter};
+ghost use Rattle.store_files.specs.Book.{FitsBook, touch_text, signed_text, book_text, book_of};
+ghost use Rattle.atime_book.specs.Touches.{touches_of, cutoff_of, empty, last_of, is_stale, IsInOrder, TouchedAt, TouchesKnown, SweptAt, NoneAfter, IsEarly, as_of};
 
+mod counts;
+mod laws;
+mod present;
 mod reading;
 
+pub use counts::Counts;
+pub use laws::{what_is_read_has_one_spelling, what_is_written_is_read};
+pub use present::Present;
 use sha2::{Digest, Sha256};
 use std::alloc::{AllocError, Global};
 use std::collections::BTreeMap;
@@ -64,10 +70,15 @@ impl Book {
     pub fn new(alloc: Global) -> Book
         ensures { result ≡ empty }
     {
-        Book {
-            moment: 0,
-            touches: BTreeMap::new(alloc),
-        }
+        Book::as_of(alloc, 0)
+    }
+
+    // No chunk was touched, as of this moment.
+    fn as_of(alloc: Global, moment: u64) -> Book
+        ensures { result ≡ record { moment = moment; touches = [] } }
+    {
+        let touches = BTreeMap::new(alloc);
+        Book { moment, touches }
     }
 
     /// The last moment of the book that was read, or 0.
@@ -77,15 +88,28 @@ impl Book {
         self.moment
     }
 
-    /// Sets a chunk's last touch. For a chunk that has one already it takes no memory. At want of memory nothing has
-    /// changed.
+    /// Touches a chunk: its last touch is the greatest moment of one. For a chunk that has one already it takes no
+    /// memory. At want of memory nothing has changed.
     pub fn touch(&mut self, digest: &Digest32, moment: u64) -> Result<(), AllocError>
         ensures ok { OnOk result (TouchedAt self.old self.new digest.now.0 moment) }
         ensures known { IsSome (last_of self.old digest.now.0) → IsOk result }
         ensures err { OnErr result (self.new ≡ self.old) }
     {
+        if self.last(digest).is_some() {
+            self.touch_known(digest, moment);
+            return Ok(());
+        }
         self.touches.insert(*digest, moment)?;
         Ok(())
+    }
+
+    /// Touches a chunk that the book has; of another nothing is noted. It takes no memory.
+    pub fn touch_known(&mut self, digest: &Digest32, moment: u64)
+        ensures { TouchesKnown self.old self.new digest.now.0 moment }
+    {
+        if let Some(last) = self.touches.get_mut(digest) {
+            *last = moment.max(*last);
+        }
     }
 
     /// A chunk's last touch. It takes no memory.
@@ -103,15 +127,24 @@ impl Book {
         if !is_before(self.last(digest), cutoff) {
             return false;
         }
-        let _ = self.touches.remove(digest);
+        self.forget(digest);
         true
     }
 
-    /// The book's file at a moment that no touch is after.
+    /// Takes a chunk out, where it is there. It takes no memory.
+    pub fn forget(&mut self, digest: &Digest32)
+        ensures { SweptAt self.old self.new digest.now.0 true }
+    {
+        let _ = self.touches.remove(digest);
+    }
+
+    /// The book's file at a moment that no touch is after. `read` gives the book at that moment from it.
     pub fn text(&self, alloc: Global, moment: u64) -> Result<Vec<u8>, AllocError>
         requires moment { moment ≤ last_moment }
         requires touches { NoneAfter self.now moment }
-        ensures { IfOk result (λ text. text.items ≡ book_text (record self.now { moment = moment })) }
+        ensures text { IfOk result (λ text. text.items ≡ book_text (as_of moment self.now)) }
+        ensures fits { OnOk result (FitsBook (as_of moment self.now)) }
+        ensures read_again { IfOk result (λ text. book_of text.items ≡ Some (as_of moment self.now)) }
     {
         self.written(alloc, moment)
     }
@@ -119,7 +152,8 @@ impl Book {
     // The file's text, where the book is one at that moment.
     #[tactic(auto, unfolding(store_files::specs::Book::book_text))]
     fn written(&self, alloc: Global, moment: u64) -> Result<Vec<u8>, AllocError>
-        ensures { IfOk result (λ text. text.items ≡ book_text (record self.now { moment = moment })) }
+        ensures text { IfOk result (λ text. text.items ≡ book_text (as_of moment self.now)) }
+        ensures order { OnOk result (IsInOrder self.now) }
     {
         let mut text = self.signed(alloc, moment)?;
         let csum = Sha256::digest(text.as_slice());
@@ -129,16 +163,19 @@ impl Book {
 
     // What the checksum is of.
     fn signed(&self, alloc: Global, moment: u64) -> Result<Vec<u8>, AllocError>
-        ensures { IfOk result (λ text. text.items ≡ signed_text (record self.now { moment = moment })) }
+        ensures text { IfOk result (λ text. text.items ≡ signed_text (as_of moment self.now)) }
+        ensures order { OnOk result (IsInOrder self.now) }
     {
         let mut text = head(alloc, moment, self.touches.len() as u64)?;
         push_touches(&mut text, &self.touches)?;
         Ok(text)
     }
 
-    /// The book whose file this is, or `None` where the bytes are none.
+    /// The book whose file this is, or `None` where the bytes are none. No touch is after its moment.
     pub fn read(alloc: Global, bytes: &[u8]) -> Result<Option<Book>, AllocError>
-        ensures { IfOk result (λ book. book ≡ book_of bytes.now) }
+        ensures book { IfOk result (λ book. book ≡ book_of bytes.now) }
+        ensures fits { IfOk result (λ book. IfSome book FitsBook) }
+        ensures early { IfOk result (λ book. IfSome book IsEarly) }
     {
         if bytes.len() < 56 {
             return Ok(None);
@@ -170,7 +207,8 @@ fn head(alloc: Global, moment: u64, count: u64) -> Result<Vec<u8>, AllocError>
 }
 
 fn push_touches(text: &mut Vec<u8>, touches: &BTreeMap<Digest32, u64>) -> Result<(), AllocError>
-    ensures { OnOk result (text.new.items ≡ text.old.items ++ flat_map touch_text (touches_of touches.now.entries)) }
+    ensures text { OnOk result (text.new.items ≡ text.old.items ++ flat_map touch_text (touches_of touches.now.entries)) }
+    ensures digests { OnOk result (All (λ t. length t.digest ≡ 32) (touches_of touches.now.entries)) }
 {
     for (digest, touched) in touches {
         text.extend_from_slice(&digest.0)?;

@@ -1,4 +1,5 @@
-//! The tests of formats: blobs, frames, commands and replies, indexes, manifests and books, against bytes made elsewhere.
+//! The tests of formats: blobs, frames, commands and replies, indexes, manifests and books, against bytes made elsewhere;
+//! and of a collection's plan.
 #![tactic(auto)]
 
 #[cfg(test)]
@@ -19,3 +20,5 @@ mod fixtures;
 mod frames;
 #[cfg(test)]
 mod manifests;
+#[cfg(test)]
+mod plan;
