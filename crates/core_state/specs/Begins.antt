@@ -34,6 +34,7 @@ pub record IsNext {D E C : Type 0} (readings : C → Option Readings) (old new :
   pub remote : new.remote ≡ old.remote
   pub fault : new.fault ≡ old.fault
   pub last : new.last ≡ old.last
+  pub upkeep : new.upkeep ≡ old.upkeep
   pub journal : new.journal ≡ old.journal
 
 -- the clock was read, and the lane's reserve may have been filled up
@@ -43,6 +44,7 @@ pub record IsBegun {D E C : Type 0} (readings : C → Option Readings) (old new 
   pub remote : new.remote ≡ old.remote
   pub fault : new.fault ≡ old.fault
   pub last : new.last ≡ old.last
+  pub upkeep : new.upkeep ≡ old.upkeep
   pub entries : SameEntries old.journal new.journal
   pub more : held_by old.journal lane ≤ held_by new.journal lane
   pub none_lost : NoneLost old.journal new.journal lane

@@ -5,6 +5,8 @@ pub mod Locked
 pub mod Holds
 pub mod Chunks
 pub mod History
+pub mod Upkeeps
+pub mod Minds
 pub mod Settles
 pub mod Begins
 pub mod States
@@ -28,3 +30,4 @@ pub mod Commands
 pub mod ByKept
 pub mod Applies
 pub mod Recovers
+pub mod Saving

@@ -8,6 +8,7 @@ use Rattle.wire_commands.specs.declared.reply.Reply.{Reply}
 use Rattle.wire_commands.specs.declared.reply.Reply.TheVariants.{Refused}
 use Rattle.wire_commands.specs.HasText.{ReplyHasText}
 use Rattle.store_model.specs.Weave.{fault_refusal}
+use Rattle.atime_book.specs.Touches.{NoneAfter}
 use Rattle.store_history.specs.declared.act.Act.{Act}
 use Rattle.store_files.specs.Archive.{Snapshot}
 use Rattle.store_history.specs.declared.act.Answer.{Answer}
@@ -20,6 +21,7 @@ use Rattle.core_state.specs.Answers.{fault_after}
 use Rattle.core_state.specs.Begins.{ReadsClock}
 use Rattle.core_state.specs.Foreign.{KeepsForeign}
 use Rattle.core_state.specs.History.{History, KeepsTime, IsClear, StandsFor}
+use Rattle.core_state.specs.Minds.{Minds}
 use Rattle.core_state.specs.Numbers.{AreNumbered}
 use Rattle.core_state.specs.Recovers.{Recovers, TellsMoments}
 use Rattle.core_state.specs.Replies.{may_answer}
@@ -75,6 +77,8 @@ pub record Records {D E C : Type 0} (readings : C → Option Readings) (core : C
   pub fault : core.fault ≡ fault_in 0 None h.events
   pub last : core.last ≡ moment_after (h.opening).moment h.events
   pub time : KeepsTime readings core.clock h
+  -- no chunk was touched after the last moment
+  pub early : NoneAfter (core.upkeep).book core.last
   -- no two snapshots of the catalogue have one number
   pub numbers : AreNumbered (length (core.journal).entries.items) (core.parts).catalogue.items
 
@@ -94,3 +98,6 @@ pub record Reaches {D E C : Type 0} (d : Ghosts D) (readings : C → Option Read
   -- what a crash leaves since a moment of the opening stands for what the history gives by then
   pub recovers : TellsMoments d → (start : ℕ) (L : List Snapshot) (R : Option (List Snapshot)) → StandsFor d readings first (opened_with L R began)
       → Recovers d start first (opened_with L R began) → IsClear h → Recovers d start core (opened_with L R h)
+  -- the core's book is that of the history
+  pub minds : (L : List Snapshot) (R : Option (List Snapshot)) → StandsFor d readings first (opened_with L R began) → Minds d first (opened_with L R began) → IsClear h
+      → Minds d core (opened_with L R h)

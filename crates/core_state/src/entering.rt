@@ -45,7 +45,7 @@ fn moment_by(reading: u64, last: u64) -> u64
     reading.max(last).min(LAST_MOMENT)
 }
 
-/// Enters an act, with what it is answered.
+/// Enters an act, with what it is answered. Chunks that are undated are dated by it.
 pub fn enter<D: Disk, E, C>(
     core: &mut Core<D, E, C>,
     at: Place,
@@ -65,6 +65,7 @@ pub fn enter<D: Disk, E, C>(
     };
     let calls = core.parts.disk.calls();
     let is_held = core.journal.enter(at.lane as usize, entry, calls);
+    core.upkeep.date(at.moment);
     core.last = at.moment;
     Answer {
         reply,

@@ -7,8 +7,10 @@ mod entering;
 mod journal;
 mod kept;
 mod parts;
+mod saving;
 mod state;
 mod stop;
+mod upkeep;
 mod wanted;
 
 pub use catalogue::{path_named, snapshot_named};
@@ -19,4 +21,5 @@ pub use kept::{Kept, Listed, Session, StoredFile, Writing};
 pub use parts::Parts;
 pub use state::{Core, CoreParts};
 pub use stop::Stop;
+pub use upkeep::Upkeep;
 pub use store_history::{Act, Answer};

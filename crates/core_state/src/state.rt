@@ -5,16 +5,19 @@ ghost use Rattle.store_types.specs.Times.{last_moment};
 
 use crate::journal::Journal;
 use crate::parts::Parts;
+use crate::upkeep::Upkeep;
 use store_types::Entry;
 
-/// The store behind the turn: what it has of the plain store, the remote, the clock, and the order of its acts.
+/// The store behind the turn: what it has of the plain store, the remote, the clock, the order of its acts, and what it keeps of
+/// chunks.
 #[derive(Drop)]
 pub struct Core<D, E, C> {
     pub parts: Parts<D>,
     pub remote: Option<E>,
     pub clock: C,
     pub journal: Journal,
-    /// The moment of the last act, or 0.
+    pub upkeep: Upkeep,
+    /// The moment of the last act. Before the first one it is the last moment of the saved book, or 0.
     pub last: u64,
     /// The number of the entry that was answered DiskFault.
     pub fault: Option<u64>,
@@ -45,6 +48,7 @@ impl<D, E, C> Core<D, E, C> {
             remote,
             clock,
             journal,
+            upkeep: _,
             last: _,
             fault: _,
         } = self;

@@ -5,6 +5,7 @@ use Rattle.store_types.specs.declared.order.Entry.{Entry}
 use Rattle.store_types.specs.declared.refusal.Refusal.{Refusal}
 use Rattle.store_types.specs.declared.refusal.Refusal.TheVariants.{NoMemory}
 use Rattle.store_files.specs.Archive.{Snapshot}
+use Rattle.store_files.specs.Book.{Touch}
 use Rattle.wire_commands.specs.declared.reply.Reply.{Reply}
 use Rattle.wire_commands.specs.declared.reply.Reply.TheVariants.{Done}
 use Rattle.store_model.specs.Store.{Store, store_of, Outcome, ended}
@@ -65,11 +66,12 @@ kind_of _ = no_kind
 
 -- ---- the plain store in the course of a history
 
--- what a store is opened with: its finished snapshots, the last moment of its book, its disk's count of calls, and the pieces of
--- its chunk files
+-- what a store is opened with: its finished snapshots, the last moment of its saved book and the touches that this has, its disk's count
+-- of calls, and the pieces of its chunk files
 pub record Opening : Type 0 where
   pub snapshots : List Snapshot
   pub moment : ℕ
+  pub touches : List Touch
   pub calls : ℕ
   pub chunks : List (List ℕ)
 

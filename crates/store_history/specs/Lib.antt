@@ -6,3 +6,6 @@ pub mod SoFar
 pub mod Woven
 pub mod CrashPoints
 pub mod Seats
+pub mod Tending
+pub mod Saved
+pub mod Touches

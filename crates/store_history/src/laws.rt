@@ -1,6 +1,7 @@
 //! What holds of every history.
 
 ghost use Rattle.store_history.specs.Seats.{PicksOwn};
+ghost use Rattle.store_history.specs.Touches.{FirstEntryDates, NoneLater, SentIsTouched};
 ghost use Rattle.store_history.specs.Woven.{ServedFitsRules, ServedIsWoven};
 
 /// Where a history is legal and each lane's own events are a run of its program, the plain store, asked in the
@@ -20,4 +21,19 @@ pub fn histories_keep_rules()
 #[tactic(auto, using(crate::proofs::Picking::own_picked))]
 pub fn seats_know_their_own()
     ensures { PicksOwn }
+{}
+
+/// No chunk's last touch is after the last moment.
+pub fn no_touch_is_later()
+    ensures { NoneLater }
+{}
+
+/// A chunk that was sent was touched at the moment of that act.
+pub fn what_is_sent_is_touched()
+    ensures { SentIsTouched }
+{}
+
+/// Once an act was entered, no chunk is undated.
+pub fn first_entries_date()
+    ensures { FirstEntryDates }
 {}

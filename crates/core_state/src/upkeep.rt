@@ -1,0 +1,28 @@
+//! What the core keeps of the chunks that are there.
+
+ghost use Rattle.store_history.specs.Tending.{SameTended, dated};
+ghost use Rattle.core_state.specs.Upkeeps.{tended_of};
+
+use atime_book::Book;
+use store_types::Digest32;
+
+/// The chunks that are there, and when each was last touched.
+#[derive(Drop)]
+pub struct Upkeep {
+    pub book: Book,
+    /// Those that stood there at opening and that the saved book did not have. The book has them too, so that dating them takes
+    /// no memory.
+    pub undated: Vec<Digest32>,
+}
+
+impl Upkeep {
+    /// Touches the undated chunks at the moment of an entry of the order: then none is left. It takes no memory.
+    pub fn date(&mut self, moment: u64)
+        ensures { SameTended (tended_of self.new) (dated moment (tended_of self.old)) }
+    {
+        for digest in &self.undated {
+            self.book.touch_known(digest, moment);
+        }
+        self.undated.clear();
+    }
+}
