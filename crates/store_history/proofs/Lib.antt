@@ -12,4 +12,5 @@ pub mod Jobs
 pub mod Prefixes
 pub mod Alone
 pub mod Lasting
+pub mod Tending
 mod Examples
