@@ -30,7 +30,7 @@ kind_no_slash Ct = refl
 kind_no_slash Host = refl
 kind_no_slash Vm = refl
 
-from_kind : (k : SnapshotKey) (name : List ℕ) → file_path k name ≡ kind_text k.kind ++ 47 ∷ (k.id ++ 47 ∷ (time_text k.time ++ 47 ∷ name))
+pub from_kind : (k : SnapshotKey) (name : List ℕ) → file_path k name ≡ kind_text k.kind ++ 47 ∷ (k.id ++ 47 ∷ (time_text k.time ++ 47 ∷ name))
 unfolding key_text group_text
 from_kind k name = simp append_assoc refl
 
