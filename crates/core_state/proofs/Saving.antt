@@ -97,8 +97,8 @@ module _ {D E C : Type 0} (d : Ghosts D) (old new : Core D E C) (result : Result
       calls = ap (λ (c : Core D E C). (c.journal).calls.items) rest ∙ s.calls;
       fault = fault_same ∙ s.fault;
       last = ap (λ (c : Core D E C). c.last) rest ∙ s.last;
-      time = subst (λ c. KeepsTime readings c h) (sym (ap (λ (c : Core D E C). c.clock) rest)) s.time;
-      reached = let reached = s.reached in let later = up in omega (arith, reached, later);
+      time = subst (λ (c : C). KeepsTime readings c h) (sym (ap (λ (c : Core D E C). c.clock) rest)) s.time;
+      reached = let reached = s.reached in let risen = up in omega (arith, reached, risen);
       honest = serves.kept.0 s.honest;
       shows = record {
         catalogue = ap (λ (c : Core D E C). map (λ (x : Listed). x.kept) (c.parts).catalogue.items) rest ∙ (s.shows).catalogue;

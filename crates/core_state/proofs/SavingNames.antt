@@ -90,10 +90,10 @@ file_not_staged : (key : SnapshotKey) (name : List ℕ) → file_path key name �
 file_not_staged key name = dot_apart _ key name
 
 chunk_not_book : (digest : List ℕ) → chunk_name digest ≢ book_name
-chunk_not_book digest e = letters_apart digest _ (ap (drop 8) e)
+chunk_not_book digest e = letters_apart digest (codes "ok") (ap (drop 8) e)
 
 chunk_not_staged : (digest : List ℕ) → chunk_name digest ≢ temporary book_name
-chunk_not_staged digest e = letters_apart digest _ (ap (drop 8) e)
+chunk_not_staged digest e = letters_apart digest (codes "ok.tmp") (ap (drop 8) e)
 
 -- ---- the book is put
 
