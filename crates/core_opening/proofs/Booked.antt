@@ -196,6 +196,33 @@ module _ (m c : Files) (u : Upkeep) (whole : HasWholeChunks m) (may : MayClean m
   pub opened_moment : u.book.moment ≡ (saved_book m).moment
   opened_moment = keeps.read
 
-  module _ (o : Opening) (moment : o.moment ≡ (saved_book m).moment) (touches : o.touches ≡ (saved_book m).touches) (chunks : o.chunks ≡ chunk_pieces m) where
-    pub opened_tended : SameTended (tended_of u) (tended_at o)
-    opened_tended = ?
+  module _ (L : List Snapshot) (calls : ℕ) where
+    abbrev opening : Opening
+    opening = record { snapshots = L; moment = (saved_book m).moment; touches = (saved_book m).touches; calls = calls; chunks = chunk_pieces m }
+
+    pub opened_tended : SameTended (tended_of u) (tended_at opening)
+    opened_tended = record {
+      last = λ x. keeps.last x ∙ ap (λ b. if b then Some (unwrap_or (last_of (saved_book m) x) (saved_book m).moment) else None) (among_one x);
+      undated = λ x.
+          ap (is_among x) keeps.unknown ∙ among_filter (λ (d : Digest32). is_none (last_of (saved_book m) d.0)) x book.digests
+          ∙ ap (λ b. b && is_none (last_of (saved_book m) x)) (among_one x);
+    }
+
+    pub opened_present : (x : List ℕ) → IsDigest x → IsSome (get c (chunk_name x)) ↔ IsSome ((tended_at opening).last x)
+    opened_present x is =
+        let when = unwrap_or (last_of (saved_book m) x) (saved_book m).moment in
+        (λ there. ap (λ b. is_some (if b then Some when else None)) (there_one m x whole is (was_there x there)),
+         λ some. is_there x (one_there m x (some_if (is_one x (map sha256 (chunk_pieces m))) when some)).there)
+
+-- where an honest disk stands for a list
+pub opened_minds : {D E C : Type 0} (d : Ghosts D) (readings : Option Readings) (old : D) (core : Core D E C) (L : List Snapshot) (R : Option (List Snapshot)) → Stands (d.content old) L
+    → MayClean (d.content old) (d.content old) (d.content (core.parts).disk) → IsBookOf (d.content (core.parts).disk) core.upkeep
+    → Minds d core (began (opening_of d old (core.parts).disk L) R readings)
+unfolding tended_all
+opened_minds d readings old core L R stands may book =
+    let m = d.content old in
+    let c = d.content (core.parts).disk in
+    record {
+      touches = opened_tended m c core.upkeep stands.chunks may book L (d.calls (core.parts).disk);
+      present = λ calm. opened_present m c core.upkeep stands.chunks may book L (d.calls (core.parts).disk);
+    }
