@@ -23,6 +23,7 @@ pub mod Unreadables
 pub mod Readers
 pub mod Commanding
 pub mod Calls
+pub mod Touching
 pub mod ByKept
 pub mod Applying
 pub mod Ending

@@ -13,4 +13,5 @@ pub mod Prefixes
 pub mod Alone
 pub mod Lasting
 pub mod Tending
+pub mod Naming
 mod Examples
