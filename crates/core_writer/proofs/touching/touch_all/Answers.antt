@@ -1,3 +1,4 @@
+use Rattle.std.proofs.Common.{[]}
 use Rattle.core_writer.proofs.TouchLemmas.{each_next}
 use Rattle.core_writer.proofs.touching.touch_all.Goals as goal
 
