@@ -29,7 +29,7 @@ use Rattle.core_state.specs.Settles.{reply_by}
 use Rattle.core_state.specs.Stops.{told}
 use Rattle.core_state.specs.Upkeeps.{tended_of}
 use Rattle.core_state.proofs.Touching.{refusal_untouched}
-use Rattle.core_writer.specs.Touching.{ActTouches, EndsEntry, MakesEntry, TouchesEach, digests_of}
+use Rattle.core_writer.specs.Touching.{ActTouches, EndsEntry, MakesEntry, TouchesNamed, digests_of}
 
 pub false_true : false ≡ true → ⊥
 false_true e = cc
@@ -137,18 +137,18 @@ one-push d (x ∷ es) e = ap (λ b. bytes_eq (x.digest).0 d || b) (one-push d es
     by_test true = refl
     by_test false = refl
 
-each_more : (old book new : Book) (es : List AppendEntry) (e : AppendEntry) (when : ℕ) → TouchesEach old book es when → TouchesKnown book new (e.digest).0 when
-    → TouchesEach old new (es ++ e ∷ []) when
+each_more : (old book new : Book) (es : List AppendEntry) (e : AppendEntry) (when : ℕ) → TouchesNamed old book es when → TouchesKnown book new (e.digest).0 when
+    → TouchesNamed old new (es ++ e ∷ []) when
 each_more old book new es e when each touches = record {
   last = λ d. touched_more (is_one d (digests_of es)) (bytes_eq (e.digest).0 d) (last_of old d) (last_of book d) (last_of new d) when (each.last d)
       (touched_known book new (e.digest).0 when touches d)
       ∙ ap (λ b. cond b (later when (last_of old d)) (last_of old d)) (sym (one-push d es e));
 }
 
-pub each_next : (old book new : Book) (entries : List AppendEntry) (i when : ℕ) (none : AppendEntry) → i < length entries → TouchesEach old book (take i entries) when
-    → TouchesKnown book new ((get_or entries i none).digest).0 when → TouchesEach old new (take (i + 1) entries) when
+pub each_next : (old book new : Book) (entries : List AppendEntry) (i when : ℕ) (none : AppendEntry) → i < length entries → TouchesNamed old book (take i entries) when
+    → TouchesKnown book new ((get_or entries i none).digest).0 when → TouchesNamed old new (take (i + 1) entries) when
 each_next old book new entries i when none below each touches =
-    subst (λ es. TouchesEach old new es when) (sym (take_more entries i none below)) (each_more old book new (take i entries) (get_or entries i none) when each touches)
+    subst (λ es. TouchesNamed old new es when) (sym (take_more entries i none below)) (each_more old book new (take i entries) (get_or entries i none) when each touches)
 
 -- ---- by how the command ended
 
@@ -198,7 +198,7 @@ chunk_touches old new mid at digest checked (Err stop) done made answers plain u
 
 pub append_touches : (old new : Upkeep) (at : Place) (number : ℕ) (entries : List AppendEntry) (result : Result Reply Stop)
     → IfOk (told result) (λ reply. IsTrue (may_answer (Plain (Append number entries)) reply)) → IfOk result IsNoRefusal → new.undated ≡ old.undated → is_ok result ≡ true
-    → TouchesEach old.book new.book entries at.moment → ActTouches old new at (Plain (Append number entries)) result
+    → TouchesNamed old.book new.book entries at.moment → ActTouches old new at (Plain (Append number entries)) result
 append_touches old new at number entries (Ok reply) answers plain undated is touches =
     subst (λ r. SameTended (tended_of new) (touched_by (Plain (Append number entries)) (Some r) at.moment (tended_of old))) (sym (append_done number entries reply answers plain))
     (record { last = touches.last; undated = λ d. ap (λ (u : Vec Digest32 Global). is_among d u.items) undated })

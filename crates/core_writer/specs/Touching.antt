@@ -36,5 +36,5 @@ abbrev pub digests_of : List AppendEntry → List (List ℕ)
 digests_of entries = map (λ e. (e.digest).0) entries
 
 -- those of the entries' chunks that the book has were touched
-pub record TouchesEach (old new : Book) (entries : List AppendEntry) (when : ℕ) : Type 0 where
+pub record TouchesNamed (old new : Book) (entries : List AppendEntry) (when : ℕ) : Type 0 where
   pub last : (d : List ℕ) → last_of new d ≡ (if is_one d (digests_of entries) then option_map (λ last. max last when) (last_of old d) else last_of old d)

@@ -5,7 +5,7 @@ ghost use Rattle.wire_commands.specs.declared.command.Command.TheVariants.{Appen
 ghost use Rattle.store_history.specs.Acts.{IsCheckedChunk};
 ghost use Rattle.store_history.specs.declared.act.Act.TheVariants.{Chunk, Plain};
 ghost use Rattle.core_state.specs.Commands.{ActDoes, ActLeaves, PlainDoes, PlainLeaves};
-ghost use Rattle.core_writer.specs.Touching.{ActTouches, EndsEntry, MakesEntry, TouchesEach};
+ghost use Rattle.core_writer.specs.Touching.{ActTouches, EndsEntry, MakesEntry, TouchesNamed};
 
 use atime_book::Book;
 use core_state::{Parts, Place, Stop, Upkeep};
@@ -67,7 +67,7 @@ pub fn chunk_touched<D: Disk>(
 
 /// Touches the chunks of the entries, those that the book has. It takes no memory.
 fn touch_all(book: &mut Book, entries: &[AppendEntry], moment: u64)
-    ensures { TouchesEach book.old book.new entries.now moment }
+    ensures { TouchesNamed book.old book.new entries.now moment }
 {
     for entry in entries {
         book.touch_known(&entry.digest, moment);
