@@ -31,7 +31,7 @@ pub same_back : (a b : Tended) → SameTended a b → SameTended b a
 same_back a b same = record { last = λ d. sym (same.last d); undated = λ d. sym (same.undated d) }
 
 pub same_then : (a b c : Tended) → SameTended a b → SameTended b c → SameTended a c
-same_then a b c first then_ = record { last = λ d. first.last d ∙ then_.last d; undated = λ d. first.undated d ∙ then_.undated d }
+same_then a b c first next = record { last = λ d. first.last d ∙ next.last d; undated = λ d. first.undated d ∙ next.undated d }
 
 -- ---- alike after the same
 
