@@ -80,7 +80,7 @@ touched_more false false old mid new when each touched = touched ∙ each
 has_entry : (old new : Book) (digest : List ℕ) (when : ℕ) → TouchedAt old new digest when → IsSome (last_of new digest)
 has_entry old new digest when touched =
     let there : last_of new digest ≡ Some (greatest (last_of old digest) when) = touched.last digest
-        ∙ ap (λ b. cond b (Some (greatest (last_of old digest) when)) (last_of old digest)) ((bytes_eq-Decides digest digest).1 refl) in
+    ∙ ap (λ b. cond b (Some (greatest (last_of old digest) when)) (last_of old digest)) ((bytes_eq-Decides digest digest).1 refl) in
     subst (λ (o : Option ℕ). IsSome o) (sym there) refl
 
 -- the command was done
