@@ -5,7 +5,7 @@ use Rattle.disk_trait.specs.declared.disk.DiskError.TheVariants.{NoMemory, Faile
 use Rattle.disk_trait.specs.Disk.{Rose, Serves, Same}
 use Rattle.disk_trait.specs.Effects.{DiskWantKeeps}
 use Rattle.std.proofs.Common.{◌≡◌, ◌≢◌, ◌≤◌, ◌+◌, ◌↔◌, ◌⊎◌, inl, inr, ℕ, Bool, true, false, List, [], ◌∷◌, ◌||◌, ◌==◌, if◌then◌else◌, Option, Some, None, IfSome, IsSome, Result, Ok, Err, OnOk, refl, sym, ap, subst, ◌∙◌, arith}
-use Rattle.std.specs.Prelude.{IsErrOf}
+use Rattle.std.specs.Prelude.{IsErrOf, is_some}
 use Rattle.std.specs.Result.{result_err}
 use Rattle.std.specs.FinMap.{get}
 use Rattle.file_install.specs.Install.{temporary, installed}
@@ -33,10 +33,16 @@ failed_want e = cc
 -- the disk failed in it
 pub saving_failed : (o : Option DiskError) → IsErrOf (saving_of o) Failed → o ≡ Some Failed
 saving_failed None is = cc
-saving_failed (Some e) is = ap Some (inner e is)
-  where
-    inner : (x : DiskError) → Err x ≡ Err Failed → x ≡ Failed
-    inner x same = cc
+saving_failed (Some NoMemory) is = cc
+saving_failed (Some Failed) is = refl
+
+if_some : (P : Type 0) (o : Option ℕ) → P → IfSome o (λ _. P)
+if_some P None p = tt
+if_some P (Some place) p = p
+
+pub none_is : (o : Option ℕ) → is_some o ≡ false → o ≡ None
+none_is None is = refl
+none_is (Some place) is = cc
 
 -- ---- the book was saved, or it could not be
 
@@ -50,8 +56,8 @@ module _ {D E C : Type 0} (d : Ghosts D) (old new : Core D E C) where
   later_by (inl same) = subst (λ x. d.calls (old.parts).disk ≤ d.calls x) (sym same) (omega arith)
   later_by (inr steps) = steps.later
 
-  not_halted : {P : Type 0} → old.fault ≡ None → IfSome old.fault (λ _. P)
-  not_halted {P} none = subst (λ (o : Option ℕ). IfSome o (λ _. P)) (sym none) tt
+  not_halted : (P : Type 0) → old.fault ≡ None → IfSome old.fault (λ _. P)
+  not_halted P none = subst (λ (o : Option ℕ). IfSome o (λ _. P)) (sym none) tt
 
   -- by what save_book answered
   saved_so : (r : Result (Unit {0}) DiskError) → old.fault ≡ None
@@ -60,7 +66,7 @@ module _ {D E C : Type 0} (d : Ghosts D) (old new : Core D E C) where
       → EndsSaved d old new (result_err r)
   saved_so (Ok u) none serves rest crash saved unchanged history = record {
     rest = rest;
-    halted = not_halted none;
+    halted = not_halted _ none;
     serves = record { kept = serves.kept; count = serves.count; cause = λ is. absurd (failed_none is) };
     later = later_by crash;
     foreign = λ honest calm. installed_foreign saved honest;
@@ -68,7 +74,7 @@ module _ {D E C : Type 0} (d : Ghosts D) (old new : Core D E C) where
   }
   saved_so (Err NoMemory) none serves rest crash saved unchanged history = record {
     rest = rest;
-    halted = not_halted none;
+    halted = not_halted _ none;
     serves = record { kept = serves.kept; count = serves.count; cause = λ is. absurd (failed_want is) };
     later = later_by crash;
     foreign = λ honest calm q own. ap (λ m. get m q) ((unchanged refl).0 honest);
@@ -76,7 +82,7 @@ module _ {D E C : Type 0} (d : Ghosts D) (old new : Core D E C) where
   }
   saved_so (Err Failed) none serves rest crash saved unchanged history = record {
     rest = rest;
-    halted = not_halted none;
+    halted = not_halted _ none;
     serves = record { kept = serves.kept; count = serves.count; cause = λ is. serves.cause refl };
     later = later_by crash;
     foreign = λ honest calm. absurd (calm refl);
@@ -95,22 +101,18 @@ module _ {D E C : Type 0} (d : Ghosts D) (old new : Core D E C) where
 pub not_tried : {D E C : Type 0} (d : Ghosts D) (core : Core D E C) → IsSome core.fault → EndsSaved d core core None
 not_tried d core failed = record {
   rest = refl;
-  halted = both core.fault;
+  halted = if_some _ core.fault (refl, refl);
   serves = record { kept = (λ h. h, λ h. h); count = omega arith; cause = λ is. absurd (failed_none is) };
   later = omega arith;
   foreign = λ honest calm q own. refl;
   history = record {
-    stands = λ calm h s. s;
-    minds = λ calm h s m. m;
-    holds = λ h none s m. absurd (some_none core.fault failed none);
-    recovers = λ start h r. r;
+    stands = λ readings calm h s. s;
+    minds = λ readings calm h s m. m;
+    holds = λ readings h none s m. absurd (some_none core.fault failed none);
+    recovers = λ readings start h s r. r;
   };
 }
   where
-    both : (o : Option ℕ) → IfSome o (λ _. (core ≡ core) × (None ≡ None))
-    both None = tt
-    both (Some place) = (refl, refl)
-
     some_none : (o : Option ℕ) → IsSome o → o ≡ None → ⊥
     some_none None some none = cc
     some_none (Some place) some none = cc

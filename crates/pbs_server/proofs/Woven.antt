@@ -178,7 +178,7 @@ has_both {D} {E} {C} d readings clock disk first core saved left left' taken tak
       let at = last_at L R honest stands in
       let stood = subst (λ o. StandsFor d readings first (began o R (readings clock))) (is_opening L at) (opens L R honest stands) in
       let before = subst (λ o. Recovers d (recovers.opens).start first (began o R (readings clock))) (is_opening L at) (recovers.recovers L R stands) in
-      let after = (ends.history).recovers (recovers.opens).start (history L R) ((ran.stands_for).recovers moments (recovers.opens).start L R stood before clear) in
+      let after = (ends.history).recovers readings (recovers.opens).start (history L R) ((ran.stands_for).stands L R stood clear) ((ran.stands_for).recovers moments (recovers.opens).start L R stood before clear) in
       subst (λ o. StopsLeave d (recovers.opens).start last R o ran.events) (sym (is_opening L at))
       (λ t c from image. after.each t c from (subst (λ x. d.images x t c) disk_as image));
 }
@@ -211,7 +211,7 @@ has_both {D} {E} {C} d readings clock disk first core saved left left' taken tak
 
     -- the core stands for it, once the book was saved
     later : (L : List Snapshot) (R : Option (List Snapshot)) → StandsFor d readings core (history L R) → NoDiskFault order not_saved → StandsFor d readings saved (history L R)
-    later L R s unfailed = (ends.history).stands (λ is. unfailed.saving (saving_failed not_saved is)) (history L R) s
+    later L R s unfailed = (ends.history).stands readings (λ is. unfailed.saving (saving_failed not_saved is)) (history L R) s
 
     plain : (L : List Snapshot) (R : Option (List Snapshot)) → first.last ≡ (saved_book (d.content disk)).moment → load (d.content disk) ≡ L
         → StandsFor d readings core (history L R) → Minds d core (history L R)
@@ -232,7 +232,7 @@ has_both {D} {E} {C} d readings clock disk first core saved left left' taken tak
           stands = λ unfailed. subst (λ x. Stands (d.content x) (world h).store.snapshots) (sym disk_as) ((later L R s unfailed).files (calm L R unfailed.acts)).snapshots;
           chunks = λ unfailed. subst (λ x. HoldsOnly (d.content x) (chunk_pieces (d.content disk) ++ sent ran.events)) (sym disk_as) ((later L R s unfailed).chunks (calm L R unfailed.acts));
           book = λ is saved_is.
-              let held : OnOk (saving_of not_saved) (HoldsBook (d.content (saved.parts).disk) core.last (tending h)) = (ends.history).holds h (s.fault ∙ calm L R is) s m in
+              let held : OnOk (saving_of not_saved) (HoldsBook (d.content (saved.parts).disk) core.last (tending h)) = (ends.history).holds readings h (s.fault ∙ calm L R is) s m in
               let kept : HoldsBook (d.content (saved.parts).disk) core.last (tending h) = subst (λ o. OnOk (saving_of o) (HoldsBook (d.content (saved.parts).disk) core.last (tending h))) saved_is held in
               subst (λ x. HoldsBook (d.content x) (moment_after first.last ran.events) (tended_all (tended_at (opening L)) ran.events)) (sym disk_as)
               (subst (λ n. HoldsBook (d.content (saved.parts).disk) n (tended_all (tended_at (opening L)) ran.events)) r.last kept);

@@ -9,12 +9,12 @@ use Rattle.pbs_server.proofs.Woven.{has_both, opening_at}
 use Rattle.pbs_server.proofs.Broken.{reached, not_clean}
 use Rattle.pbs_server.proofs.run.serve_alone.Goals as goal
 
-pub save-not_saved-requires-clause-early : goal.save-not_saved-requires-clause-early
-save-not_saved-requires-clause-early g c = let d = g.D.Disk in
+pub save-not_saved-requires : goal.save-not_saved-requires
+save-not_saved-requires g c = let d = g.D.Disk in
     let opened = c.in-Ok-open_on.ensures in
     let first = c.in-Ok-open_on.core in
     let ran = c.run_alone-report.ensures.ran (began (opening_at d c.args.disk first []) None (g.C.Clock.readings c.args.clock)) (opened.records (opening_at d c.args.disk first []) None refl) refl in
-    ((ran.stands_for).records).early
+    record { early = ((ran.stands_for).records).early }
 
 pub returns-in-Ok-open_on-clause-leaves : goal.returns-in-Ok-open_on-clause-leaves
 returns-in-Ok-open_on-clause-leaves g c = let d = g.D.Disk in let s = g.S.Source in let k = g.K.Sink in
