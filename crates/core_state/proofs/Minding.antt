@@ -58,28 +58,7 @@ use Rattle.core_state.proofs.Entered.{world_more}
 use Rattle.core_state.proofs.ForeignLemmas.{MissesChunk, no_fault_before, not_faulted, others_kept}
 use Rattle.core_state.proofs.Recovering.{StandsMore, last_right}
 use Rattle.core_state.proofs.Sessions.{session_same}
-
--- ---- the same touches
-
-same_then : (a b c : Tended) → SameTended a b → SameTended b c → SameTended a c
-same_then a b c p q = record { last = λ d. p.last d ∙ q.last d; undated = λ d. p.undated d ∙ q.undated d }
-
-touched_same : (act : Act) (reply : Option Reply) (when : ℕ) (a b : Tended) → SameTended a b → SameTended (touched_by act reply when a) (touched_by act reply when b)
-touched_same (Chunk digest checked) (Some replies.Done) when a b s = record { last = λ d. ap (λ (o : Option ℕ). if bytes_eq digest.0 d then Some (greatest o when) else o) (s.last d); undated = s.undated }
-touched_same (Plain (Append number entries)) (Some replies.Done) when a b s =
-    record { last = λ d. ap (λ (o : Option ℕ). if is_one d (map (λ e. (e.digest).0) entries) then option_map (λ last. max last when) o else o) (s.last d); undated = s.undated }
-touched_same act reply when a b s = s
-
-dated_same : (when : ℕ) (a b : Tended) → SameTended a b → SameTended (dated when a) (dated when b)
-dated_same when a b s = record {
-  last = λ d.
-      ap (λ u. if u then option_map (λ last. max last when) (a.last d) else a.last d) (s.undated d)
-      ∙ ap (λ (o : Option ℕ). if b.undated d then option_map (λ last. max last when) o else o) (s.last d);
-  undated = λ d. refl;
-}
-
-tended_same : (act : Act) (reply : Option Reply) (when : ℕ) (a b : Tended) → SameTended a b → SameTended (tended_by act reply when a) (tended_by act reply when b)
-tended_same act reply when a b s = dated_same when (touched_by act reply when a) (touched_by act reply when b) (touched_same act reply when a b s)
+use Rattle.core_state.proofs.Touching.{refusal_untouched, same_then, tended_same}
 
 -- ---- which chunks are there after an act
 
@@ -104,14 +83,9 @@ touched_there x act reply when t other = refl
 tended_there : (x : List ℕ) (act : Act) (reply : Option Reply) (when : ℕ) (t : Tended) → IsOther x act → is_some ((tended_by act reply when t).last x) ≡ is_some (t.last x)
 tended_there x act reply when t other = dated_there x when (touched_by act reply when t) ∙ touched_there x act reply when t other
 
-refused_touches : (act : Act) (refusal : Refusal) (when : ℕ) (t : Tended) → touched_by act (Some (replies.Refused refusal)) when t ≡ t
-refused_touches (Chunk digest checked) refusal when t = refl
-refused_touches (Plain (Append number entries)) refusal when t = refl
-refused_touches act refusal when t = refl
-
 refused_there : (x : List ℕ) (act : Act) (refusal : Refusal) (when : ℕ) (t : Tended) → is_some ((tended_by act (Some (replies.Refused refusal)) when t).last x) ≡ is_some (t.last x)
 refused_there x act refusal when t =
-    dated_there x when (touched_by act (Some (replies.Refused refusal)) when t) ∙ ap (λ (u : Tended). is_some (u.last x)) (refused_touches act refusal when t)
+    dated_there x when (touched_by act (Some (replies.Refused refusal)) when t) ∙ sym (ap is_some ((refusal_untouched act refusal when t).last x))
 
 sent_there : (digest : Digest32) (checked : Result (List ℕ) Refusal) (when : ℕ) (t : Tended) → is_some ((tended_by (Chunk digest checked) (Some replies.Done) when t).last digest.0) ≡ true
 sent_there digest checked when t =
