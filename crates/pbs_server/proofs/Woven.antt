@@ -38,7 +38,7 @@ use Rattle.pbs_server.specs.Causes.{NoDiskFault}
 use Rattle.pbs_server.specs.Headline.{HasTold, IsPlain, StopsLeave}
 use Rattle.pbs_server.specs.Saving.{EndsSaved, saving_of}
 use Rattle.pbs_server.proofs.Rules.{kept_rules}
-use Rattle.pbs_server.proofs.Saving.{five_fails, halted_by, saving_failed}
+use Rattle.pbs_server.proofs.BookSaved.{five_fails, halted_by, saving_failed}
 
 -- only a fault's entry leaves a fault
 moved_fault : (R : Option (List Snapshot)) (w : World) (k m : ℕ) (a : Rattle.store_history.specs.declared.act.Act.Act) (x : EntryKind) → (x ≡ fault_kind → ⊥) → (moved R w k m a x).fault ≡ w.fault
