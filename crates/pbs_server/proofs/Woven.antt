@@ -38,7 +38,7 @@ use Rattle.pbs_server.specs.Causes.{NoDiskFault}
 use Rattle.pbs_server.specs.Headline.{HasTold, IsPlain, StopsLeave}
 use Rattle.pbs_server.specs.Saving.{EndsSaved, saving_of}
 use Rattle.pbs_server.proofs.Rules.{kept_rules}
-use Rattle.pbs_server.proofs.Saving.{five_fails, halted_by, saving_failed}
+use Rattle.pbs_server.proofs.BookSaved.{five_fails, halted_by, saving_failed}
 
 -- only a fault's entry leaves a fault
 moved_fault : (R : Option (List Snapshot)) (w : World) (k m : ℕ) (a : Rattle.store_history.specs.declared.act.Act.Act) (x : EntryKind) → (x ≡ fault_kind → ⊥) → (moved R w k m a x).fault ≡ w.fault
@@ -146,7 +146,7 @@ pub has_both : {D E C : Type 0} (d : Ghosts D) (readings : C → Option Readings
     → EndsSaved d core saved not_saved
     → order ≡ (saved.journal).entries.items → calls ≡ (saved.journal).calls.items → last ≡ (saved.parts).disk
     → HasBoth d (readings clock) (recovers.opens).start disk (first.parts).disk last left left' taken taken' order calls not_saved report
-has_both {D} {E} {C} d readings clock disk first core saved left left' taken taken' order calls not_saved report last moments opens minds recovers cleaned ran ends order_as calls_as disk_as = record {
+has_both d readings clock disk first core saved left left' taken taken' order calls not_saved report last moments opens minds recovers cleaned ran ends order_as calls_as disk_as = record {
   told = record {
     input = ran.input;
     events = ran.events;
@@ -166,7 +166,7 @@ has_both {D} {E} {C} d readings clock disk first core saved left left' taken tak
     read_out = ran.read_out;
   };
   halted = λ five.
-      (halted_by core.fault (subst (λ o. IsSome o) (sym r.fault) (five_fails 0 None ran.events (sym (ap (has_kind 5) order_is) ∙ five))) ends.halted).1;
+      (halted_by {(saved ≡ core) × (not_saved ≡ None)} core.fault (subst (λ o. IsSome o) (sym r.fault) (five_fails 0 None ran.events (sym (ap (has_kind 5) order_is) ∙ five))) ends.halted).1;
   plain = λ L R honest stands clear.
       let at = last_at L R honest stands in
       let stood = subst (λ o. StandsFor d readings first (began o R (readings clock))) (is_opening L at) (opens L R honest stands) in

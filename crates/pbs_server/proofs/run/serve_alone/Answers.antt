@@ -1,4 +1,4 @@
-use Rattle.std.proofs.Common.{◌∷◌, ◌++◌, [], None, refl, ap, sym, subst, ◌∙◌, arith}
+use Rattle.std.proofs.Common.{◌≤◌, ◌∷◌, ◌++◌, [], None, refl, ap, sym, subst, ◌∙◌, arith}
 use Rattle.core_state.specs.History.{began}
 use Rattle.pbs_server.specs.Saving.{EndsSaved}
 use Rattle.pbs_server.specs.Statuses.{status_by}
@@ -41,7 +41,7 @@ returns-in-Ok-open_on-clause-leaves g c = let d = g.D.Disk in let s = g.S.Source
     g.met.D.Disk.told opened.opened opened.minds opened.recovers opened.cleaned
     (c.run_alone-report.ensures.ran (began (opening_at d disk first []) None (readings c.args.clock)) (opened.records (opening_at d disk first []) None refl) refl)
     ends order_as calls_as back.disk in
-    let count_before = let a = (opened.serves).count in omega (arith, a, entered.count) in
+    let count_before : d.faults disk ≤ d.faults (core.parts).disk = let a = (opened.serves).count in omega (arith, a, entered.count) in
     let told = unsaved (left.order).items not_saved (d.faults disk) (d.faults (core.parts).disk) (d.faults (saved.parts).disk) (d.faults left.disk)
     both.halted count_before (ends.serves).cause (ap d.faults back.disk) in
     leaves_one d s.left s.faults k.taken k.faults (readings c.args.clock) disk c.args.remote left c.args.port.now c.run_alone-report.new.port _ report

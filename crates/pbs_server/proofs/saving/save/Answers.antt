@@ -1,5 +1,5 @@
 use Rattle.std.proofs.Common.{◌≡◌, sym, ◌∙◌}
-use Rattle.pbs_server.proofs.Saving.{ends_saved, none_is, not_tried}
+use Rattle.pbs_server.proofs.BookSaved.{ends_saved, none_is, not_tried}
 use Rattle.pbs_server.proofs.saving.save.Goals as goal
 
 pub returns-then-is_some : goal.returns-then-is_some
