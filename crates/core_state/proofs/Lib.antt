@@ -39,4 +39,4 @@ pub mod Leading
 pub mod Recovering
 pub mod Minding
 pub mod SavingNames
-pub mod Saving
+pub mod SavingBook
