@@ -14,6 +14,7 @@ use Rattle.store_files.specs.Folder.{chunk_name}
 use Rattle.store_model.specs.Store.{Writer, Reader, none, writer, reader, store_of, session, lane_count}
 use Rattle.store_model.specs.Stands.{StandsFor as Stands}
 use Rattle.store_model.specs.Clash.{chunk_pieces}
+use Rattle.atime_book.specs.Touches.{IsEarly, NoneAfter}
 use Rattle.store_history.specs.History.{after_all}
 use Rattle.opening_files.specs.Leaving.{IsLeaving, MayClean}
 use Rattle.opening_files.proofs.Leavers.{stands_cleaned}
@@ -27,7 +28,8 @@ use Rattle.core_state.specs.History.{StandsFor, began}
 use Rattle.core_state.proofs.Chunks.{opened_only, only_same}
 use Rattle.core_state.proofs.LockLemmas.{locked_none}
 use Rattle.core_state.specs.Numbers.{first_number}
-use Rattle.core_opening.specs.Opening.{HasBegun, IsCatalogue, NumbersAll, RecordsOpened, opening_of}
+use Rattle.core_opening.specs.Opening.{HasBegun, IsBookOf, IsCatalogue, NumbersAll, RecordsOpened, opening_of}
+use Rattle.core_opening.proofs.Booked.{opened_moment}
 use Rattle.core_opening.proofs.KeptShown.{kept_shown}
 
 -- no lane has a session
@@ -83,9 +85,10 @@ only_before m c ps may only p there = told (may (chunk_name (sha256 p)))
 module _ {D E C : Type 0} (d : Ghosts D) (readings : C → Option Readings) (old : D) (core : Core D E C) (L : List Snapshot) (R : Option (List Snapshot)) where
   pub opened_stands : HasBegun core → d.honest (core.parts).disk → Stands (d.content old) L
       → MayClean (d.content old) (d.content old) (d.content (core.parts).disk) → IsCatalogue (d.content (core.parts).disk) (core.parts).catalogue.items
+      → IsBookOf (d.content (core.parts).disk) core.upkeep
       → StandsFor d readings core (began (opening_of d old (core.parts).disk L) R (readings core.clock))
   unfolding after_all
-  opened_stands begun honest stands may catalogue =
+  opened_stands begun honest stands may catalogue book =
       let m = d.content old in
       let c = d.content (core.parts).disk in
       let after : Stands c L = stands_cleaned m c L stands may in
@@ -94,7 +97,7 @@ module _ {D E C : Type 0} (d : Ghosts D) (readings : C → Option Readings) (old
         entries = begun.entries;
         calls = begun.calls;
         fault = begun.fault;
-        last = begun.last;
+        last = begun.last ∙ opened_moment m c core.upkeep stands.chunks may book;
         time = keeps_time readings core.clock (readings core.clock) refl;
         reached = omega arith;
         honest = honest;
@@ -109,14 +112,15 @@ module _ {D E C : Type 0} (d : Ghosts D) (readings : C → Option Readings) (old
       }
 
 -- on any disk
-pub opened_records : {D E C : Type 0} (readings : C → Option Readings) (core : Core D E C) → HasBegun core → NumbersAll (core.parts).catalogue.items
+pub opened_records : {D E C : Type 0} (readings : C → Option Readings) (core : Core D E C) → HasBegun core → NumbersAll (core.parts).catalogue.items → IsEarly (core.upkeep).book
     → RecordsOpened readings core.clock core
-opened_records readings core begun numbers o R start = record {
+opened_records readings core begun numbers early o R start = record {
   kept = tt;
   entries = begun.entries;
   calls = begun.calls;
   fault = begun.fault;
-  last = begun.last ∙ sym start;
+  last = sym start;
   time = keeps_time readings core.clock (readings core.clock) refl;
+  early = subst (NoneAfter (core.upkeep).book) (sym begun.last) early;
   numbers = numbers (length (core.journal).entries.items);
 }

@@ -8,12 +8,16 @@ use Rattle.disk_trait.specs.declared.disk.DiskError.TheVariants.{NoMemory as Wan
 use Rattle.disk_trait.specs.declared.disk.Disk.{Ghosts}
 use Rattle.port_traits.specs.Readings.{Readings}
 use Rattle.lock_book.specs.Locks.{no_locks}
+use Rattle.store_types.specs.declared.names.Digest32.{Digest32}
 use Rattle.store_types.specs.declared.names.SnapshotKey.{SnapshotKey}
 use Rattle.store_types.specs.FileNames.{manifest_name}
 use Rattle.store_types.specs.Names.{name_lt}
 use Rattle.store_files.specs.Archive.{Snapshot}
 use Rattle.store_files.specs.Folder.{Files, file_path}
 use Rattle.store_files.specs.Manifest.{Manifest}
+use Rattle.chunk_store.specs.Listed.{Lists as ListsDigests}
+use Rattle.atime_book.specs.Touches.{IsEarly}
+use Rattle.atime_book.specs.Present.{IsOfPresent}
 use Rattle.store_model.specs.Clash.{chunk_pieces}
 use Rattle.store_model.specs.Manifests.{listed_names}
 use Rattle.store_model.specs.Stands.{StandsFor as Stands}
@@ -21,6 +25,7 @@ use Rattle.snapshot_files.specs.Scanned.{FoundSnapshot, Lists}
 use Rattle.opening_files.specs.Leaving.{Cleans, MayClean}
 use Rattle.opening_files.specs.Opened.{Opens}
 use Rattle.store_history.specs.History.{Opening}
+use Rattle.store_history.specs.Saved.{saved_book}
 use Rattle.core_state.specs.declared.kept.Kept.{Kept}
 use Rattle.core_state.specs.declared.kept.Listed.{Listed}
 use Rattle.core_state.specs.declared.kept.Session.TheVariants.{Idle}
@@ -30,8 +35,10 @@ use Rattle.core_opening.specs.declared.opening.Opened.{Opened}
 use Rattle.core_opening.specs.declared.opening.OpenFault.{OpenFault}
 use Rattle.core_opening.specs.declared.opening.OpenFault.TheVariants.{NotSynced, DiskFault, NoMemory}
 use Rattle.core_state.specs.declared.state.Core.{Core}
+use Rattle.core_state.specs.declared.upkeep.Upkeep.{Upkeep}
 use Rattle.core_state.specs.Entering.{AllHeld}
 use Rattle.core_state.specs.History.{StandsFor, began}
+use Rattle.core_state.specs.Minds.{Minds}
 use Rattle.core_state.specs.Named.{is_named_snapshot}
 use Rattle.core_state.specs.Numbers.{AreNumbered, first_number}
 use Rattle.core_state.specs.Records.{Records}
@@ -88,11 +95,33 @@ CataloguesDisk d old new result = d.honest old → IfOk result (λ x. IsCatalogu
 abbrev pub ListsFound : {D E C : Type 0} → Ghosts D → Core D E C → Type 0
 ListsFound d core = IsCatalogue (d.content (core.parts).disk) (core.parts).catalogue.items
 
+-- ---- the book
+
+-- the book has these chunks, with the touches that the saved one has of them
+abbrev pub KeepsChunks : Files → List Digest32 → Upkeep → Type 0
+KeepsChunks files digests u = IsOfPresent (saved_book files) u.book digests u.undated.items
+
+-- the book is of the chunks under whose names a file stands
+pub record IsBookOf (files : Files) (u : Upkeep) : Type 0 where
+  pub digests : List Digest32
+  pub lists : ListsDigests files digests
+  pub keeps : KeepsChunks files digests u
+
+-- that of an honest disk, as it reads when it was opened
+abbrev pub BooksDisk : {D E : Type 0} → Ghosts D → D → D → Result Opened E → Type 0
+BooksDisk d old new result = d.honest old → IfOk result (λ x. IsBookOf (d.content new) x.upkeep)
+
 -- ---- the core
 
--- the snapshots that the disk stood for, no moment of a book, the disk's calls once it was opened, and the pieces of the chunk files
+-- the snapshots that the disk stood for, the saved book, the disk's calls once it was opened, and the pieces of the chunk files
 abbrev pub opening_of : {D : Type 0} → Ghosts D → D → D → List Snapshot → Opening
-opening_of d old new snapshots = record { snapshots = snapshots; moment = 0; calls = d.calls new; chunks = chunk_pieces (d.content old) }
+opening_of d old new snapshots = record {
+  snapshots = snapshots;
+  moment = (saved_book (d.content old)).moment;
+  touches = (saved_book (d.content old)).touches;
+  calls = d.calls new;
+  chunks = chunk_pieces (d.content old);
+}
 
 -- no act is in the order, each reserve is whole, and no lane has a session
 pub record IsNew (x : Opened) : Type 0 where
@@ -103,11 +132,14 @@ pub record IsNew (x : Opened) : Type 0 where
   pub named : IsTrue (list_all is_named_snapshot x.catalogue.items)
   -- whatever acts are to come
   pub numbers : NumbersAll x.catalogue.items
+  -- no chunk was touched after the book's moment
+  pub early : IsEarly (x.upkeep).book
 
 -- nothing has happened yet, and no lane has a session
 pub record HasBegun {D E C : Type 0} (core : Core D E C) : Type 0 where
   pub fault : core.fault ≡ None
-  pub last : core.last ≡ 0
+  -- the last moment of the saved book
+  pub last : core.last ≡ (core.upkeep).book.moment
   pub entries : (core.journal).entries.items ≡ []
   pub calls : (core.journal).calls.items ≡ []
   pub sessions : (core.parts).sessions.items ≡ replicate 64 Idle
@@ -120,6 +152,12 @@ StandsOpened d readings disk clock core =
     (L : List Snapshot) (R : Option (List Snapshot)) → d.honest disk → Stands (d.content disk) L
     → StandsFor d readings core (began (opening_of d disk (core.parts).disk L) R (readings clock))
 
+-- its book is that of this history
+abbrev pub MindsOpened : {D E C : Type 0} → Ghosts D → (C → Option Readings) → D → C → Core D E C → Type 0
+MindsOpened d readings disk clock core =
+    (L : List Snapshot) (R : Option (List Snapshot)) → d.honest disk → Stands (d.content disk) L
+    → Minds d core (began (opening_of d disk (core.parts).disk L) R (readings clock))
+
 -- From the moment of opening on at which what a crash leaves lacks only what opening takes away, it stands for each list of snapshots that the
 -- disk stood for.
 pub record RecoversOpened {D E C : Type 0} (d : Ghosts D) (readings : C → Option Readings) (disk : D) (clock : C) (core : Core D E C) : Type 0 where
@@ -129,7 +167,7 @@ pub record RecoversOpened {D E C : Type 0} (d : Ghosts D) (readings : C → Opti
 
 -- on any disk it keeps each history without events
 abbrev pub RecordsOpened : {D E C : Type 0} → (C → Option Readings) → C → Core D E C → Type 0
-RecordsOpened readings clock core = (o : Opening) (R : Option (List Snapshot)) → o.moment ≡ 0 → Records readings core (began o R (readings clock))
+RecordsOpened readings clock core = (o : Opening) (R : Option (List Snapshot)) → o.moment ≡ core.last → Records readings core (began o R (readings clock))
 
 -- ---- the disk
 

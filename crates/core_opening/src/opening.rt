@@ -6,10 +6,11 @@ ghost use Rattle.core_state.specs.Entering.{AllHeld};
 ghost use Rattle.core_state.specs.declared.kept.Session.TheVariants.{Idle};
 ghost use Rattle.opening_files.specs.Opened.{CleansDisk, WantsMemory};
 ghost use Rattle.opening_files.specs.Removed.{StepsClean};
-ghost use Rattle.core_opening.specs.Opening.{CataloguesDisk, CleansOpening, HasBegun, IsGivenBack, IsNew, LeavesOpened, ListsFound, RecordsOpened, RecoversOpened, ServesOpening, StandsOpened, fault_of};
+ghost use Rattle.core_opening.specs.Opening.{BooksDisk, CataloguesDisk, CleansOpening, HasBegun, IsGivenBack, IsNew, LeavesOpened, ListsFound, MindsOpened, RecordsOpened, RecoversOpened, ServesOpening, StandsOpened, fault_of};
 
+use crate::booking::upkeep_of;
 use crate::cataloguing::listed_of;
-use core_state::{Core, Journal, Listed, Parts, Session};
+use core_state::{Core, Journal, Listed, Parts, Session, Upkeep};
 use disk_trait::{Disk, DiskError};
 use lock_book::LockBook;
 use opening_files::open_files;
@@ -81,30 +82,34 @@ struct Opened {
     journal: Journal,
     sessions: Vec<Session>,
     catalogue: Vec<Listed>,
+    upkeep: Upkeep,
 }
 
-/// Opens the folder of a disk that was synced, and lists what was found.
+/// Opens the folder of a disk that was synced, reads the saved book, and lists what was found.
 fn opened_of<D: Disk>(disk: &mut D, alloc: Global) -> Result<Opened, DiskError>
     ensures serves { Serves D.honest D.faults disk.old disk.new (IsErrOf result DiskError.Failed) }
     ensures crash { StepsClean D.Disk disk.old disk.new }
     ensures cleaned { CleansDisk D.Disk disk.old disk.new result }
     ensures want { WantsMemory D.Disk disk.old disk.new result }
     ensures catalogue { CataloguesDisk D.Disk disk.old disk.new result }
+    ensures book { BooksDisk D.Disk disk.old disk.new result }
     ensures begins { IfOk result IsNew }
 {
     let (journal, sessions) = state_of(alloc)?;
     let inventory = open_files(disk, alloc)?;
+    let upkeep = upkeep_of(disk, alloc, &inventory.chunks)?;
     let catalogue = listed_of(alloc, inventory.snapshots)?;
     Ok(Opened {
         journal,
         sessions,
         catalogue,
+        upkeep,
     })
 }
 
 /// Opens a datastore, whatever moment its last run was stopped at. It syncs the disk; removes each temporary file, and each
-/// file of a snapshot without a manifest; then reads each manifest once. No other file is touched, and no index or chunk
-/// is read.
+/// file of a snapshot without a manifest; then reads each manifest once, and the book of touches. No other file is touched,
+/// and no index or chunk is read.
 ///
 /// The catalogue has each snapshot whose manifest is there, damaged ones too. Where the disk failed or memory was wanting,
 /// all that was handed in is handed back; some of the files that opening removes may be gone then, unless the disk could not
@@ -117,6 +122,8 @@ pub fn open_on<D: Disk, E, C: Clock>(
 ) -> Result<Core<D, E, C>, NotOpened<D, E, C>>
     // it stands for a history without events, opened with the list that the disk stood for
     ensures opened { IfOk result (StandsOpened D.Disk C.readings disk clock) }
+    // of this history is its book: each chunk that is there has its touch of the saved book, or is undated
+    ensures minds { IfOk result (MindsOpened D.Disk C.readings disk clock) }
     // on any disk it keeps a history without events
     ensures records { IfOk result (RecordsOpened C.readings clock) }
     ensures begun { IfOk result HasBegun }
@@ -155,7 +162,8 @@ pub fn open_on<D: Disk, E, C: Clock>(
             remote,
             clock,
             journal: opened.journal,
-            last: 0,
+            last: opened.upkeep.book.moment(),
+            upkeep: opened.upkeep,
             fault: None,
         }),
         Err(e) => Err(NotOpened {

@@ -30,7 +30,7 @@ kind_no_slash Ct = refl
 kind_no_slash Host = refl
 kind_no_slash Vm = refl
 
-from_kind : (k : SnapshotKey) (name : List ℕ) → file_path k name ≡ kind_text k.kind ++ 47 ∷ (k.id ++ 47 ∷ (time_text k.time ++ 47 ∷ name))
+pub from_kind : (k : SnapshotKey) (name : List ℕ) → file_path k name ≡ kind_text k.kind ++ 47 ∷ (k.id ++ 47 ∷ (time_text k.time ++ 47 ∷ name))
 unfolding key_text group_text
 from_kind k name = simp append_assoc refl
 
@@ -55,7 +55,7 @@ any_path a b n m key_a key_b e =
     (key_texts a b key_a key_b (same_texts a b kind id time), sym (parts-join n) ∙ ap (join_with_byte 47) rest ∙ parts-join m)
 
 -- a temporary name is that of another file in the same folder, and no manifest's
-temporary_in : (key : SnapshotKey) (name : List ℕ) → temporary (file_path key name) ≡ file_path key (name ++ codes ".tmp")
+pub temporary_in : (key : SnapshotKey) (name : List ℕ) → temporary (file_path key name) ≡ file_path key (name ++ codes ".tmp")
 temporary_in key name = simp append_assoc refl
 
 not_manifest : (name : List ℕ) → name ++ codes ".tmp" ≢ manifest_name

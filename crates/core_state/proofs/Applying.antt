@@ -17,6 +17,7 @@ use Rattle.store_history.specs.declared.act.Act.TheVariants.{Chunk, Short, End}
 use Rattle.store_history.specs.declared.act.Answer.{Answer}
 use Rattle.store_history.specs.Acts.{IsWellFormed, class_of, stepping, wanting, ending}
 use Rattle.store_history.specs.History.{act_outcome}
+use Rattle.store_history.specs.Tending.{SameTended, tended_by, touched_by}
 use Rattle.core_state.specs.declared.kept.Session.{Session}
 use Rattle.core_state.specs.declared.entering.Admitted.TheVariants.{Answered}
 use Rattle.core_state.specs.declared.entering.Place.{Place}
@@ -34,8 +35,9 @@ use Rattle.core_state.specs.Entering.{held_by}
 use Rattle.core_state.specs.History.{History, event_of, pieces_of, then_event, world}
 use Rattle.core_state.specs.Holds.{Holds}
 use Rattle.core_state.specs.Replies.{may_answer}
-use Rattle.core_state.specs.Settles.{Settles, reply_by}
+use Rattle.core_state.specs.Settles.{Settles, fault_by, kind_by, reply_by, with_fault}
 use Rattle.core_state.specs.Stops.{told}
+use Rattle.core_state.specs.Upkeeps.{tended_of}
 use Rattle.core_state.specs.Wanted.{session_at}
 use Rattle.core_state.proofs.Answered.{refused_stands, short_stands, done_stands}
 use Rattle.core_state.proofs.Answering.{refused_answered, short_answered, done_answered, refused_told, short_told, where_some, where_none, refused_same}
@@ -44,17 +46,20 @@ use Rattle.core_state.proofs.Caused.{refused_caused, short_caused, done_caused, 
 use Rattle.core_state.proofs.Chunks.{clear_safe}
 use Rattle.core_state.proofs.Commanding.{same_leaves, unlisted}
 use Rattle.core_state.proofs.ForeignLemmas.{never_told}
+use Rattle.core_state.proofs.Minding.{minds_more}
 use Rattle.core_state.proofs.Recorded.{records_more, refused_timely, settled_timely, short_timely, step_kind, tells_reply, wanting_kind}
 use Rattle.core_state.proofs.Recovering.{StandsMore, recovers_more}
 use Rattle.core_state.proofs.Reserves.{refused_keeps, done_keeps, closing_kind, closing_before, no_end_keeps}
+use Rattle.core_state.proofs.Touching.{entered_tended, refusal_untouched}
 use Rattle.core_state.proofs.Unchanging.{refused_parts, refused_unchanged, done_unchanged}
 
--- between the beginning of an act and its entry the parts change alone
-pub record SameRest {D E C : Type 0} (mid acted : Core D E C) : Type 0 where
+-- between the beginning of an act and its entry the parts change alone, and the last touches by what the act is answered
+pub record SameRest {D E C : Type 0} (mid acted : Core D E C) (when : ℕ) (act : Act) (reply : Option Reply) : Type 0 where
   pub journal : acted.journal ≡ mid.journal
   pub clock : acted.clock ≡ mid.clock
   pub fault : acted.fault ≡ mid.fault
   pub remote : acted.remote ≡ mid.remote
+  pub upkeep : SameTended (tended_of acted.upkeep) (touched_by act reply when (tended_of mid.upkeep))
 
 -- ---- the change by the reply
 
@@ -165,6 +170,16 @@ module _ {D E C : Type 0} (d : Ghosts D) (clock : clocks.Ghosts C) where
   refused_remote old new lane answer (short is) = (is.entered).remote ∙ (is.begun).remote
   refused_remote old new lane answer (halted is) = (is.entered).remote ∙ (is.begun).remote
 
+  -- what is refused before it is done touches nothing
+  refused_tended : (old new : Core D E C) (lane : ℕ) (act : Act) (answer : Answer) → Refuses d clock.readings old new lane answer
+      → SameTended (tended_of new.upkeep) (tended_by act answer.reply (answer.entry).moment (tended_of old.upkeep))
+  refused_tended old new lane act answer (short is) =
+      entered_tended d old is.between is.between new lane is.moment 2 act (Some (replies.Refused refusals.NoMemory)) answer (is.begun).upkeep
+      (refusal_untouched act refusals.NoMemory is.moment (tended_of (is.between).upkeep)) is.entered
+  refused_tended old new lane act answer (halted is) =
+      entered_tended d old is.between is.between new lane is.moment 5 act (Some (replies.Refused (refusals.Halted is.first))) answer (is.begun).upkeep
+      (refusal_untouched act (refusals.Halted is.first) is.moment (tended_of (is.between).upkeep)) is.entered
+
   -- the refusal is none of the disk's in this act
   refused_as : (old new : Core D E C) (lane : ℕ) (answer : Answer) → Refuses d clock.readings old new lane answer
       → (refusal : Refusal) × (answer.reply ≡ Some (replies.Refused refusal)) × (refusal ≡ DiskFault → ⊥)
@@ -191,6 +206,7 @@ module _ {D E C : Type 0} (d : Ghosts D) (clock : clocks.Ghosts C) where
         ended = λ _. undone answer refusal is;
         halted = where_some _ _ (refused_same d clock.readings old new lane answer refuses);
         remote = refused_remote old new lane answer refuses;
+        upkeep = refused_tended old new lane act answer refuses;
         memory = memory;
         reserve = no_end_keeps old new lane act answer other (refused_keeps d clock.readings old new lane _ answer refuses);
       }
@@ -209,8 +225,9 @@ module _ {D E C : Type 0} (d : Ghosts D) (clock : clocks.Ghosts C) where
       let keeps = refused_kept old new lane act answer (step_no_end act step) refuses memory in
       let more : StandsMore d clock old new act answer = λ h s clear. refused_stands d clock.readings old new h lane act answer s lt formed step refuses memory in record {
         history = more;
-        records = λ h. records_more d clock.readings old new lane act answer h answers timely (step_kind d old new act answer step cause) (tells_reply d old new act answer cause answers.text) keeps.listed;
+        records = λ h. records_more d clock.readings old new lane act answer h answers timely (step_kind d old new act answer step cause) (tells_reply d old new act answer cause answers.text) keeps.listed keeps.upkeep;
         recovers = recovers_more d clock old new lane act answer lt more answers (step_caused d old new act answer step cause) keeps;
+        minds = minds_more d clock old new lane act answer lt formed more answers (step_caused d old new act answer step cause) keeps;
         answers = answers;
         timely = timely;
         told = class_told act answer (step_no_end act step) (refused_told d clock.readings old new lane answer refuses);
@@ -235,8 +252,9 @@ module _ {D E C : Type 0} (d : Ghosts D) (clock : clocks.Ghosts C) where
       let keeps = short_kept old new lane act answer want is in
       let more : StandsMore d clock old new act answer = λ h s clear. short_stands d clock.readings old new h lane act answer s lt formed (want_no_end act want) (λ step closing. want_no_step act want step) is in record {
         history = more;
-        records = λ h. records_more d clock.readings old new lane act answer h answers timely (wanting_kind old act answer want (ap (λ x. x.kind) (is.entered).entry)) (tells_reply d old new act answer cause answers.text) keeps.listed;
+        records = λ h. records_more d clock.readings old new lane act answer h answers timely (wanting_kind old act answer want (ap (λ x. x.kind) (is.entered).entry)) (tells_reply d old new act answer cause answers.text) keeps.listed keeps.upkeep;
         recovers = recovers_more d clock old new lane act answer lt more answers (want_caused d clock.readings old new lane act answer want is) keeps;
+        minds = minds_more d clock old new lane act answer lt formed more answers (want_caused d clock.readings old new lane act answer want is) keeps;
         answers = answers;
         timely = timely;
         told = class_told act answer (want_no_end act want) (short_told d clock.readings old new lane answer is);
@@ -247,7 +265,7 @@ module _ {D E C : Type 0} (d : Ghosts D) (clock : clocks.Ghosts C) where
 
   kept_at : (old mid acted new : Core D E C) (at : Place) (act : Act) (result : Result Reply Stop) (answer : Answer) → (class_of act ≡ ending → ⊥)
       → IsReady clock.readings old mid at.lane at.moment → at.number ≡ length (mid.journal).entries.items
-      → (is_closing old at.lane act ≡ false → (3 ≤ held_by mid.journal at.lane) × (0 < (mid.journal).spare)) → SameRest mid acted
+      → (is_closing old at.lane act ≡ false → (3 ≤ held_by mid.journal at.lane) × (0 < (mid.journal).spare)) → SameRest mid acted at.moment act (Some (reply_by (told result)))
       → ActDoes d mid.parts acted.parts at act result → ActLeaves d mid.parts acted.parts at act result
       → Settles d acted new at.lane at.moment (told result) answer → ActKeeps d old new at.lane act answer
   kept_at old mid acted new at act result answer other ready number filled rest does leaves settles =
@@ -274,6 +292,8 @@ module _ {D E C : Type 0} (d : Ghosts D) (clock : clocks.Ghosts C) where
         ended = λ ends done. ap (λ p. session_at p at.lane) settles.parts ∙ done_told _ result (leaves.ended ends) (if_plain answer.reply _ reply done);
         halted = where_none _ _ ready.no_fault;
         remote = settles.remote ∙ rest.remote ∙ (ready.begun).remote;
+        upkeep = entered_tended d old mid (with_fault acted (fault_by acted.fault (length (acted.journal).entries.items) (told result))) new at.lane at.moment (kind_by (told result)) act (Some (reply_by (told result))) answer
+            (ready.begun).upkeep rest.upkeep settles;
         memory = λ closing. closing_kind d acted new at.lane at.moment (told result) answer (closed closing) settles;
         reserve = no_end_keeps old new at.lane act answer other (done_keeps d clock.readings old mid acted new at.lane at.moment act (told result) answer ready rest.journal filled closed settles);
       }
@@ -288,7 +308,7 @@ module _ {D E C : Type 0} (d : Ghosts D) (clock : clocks.Ghosts C) where
 
   done_at : (old mid acted new : Core D E C) (at : Place) (act : Act) (result : Result Reply Stop) (answer : Answer) → at.lane < 64 → IsWellFormed act → class_of act ≡ stepping
       → IsReady clock.readings old mid at.lane at.moment → at.number ≡ length (mid.journal).entries.items
-      → (is_closing old at.lane act ≡ false → (3 ≤ held_by mid.journal at.lane) × (0 < (mid.journal).spare)) → SameRest mid acted → ActDoes d mid.parts acted.parts at act result → ActLeaves d mid.parts acted.parts at act result
+      → (is_closing old at.lane act ≡ false → (3 ≤ held_by mid.journal at.lane) × (0 < (mid.journal).spare)) → SameRest mid acted at.moment act (Some (reply_by (told result))) → ActDoes d mid.parts acted.parts at act result → ActLeaves d mid.parts acted.parts at act result
       → Settles d acted new at.lane at.moment (told result) answer → ActApplies d clock old new at.lane act answer
   done_at old mid acted new at act result answer lt formed step ready number filled rest does leaves settles =
       let answers = done_answered d clock.readings old mid acted new at.lane at.moment (told result) answer ready rest.journal rest.fault (serves_told d (mid.parts).disk (acted.parts).disk result does.serves) does.text settles in
@@ -297,8 +317,9 @@ module _ {D E C : Type 0} (d : Ghosts D) (clock : clocks.Ghosts C) where
       let cause = done_caused d clock.readings old mid acted new at.lane at.moment act (told result) answer ready (serves_told d (mid.parts).disk (acted.parts).disk result does.serves) does.answers settles in
       let keeps = kept_at old mid acted new at act result answer (step_no_end act step) ready number filled rest does leaves settles in record {
         history = more;
-        records = λ h. records_more d clock.readings old new at.lane act answer h answers timely (step_kind d old new act answer step cause) (tells_reply d old new act answer cause answers.text) keeps.listed;
+        records = λ h. records_more d clock.readings old new at.lane act answer h answers timely (step_kind d old new act answer step cause) (tells_reply d old new act answer cause answers.text) keeps.listed keeps.upkeep;
         recovers = recovers_more d clock old new at.lane act answer lt more answers (step_caused d old new act answer step cause) keeps;
+        minds = minds_more d clock old new at.lane act answer lt formed more answers (step_caused d old new act answer step cause) keeps;
         answers = answers;
         timely = timely;
         told = class_told act answer (step_no_end act step) (ap is_some settles.reply_is);
@@ -315,7 +336,7 @@ module _ {D E C : Type 0} (d : Ghosts D) (clock : clocks.Ghosts C) where
   ready_at old mid lane at admitted = subst (λ l. IsReady clock.readings old mid l at.moment) (sym admitted.lane_is) admitted.ready
 
   pub done_applies : (old mid acted new : Core D E C) (lane : ℕ) (at : Place) (act : Act) (result : Result Reply Stop) (answer : Answer) → lane < 64 → IsWellFormed act → class_of act ≡ stepping
-      → IsAdmitted clock.readings old mid lane at → (is_closing old lane act ≡ false → (3 ≤ held_by mid.journal lane) × (0 < (mid.journal).spare)) → SameRest mid acted → ActDoes d mid.parts acted.parts at act result → ActLeaves d mid.parts acted.parts at act result
+      → IsAdmitted clock.readings old mid lane at → (is_closing old lane act ≡ false → (3 ≤ held_by mid.journal lane) × (0 < (mid.journal).spare)) → SameRest mid acted at.moment act (Some (reply_by (told result))) → ActDoes d mid.parts acted.parts at act result → ActLeaves d mid.parts acted.parts at act result
       → Settles d acted new at.lane at.moment (told result) answer → ActApplies d clock old new lane act answer
   done_applies old mid acted new lane at act result answer lt formed step admitted filled rest does leaves settles =
       subst (λ l. ActApplies d clock old new l act answer) admitted.lane_is
@@ -323,7 +344,7 @@ module _ {D E C : Type 0} (d : Ghosts D) (clock : clocks.Ghosts C) where
       (subst (λ l. is_closing old l act ≡ false → (3 ≤ held_by mid.journal l) × (0 < (mid.journal).spare)) (sym admitted.lane_is) filled) rest does leaves settles)
 
   pub done_keeps_all : (old mid acted new : Core D E C) (lane : ℕ) (at : Place) (act : Act) (result : Result Reply Stop) (answer : Answer) → class_of act ≡ stepping
-      → IsAdmitted clock.readings old mid lane at → (is_closing old lane act ≡ false → (3 ≤ held_by mid.journal lane) × (0 < (mid.journal).spare)) → SameRest mid acted
+      → IsAdmitted clock.readings old mid lane at → (is_closing old lane act ≡ false → (3 ≤ held_by mid.journal lane) × (0 < (mid.journal).spare)) → SameRest mid acted at.moment act (Some (reply_by (told result)))
       → ActDoes d mid.parts acted.parts at act result → ActLeaves d mid.parts acted.parts at act result
       → Settles d acted new at.lane at.moment (told result) answer → ActKeeps d old new lane act answer
   done_keeps_all old mid acted new lane at act result answer step admitted filled rest does leaves settles =

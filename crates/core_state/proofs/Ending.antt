@@ -1,10 +1,11 @@
 -- A lane's end, by the two records of what it does to the parts, behind its entry.
-use Rattle.std.proofs.Common.{◌≡◌, ◌<◌, ◌≤◌, ℕ, true, false, length, Some, None, Result, Ok, Err, inl, refl, sym, ap, subst, ◌∙◌, arith}
+use Rattle.std.proofs.Common.{◌≡◌, ◌<◌, ◌≤◌, ℕ, true, false, length, Option, Some, None, Result, Ok, Err, inl, refl, sym, ap, subst, ◌∙◌, arith}
 use Rattle.disk_trait.specs.declared.disk.Disk.{Ghosts}
 use Rattle.disk_trait.specs.declared.disk.DiskError.TheVariants as disks
 use Rattle.disk_trait.specs.declared.disk.Failed.{Failed}
 use Rattle.port_traits.specs.declared.clock.Clock as clocks
 use Rattle.store_types.specs.declared.refusal.Refusal.TheVariants.{DiskFault}
+use Rattle.wire_commands.specs.declared.reply.Reply.{Reply}
 use Rattle.wire_commands.specs.declared.reply.Reply.TheVariants as replies
 use Rattle.store_model.specs.Store.{Store, ended as ended_store}
 use Rattle.store_history.specs.declared.act.Act.TheVariants.{End}
@@ -29,9 +30,11 @@ use Rattle.core_state.proofs.Calls.{later}
 use Rattle.core_state.proofs.Caused.{ended_caused, end_failed_caused}
 use Rattle.core_state.proofs.Clocks.{next_begun}
 use Rattle.core_state.proofs.Ended.{IsClosed, ended_stands, end_failed_stands, end_halted_stands}
+use Rattle.core_state.proofs.Minding.{minds_more}
 use Rattle.core_state.proofs.Recovering.{StandsMore, recovers_more}
 use Rattle.core_state.proofs.Recorded.{records_more, entered_timely, end_kind, end_tells_reply}
 use Rattle.core_state.proofs.Reserves.{ended_keeps, end_failed_keeps}
+use Rattle.core_state.proofs.Touching.{entered_tended}
 use Rattle.core_state.proofs.Unchanging.{untold_unchanged, unchanged_between}
 
 none_some : (first : ℕ) → Some first ≡ None → ⊥
@@ -44,11 +47,11 @@ module _ {D E C : Type 0} (d : Ghosts D) (clock : clocks.Ghosts C) where
   next_at : (old mid : Core D E C) (lane : ℕ) (at : Place) → IsNext clock.readings old mid lane at → IsNext clock.readings old mid at.lane at
   next_at old mid lane at next = subst (λ l. IsNext clock.readings old mid l at) (sym next.lane_is) next
 
-  closed_at : (old mid acted : Core D E C) (at : Place) → IsNext clock.readings old mid at.lane at → SameRest mid acted → d.calls (mid.parts).disk ≤ d.calls (acted.parts).disk
+  closed_at : {reply : Option Reply} (old mid acted : Core D E C) (at : Place) → IsNext clock.readings old mid at.lane at → SameRest mid acted at.moment End reply → d.calls (mid.parts).disk ≤ d.calls (acted.parts).disk
       → IsClosed d clock.readings old mid acted at.lane at.moment
   closed_at old mid acted at next rest up = record { begun = next_begun clock.readings old mid at.lane at next; journal = rest.journal; clock = rest.clock; fault = rest.fault; later = up }
 
-  acted_clock : (old mid acted : Core D E C) (at : Place) → IsNext clock.readings old mid at.lane at → SameRest mid acted → ReadsClock clock.readings old.clock acted.clock old.last at.moment
+  acted_clock : {reply : Option Reply} (old mid acted : Core D E C) (at : Place) → IsNext clock.readings old mid at.lane at → SameRest mid acted at.moment End reply → ReadsClock clock.readings old.clock acted.clock old.last at.moment
   acted_clock old mid acted at next rest = subst (λ c. ReadsClock clock.readings old.clock c old.last at.moment) (sym rest.clock) next.clock
 
   held_before : (old mid : Core D E C) (h : History) → mid.parts ≡ old.parts → old.fault ≡ None → StandsFor d clock.readings old h → Holds d mid.parts (world h).store
@@ -56,7 +59,7 @@ module _ {D E C : Type 0} (d : Ghosts D) (clock : clocks.Ghosts C) where
 
   -- its session has ended, and its files are gone
 
-  ended_kept_at : (old mid acted new : Core D E C) (at : Place) (answer : Answer) → old.fault ≡ None → IsNext clock.readings old mid at.lane at → SameRest mid acted
+  ended_kept_at : (old mid acted new : Core D E C) (at : Place) (answer : Answer) → old.fault ≡ None → IsNext clock.readings old mid at.lane at → SameRest mid acted at.moment End None
       → ActLeaves d mid.parts acted.parts at End (Ok replies.Done) → IsEntered d acted new at.lane at.moment 6 None answer → ActKeeps d old new at.lane End answer
   ended_kept_at old mid acted new at answer none next rest leaves entered = record {
     unchanged = untold_unchanged d old.parts new.parts answer.reply entered.reply_is;
@@ -76,11 +79,12 @@ module _ {D E C : Type 0} (d : Ghosts D) (clock : clocks.Ghosts C) where
     ended = λ _ _. ap (λ p. session_at p at.lane) entered.parts ∙ leaves.ended refl;
     halted = where_none _ _ none;
     remote = entered.remote ∙ rest.remote ∙ next.remote;
+    upkeep = entered_tended d old mid acted new at.lane at.moment 6 End None answer next.upkeep rest.upkeep entered;
     memory = λ closing. absurd (closes_none old.fault End (session_at old.parts at.lane) refl closing);
     reserve = ended_keeps d clock.readings old mid acted new at.lane at.moment answer next.journal rest.journal entered;
   }
 
-  ended_at : (old mid acted new : Core D E C) (at : Place) (answer : Answer) → at.lane < 64 → old.fault ≡ None → IsNext clock.readings old mid at.lane at → SameRest mid acted
+  ended_at : (old mid acted new : Core D E C) (at : Place) (answer : Answer) → at.lane < 64 → old.fault ≡ None → IsNext clock.readings old mid at.lane at → SameRest mid acted at.moment End None
       → ActDoes d mid.parts acted.parts at End (Ok replies.Done) → ActLeaves d mid.parts acted.parts at End (Ok replies.Done)
       → IsEntered d acted new at.lane at.moment 6 None answer → ActApplies d clock old new at.lane End answer
   unfolding act_outcome
@@ -91,8 +95,9 @@ module _ {D E C : Type 0} (d : Ghosts D) (clock : clocks.Ghosts C) where
       let cause = ended_caused d old acted new at.lane at.moment answer entered in
       let keeps = ended_kept_at old mid acted new at answer none next rest leaves entered in record {
         history = more;
-        records = λ h. records_more d clock.readings old new at.lane End answer h answers timely (end_kind d old new End answer refl cause) (end_tells_reply d old new End answer cause) keeps.listed;
+        records = λ h. records_more d clock.readings old new at.lane End answer h answers timely (end_kind d old new End answer refl cause) (end_tells_reply d old new End answer cause) keeps.listed keeps.upkeep;
         recovers = recovers_more d clock old new at.lane End answer lt more answers cause keeps;
+        minds = minds_more d clock old new at.lane End answer lt tt more answers cause keeps;
         answers = answers;
         timely = timely;
         told = ended_told d acted new at.lane at.moment answer entered;
@@ -107,7 +112,7 @@ module _ {D E C : Type 0} (d : Ghosts D) (clock : clocks.Ghosts C) where
           (closed_at old mid acted at next rest (later d (mid.parts).disk (acted.parts).disk _ leaves.crash)) did.1 (λ _. leaves.adds (world h).store held) entered
 
   pub ended_applies : (old mid acted new : Core D E C) (lane : ℕ) (at : Place) (result : Result (Unit {0}) Failed) (answer : Answer) → lane < 64 → old.fault ≡ None
-      → IsNext clock.readings old mid lane at → SameRest mid acted → result ≡ Ok tt
+      → IsNext clock.readings old mid lane at → SameRest mid acted at.moment End None → result ≡ Ok tt
       → ActDoes d mid.parts acted.parts at End (ended_as result) → ActLeaves d mid.parts acted.parts at End (ended_as result)
       → IsEntered d acted new at.lane at.moment 6 None answer → ActApplies d clock old new lane End answer
   ended_applies old mid acted new lane at result answer lt none next rest is does leaves entered =
@@ -116,7 +121,7 @@ module _ {D E C : Type 0} (d : Ghosts D) (clock : clocks.Ghosts C) where
       (subst (λ r. ActDoes d mid.parts acted.parts at End (ended_as r)) is does) (subst (λ r. ActLeaves d mid.parts acted.parts at End (ended_as r)) is leaves) entered)
 
   pub ended_keeps_all : (old mid acted new : Core D E C) (lane : ℕ) (at : Place) (result : Result (Unit {0}) Failed) (answer : Answer) → old.fault ≡ None
-      → IsNext clock.readings old mid lane at → SameRest mid acted → result ≡ Ok tt → ActLeaves d mid.parts acted.parts at End (ended_as result)
+      → IsNext clock.readings old mid lane at → SameRest mid acted at.moment End None → result ≡ Ok tt → ActLeaves d mid.parts acted.parts at End (ended_as result)
       → IsEntered d acted new at.lane at.moment 6 None answer → ActKeeps d old new lane End answer
   ended_keeps_all old mid acted new lane at result answer none next rest is leaves entered =
       subst (λ l. ActKeeps d old new l End answer) next.lane_is
@@ -124,7 +129,7 @@ module _ {D E C : Type 0} (d : Ghosts D) (clock : clocks.Ghosts C) where
 
   -- the disk failed
 
-  end_failed_kept_at : (old mid acted new : Core D E C) (at : Place) (answer : Answer) → old.fault ≡ None → (session_at old.parts at.lane ≡ Idle → ⊥) → IsNext clock.readings old mid at.lane at → SameRest mid acted
+  end_failed_kept_at : (old mid acted new : Core D E C) (at : Place) (answer : Answer) → old.fault ≡ None → (session_at old.parts at.lane ≡ Idle → ⊥) → IsNext clock.readings old mid at.lane at → SameRest mid acted at.moment End (Some (reply_by (Err disks.Failed)))
       → ActLeaves d mid.parts acted.parts at End (Err DiskFailed) → Settles d acted new at.lane at.moment (Err disks.Failed) answer → ActKeeps d old new at.lane End answer
   end_failed_kept_at old mid acted new at answer none busy next rest leaves settles = record {
     unchanged = unchanged_between d old.parts mid.parts acted.parts new.parts (reply_by (Err disks.Failed)) answer.reply next.parts settles.parts settles.reply_is leaves.unchanged;
@@ -141,11 +146,12 @@ module _ {D E C : Type 0} (d : Ghosts D) (clock : clocks.Ghosts C) where
     ended = λ _. undone answer DiskFault settles.reply_is;
     halted = where_none _ _ none;
     remote = settles.remote ∙ rest.remote ∙ next.remote;
+    upkeep = entered_tended d old mid (with_fault acted (Some (length (acted.journal).entries.items))) new at.lane at.moment 5 End (Some (reply_by (Err disks.Failed))) answer next.upkeep rest.upkeep settles;
     memory = λ closing. absurd (closes_none old.fault End (session_at old.parts at.lane) refl closing);
     reserve = end_failed_keeps d clock.readings old mid (with_fault acted (Some (length (acted.journal).entries.items))) new at.lane at.moment answer none busy next.journal rest.journal _ refl settles;
   }
 
-  end_failed_at : (old mid acted new : Core D E C) (at : Place) (answer : Answer) → at.lane < 64 → old.fault ≡ None → (session_at old.parts at.lane ≡ Idle → ⊥) → IsNext clock.readings old mid at.lane at → SameRest mid acted
+  end_failed_at : (old mid acted new : Core D E C) (at : Place) (answer : Answer) → at.lane < 64 → old.fault ≡ None → (session_at old.parts at.lane ≡ Idle → ⊥) → IsNext clock.readings old mid at.lane at → SameRest mid acted at.moment End (Some (reply_by (Err disks.Failed)))
       → ActDoes d mid.parts acted.parts at End (Err DiskFailed) → ActLeaves d mid.parts acted.parts at End (Err DiskFailed)
       → Settles d acted new at.lane at.moment (Err disks.Failed) answer → ActApplies d clock old new at.lane End answer
   end_failed_at old mid acted new at answer lt none busy next rest does leaves settles =
@@ -155,8 +161,9 @@ module _ {D E C : Type 0} (d : Ghosts D) (clock : clocks.Ghosts C) where
       let cause = end_failed_caused d clock.readings _ old mid (with_fault acted (Some (length (acted.journal).entries.items))) new at.lane at.moment answer begun none refl does.serves refl settles in
       let keeps = end_failed_kept_at old mid acted new at answer none busy next rest leaves settles in record {
         history = more;
-        records = λ h. records_more d clock.readings old new at.lane End answer h answers timely (end_kind d old new End answer refl cause) (end_tells_reply d old new End answer cause) keeps.listed;
+        records = λ h. records_more d clock.readings old new at.lane End answer h answers timely (end_kind d old new End answer refl cause) (end_tells_reply d old new End answer cause) keeps.listed keeps.upkeep;
         recovers = recovers_more d clock old new at.lane End answer lt more answers cause keeps;
+        minds = minds_more d clock old new at.lane End answer lt tt more answers cause keeps;
         answers = answers;
         timely = timely;
         told = end_failed_told d mid acted new at.lane at.moment answer rest.fault settles;
@@ -170,7 +177,7 @@ module _ {D E C : Type 0} (d : Ghosts D) (clock : clocks.Ghosts C) where
           (closed_at old mid acted at next rest (later d (mid.parts).disk (acted.parts).disk _ leaves.crash)) none did.0 did.1 settles
 
   pub end_failed_applies : (old mid acted new : Core D E C) (lane : ℕ) (at : Place) (result : Result (Unit {0}) Failed) (failed : Failed) (answer : Answer) → lane < 64 → old.fault ≡ None
-      → (session_at old.parts lane ≡ Idle → ⊥) → IsNext clock.readings old mid lane at → SameRest mid acted → result ≡ Err failed
+      → (session_at old.parts lane ≡ Idle → ⊥) → IsNext clock.readings old mid lane at → SameRest mid acted at.moment End (Some (reply_by (Err disks.Failed))) → result ≡ Err failed
       → ActDoes d mid.parts acted.parts at End (ended_as result) → ActLeaves d mid.parts acted.parts at End (ended_as result)
       → Settles d acted new at.lane at.moment (Err disks.Failed) answer → ActApplies d clock old new lane End answer
   end_failed_applies old mid acted new lane at result failed answer lt none busy next rest is does leaves settles =
@@ -179,7 +186,7 @@ module _ {D E C : Type 0} (d : Ghosts D) (clock : clocks.Ghosts C) where
       (subst (λ r. ActDoes d mid.parts acted.parts at End (ended_as r)) is does) (subst (λ r. ActLeaves d mid.parts acted.parts at End (ended_as r)) is leaves) settles)
 
   pub end_failed_keeps_all : (old mid acted new : Core D E C) (lane : ℕ) (at : Place) (result : Result (Unit {0}) Failed) (failed : Failed) (answer : Answer) → old.fault ≡ None
-      → (session_at old.parts lane ≡ Idle → ⊥) → IsNext clock.readings old mid lane at → SameRest mid acted → result ≡ Err failed → ActLeaves d mid.parts acted.parts at End (ended_as result)
+      → (session_at old.parts lane ≡ Idle → ⊥) → IsNext clock.readings old mid lane at → SameRest mid acted at.moment End (Some (reply_by (Err disks.Failed))) → result ≡ Err failed → ActLeaves d mid.parts acted.parts at End (ended_as result)
       → Settles d acted new at.lane at.moment (Err disks.Failed) answer → ActKeeps d old new lane End answer
   end_failed_keeps_all old mid acted new lane at result failed answer none busy next rest is leaves settles =
       subst (λ l. ActKeeps d old new l End answer) next.lane_is
@@ -188,7 +195,7 @@ module _ {D E C : Type 0} (d : Ghosts D) (clock : clocks.Ghosts C) where
 
   -- after a fault its session ends without a call of the disk
 
-  end_halted_kept_at : (old mid acted new : Core D E C) (at : Place) (first : ℕ) (answer : Answer) → old.fault ≡ Some first → IsNext clock.readings old mid at.lane at → SameRest mid acted
+  end_halted_kept_at : (old mid acted new : Core D E C) (at : Place) (first : ℕ) (answer : Answer) → old.fault ≡ Some first → IsNext clock.readings old mid at.lane at → SameRest mid acted at.moment End None
       → (acted.parts).disk ≡ (mid.parts).disk → (acted.parts).catalogue.items ≡ (mid.parts).catalogue.items → session_at acted.parts at.lane ≡ Idle
       → IsEntered d acted new at.lane at.moment 6 None answer → ActKeeps d old new at.lane End answer
   end_halted_kept_at old mid acted new at first answer some next rest same catalogue idle entered =
@@ -205,11 +212,12 @@ module _ {D E C : Type 0} (d : Ghosts D) (clock : clocks.Ghosts C) where
         ended = λ _ _. ap (λ p. session_at p at.lane) entered.parts ∙ idle;
         halted = where_some _ _ still;
         remote = entered.remote ∙ rest.remote ∙ next.remote;
+        upkeep = entered_tended d old mid acted new at.lane at.moment 6 End None answer next.upkeep rest.upkeep entered;
         memory = λ closing. absurd (closes_none old.fault End (session_at old.parts at.lane) refl closing);
         reserve = ended_keeps d clock.readings old mid acted new at.lane at.moment answer next.journal rest.journal entered;
       }
 
-  end_halted_at : (old mid acted new : Core D E C) (at : Place) (first : ℕ) (answer : Answer) → at.lane < 64 → old.fault ≡ Some first → IsNext clock.readings old mid at.lane at → SameRest mid acted
+  end_halted_at : (old mid acted new : Core D E C) (at : Place) (first : ℕ) (answer : Answer) → at.lane < 64 → old.fault ≡ Some first → IsNext clock.readings old mid at.lane at → SameRest mid acted at.moment End None
       → (acted.parts).disk ≡ (mid.parts).disk → (acted.parts).catalogue.items ≡ (mid.parts).catalogue.items → session_at acted.parts at.lane ≡ Idle → ((s : Store) → Shows mid.parts s → Shows acted.parts (ended_store s at.lane))
       → IsEntered d acted new at.lane at.moment 6 None answer → ActApplies d clock old new at.lane End answer
   end_halted_at old mid acted new at first answer lt some next rest same catalogue idle shows entered =
@@ -219,8 +227,9 @@ module _ {D E C : Type 0} (d : Ghosts D) (clock : clocks.Ghosts C) where
       let cause = ended_caused d old acted new at.lane at.moment answer entered in
       let keeps = end_halted_kept_at old mid acted new at first answer some next rest same catalogue idle entered in record {
         history = more;
-        records = λ h. records_more d clock.readings old new at.lane End answer h answers timely (end_kind d old new End answer refl cause) (end_tells_reply d old new End answer cause) keeps.listed;
+        records = λ h. records_more d clock.readings old new at.lane End answer h answers timely (end_kind d old new End answer refl cause) (end_tells_reply d old new End answer cause) keeps.listed keeps.upkeep;
         recovers = recovers_more d clock old new at.lane End answer lt more answers cause keeps;
+        minds = minds_more d clock old new at.lane End answer lt tt more answers cause keeps;
         answers = answers;
         timely = timely;
         told = ended_told d acted new at.lane at.moment answer entered;
@@ -233,14 +242,14 @@ module _ {D E C : Type 0} (d : Ghosts D) (clock : clocks.Ghosts C) where
           (closed_at old mid acted at next rest (let e = ap d.calls same in omega (arith, e))) some
           (subst d.honest (sym (same ∙ ap (λ p. p.disk) next.parts)) s.honest) (shows (world h).store (subst (λ p. Shows p (world h).store) (sym next.parts) s.shows)) entered
 
-  pub end_halted_applies : (old mid acted new : Core D E C) (lane : ℕ) (at : Place) (first : ℕ) (answer : Answer) → lane < 64 → old.fault ≡ Some first → IsNext clock.readings old mid lane at → SameRest mid acted
+  pub end_halted_applies : (old mid acted new : Core D E C) (lane : ℕ) (at : Place) (first : ℕ) (answer : Answer) → lane < 64 → old.fault ≡ Some first → IsNext clock.readings old mid lane at → SameRest mid acted at.moment End None
       → (acted.parts).disk ≡ (mid.parts).disk → (acted.parts).catalogue.items ≡ (mid.parts).catalogue.items → session_at acted.parts at.lane ≡ Idle → ((s : Store) → Shows mid.parts s → Shows acted.parts (ended_store s at.lane))
       → IsEntered d acted new at.lane at.moment 6 None answer → ActApplies d clock old new lane End answer
   end_halted_applies old mid acted new lane at first answer lt some next rest same catalogue idle shows entered =
       subst (λ l. ActApplies d clock old new l End answer) next.lane_is
       (end_halted_at old mid acted new at first answer (subst (λ l. l < 64) (sym next.lane_is) lt) some (next_at old mid lane at next) rest same catalogue idle shows entered)
 
-  pub end_halted_keeps_all : (old mid acted new : Core D E C) (lane : ℕ) (at : Place) (first : ℕ) (answer : Answer) → old.fault ≡ Some first → IsNext clock.readings old mid lane at → SameRest mid acted
+  pub end_halted_keeps_all : (old mid acted new : Core D E C) (lane : ℕ) (at : Place) (first : ℕ) (answer : Answer) → old.fault ≡ Some first → IsNext clock.readings old mid lane at → SameRest mid acted at.moment End None
       → (acted.parts).disk ≡ (mid.parts).disk → (acted.parts).catalogue.items ≡ (mid.parts).catalogue.items → session_at acted.parts at.lane ≡ Idle
       → IsEntered d acted new at.lane at.moment 6 None answer → ActKeeps d old new lane End answer
   end_halted_keeps_all old mid acted new lane at first answer some next rest same catalogue idle entered =

@@ -1,6 +1,6 @@
--- No act changes what stands at a name that is none of the store's.
-use Rattle.std.proofs.Common.{◌≡◌, ◌≢◌, ◌<◌, ◌⊎◌, inl, inr, ⊎_elim, ℕ, suc, Bool, true, false, if◌then◌else◌, cond, List, [], ◌∷◌, get_or, Option, Some, None, IfSome, Result, Ok, Err, IsTrue, is_some, refl, sym, ap, subst, ◌∙◌, arith}
-use Rattle.std.specs.Prelude.{◌==◌}
+-- An act changes what stands at files of snapshots and at a chunk's name, and at no name that is none of the store's.
+use Rattle.std.proofs.Common.{◌≡◌, ◌≢◌, ◌<◌, ℕ, suc, Bool, true, false, if◌then◌else◌, cond, List, [], ◌∷◌, ◌++◌, get_or, Option, Some, None, IfSome, Result, Ok, Err, IsTrue, is_some, refl, sym, ap, subst, ◌∙◌, arith}
+use Rattle.std.specs.Prelude.{◌==◌, codes}
 use Rattle.std.specs.List.{All, Contains, cons_option, find}
 use Rattle.std.specs.Str.{bytes_eq}
 use Rattle.std.specs.FinMap.{get}
@@ -44,34 +44,37 @@ use Rattle.core_state.specs.Holds.{Shows}
 use Rattle.core_state.specs.Replies.{command_answers, may_answer}
 use Rattle.core_state.specs.Shown.{shown_file, shown_files, shown_session}
 use Rattle.core_state.specs.Wanted.{session_at}
+use Rattle.core_state.proofs.AnyPaths.{temporary_in}
 use Rattle.core_state.proofs.Commanding.{session_shown}
 
--- ---- names of the store
+-- ---- names apart from an act's
 
-abbrev IsOwn : List ℕ → Type 0
-IsOwn p = ((key : SnapshotKey) × (name : List ℕ) × (p ≡ file_path key name)) ⊎ ((digest : List ℕ) × (p ≡ chunk_name digest))
+-- neither the path nor its temporary name
+abbrev pub Misses : List ℕ → List ℕ → Type 0
+Misses q p = (q ≢ p) × (q ≢ temporary p)
 
-own_file : (key : SnapshotKey) (name : List ℕ) → IsOwn (file_path key name)
-own_file key name = inl (key, name, refl)
+-- no path below a snapshot's folder
+abbrev pub IsNoFile : List ℕ → Type 0
+IsNoFile q = (key : SnapshotKey) (name : List ℕ) → q ≢ file_path key name
 
-apart : (q p : List ℕ) → IsForeign q → IsOwn p → (q ≢ p) × (q ≢ temporary p)
-apart q p foreign own = (
-  ⊎_elim
-      (λ (f : (key : SnapshotKey) × (name : List ℕ) × (p ≡ file_path key name)). subst (λ x. q ≢ x) (sym f.2) (foreign.file f.0 f.1))
-      (λ (c : (digest : List ℕ) × (p ≡ chunk_name digest)). subst (λ x. q ≢ x) (sym c.1) (foreign.chunk c.0))
-      own,
-  foreign.lasting p,
-)
+-- a temporary name of such a path is one too
+misses_file : (q : List ℕ) → IsNoFile q → (key : SnapshotKey) (name : List ℕ) → Misses q (file_path key name)
+misses_file q none key name = (none key name, λ e. none key (name ++ codes ".tmp") (e ∙ temporary_in key name))
 
--- each path of a change is one
-abbrev Owns : Change → Type 0
-Owns stays = Unit {0}
-Owns undone = Unit {0}
-Owns (installs path bytes) = IsOwn path
-Owns (stores name bytes) = IsOwn name
-Owns (drops paths) = All IsOwn paths
-Owns (finishes path bytes) = IsOwn path
-Owns (forgets manifest paths) = IsOwn manifest × All IsOwn paths
+-- nor the name under which the act puts a chunk
+abbrev pub MissesChunk : List ℕ → Act → Type 0
+MissesChunk q (acts.Chunk digest checked) = Misses q (chunk_name digest.0)
+MissesChunk q act = Unit {0}
+
+-- each path of a change is another
+abbrev MissesAll : List ℕ → Change → Type 0
+MissesAll q stays = Unit {0}
+MissesAll q undone = Unit {0}
+MissesAll q (installs path bytes) = Misses q path
+MissesAll q (stores name bytes) = Misses q name
+MissesAll q (drops paths) = All (Misses q) paths
+MissesAll q (finishes path bytes) = Misses q path
+MissesAll q (forgets manifest paths) = Misses q manifest × All (Misses q) paths
 
 in_all : {A : Type 0} (P : A → Type 0) (xs : List A) (x : A) → All P xs → Contains xs x → P x
 in_all P xs x all has = subst P has.2 (all has.0 x has.1)
@@ -83,114 +86,117 @@ other_store false m name bytes q ne nt = installed_other m name bytes q ne nt
 in_cons : {A : Type 0} (P : A → Type 0) (x : A) (xs : List A) (y : A) → P x → All P xs → Contains (x ∷ xs) y → P y
 in_cons P x xs y px all has = in_all P (x ∷ xs) y (All-cons P x xs px all) has
 
--- what stands at a foreign name stays over such a change
-foreign_after : (change : Change) (m : Files) (q : List ℕ) → Owns change → IsForeign q → get (after change m) q ≡ get m q
-foreign_after stays m q own foreign = refl
-foreign_after undone m q own foreign = refl
-foreign_after (installs path bytes) m q own foreign = let n = apart q path foreign own in installed_other m path bytes q n.0 n.1
-foreign_after (stores name bytes) m q own foreign = let n = apart q name foreign own in other_store (is_some (get m name)) m name bytes q n.0 n.1
-foreign_after (drops paths) m q own foreign = without_others paths m q (λ has. (apart q q foreign (in_all IsOwn paths q own has)).0 refl)
-foreign_after (finishes path bytes) m q own foreign = let n = apart q path foreign own in installed_other m path bytes q n.0 n.1
-foreign_after (forgets manifest paths) m q own foreign = without_others (manifest ∷ paths) m q (λ has. (apart q q foreign (in_cons IsOwn manifest paths q own.0 own.1 has)).0 refl)
+-- what stands at a name stays over such a change
+missed_after : (change : Change) (m : Files) (q : List ℕ) → MissesAll q change → get (after change m) q ≡ get m q
+missed_after stays m q miss = refl
+missed_after undone m q miss = refl
+missed_after (installs path bytes) m q miss = installed_other m path bytes q miss.0 miss.1
+missed_after (stores name bytes) m q miss = other_store (is_some (get m name)) m name bytes q miss.0 miss.1
+missed_after (drops paths) m q miss = without_others paths m q (λ has. (in_all (Misses q) paths q miss has).0 refl)
+missed_after (finishes path bytes) m q miss = installed_other m path bytes q miss.0 miss.1
+missed_after (forgets manifest paths) m q miss = without_others (manifest ∷ paths) m q (λ has. (in_cons (Misses q) manifest paths q miss.0 miss.1 has).0 refl)
 
 -- ---- the paths of an act's change
 
-own_put : (b : Bool) (key : SnapshotKey) (name bytes : List ℕ) → Owns (if b then stays else installs (file_path key name) bytes)
-own_put true key name bytes = tt
-own_put false key name bytes = own_file key name
-
-own_chunk : (b : Bool) (digest bytes : List ℕ) → Owns (if b then stays else stores (chunk_name digest) bytes)
-own_chunk true digest bytes = tt
-own_chunk false digest bytes = inr (digest, refl)
-
-own_files : (key : SnapshotKey) (fs : List File) → All (λ (f : StoredFile). IsOwn f.path) (shown_files key fs)
-own_files key fs = All-map (λ (f : StoredFile). IsOwn f.path) (shown_file key) fs (λ k f lt. own_file key (get_or fs k f).name)
-
-own_more : (b : Bool) (f : StoredFile) (rest : List (List ℕ)) → IsOwn f.path → All IsOwn rest → All IsOwn (cons_option (if b then None else Some f.path) rest)
-own_more true f rest own all = all
-own_more false f rest own all = All-cons IsOwn f.path rest own all
-
-own_paths : (files : List StoredFile) → All (λ (f : StoredFile). IsOwn f.path) files → All IsOwn (put_paths files)
-own_paths [] all = λ k d lt. absurd (none k lt)
+missed_paths : (q : List ℕ) (files : List StoredFile) → All (λ (f : StoredFile). Misses q f.path) files → All (Misses q) (put_paths files)
+missed_paths q [] all = λ k d lt. absurd (none k lt)
   where
     none : (k : ℕ) → k < 0 → ⊥
     none k lt = omega (arith, lt)
-own_paths (f ∷ fs) all = own_more (bytes_eq f.name manifest_name) f (put_paths fs) (all 0 f (omega arith)) (own_paths fs (λ k x lt. all (suc k) x (omega (arith, lt))))
-
-own_first : (b : Bool) (f : StoredFile) (rest : Option StoredFile) → IsOwn f.path → IfSome rest (λ x. IsOwn x.path) → IfSome (cond b (Some f) rest) (λ x. IsOwn x.path)
-own_first true f rest here later = here
-own_first false f rest here later = later
-
-own_found : (p : StoredFile → Bool) (files : List StoredFile) → All (λ (f : StoredFile). IsOwn f.path) files → IfSome (find p files) (λ f. IsOwn f.path)
-own_found p [] all = tt
-own_found p (f ∷ fs) all = own_first (p f) f (find p fs) (all 0 f (omega arith)) (own_found p fs (λ k x lt. all (suc k) x (omega (arith, lt))))
-
-own_finish : (text : Option (List ℕ)) (f : Option StoredFile) → IfSome f (λ x. IsOwn x.path) → Owns (finish_put (manifest_by text f))
-own_finish (Some t) (Some f) own = own
-own_finish (Some t) None own = tt
-own_finish None (Some f) own = tt
-own_finish None None own = tt
-
--- the session's writer has its files where they belong
-abbrev HasOwn : Session → Type 0
-HasOwn Idle = Unit {0}
-HasOwn (Writer w) = All (λ (f : StoredFile). IsOwn f.path) w.files
-HasOwn (Reader r) = Unit {0}
-
-own_finished : (session : Session) → HasOwn session → Owns (finish_by session)
-own_finished Idle has = tt
-own_finished (Writer w) has = own_finish ((w.session).writer).manifest _ (own_found (λ f. bytes_eq f.name manifest_name) w.files has)
-own_finished (Reader r) has = tt
-
-own_index : (b : Option Open) (w : Writing) → Owns (index_put b w)
-own_index (Some b) w = own_put (bytes_eq b.name manifest_name) ((w.session).writer).key b.name _
-own_index None w = tt
-
-own_blob : (name : List ℕ) (checked : Result (List ℕ) Refusal) (w : Writing) → Owns (blob_put name checked w)
-own_blob name (Ok bytes) w = own_put (bytes_eq name manifest_name) ((w.session).writer).key name bytes
-own_blob name (Err refusal) w = tt
-
-own_stored : (digest : Rattle.store_types.specs.declared.names.Digest32.Digest32) (checked : Result (List ℕ) Refusal) (w : Writing) → Owns (chunk_put digest checked w)
-own_stored digest (Ok bytes) w = own_chunk (is_some (length_at ((w.session).writer).pool digest.0)) digest.0 bytes
-own_stored digest (Err refusal) w = tt
-
-own_forgotten : (k : Option Kept) → Owns (forgotten k)
-own_forgotten None = tt
-own_forgotten (Some k) = (own_file k.key manifest_name, All-map IsOwn (file_path k.key) (names_beside k.files) (λ n name lt. own_file k.key (get_or (names_beside k.files) n name)))
-
-own_writer : (session : Session) (change : Writing → Change) → HasOwn session → ((w : Writing) → All (λ (f : StoredFile). IsOwn f.path) w.files → Owns (change w)) → Owns (by_writer session change)
-own_writer Idle change has own = tt
-own_writer (Writer w) change has own = own w has
-own_writer (Reader r) change has own = tt
-
-own_change : (act : Act) (session : Session) (catalogue : List Listed) → HasOwn session → Owns (change_of act session catalogue)
-own_change (acts.Blob name checked) session catalogue has = own_writer session _ has (λ w all. own_blob name checked w)
-own_change (acts.Chunk digest checked) session catalogue has = own_writer session _ has (λ w all. own_stored digest checked w)
-own_change acts.Short session catalogue has = tt
-own_change acts.End session catalogue has = own_writer session _ has (λ w all. own_paths w.files all)
-own_change (acts.JobGroup command) session catalogue has = tt
-own_change (acts.Plain c) session catalogue has = own_command c
+missed_paths q (f ∷ fs) all = missed_more (bytes_eq f.name manifest_name) (put_paths fs) (all 0 f (omega arith)) (missed_paths q fs (λ k x lt. all (suc k) x (omega (arith, lt))))
   where
-    own_command : (c : Command) → Owns (change_of (acts.Plain c) session catalogue)
-    own_command (commands.CloseIndex number count size csum) = own_writer session _ has (λ w all. own_index (begun_at number (w.session).writer) w)
-    own_command commands.Finish = own_finished session has
-    own_command commands.Abort = own_writer session _ has (λ w all. own_paths w.files all)
-    own_command (commands.Forget snapshot) = own_forgotten _
-    own_command c = tt
+    missed_more : (b : Bool) (rest : List (List ℕ)) → Misses q f.path → All (Misses q) rest → All (Misses q) (cons_option (if b then None else Some f.path) rest)
+    missed_more true rest miss all = all
+    missed_more false rest miss all = All-cons (Misses q) f.path rest miss all
 
-own_reply : (change : Change) (reply : Option Reply) → Owns change → Owns (by_reply change reply)
-own_reply change None own = own
-own_reply change (Some (replies.Refused refusal)) own = own_refused refusal
+missed_first : (q : List ℕ) (b : Bool) (f : StoredFile) (rest : Option StoredFile) → Misses q f.path → IfSome rest (λ x. Misses q x.path) → IfSome (cond b (Some f) rest) (λ x. Misses q x.path)
+missed_first q true f rest here later = here
+missed_first q false f rest here later = later
+
+missed_found : (q : List ℕ) (p : StoredFile → Bool) (files : List StoredFile) → All (λ (f : StoredFile). Misses q f.path) files → IfSome (find p files) (λ f. Misses q f.path)
+missed_found q p [] all = tt
+missed_found q p (f ∷ fs) all = missed_first q (p f) f (find p fs) (all 0 f (omega arith)) (missed_found q p fs (λ k x lt. all (suc k) x (omega (arith, lt))))
+
+missed_finish : (q : List ℕ) (text : Option (List ℕ)) (f : Option StoredFile) → IfSome f (λ x. Misses q x.path) → MissesAll q (finish_put (manifest_by text f))
+missed_finish q (Some t) (Some f) miss = miss
+missed_finish q (Some t) None miss = tt
+missed_finish q None (Some f) miss = tt
+missed_finish q None None miss = tt
+
+-- the session's writer has its files elsewhere
+abbrev MissesFiles : List ℕ → Session → Type 0
+MissesFiles q Idle = Unit {0}
+MissesFiles q (Writer w) = All (λ (f : StoredFile). Misses q f.path) w.files
+MissesFiles q (Reader r) = Unit {0}
+
+missed_finished : (q : List ℕ) (session : Session) → MissesFiles q session → MissesAll q (finish_by session)
+missed_finished q Idle has = tt
+missed_finished q (Writer w) has = missed_finish q ((w.session).writer).manifest _ (missed_found q (λ f. bytes_eq f.name manifest_name) w.files has)
+missed_finished q (Reader r) has = tt
+
+missed_writer : (q : List ℕ) (session : Session) (change : Writing → Change) → MissesFiles q session → ((w : Writing) → All (λ (f : StoredFile). Misses q f.path) w.files → MissesAll q (change w))
+    → MissesAll q (by_writer session change)
+missed_writer q Idle change has miss = tt
+missed_writer q (Writer w) change has miss = miss w has
+missed_writer q (Reader r) change has miss = tt
+
+missed_chunk : (q : List ℕ) (b : Bool) (digest bytes : List ℕ) → Misses q (chunk_name digest) → MissesAll q (if b then stays else stores (chunk_name digest) bytes)
+missed_chunk q true digest bytes miss = tt
+missed_chunk q false digest bytes miss = miss
+
+missed_stored : (q : List ℕ) (digest : Rattle.store_types.specs.declared.names.Digest32.Digest32) (checked : Result (List ℕ) Refusal) (w : Writing) → Misses q (chunk_name digest.0) → MissesAll q (chunk_put digest checked w)
+missed_stored q digest (Ok bytes) w miss = missed_chunk q (is_some (length_at ((w.session).writer).pool digest.0)) digest.0 bytes miss
+missed_stored q digest (Err refusal) w miss = tt
+
+missed_reply : (q : List ℕ) (change : Change) (reply : Option Reply) → MissesAll q change → MissesAll q (by_reply change reply)
+missed_reply q change None miss = miss
+missed_reply q change (Some (replies.Refused refusal)) miss = missed_refused refusal
   where
-    own_refused : (refusal : Refusal) → Owns (by_reply change (Some (replies.Refused refusal)))
-    own_refused refusals.DiskFault = own
-    own_refused r = tt
-own_reply change (Some reply) own = own
+    missed_refused : (refusal : Refusal) → MissesAll q (by_reply change (Some (replies.Refused refusal)))
+    missed_refused refusals.DiskFault = miss
+    missed_refused r = tt
+missed_reply q change (Some reply) miss = miss
 
-own_shown : (x : model.Session) (snapshots : List Rattle.store_files.specs.Archive.Snapshot) → HasOwn (shown_session snapshots x)
-own_shown model.none snapshots = tt
-own_shown (model.writer w) snapshots = own_files w.key w.files
-own_shown (model.reader r) snapshots = tt
+module _ (q : List ℕ) (none : IsNoFile q) where
+  missed_put : (b : Bool) (key : SnapshotKey) (name bytes : List ℕ) → MissesAll q (if b then stays else installs (file_path key name) bytes)
+  missed_put true key name bytes = tt
+  missed_put false key name bytes = misses_file q none key name
+
+  missed_files : (key : SnapshotKey) (fs : List File) → All (λ (f : StoredFile). Misses q f.path) (shown_files key fs)
+  missed_files key fs = All-map (λ (f : StoredFile). Misses q f.path) (shown_file key) fs (λ k f lt. misses_file q none key (get_or fs k f).name)
+
+  missed_index : (b : Option Open) (w : Writing) → MissesAll q (index_put b w)
+  missed_index (Some b) w = missed_put (bytes_eq b.name manifest_name) ((w.session).writer).key b.name _
+  missed_index None w = tt
+
+  missed_blob : (name : List ℕ) (checked : Result (List ℕ) Refusal) (w : Writing) → MissesAll q (blob_put name checked w)
+  missed_blob name (Ok bytes) w = missed_put (bytes_eq name manifest_name) ((w.session).writer).key name bytes
+  missed_blob name (Err refusal) w = tt
+
+  missed_forgotten : (k : Option Kept) → MissesAll q (forgotten k)
+  missed_forgotten None = tt
+  missed_forgotten (Some k) =
+      (misses_file q none k.key manifest_name, All-map (Misses q) (file_path k.key) (names_beside k.files) (λ n name lt. misses_file q none k.key (get_or (names_beside k.files) n name)))
+
+  missed_change : (act : Act) (session : Session) (catalogue : List Listed) → MissesChunk q act → MissesFiles q session → MissesAll q (change_of act session catalogue)
+  missed_change (acts.Blob name checked) session catalogue chunk has = missed_writer q session _ has (λ w all. missed_blob name checked w)
+  missed_change (acts.Chunk digest checked) session catalogue chunk has = missed_writer q session _ has (λ w all. missed_stored q digest checked w chunk)
+  missed_change acts.Short session catalogue chunk has = tt
+  missed_change acts.End session catalogue chunk has = missed_writer q session _ has (λ w all. missed_paths q w.files all)
+  missed_change (acts.JobGroup command) session catalogue chunk has = tt
+  missed_change (acts.Plain c) session catalogue chunk has = missed_command c
+    where
+      missed_command : (c : Command) → MissesAll q (change_of (acts.Plain c) session catalogue)
+      missed_command (commands.CloseIndex number count size csum) = missed_writer q session _ has (λ w all. missed_index (begun_at number (w.session).writer) w)
+      missed_command commands.Finish = missed_finished q session has
+      missed_command commands.Abort = missed_writer q session _ has (λ w all. missed_paths q w.files all)
+      missed_command (commands.Forget snapshot) = missed_forgotten _
+      missed_command c = tt
+
+  missed_shown : (x : model.Session) (snapshots : List Rattle.store_files.specs.Archive.Snapshot) → MissesFiles q (shown_session snapshots x)
+  missed_shown model.none snapshots = tt
+  missed_shown (model.writer w) snapshots = missed_files w.key w.files
+  missed_shown (model.reader r) snapshots = tt
 
 -- ---- an act that left no fault
 
@@ -280,12 +286,23 @@ no_fault_before place kind (Some first) e = absurd (by_test (kind == 5) e)
 
 -- ---- one act
 
+-- what stands at a name that is no file's stays, but for the chunk that the act puts
+pub others_kept : {D E C : Type 0} (d : Ghosts D) (old new : Core D E C) (s : Store) (lane place : ℕ) (act : Act) (answer : Answer) → lane < 64 → Shows old.parts s → d.honest (old.parts).disk
+    → new.fault ≡ fault_after place (answer.entry).kind old.fault → IsCaused d old new act answer → ActKeeps d old new lane act answer → new.fault ≡ None
+    → (q : List ℕ) → IsNoFile q → MissesChunk q act → get (d.content (new.parts).disk) q ≡ get (d.content (old.parts).disk) q
+others_kept d old new s lane place act answer lt shows honest fault cause keeps none q no_file chunk =
+    let before = no_fault_before place (answer.entry).kind old.fault (sym fault ∙ none) in
+    let has : MissesFiles q (session_at old.parts lane) = subst (MissesFiles q) (sym (session_shown old.parts s lane shows lt)) (missed_shown q no_file (session s lane) s.snapshots) in
+    let miss = missed_reply q (change_at old.parts lane act) answer.reply (missed_change q no_file act (session_at old.parts lane) (old.parts).catalogue.items chunk has) in
+    ap (λ m. get m q) (keeps.content before (not_faulted d old new act answer cause none) honest)
+    ∙ missed_after (by_reply (change_at old.parts lane act) answer.reply) (d.content (old.parts).disk) q miss
+
+foreign_chunk : (q : List ℕ) (act : Act) → IsForeign q → MissesChunk q act
+foreign_chunk q (acts.Chunk digest checked) foreign = (foreign.chunk digest.0, foreign.lasting (chunk_name digest.0))
+foreign_chunk q act foreign = tt
+
 pub foreign_kept : {D E C : Type 0} (d : Ghosts D) (old new : Core D E C) (s : Store) (lane place : ℕ) (act : Act) (answer : Answer) → lane < 64 → Shows old.parts s → d.honest (old.parts).disk
     → new.fault ≡ fault_after place (answer.entry).kind old.fault → IsCaused d old new act answer → ActKeeps d old new lane act answer → new.fault ≡ None
     → KeepsForeign d (old.parts).disk (new.parts).disk
 foreign_kept d old new s lane place act answer lt shows honest fault cause keeps none q foreign =
-    let before = no_fault_before place (answer.entry).kind old.fault (sym fault ∙ none) in
-    let has : HasOwn (session_at old.parts lane) = subst HasOwn (sym (session_shown old.parts s lane shows lt)) (own_shown (session s lane) s.snapshots) in
-    let owns = own_reply (change_at old.parts lane act) answer.reply (own_change act (session_at old.parts lane) (old.parts).catalogue.items has) in
-    ap (λ m. get m q) (keeps.content before (not_faulted d old new act answer cause none) honest)
-    ∙ foreign_after (by_reply (change_at old.parts lane act) answer.reply) (d.content (old.parts).disk) q owns foreign
+    others_kept d old new s lane place act answer lt shows honest fault cause keeps none q foreign.file (foreign_chunk q act foreign)

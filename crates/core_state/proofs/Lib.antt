@@ -23,6 +23,7 @@ pub mod Unreadables
 pub mod Readers
 pub mod Commanding
 pub mod Calls
+pub mod Touching
 pub mod ByKept
 pub mod Applying
 pub mod Ending
@@ -36,3 +37,6 @@ pub mod Storing
 pub mod Sparing
 pub mod Leading
 pub mod Recovering
+pub mod Minding
+pub mod SavingNames
+pub mod SavingBook

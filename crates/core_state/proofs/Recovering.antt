@@ -31,7 +31,7 @@ use Rattle.core_state.proofs.SameSnapshots.{next_store}
 
 -- ---- the last event
 
-last_right : (R : Option (List Snapshot)) (w : World) (h : List Event) (e : Event) → IsLegal R w (h ++ e ∷ []) → IsRight R (after_all R w h) e
+pub last_right : (R : Option (List Snapshot)) (w : World) (h : List Event) (e : Event) → IsLegal R w (h ++ e ∷ []) → IsRight R (after_all R w h) e
 unfolding after_all
 last_right R w [] e legal = legal.0
 last_right R w (v ∷ vs) e legal = last_right R (after R w v) vs e legal.1

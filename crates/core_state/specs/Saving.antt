@@ -8,12 +8,11 @@ use Rattle.file_install.specs.Install.{Installs, installed}
 use Rattle.port_traits.specs.Readings.{Readings}
 use Rattle.store_files.specs.Book.{FitsBook, book_text}
 use Rattle.atime_book.specs.Touches.{as_of}
-use Rattle.store_history.specs.History.{World}
 use Rattle.store_history.specs.Saved.{HoldsBook, book_name}
 use Rattle.core_state.specs.declared.state.Core.{Core}
-use Rattle.core_state.specs.History.{History, StandsFor, world}
+use Rattle.core_state.specs.History.{History, StandsFor}
 use Rattle.core_state.specs.Minds.{Minds, tending}
-use Rattle.core_state.specs.Recovers.{Recovers, TellsMoments}
+use Rattle.core_state.specs.Recovers.{Recovers}
 
 -- all but the disk is as before
 abbrev pub KeepsRest : {D E C : Type 0} → Core D E C → Core D E C → Type 0
@@ -34,8 +33,8 @@ pub record HasSaved {D E C : Type 0} (d : Ghosts D) (old new : Core D E C) : Typ
 -- Unless the disk failed the core stands for each history that it stood for, and its book is that of the history; at Ok the folder has
 -- it. What a crash leaves stands for what it stood for, at a fault too.
 pub record SavesBook {D E C : Type 0} (d : Ghosts D) (old new : Core D E C) (result : Result (Unit {0}) DiskError) : Type 0 where
-  pub stands : {readings : C → Option Readings} → (IsErrOf result Failed → ⊥) → (h : History) → StandsFor d readings old h → StandsFor d readings new h
-  pub minds : (IsErrOf result Failed → ⊥) → {readings : C → Option Readings} → (h : History) → StandsFor d readings old h → Minds d old h → Minds d new h
-  pub holds : {readings : C → Option Readings} → (h : History) → old.fault ≡ None → StandsFor d readings old h → Minds d old h
+  pub stands : (readings : C → Option Readings) → (IsErrOf result Failed → ⊥) → (h : History) → StandsFor d readings old h → StandsFor d readings new h
+  pub minds : (readings : C → Option Readings) → (IsErrOf result Failed → ⊥) → (h : History) → StandsFor d readings old h → Minds d old h → Minds d new h
+  pub holds : (readings : C → Option Readings) (h : History) → old.fault ≡ None → StandsFor d readings old h → Minds d old h
       → OnOk result (HoldsBook (d.content (new.parts).disk) old.last (tending h))
-  pub recovers : (start : ℕ) (h : History) → Recovers d start old h → Recovers d start new h
+  pub recovers : (readings : C → Option Readings) (start : ℕ) (h : History) → StandsFor d readings old h → Recovers d start old h → Recovers d start new h

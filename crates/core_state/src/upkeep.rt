@@ -1,7 +1,7 @@
 //! What the core keeps of the chunks that are there.
 
 ghost use Rattle.store_history.specs.Tending.{SameTended, dated};
-ghost use Rattle.core_state.specs.Upkeeps.{tended_of};
+ghost use Rattle.core_state.specs.Upkeeps.{TouchesEach, tended_of};
 
 use atime_book::Book;
 use store_types::Digest32;
@@ -15,14 +15,21 @@ pub struct Upkeep {
     pub undated: Vec<Digest32>,
 }
 
+/// Touches those of the chunks that the book has.
+fn touch_each(book: &mut Book, digests: &[Digest32], moment: u64)
+    ensures { TouchesEach book.old book.new digests.now moment }
+{
+    for digest in digests {
+        book.touch_known(digest, moment);
+    }
+}
+
 impl Upkeep {
     /// Touches the undated chunks at the moment of an entry of the order: then none is left. It takes no memory.
     pub fn date(&mut self, moment: u64)
         ensures { SameTended (tended_of self.new) (dated moment (tended_of self.old)) }
     {
-        for digest in &self.undated {
-            self.book.touch_known(digest, moment);
-        }
+        touch_each(&mut self.book, &self.undated, moment);
         self.undated.clear();
     }
 }

@@ -55,7 +55,7 @@ unfolding on_histories
 ran = (refl, (refl, refl), (refl, (refl, refl), (refl, (refl, refl), (refl, (refl, refl), (refl, (refl, λ five. cc), (refl, refl))))))
 
 abbrev start : Opening
-start = record { snapshots = []; moment = 4; calls = 3; chunks = [] }
+start = record { snapshots = []; moment = 4; touches = []; calls = 3; chunks = [] }
 
 legal : IsLegal None (opened start) h
 unfolding on_histories

@@ -4,6 +4,7 @@ use Rattle.disk_trait.specs.Runs.{both_serve}
 use Rattle.opening_files.specs.Leaving.{Cleans, MayClean}
 use Rattle.opening_files.proofs.Openings.{opens}
 use Rattle.core_opening.specs.declared.opening.Opened.{Opened}
+use Rattle.core_opening.proofs.Booked.{opened_minds}
 use Rattle.core_opening.proofs.Opened.{opened_records, opened_stands}
 use Rattle.core_opening.proofs.Recovering.{recovers_opened}
 use Rattle.core_opening.proofs.Synced.{of_disk, of_memory, stops_opening}
@@ -20,9 +21,19 @@ returns-in-Ok-opened_of-clause-opened g c =
     let begun = x.begins in
     let synced = c.sync.ensures.serves.kept.0 honest in
     opened_stands d g.C.Clock.readings c.args.disk _ L R
-    (record { fault = refl; last = refl; entries = begun.entries; calls = begun.calls; sessions = begun.sessions; locks = c.new.ensures })
+    (record { fault = refl; last = c.moment.ensures; entries = begun.entries; calls = begun.calls; sessions = begun.sessions; locks = c.new.ensures })
     (x.serves.kept.0 synced) stands
-    (subst (λ (m : Files). MayClean m m now) (c.in-Ok.ensures.same honest) (x.cleaned synced).only) (x.catalogue synced)
+    (subst (λ (m : Files). MayClean m m now) (c.in-Ok.ensures.same honest) (x.cleaned synced).only) (x.catalogue synced) (x.book synced)
+
+pub returns-in-Ok-opened_of-clause-minds : goal.returns-in-Ok-opened_of-clause-minds
+returns-in-Ok-opened_of-clause-minds g c =
+    let d = g.D.Disk in
+    let now : Files = d.content c.opened_of.new.disk in
+    λ L R honest stands.
+    let x = c.in-Ok-opened_of.ensures in
+    let synced = c.sync.ensures.serves.kept.0 honest in
+    opened_minds d (g.C.Clock.readings c.args.clock) c.args.disk _ L R stands
+    (subst (λ (m : Files). MayClean m m now) (c.in-Ok.ensures.same honest) (x.cleaned synced).only) (x.book synced)
 
 pub returns-in-Ok-opened_of-clause-catalogue : goal.returns-in-Ok-opened_of-clause-catalogue
 returns-in-Ok-opened_of-clause-catalogue g c = λ honest. c.in-Ok-opened_of.ensures.catalogue (c.sync.ensures.serves.kept.0 honest)
@@ -48,7 +59,7 @@ returns-in-Ok-opened_of-clause-recovers g c =
 pub returns-in-Ok-opened_of-clause-records : goal.returns-in-Ok-opened_of-clause-records
 returns-in-Ok-opened_of-clause-records g c =
     let begun = c.in-Ok-opened_of.ensures.begins in
-    opened_records g.C.Clock.readings _ (record { fault = refl; last = refl; entries = begun.entries; calls = begun.calls; sessions = begun.sessions; locks = c.new.ensures }) begun.numbers
+    opened_records g.C.Clock.readings _ (record { fault = refl; last = c.moment.ensures; entries = begun.entries; calls = begun.calls; sessions = begun.sessions; locks = c.new.ensures }) begun.numbers begun.early
 
 pub returns-in-Ok-opened_of-clause-cleaned : goal.returns-in-Ok-opened_of-clause-cleaned
 returns-in-Ok-opened_of-clause-cleaned g c =

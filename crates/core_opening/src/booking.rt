@@ -1,0 +1,60 @@
+//! The book of the chunks that are there, as a datastore is opened.
+
+ghost use Rattle.std.specs.Prelude.{◌≡◌, IfOk, IsErrOf, unwrap_or};
+ghost use Rattle.disk_trait.specs.Effects.{OnlyReads};
+ghost use Rattle.store_files.specs.Book.{book_of};
+ghost use Rattle.atime_book.specs.Touches.{IsEarly, empty};
+ghost use Rattle.store_history.specs.Saved.{saved_book};
+ghost use Rattle.core_opening.specs.Opening.{KeepsChunks};
+
+use atime_book::Book;
+use core_state::Upkeep;
+use disk_trait::{Disk, DiskError};
+use std::alloc::{AllocError, Global};
+use store_types::Digest32;
+
+/// Where the book of touches stands in the datastore folder.
+const BOOK_NAME: &str = ".chunks/book";
+
+/// The book whose text these bytes are, or an empty one.
+fn book_in(alloc: Global, bytes: &[u8]) -> Result<Book, AllocError>
+    ensures book { IfOk result (λ book. book ≡ unwrap_or (book_of bytes.now) empty) }
+    ensures early { IfOk result IsEarly }
+{
+    match Book::read(alloc, bytes)? {
+        Some(book) => Ok(book),
+        None => Ok(Book::new(alloc)),
+    }
+}
+
+/// The saved book. It is empty where none is there, or bytes that are none.
+fn saved_book_of<D: Disk>(disk: &mut D, alloc: Global) -> Result<Book, DiskError>
+    ensures reads { OnlyReads D.Disk disk.old disk.new (IsErrOf result DiskError.Failed) }
+    ensures book { D.honest disk.old → IfOk result (λ book. book ≡ saved_book (D.content disk.old)) }
+    // on any disk
+    ensures early { IfOk result IsEarly }
+{
+    let Some(bytes) = disk.read(alloc, BOOK_NAME)? else {
+        return Ok(Book::new(alloc));
+    };
+    Ok(book_in(alloc, &bytes)?)
+}
+
+/// The book of these chunks, with the touches that the saved one has of them.
+pub fn upkeep_of<D: Disk>(
+    disk: &mut D,
+    alloc: Global,
+    present: &[Digest32],
+) -> Result<Upkeep, DiskError>
+    ensures reads { OnlyReads D.Disk disk.old disk.new (IsErrOf result DiskError.Failed) }
+    ensures keeps { D.honest disk.old → IfOk result (KeepsChunks (D.content disk.old) present.now) }
+    // on any disk
+    ensures early { IfOk result (λ upkeep. IsEarly upkeep.book) }
+{
+    let saved = saved_book_of(disk, alloc)?;
+    let present = saved.of_present(alloc, present)?;
+    Ok(Upkeep {
+        book: present.book,
+        undated: present.undated,
+    })
+}
