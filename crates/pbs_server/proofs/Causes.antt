@@ -1,6 +1,8 @@
 -- Why a session is answered so.
 use Rattle.disk_trait.specs.declared.disk.Disk.{Ghosts}
-use Rattle.std.proofs.Common.{◌≡◌, ◌≤◌, ℕ, Bool, true, false, List, [], ◌++◌, length, Some, None, if◌then◌else◌, ◌⊎◌, inl, inr, refl, sym, ap, subst, ◌∙◌}
+use Rattle.disk_trait.specs.declared.disk.DiskError.{DiskError}
+use Rattle.disk_trait.specs.declared.disk.DiskError.TheVariants as disks
+use Rattle.std.proofs.Common.{◌≡◌, ◌≤◌, ℕ, Bool, true, false, List, [], ◌++◌, length, Option, Some, None, if◌then◌else◌, ◌⊎◌, inl, inr, refl, sym, ap, subst, ◌∙◌, arith}
 use Rattle.std.specs.List.{All}
 use Rattle.port_traits.specs.Faults.{Rose}
 use Rattle.store_types.specs.declared.order.Entry.{Entry}
@@ -14,50 +16,77 @@ use Rattle.lane.specs.Entries.{has_kind, HasEntered}
 use Rattle.lane.proofs.Caused.{rose_later}
 use Rattle.pbs_server.specs.declared.status.Status.{Status}
 use Rattle.pbs_server.specs.declared.status.Status.TheVariants as statuses
-use Rattle.pbs_server.specs.Statuses.{status_by, status_of_ending, is_short}
-use Rattle.pbs_server.specs.Causes.{IsOrder, HasNotFailed, ReachesNoCommand, HasCause}
+use Rattle.pbs_server.specs.Statuses.{status_by, status_of_ending, is_short, is_wanting, is_failed}
+use Rattle.pbs_server.specs.Causes.{IsOrder, IsUnsaved, HasNotFailed, ReachesNoCommand, HasCause}
 use Rattle.pbs_server.proofs.Broken.{IsBroken}
 
 -- ---- the first that applies
 
-abbrev chosen : Bool → Bool → Bool → Status → Status
-chosen memory short disk s = if memory then statuses.NoMemory else if short then statuses.NoMemory else if disk then statuses.DiskFault else s
+-- by entries of want of memory, a lane that ended by it, a book not saved for it, entries of a disk's fault, a book not saved for one
+abbrev chosen : Bool → Bool → Bool → Bool → Bool → Status → Status
+chosen memory short wanting disk failed s =
+    if memory then statuses.NoMemory else if short then statuses.NoMemory else if wanting then statuses.NoMemory else if disk then statuses.DiskFault else if failed then statuses.DiskFault else s
 
-record IsLast (memory disk : Bool) (s t : Status) : Type 0 where
+record IsLast (memory wanting disk failed : Bool) (s t : Status) : Type 0 where
   pub status : s ≡ t
   pub memory_is : memory ≡ false
+  pub wanting_is : wanting ≡ false
   pub disk_is : disk ≡ false
+  pub failed_is : failed ≡ false
 
 -- neither want of memory nor a fault of the disk
-last_chosen : (a b c : Bool) (s t : Status) → (statuses.NoMemory ≡ t → ⊥) → (statuses.DiskFault ≡ t → ⊥) → chosen a b c s ≡ t → IsLast a c s t
-last_chosen true b c s t memory disk is = absurd (memory is)
-last_chosen false true c s t memory disk is = absurd (memory is)
-last_chosen false false true s t memory disk is = absurd (disk is)
-last_chosen false false false s t memory disk is = record { status = is; memory_is = refl; disk_is = refl }
+last_chosen : (a b w c f : Bool) (s t : Status) → (statuses.NoMemory ≡ t → ⊥) → (statuses.DiskFault ≡ t → ⊥) → chosen a b w c f s ≡ t → IsLast a w c f s t
+last_chosen true b w c f s t memory disk is = absurd (memory is)
+last_chosen false true w c f s t memory disk is = absurd (memory is)
+last_chosen false false true c f s t memory disk is = absurd (memory is)
+last_chosen false false false true f s t memory disk is = absurd (disk is)
+last_chosen false false false false true s t memory disk is = absurd (disk is)
+last_chosen false false false false false s t memory disk is = record { status = is; memory_is = refl; wanting_is = refl; disk_is = refl; failed_is = refl }
 
-disk_chosen : (a b c : Bool) (s : Status) → (s ≡ statuses.DiskFault → ⊥) → chosen a b c s ≡ statuses.DiskFault → c ≡ true
-disk_chosen a b true s other is = refl
-disk_chosen true b false s other is = absurd (apart is)
-  where
-    apart : statuses.NoMemory ≡ statuses.DiskFault → ⊥
-    apart e = cc
-disk_chosen false true false s other is = absurd (apart is)
-  where
-    apart : statuses.NoMemory ≡ statuses.DiskFault → ⊥
-    apart e = cc
-disk_chosen false false false s other is = absurd (other is)
+memory_no_disk : statuses.NoMemory ≡ statuses.DiskFault → ⊥
+memory_no_disk e = cc
 
-memory_chosen : (a b c : Bool) (s : Status) → (s ≡ statuses.NoMemory → b ≡ true) → chosen a b c s ≡ statuses.NoMemory → (a ≡ true) ⊎ (b ≡ true)
-memory_chosen true b c s short is = inl refl
-memory_chosen false true c s short is = inr refl
-memory_chosen false false true s short is = absurd (apart is)
-  where
-    apart : statuses.DiskFault ≡ statuses.NoMemory → ⊥
-    apart e = cc
-memory_chosen false false false s short is = absurd (false_true (short is))
-  where
-    false_true : false ≡ true → ⊥
-    false_true e = cc
+disk_no_memory : statuses.DiskFault ≡ statuses.NoMemory → ⊥
+disk_no_memory e = cc
+
+disk_chosen : (a b w c f : Bool) (s : Status) → (s ≡ statuses.DiskFault → ⊥) → chosen a b w c f s ≡ statuses.DiskFault → (c ≡ true) ⊎ (f ≡ true)
+disk_chosen true b w c f s other is = absurd (memory_no_disk is)
+disk_chosen false true w c f s other is = absurd (memory_no_disk is)
+disk_chosen false false true c f s other is = absurd (memory_no_disk is)
+disk_chosen false false false true f s other is = inl refl
+disk_chosen false false false false true s other is = inr refl
+disk_chosen false false false false false s other is = absurd (other is)
+
+memory_chosen : (a b w c f : Bool) (s : Status) → (s ≡ statuses.NoMemory → b ≡ true) → chosen a b w c f s ≡ statuses.NoMemory → (a ≡ true) ⊎ ((b ≡ true) ⊎ (w ≡ true))
+memory_chosen true b w c f s short is = inl refl
+memory_chosen false true w c f s short is = inr (inl refl)
+memory_chosen false false true c f s short is = inr (inr refl)
+memory_chosen false false false true f s short is = absurd (disk_no_memory is)
+memory_chosen false false false false true s short is = absurd (disk_no_memory is)
+memory_chosen false false false false false s short is = inr (inl (short is))
+
+-- a book that was not saved for want of memory
+want_chosen : (a b c f : Bool) (s : Status) → chosen a b true c f s ≡ statuses.NoMemory
+want_chosen true b c f s = refl
+want_chosen false true c f s = refl
+want_chosen false false c f s = refl
+
+-- ---- by why the book was not saved
+
+saved_by : (o : Option DiskError) → is_wanting o ≡ false → is_failed o ≡ false → o ≡ None
+saved_by None wanting failed = refl
+saved_by (Some disks.NoMemory) wanting failed = cc
+saved_by (Some disks.Failed) wanting failed = cc
+
+wanting_is : (o : Option DiskError) → is_wanting o ≡ true → o ≡ Some disks.NoMemory
+wanting_is None is = cc
+wanting_is (Some disks.NoMemory) is = refl
+wanting_is (Some disks.Failed) is = cc
+
+failed_is : (o : Option DiskError) → is_failed o ≡ true → o ≡ Some disks.Failed
+failed_is None is = cc
+failed_is (Some disks.NoMemory) is = cc
+failed_is (Some disks.Failed) is = refl
 
 -- ---- by the ending
 
@@ -124,51 +153,62 @@ served_broken endings.SinkFault is other = absurd is
 served_broken endings.SourceTooLong is other = absurd is
 
 -- a calm order is answered by the ending
-calm_status : (a b c : Bool) (s t : Status) → a ≡ false → b ≡ false → c ≡ false → s ≡ t → chosen a b c s ≡ t
-calm_status true b c s t x y z is = absurd (true_false x)
+calm_status : (a b w c f : Bool) (s t : Status) → a ≡ false → b ≡ false → w ≡ false → c ≡ false → f ≡ false → s ≡ t → chosen a b w c f s ≡ t
+calm_status true b w c f s t x y v z u is = absurd (true_false x)
   where
     true_false : true ≡ false → ⊥
     true_false e = cc
-calm_status false true c s t x y z is = absurd (true_false y)
+calm_status false true w c f s t x y v z u is = absurd (true_false y)
   where
     true_false : true ≡ false → ⊥
     true_false e = cc
-calm_status false false true s t x y z is = absurd (true_false z)
+calm_status false false true c f s t x y v z u is = absurd (true_false v)
   where
     true_false : true ≡ false → ⊥
     true_false e = cc
-calm_status false false false s t x y z is = is
+calm_status false false false true f s t x y v z u is = absurd (true_false z)
+  where
+    true_false : true ≡ false → ⊥
+    true_false e = cc
+calm_status false false false false true s t x y v z u is = absurd (true_false u)
+  where
+    true_false : true ≡ false → ⊥
+    true_false e = cc
+calm_status false false false false false s t x y v z u is = is
 
 -- ---- the whole
 
-pub caused : (status : Status) (order : List Entry) (report : LaneReport) (input : List ℕ) (events : List Event) (disk disk' source source' sink sink' : ℕ)
-    → status ≡ status_by order report.ending
+pub caused : (status : Status) (order : List Entry) (not_saved : Option DiskError) (report : LaneReport) (input : List ℕ) (events : List Event) (disk disk' source source' sink sink' : ℕ)
+    → status ≡ status_by order report.ending not_saved
     → HasCauses source source' sink sink' report.taken (Some report.ending)
     → (has_kind 5 order ≡ true → Rose disk disk')
+    → (not_saved ≡ Some disks.Failed → Rose disk disk')
     → (report.ending ≡ endings.NoMemory → has_kind 2 order ≡ true)
     → (IsBroken report.ending → ReachesNoCommand input events)
     → (ReachesNoCommand input events → report.ending ≡ endings.Clean → ⊥)
-    → HasCause status order report input events disk disk' source source' sink sink'
+    → HasCause status order not_saved report input events disk disk' source source' sink sink'
 unfolding IsEndingOf
-caused status order report input events disk disk' source source' sink sink' by causes faults memory reached not_clean = record {
+caused status order not_saved report input events disk disk' source source' sink sink' by causes faults unsaved memory reached not_clean = record {
   ok = (
-    λ is. let l = last statuses.Ok (λ e. cc) (λ e. cc) is in (ending_of_status report.ending statuses.Ok l.status, record { memory = l.memory_is; disk = l.disk_is }),
-    λ is. by ∙ calm_status a b c s statuses.Ok is.1.memory (ap is_short is.0) is.1.disk (ap status_of_ending is.0),
+    λ is. let l = last statuses.Ok (λ e. cc) (λ e. cc) is in
+        (ending_of_status report.ending statuses.Ok l.status, record { memory = l.memory_is; disk = l.disk_is; saved = saved_by not_saved l.wanting_is l.failed_is }),
+    λ is. by ∙ calm_status a b w c f s statuses.Ok is.1.memory (ap is_short is.0) (ap is_wanting is.1.saved) is.1.disk (ap is_failed is.1.saved) (ap status_of_ending is.0),
   );
   bad_frame = (
     λ is.
         let l = last statuses.BadFrame (λ e. cc) (λ e. cc) is in
-        let at = ending_of_status report.ending statuses.BadFrame l.status in (reached at, broken_served report.ending at, record { memory = l.memory_is; disk = l.disk_is }),
+        let at = ending_of_status report.ending statuses.BadFrame l.status in
+        (reached at, broken_served report.ending at, record { memory = l.memory_is; disk = l.disk_is; saved = saved_by not_saved l.wanting_is l.failed_is }),
     λ is.
         let e = broken_is report.ending (served_broken report.ending is.1 (not_clean is.0)) in
-        by ∙ calm_status a b c s statuses.BadFrame is.2.memory e.0 is.2.disk e.1,
+        by ∙ calm_status a b w c f s statuses.BadFrame is.2.memory e.0 (ap is_wanting is.2.saved) is.2.disk (ap is_failed is.2.saved) e.1,
   );
-  disk_fault = λ is. faults (disk_chosen a b c s (no_disk report.ending) (sym by ∙ is));
+  disk_fault = λ is. failed (disk_chosen a b w c f s (no_disk report.ending) (sym by ∙ is));
   source_fault = λ is. cause_of endings.SourceFault (ending_of_status report.ending statuses.SourceFault (last statuses.SourceFault (λ e. cc) (λ e. cc) is).status);
   sink_fault = λ is. cause_of endings.SinkFault (ending_of_status report.ending statuses.SinkFault (last statuses.SinkFault (λ e. cc) (λ e. cc) is).status);
   no_memory = (
-    λ is. short (memory_chosen a b c s (λ e. (ending_of_status report.ending statuses.NoMemory e).1) (sym by ∙ is)),
-    λ is. by ∙ ap (λ x. chosen x b c s) is,
+    λ is. short (memory_chosen a b w c f s (λ e. (ending_of_status report.ending statuses.NoMemory e).1) (sym by ∙ is)),
+    λ is. by ∙ wants is,
   );
   too_long = λ is. cause_of endings.SourceTooLong (ending_of_status report.ending statuses.SourceTooLong (last statuses.SourceTooLong (λ e. cc) (λ e. cc) is).status);
 }
@@ -179,40 +219,61 @@ caused status order report input events disk disk' source source' sink sink' by 
     b : Bool
     b = is_short report.ending
 
+    w : Bool
+    w = is_wanting not_saved
+
     c : Bool
     c = has_kind 5 order
+
+    f : Bool
+    f = is_failed not_saved
 
     s : Status
     s = status_of_ending report.ending
 
-    last : (t : Status) → (statuses.NoMemory ≡ t → ⊥) → (statuses.DiskFault ≡ t → ⊥) → status ≡ t → IsLast a c s t
-    last t x y is = last_chosen a b c s t x y (sym by ∙ is)
+    last : (t : Status) → (statuses.NoMemory ≡ t → ⊥) → (statuses.DiskFault ≡ t → ⊥) → status ≡ t → IsLast a w c f s t
+    last t x y is = last_chosen a b w c f s t x y (sym by ∙ is)
 
-    short : (a ≡ true) ⊎ (b ≡ true) → has_kind 2 order ≡ true
-    short (inl x) = x
-    short (inr x) = memory (short_is report.ending x)
+    failed : (c ≡ true) ⊎ (f ≡ true) → Rose disk disk'
+    failed (inl x) = faults x
+    failed (inr x) = unsaved (failed_is not_saved x)
+
+    short : (a ≡ true) ⊎ ((b ≡ true) ⊎ (w ≡ true)) → (has_kind 2 order ≡ true) ⊎ (not_saved ≡ Some disks.NoMemory)
+    short (inl x) = inl x
+    short (inr (inl x)) = inl (memory (short_is report.ending x))
+    short (inr (inr x)) = inr (wanting_is not_saved x)
+
+    wants : (has_kind 2 order ≡ true) ⊎ (not_saved ≡ Some disks.NoMemory) → chosen a b w c f s ≡ statuses.NoMemory
+    wants (inl is) = ap (λ x. chosen x b w c f s) is
+    wants (inr is) = ap (λ x. chosen a b x c f s) (ap is_wanting is) ∙ want_chosen a b c f s
 
     cause_of : (e : Ending) → report.ending ≡ e → IsCaused source source' sink sink' report.taken (Some e)
     cause_of e is = subst (λ x. IsCaused source source' sink sink' report.taken (Some x)) is causes.cause
 
 -- ---- the order
 
+-- a count that rose before is risen still
+rose_still : (a b c : ℕ) → Rose a b → b ≤ c → Rose a c
+rose_still a b c rose le = omega (arith, rose, le)
+
 pub record IsHandedBack (order : List Entry) (calls : List ℕ) (disk disk' : ℕ) (wanting : Type 0) : Type 0 where
   pub order_is : IsOrder order calls disk disk'
   pub memory : wanting → has_kind 2 order ≡ true
 
--- What a lane entered from the first entry on is the order. Before it, the disk was opened.
-pub handed_back : {D E C : Type 0} (d : Ghosts D) (old new : Core D E C) (wanting : Type 0) (order : List Entry) (calls : List ℕ) (disk disk' : D)
+-- What a lane entered from the first entry on is the order. Before it the disk was opened, and after it the book was saved.
+pub handed_back : {D E C : Type 0} (d : Ghosts D) (old new : Core D E C) (last : D) (wanting : Type 0) (order : List Entry) (calls : List ℕ) (disk disk' : D)
     → HasEntered d old new 0 wanting
     → (old.journal).entries.items ≡ [] → (old.journal).calls.items ≡ [] → old.fault ≡ None
-    → order ≡ (new.journal).entries.items → calls ≡ (new.journal).calls.items → d.faults disk ≤ d.faults (old.parts).disk → disk' ≡ (new.parts).disk
+    → order ≡ (new.journal).entries.items → calls ≡ (new.journal).calls.items
+    → d.faults disk ≤ d.faults (old.parts).disk → d.faults (new.parts).disk ≤ d.faults last → disk' ≡ last
     → IsHandedBack order calls (d.faults disk) (d.faults disk') wanting
-handed_back d old new wanting order calls disk disk' x no_entries no_calls no_fault entries_are calls_are later disk_after = record {
+handed_back d old new last wanting order calls disk disk' x no_entries no_calls no_fault entries_are calls_are later saved disk_after = record {
   order_is = record {
     lanes = subst (λ es. All (λ e. e.lane ≡ 0) es) (sym added) x.lanes;
     beside = ap length counts ∙ x.beside ∙ ap length (sym added);
-    faults = λ five. rose_later (d.faults disk) (d.faults (old.parts).disk) (d.faults disk') later
-        (subst (λ n. Rose (d.faults (old.parts).disk) n) (sym (ap d.faults disk_after)) (x.cause no_fault (sym (ap (has_kind 5) added) ∙ five)));
+    faults = λ five. subst (λ n. Rose (d.faults disk) n) (sym (ap d.faults disk_after))
+        (rose_still (d.faults disk) (d.faults (new.parts).disk) (d.faults last)
+        (rose_later (d.faults disk) (d.faults (old.parts).disk) (d.faults (new.parts).disk) later (x.cause no_fault (sym (ap (has_kind 5) added) ∙ five))) saved);
   };
   memory = λ wants. ap (has_kind 2) added ∙ x.memory wants;
 }
@@ -222,3 +283,11 @@ handed_back d old new wanting order calls disk disk' x no_entries no_calls no_fa
 
     counts : calls ≡ x.counts
     counts = calls_are ∙ x.calls ∙ ap (λ ns. ns ++ x.counts) no_calls
+
+-- the disk failed as the book was saved: the count rose in the whole
+pub unsaved : (order : List Entry) (not_saved : Option DiskError) (disk before after disk' : ℕ) → (has_kind 5 order ≡ true → not_saved ≡ None)
+    → disk ≤ before → (not_saved ≡ Some disks.Failed → Rose before after) → disk' ≡ after → IsUnsaved order not_saved disk disk'
+unsaved order not_saved disk before after disk' halted later rose disk_after = record {
+  halted = halted;
+  faults = λ is. subst (Rose disk) (sym disk_after) (rose_later disk before after later (rose is));
+}

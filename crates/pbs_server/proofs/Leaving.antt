@@ -1,7 +1,7 @@
 -- What a run leaves: of one lane, or of none.
 use Rattle.disk_trait.specs.declared.disk.Disk.{Ghosts}
 use Rattle.disk_trait.specs.Disk.{Rose, Serves}
-use Rattle.std.proofs.Common.{◌≡◌, ◌≤◌, ◌↔◌, ◌⊎◌, inl, inr, ℕ, List, [], ◌∷◌, Option, Some, IfSome, refl, sym, subst, ◌∙◌}
+use Rattle.std.proofs.Common.{◌≡◌, ◌≤◌, ◌↔◌, ◌⊎◌, inl, inr, ℕ, List, [], ◌∷◌, Option, None, Some, IfSome, refl, sym, subst, ◌∙◌}
 use Rattle.port_traits.specs.Readings.{Readings}
 use Rattle.lane.specs.declared.port.LaneReport.{LaneReport}
 use Rattle.lane.specs.declared.port.Port.{Port}
@@ -34,14 +34,15 @@ leaves_none d left source_faults taken sink_faults readings disk remote result p
 
 -- the datastore was not opened
 pub unopened : {D E C P : Type 0} (d : Ghosts D) (disk : D) (remote : Option E) (clock : C) (ports : List P) (e : NotOpened D E C) (result : Served D E)
-    → result.status ≡ status_of_opening e.cause → (result.report).not_opened ≡ Some e.cause → (result.order).items ≡ [] → ((result.report).calls).items ≡ []
+    → result.status ≡ status_of_opening e.cause → (result.report).not_opened ≡ Some e.cause → (result.report).not_saved ≡ None → (result.order).items ≡ [] → ((result.report).calls).items ≡ []
     → result.disk ≡ e.disk → result.remote ≡ e.remote
     → Serves d.honest d.faults disk e.disk (TellsDisk e.cause) → StopsOpening d disk e.disk e.cause → IsGivenBack d disk remote clock e
     → HasNotServed d disk remote ports ports result
-unopened d disk remote clock ports e result status cause order calls disk_is remote_is serves crash back = record {
+unopened d disk remote clock ports e result status cause unsaved order calls disk_is remote_is serves crash back = record {
   status = by_cause e.cause status;
   order = order;
   calls = calls;
+  not_saved = unsaved;
   ports = refl;
   remote_is = remote_is ∙ back.remote_is;
   disk_is = λ is. absurd (not_usage e.cause (sym status ∙ is));

@@ -1,18 +1,22 @@
 -- Which statuses a run of one lane has.
-use Rattle.std.proofs.Common.{◌≡◌, Bool, true, false, List, if◌then◌else◌}
+use Rattle.std.proofs.Common.{◌≡◌, Bool, true, false, List, Option, if◌then◌else◌}
+use Rattle.disk_trait.specs.declared.disk.DiskError.{DiskError}
 use Rattle.store_types.specs.declared.order.Entry.{Entry}
 use Rattle.store_model.specs.declared.ending.Ending.{Ending}
 use Rattle.store_model.specs.declared.ending.Ending.TheVariants as endings
 use Rattle.pbs_server.specs.declared.status.Status.{Status}
 use Rattle.pbs_server.specs.declared.status.Status.TheVariants as statuses
 use Rattle.lane.specs.Entries.{has_kind}
-use Rattle.pbs_server.specs.Statuses.{status_by, status_of_ending, is_short}
+use Rattle.pbs_server.specs.Statuses.{status_by, status_of_ending, is_short, is_wanting, is_failed}
 
 abbrev IsOther : Status → Type 0
 IsOther s = s ≡ statuses.Usage → ⊥
 
 memory_other : IsOther statuses.NoMemory
 memory_other e = cc
+
+disk_other : IsOther statuses.DiskFault
+disk_other e = cc
 
 ending_other : (e : Ending) → IsOther (status_of_ending e)
 ending_other endings.Clean is = cc
@@ -22,12 +26,16 @@ ending_other endings.SinkFault is = cc
 ending_other endings.SourceTooLong is = cc
 ending_other endings.NoMemory is = cc
 
-chosen : (a b c : Bool) (s : Status) → IsOther s → IsOther (if a then statuses.NoMemory else if b then statuses.NoMemory else if c then statuses.DiskFault else s)
-chosen true b c s other is = memory_other is
-chosen false true c s other is = memory_other is
-chosen false false true s other is = cc
-chosen false false false s other is = other is
+chosen : (a b w c f : Bool) (s : Status) → IsOther s
+    → IsOther (if a then statuses.NoMemory else if b then statuses.NoMemory else if w then statuses.NoMemory else if c then statuses.DiskFault else if f then statuses.DiskFault else s)
+chosen true b w c f s other is = memory_other is
+chosen false true w c f s other is = memory_other is
+chosen false false true c f s other is = memory_other is
+chosen false false false true f s other is = disk_other is
+chosen false false false false true s other is = disk_other is
+chosen false false false false false s other is = other is
 
 -- a session that was served is never answered Usage
-pub served_other : (order : List Entry) (e : Ending) → status_by order e ≡ statuses.Usage → ⊥
-served_other order e is = chosen (has_kind 2 order) (is_short e) (has_kind 5 order) (status_of_ending e) (ending_other e) is
+pub served_other : (order : List Entry) (e : Ending) (not_saved : Option DiskError) → status_by order e not_saved ≡ statuses.Usage → ⊥
+served_other order e not_saved is =
+    chosen (has_kind 2 order) (is_short e) (is_wanting not_saved) (has_kind 5 order) (is_failed not_saved) (status_of_ending e) (ending_other e) is

@@ -1,6 +1,8 @@
 -- A session that was served is answered as by the plain store.
 use Rattle.disk_trait.specs.declared.disk.Disk.{Ghosts}
-use Rattle.std.proofs.Common.{◌≡◌, ◌≤◌, ℕ, zero, suc, Bool, true, false, ◌||◌, ◌==◌, ◌⊎◌, inl, inr, List, [], ◌∷◌, ◌++◌, Option, Some, None, IfSome, IsTrue, Ok, refl, sym, ap, subst, ◌∙◌}
+use Rattle.disk_trait.specs.declared.disk.DiskError.{DiskError}
+use Rattle.disk_trait.specs.declared.disk.DiskError.TheVariants.{Failed}
+use Rattle.std.proofs.Common.{◌≡◌, ◌≤◌, ℕ, zero, suc, Bool, true, false, ◌||◌, ◌==◌, ◌⊎◌, inl, inr, List, [], ◌∷◌, ◌++◌, Option, Some, None, IfSome, IsSome, IsTrue, Ok, OnOk, refl, sym, ap, subst, ◌∙◌, arith}
 use Rattle.std.specs.FinMap.{get}
 use Rattle.port_traits.specs.Readings.{Readings}
 use Rattle.disk_trait.specs.Files.{Files}
@@ -15,22 +17,28 @@ use Rattle.store_history.specs.History.{Opening, World, opened, after, after_all
 use Rattle.store_history.specs.LaneRun.{text}
 use Rattle.store_history.proofs.Alone.{served_alone}
 use Rattle.store_history.proofs.Whole.{served_woven}
-use Rattle.store_history.specs.Legal.{IsTimed, readings_left}
+use Rattle.store_history.specs.Legal.{IsTimed, moment_after, readings_left}
+use Rattle.store_history.specs.Saved.{HoldsBook, saved_book}
+use Rattle.store_history.specs.Tending.{Tended, tended_all, tended_at}
 use Rattle.store_files.specs.Order.{keeps_rules}
 use Rattle.snapshot_files.proofs.Loading.{loaded}
 use Rattle.core_state.specs.declared.state.Core.{Core}
-use Rattle.core_state.specs.History.{StandsFor, began, world}
+use Rattle.core_state.specs.History.{History, StandsFor, began, world}
+use Rattle.core_state.specs.Minds.{Minds, tending}
 use Rattle.core_state.specs.Chunks.{HoldsOnly}
 use Rattle.core_state.specs.Foreign.{IsForeign}
 use Rattle.core_state.specs.Records.{Records, Reaches}
-use Rattle.core_state.specs.Recovers.{TellsMoments}
+use Rattle.core_state.specs.Recovers.{Recovers, TellsMoments}
 use Rattle.opening_files.specs.Leaving.{IsFileOf, IsLeaving, Cleans}
-use Rattle.core_opening.specs.Opening.{RecoversOpened, StandsOpened, opening_of}
+use Rattle.core_opening.specs.Opening.{MindsOpened, RecoversOpened, StandsOpened, opening_of}
 use Rattle.lane.specs.declared.port.LaneReport.{LaneReport}
 use Rattle.lane.specs.Entries.{has_kind}
 use Rattle.lane.specs.Ran.{RanAlone, with_events}
+use Rattle.pbs_server.specs.Causes.{NoDiskFault}
 use Rattle.pbs_server.specs.Headline.{HasTold, IsPlain, StopsLeave}
+use Rattle.pbs_server.specs.Saving.{EndsSaved, saving_of}
 use Rattle.pbs_server.proofs.Rules.{kept_rules}
+use Rattle.pbs_server.proofs.BookSaved.{five_fails, halted_by, saving_failed}
 
 -- only a fault's entry leaves a fault
 moved_fault : (R : Option (List Snapshot)) (w : World) (k m : ℕ) (a : Rattle.store_history.specs.declared.act.Act.Act) (x : EntryKind) → (x ≡ fault_kind → ⊥) → (moved R w k m a x).fault ≡ w.fault
@@ -105,23 +113,40 @@ foreign_cleaned old new cleans q own = by_name (cleans.only q)
     by_name (inl same) = same
     by_name (inr gone) = absurd (no_leaving gone.1)
 
+-- ---- the last moment of the saved book
+
+-- opened at the core's last moment
+abbrev pub opening_at : {D E C : Type 0} → Ghosts D → D → Core D E C → List Snapshot → Opening
+opening_at d disk first snapshots = record (opening_of d disk (first.parts).disk snapshots) { moment = first.last }
+
+began_at : {D E C : Type 0} (d : Ghosts D) (readings : C → Option Readings) (core : Core D E C) (o : Opening) (R : Option (List Snapshot)) (clock : Option Readings)
+    → StandsFor d readings core (began o R clock) → core.last ≡ o.moment
+unfolding after_all
+began_at d readings core o R clock s = s.last
+
+le_more : (a b c : ℕ) → a ≤ b → b ≤ c → a ≤ c
+le_more a b c first then = omega (arith, first, then)
+
 -- what a session did on any disk, and on an honest one, which was opened at a moment
-pub record HasBoth {D : Type 0} (d : Ghosts D) (clock : Option Readings) (start : ℕ) (disk opened last : D) (left left' taken taken' : Option (List ℕ)) (order : List Entry) (calls : List ℕ) (report : LaneReport) : Type 0 where
+pub record HasBoth {D : Type 0} (d : Ghosts D) (clock : Option Readings) (start : ℕ) (disk opened last : D) (left left' taken taken' : Option (List ℕ)) (order : List Entry) (calls : List ℕ)
+    (not_saved : Option DiskError) (report : LaneReport) : Type 0 where
   pub told : HasTold clock left left' taken taken' order calls report
+  pub halted : has_kind 5 order ≡ true → not_saved ≡ None
   pub plain : (L : List Snapshot) (R : Option (List Snapshot)) → d.honest disk → Stands (d.content disk) L → NoClash (chunk_pieces (d.content disk) ++ sent told.events)
-      → IsPlain (opening_of d disk opened L) R (d.calls last) (d.honest last) told.input told.events told.replies order report (d.content disk) (d.content last)
+      → IsPlain (opening_of d disk opened L) R told.since (d.calls last) (d.honest last) told.input told.events told.replies order not_saved report (d.content disk) (d.content last)
   pub stops : (L : List Snapshot) (R : Option (List Snapshot)) → d.honest disk → Stands (d.content disk) L → NoClash (chunk_pieces (d.content disk) ++ sent told.events)
       → StopsLeave d start last R (opening_of d disk opened L) told.events
 
-pub has_both : {D E C : Type 0} (d : Ghosts D) (readings : C → Option Readings) (clock : C) (disk : D) (first core : Core D E C)
-    (left left' taken taken' : Option (List ℕ)) (order : List Entry) (calls : List ℕ) (report : LaneReport) (last : D)
-    → TellsMoments d → StandsOpened d readings disk clock first → (recovers : RecoversOpened d readings disk clock first)
+pub has_both : {D E C : Type 0} (d : Ghosts D) (readings : C → Option Readings) (clock : C) (disk : D) (first core saved : Core D E C)
+    (left left' taken taken' : Option (List ℕ)) (order : List Entry) (calls : List ℕ) (not_saved : Option DiskError) (report : LaneReport) (last : D)
+    → TellsMoments d → StandsOpened d readings disk clock first → MindsOpened d readings disk clock first → (recovers : RecoversOpened d readings disk clock first)
     → (d.honest disk → Cleans (d.content disk) (d.content (first.parts).disk))
-    → RanAlone (Reaches d readings first (began (opening_of d disk (first.parts).disk []) None (readings clock)) core)
-    (began (opening_of d disk (first.parts).disk []) None (readings clock)) 0 left left' taken taken' report
-    → order ≡ (core.journal).entries.items → calls ≡ (core.journal).calls.items → last ≡ (core.parts).disk
-    → HasBoth d (readings clock) (recovers.opens).start disk (first.parts).disk last left left' taken taken' order calls report
-has_both d readings clock disk first core left left' taken taken' order calls report last moments opens recovers cleaned ran order_as calls_as disk_as = record {
+    → RanAlone (Reaches d readings first (began (opening_at d disk first []) None (readings clock)) core)
+    (began (opening_at d disk first []) None (readings clock)) 0 left left' taken taken' report
+    → EndsSaved d core saved not_saved
+    → order ≡ (saved.journal).entries.items → calls ≡ (saved.journal).calls.items → last ≡ (saved.parts).disk
+    → HasBoth d (readings clock) (recovers.opens).start disk (first.parts).disk last left left' taken taken' order calls not_saved report
+has_both d readings clock disk first core saved left left' taken taken' order calls not_saved report last moments opens minds recovers cleaned ran ends order_as calls_as disk_as = record {
   told = record {
     input = ran.input;
     events = ran.events;
@@ -132,43 +157,68 @@ has_both d readings clock disk first core left left' taken taken' order calls re
     ran = ran.ran;
     took = ran.took;
     size_is = ran.size_is;
-    rules = subst (λ es. IsTrue (keeps_rules 1 es)) (sym order_is) (kept_rules 0 ran.events ran.input report.ending ran.told r.kept ran.lanes ran.ran);
+    rules = subst (λ es. IsTrue (keeps_rules 1 es)) (sym order_is) (kept_rules first.last ran.events ran.input report.ending ran.told r.kept ran.lanes ran.ran);
+    since = first.last;
     times = timed (readings clock) r.time;
     kept = r.kept;
     order_is = order_is;
-    calls_are = calls_as ∙ r.calls;
+    calls_are = calls_as ∙ ap (λ x. (x.journal).calls.items) ends.rest ∙ r.calls;
     read_out = ran.read_out;
   };
+  halted = λ five.
+      (halted_by {(saved ≡ core) × (not_saved ≡ None)} core.fault (subst (λ o. IsSome o) (sym r.fault) (five_fails 0 None ran.events (sym (ap (has_kind 5) order_is) ∙ five))) ends.halted).1;
   plain = λ L R honest stands clear.
-      let stood = opens L R honest stands in
-      plain L R (loaded (d.content disk) L stands) ((ran.stands_for).stands L R stood clear) (λ none q own. (ran.stands_for).foreign L R stood clear none q own ∙ foreign_cleaned _ _ (cleaned honest) q own);
-  stops = λ L R honest stands clear t c from image.
-      ((ran.stands_for).recovers moments (recovers.opens).start L R (opens L R honest stands) (recovers.recovers L R stands) clear).each t c from
-      (subst (λ x. d.images x t c) disk_as image);
+      let at = last_at L R honest stands in
+      let stood = subst (λ o. StandsFor d readings first (began o R (readings clock))) (is_opening L at) (opens L R honest stands) in
+      let minded = subst (λ o. Minds d first (began o R (readings clock))) (is_opening L at) (minds L R honest stands) in
+      subst (λ o. IsPlain o R first.last (d.calls last) (d.honest last) ran.input ran.events (text ran.told) order not_saved report (d.content disk) (d.content last)) (sym (is_opening L at))
+      (plain L R at (loaded (d.content disk) L stands) ((ran.stands_for).stands L R stood clear) ((ran.stands_for).minds L R stood minded clear)
+      (λ none q own. (ran.stands_for).foreign L R stood clear none q own ∙ foreign_cleaned _ _ (cleaned honest) q own));
+  stops = λ L R honest stands clear.
+      let at = last_at L R honest stands in
+      let stood = subst (λ o. StandsFor d readings first (began o R (readings clock))) (is_opening L at) (opens L R honest stands) in
+      let before = subst (λ o. Recovers d (recovers.opens).start first (began o R (readings clock))) (is_opening L at) (recovers.recovers L R stands) in
+      let after = (ends.history).recovers readings (recovers.opens).start (history L R) ((ran.stands_for).stands L R stood clear) ((ran.stands_for).recovers moments (recovers.opens).start L R stood before clear) in
+      subst (λ o. StopsLeave d (recovers.opens).start last R o ran.events) (sym (is_opening L at))
+      (λ t c from image. after.each t c from (subst (λ x. d.images x t c) disk_as image));
 }
   where
     opening : List Snapshot → Opening
-    opening L = opening_of d disk (first.parts).disk L
+    opening L = opening_at d disk first L
+
+    history : List Snapshot → Option (List Snapshot) → History
+    history L R = with_events (began (opening L) R (readings clock)) ran.events
+
+    last_at : (L : List Snapshot) (R : Option (List Snapshot)) → d.honest disk → Stands (d.content disk) L → first.last ≡ (saved_book (d.content disk)).moment
+    last_at L R honest stands = began_at d readings first (opening_of d disk (first.parts).disk L) R (readings clock) (opens L R honest stands)
+
+    is_opening : (L : List Snapshot) → first.last ≡ (saved_book (d.content disk)).moment → opening_of d disk (first.parts).disk L ≡ opening L
+    is_opening L at = ap (λ m. record (opening_of d disk (first.parts).disk L) { moment = m }) (sym at)
 
     r : Records readings core (with_events (began (opening []) None (readings clock)) ran.events)
     r = (ran.stands_for).records
 
     order_is : order ≡ entries ran.events
-    order_is = order_as ∙ r.entries
+    order_is = order_as ∙ ap (λ x. (x.journal).entries.items) ends.rest ∙ r.entries
 
-    timed : (c : Option Readings) → IfSome c (λ x. IsTimed x 0 ran.events × (readings core.clock ≡ Some (readings_left x ran.events)))
-        → IfSome c (λ x. IsTimed x 0 ran.events)
+    timed : (c : Option Readings) → IfSome c (λ x. IsTimed x first.last ran.events × (readings core.clock ≡ Some (readings_left x ran.events)))
+        → IfSome c (λ x. IsTimed x first.last ran.events)
     timed None t = t
     timed (Some c) t = t.0
 
     calm : (L : List Snapshot) (R : Option (List Snapshot)) → has_kind 5 order ≡ false → (after_all R (opened (opening L)) ran.events).fault ≡ None
     calm L R is = no_fault R (opened (opening L)) ran.events (sym (ap (has_kind 5) order_is) ∙ is)
 
-    plain : (L : List Snapshot) (R : Option (List Snapshot)) → load (d.content disk) ≡ L → StandsFor d readings core (with_events (began (opening L) R (readings clock)) ran.events)
+    -- the core stands for it, once the book was saved
+    later : (L : List Snapshot) (R : Option (List Snapshot)) → StandsFor d readings core (history L R) → NoDiskFault order not_saved → StandsFor d readings saved (history L R)
+    later L R s unfailed = (ends.history).stands readings (λ is. unfailed.saving (saving_failed not_saved is)) (history L R) s
+
+    plain : (L : List Snapshot) (R : Option (List Snapshot)) → first.last ≡ (saved_book (d.content disk)).moment → load (d.content disk) ≡ L
+        → StandsFor d readings core (history L R) → Minds d core (history L R)
         → (core.fault ≡ None → (q : List ℕ) → IsForeign q → get (d.content (core.parts).disk) q ≡ get (d.content disk) q)
-        → IsPlain (opening L) R (d.calls last) (d.honest last) ran.input ran.events (text ran.told) order report (d.content disk) (d.content last)
-    plain L R loads s foreign =
-        let h = with_events (began (opening L) R (readings clock)) ran.events in
+        → IsPlain (opening L) R first.last (d.calls last) (d.honest last) ran.input ran.events (text ran.told) order not_saved report (d.content disk) (d.content last)
+    plain L R at loads s m foreign =
+        let h = history L R in
         let served = served_alone (opening L) R ran.events ran.input report.ending ran.told s.legal ran.lanes ran.ran in
         record {
           store = (world h).store;
@@ -176,9 +226,16 @@ has_both d readings clock disk first core left left' taken taken' order calls re
               (subst (λ es. weave L R es (ran.input ∷ []) (report.ending ∷ []) ≡ Ok (record { store = (world h).store; replies = text ran.told ∷ [] })) (sym order_is)
               (served_woven (opening L) R ran.events (ran.input ∷ []) (report.ending ∷ []) (ran.told ∷ []) served));
           legal = s.legal;
-          reached = subst (λ x. (world h).calls ≤ d.calls x) (sym disk_as) s.reached;
-          honest = subst d.honest (sym disk_as) s.honest;
-          stands = λ is. subst (λ x. Stands (d.content x) (world h).store.snapshots) (sym disk_as) (s.files (calm L R is)).snapshots;
-          chunks = λ is. subst (λ x. HoldsOnly (d.content x) (chunk_pieces (d.content disk) ++ sent ran.events)) (sym disk_as) (s.chunks (calm L R is));
-          foreign = λ is q own. ap (λ x. get (d.content x) q) disk_as ∙ foreign (s.fault ∙ calm L R is) q own;
+          since_is = at;
+          reached = subst (λ x. (world h).calls ≤ d.calls x) (sym disk_as) (le_more (world h).calls (d.calls (core.parts).disk) (d.calls (saved.parts).disk) s.reached ends.later);
+          honest = subst d.honest (sym disk_as) ((ends.serves).kept.0 s.honest);
+          stands = λ unfailed. subst (λ x. Stands (d.content x) (world h).store.snapshots) (sym disk_as) ((later L R s unfailed).files (calm L R unfailed.acts)).snapshots;
+          chunks = λ unfailed. subst (λ x. HoldsOnly (d.content x) (chunk_pieces (d.content disk) ++ sent ran.events)) (sym disk_as) ((later L R s unfailed).chunks (calm L R unfailed.acts));
+          book = λ is saved_is.
+              let held : OnOk (saving_of not_saved) (HoldsBook (d.content (saved.parts).disk) core.last (tending h)) = (ends.history).holds readings h (s.fault ∙ calm L R is) s m in
+              let kept : HoldsBook (d.content (saved.parts).disk) core.last (tending h) = subst (λ o. OnOk (saving_of o) (HoldsBook (d.content (saved.parts).disk) core.last (tending h))) saved_is held in
+              subst (λ x. HoldsBook (d.content x) (moment_after first.last ran.events) (tended_all (tended_at (opening L)) ran.events)) (sym disk_as)
+              (subst (λ n. HoldsBook (d.content (saved.parts).disk) n (tended_all (tended_at (opening L)) ran.events)) r.last kept);
+          foreign = λ unfailed q own.
+              ap (λ x. get (d.content x) q) disk_as ∙ ends.foreign s.honest unfailed.saving q own ∙ foreign (s.fault ∙ calm L R unfailed.acts) q own;
         }

@@ -1,7 +1,9 @@
 -- Why a session is answered so, on any disk.
-use Rattle.std.specs.Prelude.{◌≡◌, ◌^◌, ◌↔◌, ℕ, true, false, List, ◌++◌, length}
+use Rattle.std.specs.Prelude.{◌≡◌, ◌≢◌, ◌^◌, ◌↔◌, ◌⊎◌, ℕ, true, false, List, ◌++◌, length, Option, Some, None}
 use Rattle.std.specs.List.{All}
 use Rattle.port_traits.specs.Faults.{Rose}
+use Rattle.disk_trait.specs.declared.disk.DiskError.{DiskError}
+use Rattle.disk_trait.specs.declared.disk.DiskError.TheVariants as disks
 use Rattle.store_types.specs.declared.order.Entry.{Entry}
 use Rattle.store_types.specs.declared.refusal.Refusal.{Refusal}
 use Rattle.store_model.specs.declared.ending.Ending.{Ending}
@@ -23,10 +25,21 @@ pub record IsOrder (order : List Entry) (calls : List ℕ) (disk disk' : ℕ) : 
   pub beside : length calls ≡ length order
   pub faults : has_kind 5 order ≡ true → Rose disk disk'
 
--- neither memory was wanting nor did the disk fail
-pub record IsCalm (order : List Entry) : Type 0 where
+-- The book was not saved: that was not tried where the disk had failed, and the disk fails in it only where its count of faults rose.
+pub record IsUnsaved (order : List Entry) (not_saved : Option DiskError) (disk disk' : ℕ) : Type 0 where
+  pub halted : has_kind 5 order ≡ true → not_saved ≡ None
+  pub faults : not_saved ≡ Some disks.Failed → Rose disk disk'
+
+-- the disk did not fail, neither in an act nor as the book was saved
+pub record NoDiskFault (order : List Entry) (not_saved : Option DiskError) : Type 0 where
+  pub acts : has_kind 5 order ≡ false
+  pub saving : not_saved ≢ Some disks.Failed
+
+-- neither memory was wanting nor did the disk fail, and the book was saved
+pub record IsCalm (order : List Entry) (not_saved : Option DiskError) : Type 0 where
   pub memory : has_kind 2 order ≡ false
   pub disk : has_kind 5 order ≡ false
+  pub saved : not_saved ≡ None
 
 -- The events before the lane's end led to a place of its input at which no command stands.
 pub record ReachesNoCommand (input : List ℕ) (events : List Event) : Type 0 where
@@ -46,11 +59,11 @@ HasNotFailed (endings.Broken place) = Unit {0}
 HasNotFailed e = ⊥
 
 -- The causes of the statuses of a session that was served. A fault comes only where the count of that object rose.
-pub record HasCause (status : Status) (order : List Entry) (report : LaneReport) (input : List ℕ) (events : List Event) (disk disk' source source' sink sink' : ℕ) : Type 0 where
-  pub ok : (status ≡ statuses.Ok) ↔ ((report.ending ≡ endings.Clean) × IsCalm order)
-  pub bad_frame : (status ≡ statuses.BadFrame) ↔ (ReachesNoCommand input events × HasNotFailed report.ending × IsCalm order)
+pub record HasCause (status : Status) (order : List Entry) (not_saved : Option DiskError) (report : LaneReport) (input : List ℕ) (events : List Event) (disk disk' source source' sink sink' : ℕ) : Type 0 where
+  pub ok : (status ≡ statuses.Ok) ↔ ((report.ending ≡ endings.Clean) × IsCalm order not_saved)
+  pub bad_frame : (status ≡ statuses.BadFrame) ↔ (ReachesNoCommand input events × HasNotFailed report.ending × IsCalm order not_saved)
   pub disk_fault : status ≡ statuses.DiskFault → Rose disk disk'
   pub source_fault : status ≡ statuses.SourceFault → Rose source source'
   pub sink_fault : status ≡ statuses.SinkFault → Rose sink sink'
-  pub no_memory : (status ≡ statuses.NoMemory) ↔ (has_kind 2 order ≡ true)
+  pub no_memory : (status ≡ statuses.NoMemory) ↔ ((has_kind 2 order ≡ true) ⊎ (not_saved ≡ Some disks.NoMemory))
   pub too_long : status ≡ statuses.SourceTooLong → report.taken ≡ 2 ^ 40

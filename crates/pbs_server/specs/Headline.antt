@@ -1,5 +1,6 @@
 -- What a run leaves, and that a session is answered as the plain store answers it.
 use Rattle.disk_trait.specs.declared.disk.Disk.{Ghosts}
+use Rattle.disk_trait.specs.declared.disk.DiskError.{DiskError}
 use Rattle.disk_trait.specs.Disk.{Serves}
 use Rattle.std.specs.Prelude.{◌≡◌, ◌≢◌, ◌≤◌, ◌^◌, ◌⊎◌, ℕ, false, List, [], ◌∷◌, ◌++◌, map, length, Option, Some, None, IfSome, IsSome, IsTrue, Ok, String, string_bytes}
 use Rattle.std.specs.declared.alloc.Global.{Global}
@@ -20,7 +21,9 @@ use Rattle.store_history.specs.declared.act.Event.{Event}
 use Rattle.store_history.specs.CrashPoints.{Reopens}
 use Rattle.store_history.specs.History.{Opening, opened, after_all, entries, sent}
 use Rattle.store_history.specs.LaneRun.{text, LaneRan}
-use Rattle.store_history.specs.Legal.{IsLegal, IsTimed}
+use Rattle.store_history.specs.Legal.{IsLegal, IsTimed, moment_after}
+use Rattle.store_history.specs.Saved.{HoldsBook, saved_book}
+use Rattle.store_history.specs.Tending.{tended_all, tended_at}
 use Rattle.core_state.specs.Chunks.{HoldsOnly}
 use Rattle.core_state.specs.Foreign.{IsForeign}
 use Rattle.core_state.specs.Records.{AreKept}
@@ -36,12 +39,13 @@ use Rattle.lane.specs.Entries.{has_kind}
 use Rattle.lane.specs.Ran.{Took, EndsRead}
 use Rattle.pbs_server.specs.declared.served.Served.{Served}
 use Rattle.pbs_server.specs.declared.status.Status.TheVariants as statuses
-use Rattle.pbs_server.specs.Causes.{IsOrder, HasCause}
+use Rattle.pbs_server.specs.Causes.{IsOrder, IsUnsaved, NoDiskFault, HasCause}
 use Rattle.pbs_server.specs.Statuses.{status_by, status_of_opening}
 use Rattle.pbs_server.specs.Words.{reading}
 
 -- What a session did, on any disk: its acts are a run of the lane's program on the bytes that its source gave, its sink was given the
--- replies (a front of them where it failed), the order is that of the acts, and its moments are by the clock's readings.
+-- replies (a front of them where it failed), the order is that of the acts, and its moments are by the clock's readings, from the last
+-- moment of the saved book on.
 pub record HasTold (readings : Option Readings) (left left' taken taken' : Option (List ℕ)) (order : List Entry) (calls : List ℕ) (report : LaneReport) : Type 0 where
   -- the bytes that the session's source gave, the acts with their answers, all replies, and their bytes
   pub input : List ℕ
@@ -56,9 +60,11 @@ pub record HasTold (readings : Option Readings) (left left' taken taken' : Optio
   pub took : Took report.ending left left' input
   pub size_is : length input ≡ report.taken
   pub rules : IsTrue (keeps_rules 1 order)
-  pub times : IfSome readings (λ c. IsTimed c 0 events)
+  -- the last moment as the first command came
+  pub since : ℕ
+  pub times : IfSome readings (λ c. IsTimed c since events)
   -- each act's kind is one that it may have, and its answer has its place in the order
-  pub kept : AreKept 0 None 0 events
+  pub kept : AreKept 0 None since events
   pub order_is : order ≡ entries events
   pub calls_are : calls ≡ map (λ e. e.calls) events
   -- a session that ends cleanly, or where no command stands, was read to there
@@ -73,16 +79,21 @@ pub record WasOpened {D : Type 0} (d : Ghosts D) (disk opened : D) : Type 0 wher
 -- The plain store of whole archives, opened with what the disk is loaded as and asked by the session's commands in the returned order, gives
 -- the bytes of the replies and this last store. The answers are the plain store's. The disk is honest still, its count of calls is
 -- not below the last entry's. Where it did not fail, what it holds stands for the last store's snapshots, its chunk files are of pieces that
--- were there or that the session sent, and what stood at names that are none of the store's stands there still.
-pub record IsPlain (opening : Opening) (remote : Option (List Snapshot)) (now : ℕ) (is_honest : Type 0) (input : List ℕ) (events : List Event) (replies : List ℕ) (order : List Entry) (report : LaneReport) (before files : Files) : Type 0 where
+-- were there or that the session sent, and what stood at names that are none of the store's stands there still. Where the book was saved,
+-- it is of the last moment, and has the last touch of each chunk that is there.
+pub record IsPlain (opening : Opening) (remote : Option (List Snapshot)) (since now : ℕ) (is_honest : Type 0) (input : List ℕ) (events : List Event) (replies : List ℕ)
+    (order : List Entry) (not_saved : Option DiskError) (report : LaneReport) (before files : Files) : Type 0 where
   pub store : Store
   pub woven : weave (load before) remote order (input ∷ []) (report.ending ∷ []) ≡ Ok (record { store = store; replies = replies ∷ [] })
   pub legal : IsLegal remote (opened opening) events
+  -- the last moment of the book that was saved before
+  pub since_is : since ≡ (saved_book before).moment
   pub reached : (after_all remote (opened opening) events).calls ≤ now
   pub honest : is_honest
-  pub stands : has_kind 5 order ≡ false → StandsFor files store.snapshots
-  pub chunks : has_kind 5 order ≡ false → HoldsOnly files (chunk_pieces before ++ sent events)
-  pub foreign : has_kind 5 order ≡ false → (q : List ℕ) → IsForeign q → get files q ≡ get before q
+  pub stands : NoDiskFault order not_saved → StandsFor files store.snapshots
+  pub chunks : NoDiskFault order not_saved → HoldsOnly files (chunk_pieces before ++ sent events)
+  pub book : has_kind 5 order ≡ false → not_saved ≡ None → HoldsBook files (moment_after since events) (tended_all (tended_at opening) events)
+  pub foreign : NoDiskFault order not_saved → (q : List ℕ) → IsForeign q → get files q ≡ get before q
 
 -- What a crash leaves of a moment since this one stands for the plain store's snapshots after the events that were answered by then, or after
 -- one more: of a moment without a fault before it, a front of the events with each that was answered.
@@ -101,15 +112,17 @@ pub record HasServed {D E S K : Type 0} (d : Ghosts D) (left : S → Option (Lis
   -- on an honest disk that stands for any list of snapshots, whatever the remote has, where no two unequal pieces have one digest of those in
   -- the chunk files at opening and those that the session sent
   pub plain : (L : List Snapshot) (R : Option (List Snapshot)) → d.honest disk → StandsFor (d.content disk) L → NoClash (chunk_pieces (d.content disk) ++ sent told.events)
-      → IsPlain (opening_of d disk opened L) R (d.calls result.disk) (d.honest result.disk) told.input told.events told.replies (result.order).items report (d.content disk) (d.content result.disk)
-  -- under the same premises, what a crash leaves from that moment of opening on
+      → IsPlain (opening_of d disk opened L) R told.since (d.calls result.disk) (d.honest result.disk) told.input told.events told.replies
+          (result.order).items (result.report).not_saved report (d.content disk) (d.content result.disk)
+  -- under the same premises, what a crash leaves from that moment of opening on, also as the book was saved
   pub stops : (L : List Snapshot) (R : Option (List Snapshot)) → d.honest disk → StandsFor (d.content disk) L → NoClash (chunk_pieces (d.content disk) ++ sent told.events)
       → StopsLeave d ((was_opened.opens).start) result.disk R (opening_of d disk opened L) told.events
   -- on any disk
-  pub status : result.status ≡ status_by (result.order).items report.ending
+  pub status : result.status ≡ status_by (result.order).items report.ending (result.report).not_saved
   pub causes : HasCauses (source_faults old.source) (source_faults new.source) (sink_faults old.sink) (sink_faults new.sink) report.taken (Some report.ending)
-  pub why : HasCause result.status (result.order).items report told.input told.events (d.faults disk) (d.faults result.disk) (source_faults old.source) (source_faults new.source) (sink_faults old.sink) (sink_faults new.sink)
+  pub why : HasCause result.status (result.order).items (result.report).not_saved report told.input told.events (d.faults disk) (d.faults result.disk) (source_faults old.source) (source_faults new.source) (sink_faults old.sink) (sink_faults new.sink)
   pub order : IsOrder (result.order).items ((result.report).calls).items (d.faults disk) (d.faults result.disk)
+  pub unsaved : IsUnsaved (result.order).items (result.report).not_saved (d.faults disk) (d.faults result.disk)
   pub budget : report.taken ≤ 2 ^ 40
   pub faults : d.faults disk ≤ d.faults result.disk
   pub remote_is : result.remote ≡ remote
@@ -125,6 +138,7 @@ pub record HasNotServed {D E P : Type 0} (d : Ghosts D) (disk : D) (remote : Opt
   pub status : (result.status ≡ statuses.Usage) ⊎ ((result.status ≡ statuses.NoMemory) ⊎ (result.status ≡ statuses.DiskFault))
   pub order : (result.order).items ≡ []
   pub calls : ((result.report).calls).items ≡ []
+  pub not_saved : (result.report).not_saved ≡ None
   pub ports : new ≡ old
   pub remote_is : result.remote ≡ remote
   -- where the words ask for none, nothing was done

@@ -1,5 +1,6 @@
 pub mod Words
 pub mod Statuses
+pub mod Saving
 pub mod Causes
 pub mod Headline
 pub mod Acknowledged

@@ -1,5 +1,7 @@
 -- The status of a run.
-use Rattle.std.specs.Prelude.{ℕ, Bool, true, false, List, codes, if◌then◌else◌}
+use Rattle.std.specs.Prelude.{ℕ, Bool, true, false, List, codes, if◌then◌else◌, Option, Some}
+use Rattle.disk_trait.specs.declared.disk.DiskError.{DiskError}
+use Rattle.disk_trait.specs.declared.disk.DiskError.TheVariants as disks
 use Rattle.store_types.specs.declared.order.Entry.{Entry}
 use Rattle.store_model.specs.declared.ending.Ending.{Ending}
 use Rattle.store_model.specs.declared.ending.Ending.TheVariants as endings
@@ -22,13 +24,24 @@ abbrev pub is_short : Ending → Bool
 is_short endings.NoMemory = true
 is_short _ = false
 
--- Want of memory comes first: an entry of kind 2, or a lane that ended by it. Then a fault of the disk: an entry of kind 5. Then
--- how the lane ended.
-abbrev pub status_by : List Entry → Ending → Status
-status_by order ending =
+-- why the book was not saved: want of memory, or the disk
+abbrev pub is_wanting : Option DiskError → Bool
+is_wanting (Some disks.NoMemory) = true
+is_wanting _ = false
+
+abbrev pub is_failed : Option DiskError → Bool
+is_failed (Some disks.Failed) = true
+is_failed _ = false
+
+-- Want of memory comes first: an entry of kind 2, a lane that ended by it, or a book that was not saved for it. Then a fault of the
+-- disk: an entry of kind 5, or a book that was not saved for it. Then how the lane ended.
+abbrev pub status_by : List Entry → Ending → Option DiskError → Status
+status_by order ending not_saved =
     if has_kind 2 order then statuses.NoMemory else
     if is_short ending then statuses.NoMemory else
+    if is_wanting not_saved then statuses.NoMemory else
     if has_kind 5 order then statuses.DiskFault else
+    if is_failed not_saved then statuses.DiskFault else
     status_of_ending ending
 
 -- by why the datastore was not opened

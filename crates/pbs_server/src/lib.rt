@@ -4,6 +4,7 @@
 pub mod laws;
 mod plan;
 mod run;
+mod saving;
 mod served;
 mod serving;
 mod status;

@@ -4,11 +4,12 @@ ghost use Rattle.std.specs.Prelude.{◌≡◌, ◌≢◌, ◌∷◌, [], None};
 ghost use Rattle.pbs_server.specs.Headline.{Leaves};
 ghost use Rattle.pbs_server.specs.Statuses.{status_by};
 
+use crate::saving::save;
 use crate::served::{RunReport, Served};
 use crate::status::{Status, by_opening, status_of};
 use core_opening::{NotOpened, OpenFault, open_on};
 use core_state::{Core, CoreParts};
-use disk_trait::Disk;
+use disk_trait::{Disk, DiskError};
 use lane::{Ending, LaneReport, Port, run_alone};
 use port_traits::{Clock, Gate, Sink, Source};
 use std::alloc::Global;
@@ -23,6 +24,7 @@ pub fn not_served<D, E>(
 ) -> Served<D, E>
     ensures status { result.status ≡ status }
     ensures not_opened { result.report.not_opened ≡ not_opened }
+    ensures not_saved { result.report.not_saved ≡ None }
     ensures order { result.order.items ≡ [] }
     ensures lanes { result.report.lanes.items ≡ [] }
     ensures calls { result.report.calls.items ≡ [] }
@@ -37,6 +39,7 @@ pub fn not_served<D, E>(
             lanes: Vec::new(alloc),
             calls: Vec::new(alloc),
             not_opened,
+            not_saved: None,
             unequal: None,
         },
         disk,
@@ -49,18 +52,20 @@ fn handed_back<D, E, C: Drop>(
     core: Core<D, E, C>,
     lanes: Vec<LaneReport>,
     ending: Ending,
+    not_saved: Option<DiskError>,
 ) -> Served<D, E>
-    ensures status { result.status ≡ status_by core.journal.entries.items ending }
+    ensures status { result.status ≡ status_by core.journal.entries.items ending not_saved }
     ensures order { result.order ≡ core.journal.entries }
     ensures lanes { result.report.lanes ≡ lanes }
     ensures calls { result.report.calls ≡ core.journal.calls }
     ensures not_opened { result.report.not_opened ≡ None }
+    ensures not_saved { result.report.not_saved ≡ not_saved }
     ensures unequal { result.report.unequal ≡ None }
     ensures disk { result.disk ≡ core.parts.disk }
     ensures remote { result.remote ≡ core.remote }
 {
     let parts = core.parts();
-    let status = status_of(&parts.order, ending);
+    let status = status_of(&parts.order, ending, not_saved);
     let CoreParts {
         disk,
         remote,
@@ -75,6 +80,7 @@ fn handed_back<D, E, C: Drop>(
             lanes,
             calls,
             not_opened: None,
+            not_saved,
             unequal: None,
         },
         disk,
@@ -82,7 +88,7 @@ fn handed_back<D, E, C: Drop>(
     }
 }
 
-/// Opens the datastore and serves one session on it.
+/// Opens the datastore, serves one session on it, and saves the book of touches.
 pub fn serve_alone<D: Disk, E, C: Clock + Drop, S: Source, K: Sink, G: Gate>(
     alloc: Global,
     port: &mut Port<S, K>,
@@ -103,7 +109,8 @@ pub fn serve_alone<D: Disk, E, C: Clock + Drop, S: Source, K: Sink, G: Gate>(
         Ok(mut core) => {
             let report = run_alone(&mut core, alloc, 0, port, gate);
             reports.push_reserved(report);
-            handed_back(core, reports, report.ending)
+            let not_saved = save(&mut core, alloc);
+            handed_back(core, reports, report.ending, not_saved)
         }
         Err(not_opened) => {
             let NotOpened {

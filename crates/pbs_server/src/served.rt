@@ -2,6 +2,7 @@
 
 use crate::status::Status;
 use core_opening::OpenFault;
+use disk_trait::DiskError;
 use lane::LaneReport;
 use store_types::Entry;
 
@@ -22,6 +23,9 @@ pub struct RunReport {
     pub calls: Vec<u64>,
     /// Why the datastore was not opened. None where it was, or where the run did not come to it.
     pub not_opened: Option<OpenFault>,
+    /// Why the book of touches was not saved. None where it was, and where that was not tried, because no lane was served or
+    /// the disk had failed.
+    pub not_saved: Option<DiskError>,
     /// Only a check of a run tells one.
     pub unequal: Option<Unequal>,
 }

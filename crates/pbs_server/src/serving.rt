@@ -13,7 +13,8 @@ use port_traits::{Clock, Gate, Sink, Source};
 use std::alloc::Global;
 
 /// Does what the words ask for: `run ROOT SESSION` serves one session on the disk. A port is a session's source, and the
-/// sink of its replies. The disk and the remote are handed back in every case. Nothing is written to the journal.
+/// sink of its replies. As a session that was served has ended, the book of touches is saved, unless the disk failed. The
+/// disk and the remote are handed back in every case. Nothing is written to the journal.
 pub fn serve<D: Disk, E: Disk, C: Clock + Drop, S: Source, K: Sink, J: Sink, G: Gate>(
     alloc: Global,
     words: &[String],

@@ -2,9 +2,10 @@
 
 ghost use Rattle.std.specs.Prelude.{◌≡◌};
 ghost use Rattle.lane.specs.Entries.{has_kind};
-ghost use Rattle.pbs_server.specs.Statuses.{status_by, status_of_ending, status_of_opening};
+ghost use Rattle.pbs_server.specs.Statuses.{is_failed, is_wanting, status_by, status_of_ending, status_of_opening};
 
 use core_opening::OpenFault;
+use disk_trait::DiskError;
 use lane::Ending;
 use store_types::Entry;
 
@@ -114,14 +115,29 @@ pub fn by_opening(cause: OpenFault) -> Status
     }
 }
 
-/// The status of a run of one lane: want of memory comes first, then a fault of the disk, then how the lane ended.
-pub fn status_of(order: &[Entry], ending: Ending) -> Status
-    ensures { result ≡ status_by order.now ending }
+/// Memory was wanting as the book was saved.
+fn wants_memory(not_saved: Option<DiskError>) -> bool
+    ensures { result ≡ is_wanting not_saved }
 {
-    if has_entry(order, 2) || ending == Ending::NoMemory {
+    matches!(not_saved, Some(DiskError::NoMemory))
+}
+
+/// The disk failed as the book was saved.
+fn has_failed(not_saved: Option<DiskError>) -> bool
+    ensures { result ≡ is_failed not_saved }
+{
+    matches!(not_saved, Some(DiskError::Failed))
+}
+
+/// The status of a run of one lane: want of memory comes first, then a fault of the disk, then how the lane ended. What the
+/// saving of the book came to counts as what an act came to.
+pub fn status_of(order: &[Entry], ending: Ending, not_saved: Option<DiskError>) -> Status
+    ensures { result ≡ status_by order.now ending not_saved }
+{
+    if has_entry(order, 2) || ending == Ending::NoMemory || wants_memory(not_saved) {
         return Status::NoMemory;
     }
-    if has_entry(order, 5) {
+    if has_entry(order, 5) || has_failed(not_saved) {
         return Status::DiskFault;
     }
     by_ending(ending)
