@@ -66,7 +66,6 @@ TABLES = {
         "OLD": [book(18, (b"abc", 14), (b"de", 14))],
         "NEW_BOOK": [book(24, (b"abc", 23), (b"de", 14))],
         "KEPT": [book(10, (b"abc", 5))],
-        "BOTH_SENT": [book(23, (b"abc", 21), (b"de", 22))],
     },
     "server_tests/src/lanes.rt": {
         "FINISH": [frame(finish())],

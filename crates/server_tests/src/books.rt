@@ -4,6 +4,7 @@
 use crate::asserts::same;
 use crate::serving::frames::*;
 use core_opening::open_on;
+use core_state::Core;
 use disk_trait::{Disk, DiskError, FailingDisk, MemoryDisk};
 use lane::{Port, run_alone};
 use pbs_server::{Served, Status, serve};
@@ -11,7 +12,7 @@ use port_traits::{FreeGate, MemSink, MemSource, SetClock};
 use std::alloc::{AllocError, Global};
 use std::process::Abort;
 use std::test::Fail;
-use store_types::Digest32;
+use store_types::{Digest32, Entry};
 
 /// What is sent, and what is replied to it.
 type Steps = &'static [(&'static [u8], &'static [u8])];
@@ -513,15 +514,9 @@ const BEFORE: Contents = &[(ABC_FILE, ABC_CHUNK), (BOOK, KEPT)];
 const KEPT: &[u8] =
     b"PBSBOOK1\x0a\0\0\0\0\0\0\0\x01\0\0\0\0\0\0\0\xbax\x16\xbf\x8f\x01\xcf\xeaAA@\xde]\xae\"#\xb0\x03a\xa3\x96\x17z\x9c\xb4\x10\xffa\xf2\0\x15\xad\x05\0\0\0\0\0\0\06\xe8\xda'\x04\x05\xad\xa9\xa3\xfb\x96P\xf9\xaayIe\xd8\x17!\xcd\xce\xc2t%?kn7`D[";
 
-const SENT_BOTH: Run = Run {
-    clock: &[20, 21, 22, 23],
-    steps: &[(OPEN, NO_BASE), (SEND_ABC, DONE), (SEND_DE, DONE)],
-    status: Status::Ok,
-    book: BOTH_SENT,
-};
+const SENT_BOTH: Steps = &[(OPEN, NO_BASE), (SEND_ABC, DONE), (SEND_DE, DONE)];
 
-const BOTH_SENT: &[u8] =
-    b"PBSBOOK1\x17\0\0\0\0\0\0\0\x02\0\0\0\0\0\0\0\x95\x9aE\xd4No\xcfX6\x1e\xd0\x04h\x15V\xfeP\x12\x9f!\x09\xe8\x17\xde\xc0\x98\xc0\x0c\x9e]%x\x16\0\0\0\0\0\0\0\xbax\x16\xbf\x8f\x01\xcf\xeaAA@\xde]\xae\"#\xb0\x03a\xa3\x96\x17z\x9c\xb4\x10\xffa\xf2\0\x15\xad\x15\0\0\0\0\0\0\0\xe7\x92g*e}\xeb\xc4Ff\x11(&_\xdb\xbc\xdd\x92O\xe9G\xca\x9b\xdd\x9f\x0c\x16Y\x87\xd7\xe1\xe9";
+const MOMENTS: &[u64] = &[20, 21, 22, 23];
 
 /// The number of the call that fails, and the chunks' last touches then. Behind opening the first CHUNK asks whether its file is there,
 /// and the second installs its own.
@@ -539,21 +534,26 @@ fn failing_at(alloc: Global, call: u64) -> Result<FailingDisk<MemoryDisk>, Fail>
     Ok(FailingDisk::at_calls(disk, [call].to_vec(alloc)?))
 }
 
+/// The last touches of `abc` and `de`.
+fn touches<D>(core: &Core<D, MemoryDisk, SetClock>) -> (Option<u64>, Option<u64>) {
+    let book = &core.upkeep.book;
+    (book.last(&ABC), book.last(&DE))
+}
+
 /// What the core has of them, once the session was served on it.
 fn touched_on(alloc: Global, call: u64) -> Result<(Option<u64>, Option<u64>), Fail> {
-    let clock = clock_of(alloc, SENT_BOTH.clock)?;
+    let clock = clock_of(alloc, MOMENTS)?;
     let opened = open_on(alloc, failing_at(alloc, call)?, None::<MemoryDisk>, clock);
     let mut core = opened.ok().ok_or("not opened")?;
-    let mut port = port_of(alloc, SENT_BOTH.steps)?;
+    let mut port = port_of(alloc, SENT_BOTH)?;
     let _ = run_alone(&mut core, alloc, 0, &mut port, &FreeGate);
-    let book = &core.upkeep.book;
-    Ok((book.last(&ABC), book.last(&DE)))
+    Ok(touches(&core))
 }
 
 /// Where the disk fails in a session, what stood in the folder is its book still.
 fn try_fault(rt: &impl Abort, alloc: Global, call: u64) -> Result<(), Fail> {
-    let mut ports = [port_of(alloc, SENT_BOTH.steps)?];
-    let served = serve_on(alloc, &mut ports, failing_at(alloc, call)?, SENT_BOTH.clock)?;
+    let mut ports = [port_of(alloc, SENT_BOTH)?];
+    let served = serve_on(alloc, &mut ports, failing_at(alloc, call)?, MOMENTS)?;
     let ended = (served.status, served.report.not_saved);
     same(rt, ended, (Status::DiskFault, None));
     assert_book(rt, alloc, &mut served.disk.into_inner(), KEPT)
@@ -568,5 +568,38 @@ fn a_chunk_fails(rt: HostRuntime) -> Result<(), Fail> {
             try_fault(&rt, alloc, *call)?;
         }
     }
+    Ok(())
+}
+
+/// The moment of the CHUNK at this place in the order, where that and OPEN_WRITER before it were done.
+fn moment_of(order: &[Entry], place: usize) -> Option<u64> {
+    let (Some(first), Some(entry)) = (order.first(), order.get(place)) else {
+        return None;
+    };
+    if first.kind == 0 && entry.kind == 0 {
+        Some(entry.moment)
+    } else {
+        None
+    }
+}
+
+/// A growth is refused, as `rt try --test --fail-alloc N` does. A CHUNK that was not done touches nothing.
+#[test]
+fn a_touch_lacks_memory(rt: HostRuntime) -> Result<(), Fail> {
+    let alloc = rt.alloc();
+    // what is handed in takes memory too
+    let (Ok(disk), Ok(clock)) = (disk_of(alloc, BEFORE), clock_of(alloc, MOMENTS)) else {
+        return Ok(());
+    };
+    let Ok(mut port) = port_of(alloc, SENT_BOTH) else {
+        return Ok(());
+    };
+    let Ok(mut core) = open_on(alloc, disk, None::<MemoryDisk>, clock) else {
+        return Ok(());
+    };
+    let _ = run_alone(&mut core, alloc, 0, &mut port, &FreeGate);
+    let order = core.journal.entries.as_slice();
+    let expected = (moment_of(order, 1).or(Some(5)), moment_of(order, 2));
+    same(&rt, touches(&core), expected);
     Ok(())
 }
