@@ -1,9 +1,10 @@
 -- The acts on the store as a whole are well-formed commands.
-use Rattle.std.proofs.Common.{◌≡◌, refl}
+use Rattle.std.proofs.Common.{◌≡◌, false, refl}
 use Rattle.wire_commands.specs.declared.command.Command.TheVariants.{OpenWriter, Previous, NewFixed, NewDynamic, Chunk as ChunkCommand, Append, CloseIndex, Blob as BlobCommand, Finish, Abort, OpenReader, Download, GetChunk, Range, CloseReader, List as ListAll, Files as FilesOf, Forget, Prune, Group, Bye}
 use Rattle.store_history.specs.Acts.{IsWellFormed, class_of, stepping}
 use Rattle.store_history.specs.declared.act.Act.{Act}
 use Rattle.store_history.specs.declared.act.Act.TheVariants.{Plain, JobGroup, Blob, Chunk, Short, End}
+use Rattle.store_history.specs.Tending.{may_touch}
 use Rattle.core_admin.specs.AdminActs.{IsAdmins}
 
 pub admins_formed : (a : Act) → IsAdmins a → IsWellFormed a
@@ -42,3 +43,9 @@ admins_step (Blob name checked) h = absurd h
 admins_step (Chunk digest checked) h = absurd h
 admins_step Short h = absurd h
 admins_step End h = absurd h
+
+-- they touch no chunk
+pub admins_untouching : (a : Act) → IsAdmins a → may_touch a ≡ false
+admins_untouching (Plain (Append number entries)) h = absurd h
+admins_untouching (Chunk digest checked) h = absurd h
+admins_untouching a h = refl

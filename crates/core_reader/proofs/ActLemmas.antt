@@ -1,5 +1,5 @@
 -- The acts of readers are well-formed commands.
-use Rattle.std.proofs.Common.{◌≡◌, ℕ, Option, Result, refl}
+use Rattle.std.proofs.Common.{◌≡◌, ℕ, false, Option, Result, refl}
 use Rattle.disk_trait.specs.declared.disk.Disk.{Ghosts}
 use Rattle.port_traits.specs.Readings.{Readings}
 use Rattle.wire_commands.specs.declared.command.Command.TheVariants.{OpenWriter, Previous, NewFixed, NewDynamic, Chunk as ChunkCommand, Append, CloseIndex, Blob as BlobCommand, Finish, Abort, OpenReader, Download, GetChunk, Range, CloseReader, List as ListAll, Files as FilesOf, Forget, Prune, Group, Bye}
@@ -8,6 +8,7 @@ use Rattle.store_history.specs.declared.act.Act.{Act}
 use Rattle.store_history.specs.declared.act.Act.TheVariants.{Plain, JobGroup, Blob, Chunk, Short, End}
 use Rattle.store_history.specs.declared.act.Answer.{Answer}
 use Rattle.store_history.specs.Acts.{IsWellFormed, class_of, stepping}
+use Rattle.store_history.specs.Tending.{may_touch}
 use Rattle.core_state.specs.declared.entering.Place.{Place}
 use Rattle.core_state.specs.declared.state.Core.{Core}
 use Rattle.core_state.specs.declared.stop.Stop.{Stop}
@@ -53,6 +54,12 @@ readers_step (Blob name checked) h = absurd h
 readers_step (Chunk digest checked) h = absurd h
 readers_step Short h = absurd h
 readers_step End h = absurd h
+
+-- they touch no chunk
+pub readers_untouching : (a : Act) → IsReaders a → may_touch a ≡ false
+readers_untouching (Plain (Append number entries)) h = absurd h
+readers_untouching (Chunk digest checked) h = absurd h
+readers_untouching a h = refl
 
 -- ---- what an act is answered by what the core keeps
 

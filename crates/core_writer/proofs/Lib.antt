@@ -8,3 +8,4 @@ pub mod FinishLemmas
 pub mod AbortLemmas
 pub mod LaneEnds
 pub mod ActLemmas
+pub mod TouchLemmas

@@ -4,3 +4,4 @@ pub mod Ended
 pub mod WriterActs
 pub mod Finished
 pub mod Stopping
+pub mod Touching

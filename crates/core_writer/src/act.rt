@@ -8,27 +8,37 @@ ghost use Rattle.core_state.specs.Commands.{ActDoes, ActLeaves};
 ghost use Rattle.core_state.specs.Reserved.{HasRoom};
 ghost use Rattle.core_state.specs.Unreadables.{ActUnreadable, CoreUnreadable};
 ghost use Rattle.core_writer.specs.AnsweredBy.{ActAnswersBy, CoreAnswersBy};
+ghost use Rattle.core_writer.specs.Touching.{ActTouches};
 ghost use Rattle.core_writer.specs.WriterActs.{IsWriters, asked_of_writer};
 
 use crate::ending::{abort, end};
 use crate::finishing::finish;
 use crate::opening::open_writer;
+use crate::touching::{append_touched, chunk_touched};
 use core_state::{
-    Act, Admitted, Answer, Core, Parts, Place, Stop, begin, end_session, enter, next_place, settle,
+    Act, Admitted, Answer, Core, Parts, Place, Stop, Upkeep, begin, end_session, enter, next_place,
+    settle,
 };
-use core_uploads::{append, blob, chunk, close_index, new_dynamic, new_fixed, previous};
+use core_uploads::{blob, close_index, new_dynamic, new_fixed, previous};
 use disk_trait::Disk;
 use port_traits::Clock;
 use std::alloc::Global;
 use store_types::END_KIND;
 use wire_commands::{Command, Reply};
 
-fn perform<D: Disk>(parts: &mut Parts<D>, alloc: Global, at: Place, act: Act) -> Result<Reply, Stop>
+fn perform<D: Disk>(
+    parts: &mut Parts<D>,
+    upkeep: &mut Upkeep,
+    alloc: Global,
+    at: Place,
+    act: Act,
+) -> Result<Reply, Stop>
     requires lane { at.lane < 64 }
     requires in_time { at.moment ≤ last_moment }
     requires kind { IsWriters act }
     ensures does { ActDoes D.Disk parts.old parts.new at act result }
     ensures leaves { ActLeaves D.Disk parts.old parts.new at act result }
+    ensures touches { ActTouches upkeep.old upkeep.new at act result }
     ensures by_kept { ActAnswersBy parts.old at act result }
     ensures unreadable { ActUnreadable D.Disk (asked_of_writer act) parts.old at result }
 {
@@ -50,7 +60,7 @@ fn perform<D: Disk>(parts: &mut Parts<D>, alloc: Global, at: Place, act: Act) ->
             new_dynamic(parts, alloc, at, file.as_slice())
         }
         Act::Plain(Command::Append { number, entries }) => {
-            append(parts, alloc, at, number, entries.as_slice())
+            append_touched(parts, upkeep, alloc, at, number, entries.as_slice())
         }
         Act::Plain(
             Command::CloseIndex {
@@ -62,7 +72,9 @@ fn perform<D: Disk>(parts: &mut Parts<D>, alloc: Global, at: Place, act: Act) ->
         ) => close_index(parts, alloc, at, number, count, size, &csum),
         Act::Plain(Command::Finish) => finish(parts, alloc, at),
         Act::Plain(Command::Abort) => abort(parts, at),
-        Act::Chunk { digest, checked } => chunk(parts, alloc, at, &digest, checked),
+        Act::Chunk { digest, checked } => {
+            chunk_touched(parts, upkeep, alloc, at, &digest, checked)
+        }
         Act::Blob { name, checked } => blob(parts, alloc, at, name.as_slice(), checked),
         _ => unreachable!(),
     }
@@ -88,7 +100,7 @@ pub fn writer_act<D: Disk, E, C: Clock>(
     match begin(core, alloc, lane, &act) {
         Admitted::Answered(answer) => answer,
         Admitted::At(at) => {
-            let ended = perform(&mut core.parts, alloc, at, act);
+            let ended = perform(&mut core.parts, &mut core.upkeep, alloc, at, act);
             settle(core, at, ended)
         }
     }

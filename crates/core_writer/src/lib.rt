@@ -7,6 +7,7 @@ mod catalogue;
 mod ending;
 mod finishing;
 mod opening;
+mod touching;
 
 pub use act::{end_act, writer_act};
 pub use ending::{abort, end};

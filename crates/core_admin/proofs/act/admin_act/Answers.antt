@@ -1,7 +1,11 @@
-use Rattle.std.proofs.Common.{refl}
+use Rattle.std.proofs.Common.{Some, refl}
+use Rattle.core_state.specs.Settles.{reply_by}
+use Rattle.core_state.specs.Stops.{told}
+use Rattle.core_state.specs.Upkeeps.{tended_of}
 use Rattle.core_state.proofs.Applying.{done_applies, done_keeps_all, refused_applies, refused_keeps_all}
+use Rattle.core_state.proofs.Touching.{untouched}
 use Rattle.core_state.proofs.Unreadables.{tells_refused}
-use Rattle.core_admin.proofs.ActLemmas.{admins_formed, admins_step}
+use Rattle.core_admin.proofs.ActLemmas.{admins_formed, admins_step, admins_untouching}
 use Rattle.core_admin.proofs.act.admin_act.Goals as goal
 
 pub returns-in-Answered-clause-applies : goal.returns-in-Answered-clause-applies
@@ -18,10 +22,26 @@ returns-in-Answered-clause-unreadable g c = tells_refused g.D.Disk g.C.Clock.rea
 
 pub returns-in-At-clause-applies : goal.returns-in-At-clause-applies
 returns-in-At-clause-applies g c =
-    done_applies g.D.Disk g.C.Clock _ c.begin.new.core _ _ c.args.lane c.in-At.at c.args.act _ _ c.requires.lane (admins_formed c.args.act c.requires.kind) (admins_step c.args.act c.requires.kind)
-    c.in-At.ensures.begun c.in-At.ensures.filled (record { journal = refl; clock = refl; fault = refl; remote = refl }) c.perform-ended.ensures.does c.perform-ended.ensures.leaves c.settle.ensures
+    done_applies g.D.Disk g.C.Clock _ c.begin.new.core _ _ c.args.lane c.in-At.at c.args.act c.perform-ended.result _ c.requires.lane (admins_formed c.args.act c.requires.kind) (admins_step c.args.act c.requires.kind)
+    c.in-At.ensures.begun c.in-At.ensures.filled
+    (record {
+      journal = refl;
+      clock = refl;
+      fault = refl;
+      remote = refl;
+      upkeep = untouched c.args.act (Some (reply_by (told c.perform-ended.result))) c.in-At.at.moment (tended_of c.begin.new.core.upkeep) (admins_untouching c.args.act c.requires.kind);
+    })
+    c.perform-ended.ensures.does c.perform-ended.ensures.leaves c.settle.ensures
 
 pub returns-in-At-clause-keeps : goal.returns-in-At-clause-keeps
 returns-in-At-clause-keeps g c =
-    done_keeps_all g.D.Disk g.C.Clock _ c.begin.new.core _ _ c.args.lane c.in-At.at c.args.act _ _ (admins_step c.args.act c.requires.kind)
-    c.in-At.ensures.begun c.in-At.ensures.filled (record { journal = refl; clock = refl; fault = refl; remote = refl }) c.perform-ended.ensures.does c.perform-ended.ensures.leaves c.settle.ensures
+    done_keeps_all g.D.Disk g.C.Clock _ c.begin.new.core _ _ c.args.lane c.in-At.at c.args.act c.perform-ended.result _ (admins_step c.args.act c.requires.kind)
+    c.in-At.ensures.begun c.in-At.ensures.filled
+    (record {
+      journal = refl;
+      clock = refl;
+      fault = refl;
+      remote = refl;
+      upkeep = untouched c.args.act (Some (reply_by (told c.perform-ended.result))) c.in-At.at.moment (tended_of c.begin.new.core.upkeep) (admins_untouching c.args.act c.requires.kind);
+    })
+    c.perform-ended.ensures.does c.perform-ended.ensures.leaves c.settle.ensures

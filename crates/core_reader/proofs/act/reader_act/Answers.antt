@@ -1,13 +1,17 @@
-use Rattle.std.proofs.Common.{refl, sym, subst}
+use Rattle.std.proofs.Common.{Some, refl, sym, subst}
 use Rattle.core_state.specs.Begins.{IsReady}
+use Rattle.core_state.specs.Settles.{reply_by}
+use Rattle.core_state.specs.Stops.{told}
 use Rattle.core_state.specs.Unreadables.{TellsUnreadable}
+use Rattle.core_state.specs.Upkeeps.{tended_of}
 use Rattle.core_state.specs.Wanted.{session_at}
 use Rattle.core_state.proofs.Applying.{refused_applies, refused_keeps_all, done_applies, done_keeps_all}
+use Rattle.core_state.proofs.Touching.{untouched}
 use Rattle.core_state.proofs.Unreadables.{tells_refused, tells_done}
 use Rattle.core_reader.specs.Asked.{asked_file}
 use Rattle.core_reader.specs.Damages.{TellsDamaged, needed}
 use Rattle.core_reader.proofs.Damaging.{damages_refused, damages_done}
-use Rattle.core_reader.proofs.ActLemmas.{readers_done, readers_formed, readers_refused, readers_step}
+use Rattle.core_reader.proofs.ActLemmas.{readers_done, readers_formed, readers_refused, readers_step, readers_untouching}
 use Rattle.core_reader.proofs.act.reader_act.Goals as goal
 
 pub returns-in-Answered-clause-applies : goal.returns-in-Answered-clause-applies
@@ -30,13 +34,29 @@ returns-in-Answered-clause-by_kept g c = readers_refused g.D.Disk g.C.Clock.read
 
 pub returns-in-At-clause-applies : goal.returns-in-At-clause-applies
 returns-in-At-clause-applies g c =
-    done_applies g.D.Disk g.C.Clock _ c.begin.new.core _ _ c.args.lane c.in-At.at c.args.act _ _ c.requires.lane (readers_formed c.args.act c.requires.kind) (readers_step c.args.act c.requires.kind)
-    c.in-At.ensures.begun c.in-At.ensures.filled (record { journal = refl; clock = refl; fault = refl; remote = refl }) c.perform-ended.ensures.does c.perform-ended.ensures.leaves c.settle.ensures
+    done_applies g.D.Disk g.C.Clock _ c.begin.new.core _ _ c.args.lane c.in-At.at c.args.act c.perform-ended.result _ c.requires.lane (readers_formed c.args.act c.requires.kind) (readers_step c.args.act c.requires.kind)
+    c.in-At.ensures.begun c.in-At.ensures.filled
+    (record {
+      journal = refl;
+      clock = refl;
+      fault = refl;
+      remote = refl;
+      upkeep = untouched c.args.act (Some (reply_by (told c.perform-ended.result))) c.in-At.at.moment (tended_of c.begin.new.core.upkeep) (readers_untouching c.args.act c.requires.kind);
+    })
+    c.perform-ended.ensures.does c.perform-ended.ensures.leaves c.settle.ensures
 
 pub returns-in-At-clause-keeps : goal.returns-in-At-clause-keeps
 returns-in-At-clause-keeps g c =
-    done_keeps_all g.D.Disk g.C.Clock _ c.begin.new.core _ _ c.args.lane c.in-At.at c.args.act _ _ (readers_step c.args.act c.requires.kind)
-    c.in-At.ensures.begun c.in-At.ensures.filled (record { journal = refl; clock = refl; fault = refl; remote = refl }) c.perform-ended.ensures.does c.perform-ended.ensures.leaves c.settle.ensures
+    done_keeps_all g.D.Disk g.C.Clock _ c.begin.new.core _ _ c.args.lane c.in-At.at c.args.act c.perform-ended.result _ (readers_step c.args.act c.requires.kind)
+    c.in-At.ensures.begun c.in-At.ensures.filled
+    (record {
+      journal = refl;
+      clock = refl;
+      fault = refl;
+      remote = refl;
+      upkeep = untouched c.args.act (Some (reply_by (told c.perform-ended.result))) c.in-At.at.moment (tended_of c.begin.new.core.upkeep) (readers_untouching c.args.act c.requires.kind);
+    })
+    c.perform-ended.ensures.does c.perform-ended.ensures.leaves c.settle.ensures
 
 pub returns-in-At-clause-by_kept : goal.returns-in-At-clause-by_kept
 returns-in-At-clause-by_kept g c =

@@ -22,13 +22,17 @@ returns-in-Answered-clause-by_kept g c = writers_refused g.D.Disk g.C.Clock.read
 
 pub returns-in-At-clause-applies : goal.returns-in-At-clause-applies
 returns-in-At-clause-applies g c =
-    done_applies g.D.Disk g.C.Clock _ c.begin.new.core _ _ c.args.lane c.in-At.at c.args.act _ _ c.requires.lane (writers_formed c.args.act c.requires.kind) (writers_step c.args.act c.requires.kind)
-    c.in-At.ensures.begun c.in-At.ensures.filled (record { journal = refl; clock = refl; fault = refl; remote = refl }) c.perform-ended.ensures.does c.perform-ended.ensures.leaves c.settle.ensures
+    done_applies g.D.Disk g.C.Clock _ c.begin.new.core _ _ c.args.lane c.in-At.at c.args.act c.perform-ended.result _ c.requires.lane (writers_formed c.args.act c.requires.kind) (writers_step c.args.act c.requires.kind)
+    c.in-At.ensures.begun c.in-At.ensures.filled
+    (record { journal = refl; clock = refl; fault = refl; remote = refl; upkeep = c.perform-ended.ensures.touches })
+    c.perform-ended.ensures.does c.perform-ended.ensures.leaves c.settle.ensures
 
 pub returns-in-At-clause-keeps : goal.returns-in-At-clause-keeps
 returns-in-At-clause-keeps g c =
-    done_keeps_all g.D.Disk g.C.Clock _ c.begin.new.core _ _ c.args.lane c.in-At.at c.args.act _ _ (writers_step c.args.act c.requires.kind)
-    c.in-At.ensures.begun c.in-At.ensures.filled (record { journal = refl; clock = refl; fault = refl; remote = refl }) c.perform-ended.ensures.does c.perform-ended.ensures.leaves c.settle.ensures
+    done_keeps_all g.D.Disk g.C.Clock _ c.begin.new.core _ _ c.args.lane c.in-At.at c.args.act c.perform-ended.result _ (writers_step c.args.act c.requires.kind)
+    c.in-At.ensures.begun c.in-At.ensures.filled
+    (record { journal = refl; clock = refl; fault = refl; remote = refl; upkeep = c.perform-ended.ensures.touches })
+    c.perform-ended.ensures.does c.perform-ended.ensures.leaves c.settle.ensures
 
 pub returns-in-At-clause-by_kept : goal.returns-in-At-clause-by_kept
 returns-in-At-clause-by_kept g c =
