@@ -170,10 +170,20 @@ def manifest(snapshot, *files):
     return json.dumps(whole, separators=(",", ":")).encode()
 
 
-def book(moment, *touches):
-    """The book of last touches: digests with moments, in rising order, and the SHA-256 of all before it."""
-    front = BOOK_MAGIC + u64(moment) + u64(len(touches)) + b"".join(digest + u64(at) for digest, at in touches)
+def signed(front):
+    """What ends in the SHA-256 of all before it."""
     return front + sha256(front)
+
+
+def book_of(touches, moment, count, magic=BOOK_MAGIC):
+    """The book of last touches: digests with moments, which should rise by digests."""
+    return signed(magic + u64(moment) + u64(count) + b"".join(digest + u64(at) for digest, at in touches))
+
+
+def book(moment, *touches):
+    """The book of these pieces' last touches, by their digests."""
+    rows = sorted((sha256(piece), at) for piece, at in touches)
+    return book_of(rows, moment, len(rows))
 
 
 # Commands

@@ -9,15 +9,15 @@ use std::alloc::Global;
 use std::process::Abort;
 use std::test::Fail;
 
-const ABC_CHUNK: &str =
+pub(crate) const ABC_CHUNK: &str =
     ".chunks/ba78/ba7816bf8f01cfea414140de5dae2223b00361a396177a9cb410ff61f20015ad";
 
-const DE_CHUNK: &str =
+pub(crate) const DE_CHUNK: &str =
     ".chunks/959a/959a45d44e6fcf58361ed004681556fe50129f2109e817dec098c00c9e5d2578";
 
-const ABC_BLOB: &[u8] = b"\x42\xab\x38\x07\xbe\x83\x70\xa1\xc2\x41\x24\x35abc";
+pub(crate) const ABC_BLOB: &[u8] = b"\x42\xab\x38\x07\xbe\x83\x70\xa1\xc2\x41\x24\x35abc";
 
-const DE_BLOB: &[u8] = b"\x42\xab\x38\x07\xbe\x83\x70\xa1\x8b\x29\x90\x7dde";
+pub(crate) const DE_BLOB: &[u8] = b"\x42\xab\x38\x07\xbe\x83\x70\xa1\x8b\x29\x90\x7dde";
 
 /// `abc`'s blob with another last byte.
 const TORN_BLOB: &[u8] = b"\x42\xab\x38\x07\xbe\x83\x70\xa1\xc2\x41\x24\x35abd";

@@ -6,6 +6,8 @@ mod admin;
 #[cfg(test)]
 mod asserts;
 #[cfg(test)]
+mod books;
+#[cfg(test)]
 mod calls;
 #[cfg(test)]
 mod damage;

@@ -4,6 +4,8 @@
 #[cfg(test)]
 mod asserts;
 #[cfg(test)]
+mod books;
+#[cfg(test)]
 mod lanes;
 #[cfg(test)]
 mod serving;

@@ -4,7 +4,7 @@ mod damaged;
 mod disk_faults;
 mod fixed;
 mod folders;
-mod frames;
+pub mod frames;
 mod listings;
 mod long_names;
 mod manifests;
@@ -249,13 +249,14 @@ fn assert_run<D>(
     Ok(())
 }
 
-/// The disk holds these files, and no others.
+/// The disk holds these files, and no others beside the book of touches.
 fn assert_holds(
     rt: &impl Abort,
     alloc: Global,
     mut disk: MemoryDisk,
     files: &[(&str, u64)],
 ) -> Result<(), Fail> {
+    let _ = disk.remove(".chunks/book")?;
     let names = disk.list(alloc, "")?;
     same(rt, names.len(), files.len());
     for (name, (wanted, size)) in names.iter().zip(files) {
@@ -377,14 +378,14 @@ fn try_session(rt: &impl Abort, alloc: Global, input: &[u8], left: &Left<'_>) ->
     try_source(rt, alloc, source_of(alloc, input)?.at_most(1), left)
 }
 
-/// What opening calls on an empty folder: sync, and a list of all names.
-const OPENING: u64 = 2;
+/// What opening calls on an empty folder: sync, a list of all names, and a read of the book.
+const OPENING: u64 = 3;
 
 /// The counts of the disk's calls beside the entries, those of opening first: FINISH installs and syncs, DOWNLOAD asks the size and reads; CHUNK asks the size,
 /// and installs only where no file was there.
 static COUNTED: [(&[u8], &[u64]); 2] = [
-    (READ_BACK, &[2, 2, 6, 6, 8, 8]),
-    (SENT_AGAIN, &[2, 6, 6, 6, 7, 7]),
+    (READ_BACK, &[3, 3, 7, 7, 9, 9]),
+    (SENT_AGAIN, &[3, 7, 7, 7, 8, 8]),
 ];
 
 #[test]

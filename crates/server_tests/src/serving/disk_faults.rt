@@ -6,6 +6,12 @@ use super::talks::talk_of;
 use super::*;
 use disk_trait::{FailingDisk, Step};
 
+/// The manifest, and the book under its temporary name.
+const SAVED: Files = &[
+    (".chunks/book.tmp", 56),
+    ("host/a/2020-01-15T06:30:03Z/index.json.blob", 86),
+];
+
 /// The manifest under its temporary name.
 const STAGED: Files = &[("host/a/2020-01-15T06:30:03Z/index.json.blob.tmp", 86)];
 
@@ -49,8 +55,9 @@ struct Fault {
     files: Files,
 }
 
-/// FINISH installs the manifest and syncs, and DOWNLOAD asks for the size and reads. In the end no call is left to fail.
-static TO_THE_END_FAULTS: [Fault; 7] = [
+/// FINISH installs the manifest and syncs, DOWNLOAD asks for the size and reads, and the book is installed. In the end no call is left
+/// to fail.
+static TO_THE_END_FAULTS: [Fault; 10] = [
     Fault {
         told: 11,
         behind: b"\x01\0\0\0\x1a\x09\0\0\0\x1b\x02\0\0\0\0\0\0\0\x09\0\0\0\x1b\x02\0\0\0\0\0\0\0",
@@ -96,6 +103,27 @@ static TO_THE_END_FAULTS: [Fault; 7] = [
     Fault {
         told: 120,
         behind: b"",
+        status: Status::DiskFault,
+        kinds: &[0, 0, 0, 0, 0, 6],
+        files: FINISHED,
+    },
+    Fault {
+        told: 120,
+        behind: b"",
+        status: Status::DiskFault,
+        kinds: &[0, 0, 0, 0, 0, 6],
+        files: SAVED,
+    },
+    Fault {
+        told: 120,
+        behind: b"",
+        status: Status::DiskFault,
+        kinds: &[0, 0, 0, 0, 0, 6],
+        files: SAVED,
+    },
+    Fault {
+        told: 120,
+        behind: b"",
         status: Status::Ok,
         kinds: &[0, 0, 0, 0, 0, 6],
         files: FINISHED,
@@ -103,7 +131,7 @@ static TO_THE_END_FAULTS: [Fault; 7] = [
 ];
 
 /// FINISH installs the manifest and syncs, each upload installs its file, and the end removes both. A fault of the end is not
-/// told, and the end then comes again, without a call.
+/// told, and the end then comes again, without a call. In the end the put of the book fails.
 static TO_BYE_FAULTS: [Fault; 13] = [
     Fault {
         told: 11,
@@ -192,7 +220,7 @@ static TO_BYE_FAULTS: [Fault; 13] = [
     Fault {
         told: 64,
         behind: b"",
-        status: Status::Ok,
+        status: Status::DiskFault,
         kinds: &[0, 0, 0, 0, 0, 0, 6],
         files: FINISHED,
     },
@@ -203,7 +231,7 @@ const UPLOADED: Files = &[("host/a/2020-01-15T06:30:03Z/a.conf.blob", 21)];
 
 const UPLOAD_STAGED: Files = &[("host/a/2020-01-15T06:30:03Z/a.conf.blob.tmp", 21)];
 
-/// The upload installs its file, and ABORT removes it.
+/// The upload installs its file, ABORT removes it, and the put of the book fails.
 static ABORTED_FAULTS: [Fault; 5] = [
     Fault {
         told: 6,
@@ -236,7 +264,7 @@ static ABORTED_FAULTS: [Fault; 5] = [
     Fault {
         told: 22,
         behind: b"",
-        status: Status::Ok,
+        status: Status::DiskFault,
         kinds: &[0, 0, 0, 0, 6],
         files: NOTHING,
     },
@@ -269,7 +297,8 @@ const INDEX_STAGED: Files = &[
     ("host/a/2020-01-15T06:30:03Z/root.didx.tmp", 4136),
 ];
 
-/// CHUNK asks whether the chunk's file is there and installs it, once; CLOSE_INDEX installs the index, and ABORT removes it.
+/// CHUNK asks whether the chunk's file is there and installs it, once; CLOSE_INDEX installs the index, ABORT
+/// removes it, and the put of the book fails.
 static STORED_FAULTS: [Fault; 9] = [
     Fault {
         told: 12,
@@ -330,7 +359,7 @@ static STORED_FAULTS: [Fault; 9] = [
     Fault {
         told: 37,
         behind: b"",
-        status: Status::Ok,
+        status: Status::DiskFault,
         kinds: &[0, 0, 0, 0, 0, 0, 0, 6],
         files: WITH_CHUNK,
     },

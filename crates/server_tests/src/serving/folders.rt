@@ -253,7 +253,7 @@ static FOLDERS: [Folder; 6] = [
         run: &[(LIST, NONE_THERE), (READ, NO_SNAPSHOT), (OPEN, NO_BASE)],
         after: &[(ABC_FILE, 3)],
     },
-    // names of other forms stay, but for those with `.tmp`
+    // names of other forms stay, but for those with `.tmp`; a book that is none is written over
     Folder {
         before: &[
             (".chunks/959a.tmp", b"a"),
@@ -269,7 +269,6 @@ static FOLDERS: [Folder; 6] = [
         run: &[(LIST, NONE_THERE), (GROUP, NONE_THERE)],
         after: &[
             (".chunks/ba78/ba78", 1),
-            (".chunks/book", 1),
             (".chunks/other/names/abc", 1),
             ("host/a/2020-01-15T06:30:03Z/notes.txt", 1),
             ("host/a/2020-01-15T06:30:03Z/x/index.json.blob", 1),

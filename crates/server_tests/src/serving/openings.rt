@@ -16,11 +16,14 @@ static OPENED: [(&str, &[u8]); 4] = [
     ("notes.tmp", b"abc"),
 ];
 
-/// What opening calls there: sync, a list of all names, two removals, the manifest, and the size of the file that it lists.
-const CALLS: u64 = 6;
+/// What opening calls there: sync, a list of all names, two removals, the manifest, the size of the file that it lists, and the book.
+const CALLS: u64 = 7;
+
+/// What the save of the book calls behind the session.
+const SAVE: u64 = 3;
 
 /// How many of its files stand there once its disk has failed that call. Files leave from the third call on.
-static STANDING: [usize; 6] = [4, 4, 4, 3, 2, 2];
+static STANDING: [usize; 7] = [4, 4, 4, 3, 2, 2, 2];
 
 /// How many of them stand there, each of its size.
 fn standing(disk: &mut MemoryDisk) -> Result<usize, Fail> {
@@ -93,7 +96,7 @@ fn each_call_of_an_opening_fails(rt: HostRuntime) -> Result<(), Fail> {
     Ok(())
 }
 
-/// Of its calls these write.
+/// Of its calls, and those of the save, these write.
 #[test]
 fn an_opening_syncs_and_removes(rt: HostRuntime) -> Result<(), Fail> {
     let alloc = rt.alloc();
@@ -105,9 +108,9 @@ fn an_opening_syncs_and_removes(rt: HostRuntime) -> Result<(), Fail> {
     }];
     let served = run_on(alloc, &mut ports, disk)?;
     let now = served.disk.calls();
-    same(&rt, now, before.saturating_add(CALLS));
+    same(&rt, now, before.saturating_add(CALLS + SAVE));
     let made = letters(alloc, &served.disk, before, now)?;
-    same(&rt, made.as_str(), "sdd");
+    same(&rt, made.as_str(), "sddpsr");
     Ok(())
 }
 

@@ -66,7 +66,7 @@ const UPLOADED_STEPS: Steps = &[
 
 const UPLOADS: Run = Run {
     steps: &[FIRST_STEPS, UPLOADED_STEPS],
-    calls: 25,
+    calls: 29,
     asked: ASKED,
     states: &[NONE_LEFT, ONE_LEFT],
 };
@@ -143,7 +143,7 @@ const LAST_LEFT: State = State {
 
 const PRUNES: Run = Run {
     steps: &[FIRST_STEPS, PRUNED_STEPS],
-    calls: 22,
+    calls: 26,
     asked: ASKED,
     states: &[
         NONE_LEFT,
@@ -219,7 +219,7 @@ const FIXED_LEFT: State = State {
 /// The chunk has four calls, the index three, FINISH four, DOWNLOAD two, RANGE, GET_CHUNK and FILES one each.
 const RESTORES: Run = Run {
     steps: &[FIXED_STEPS, FIXED_RESTORED],
-    calls: 18,
+    calls: 22,
     asked: &[LIST, READ, FIXED_END, ALL_THREE, CLOSE_READER],
     states: &[NO_FIXED_LEFT, FIXED_LEFT],
 };

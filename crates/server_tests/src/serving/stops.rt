@@ -15,7 +15,8 @@ pub struct State {
     pub told: &'static [&'static [u8]],
 }
 
-/// A first run, and how many calls of the disk it makes with its opening; what a second run asks, and what it may find.
+/// A first run, and how many calls of the disk it makes with its opening and the save of the book; what a second run asks, and
+/// what it may find.
 #[derive(Clone, Copy)]
 pub struct Run {
     pub steps: &'static [Steps],
@@ -30,7 +31,7 @@ const ROOT_FINISHED: Steps = &[(LIST_BOTH, DONE), (FINISH, DONE)];
 /// A backup of eight commands, one over it of seven, and a FORGET of the first; LIST, and of each snapshot the archive.
 const ARCHIVES: Run = Run {
     steps: &[ROOT_SENT, ROOT_FINISHED, OVER, &[(FORGET, DONE)]],
-    calls: 29,
+    calls: 33,
     asked: &[
         LIST,
         READ,
