@@ -482,8 +482,8 @@ fn try_save(
     same(rt, served.report.not_saved, *not_saved);
     same(rt, served.status, status);
     let left = served.disk.into_inner();
-    for (choice, book) in books.iter().enumerate() {
-        let mut crashed = left.crashed(alloc, choice as u8)?;
+    for (choice, book) in [0, 1, 2].iter().zip(books) {
+        let mut crashed = left.crashed(alloc, *choice)?;
         assert_book(rt, alloc, &mut crashed, book)?;
         try_restored(rt, alloc, crashed)?;
     }
