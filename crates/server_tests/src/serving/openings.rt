@@ -48,11 +48,7 @@ fn try_opening(
     disk: FailingDisk<MemoryDisk>,
     call: usize,
 ) -> Result<(), Fail> {
-    let mut ports: Ports<MemSink> = [Port {
-        source: source_of(alloc, LIST)?,
-        sink: empty_sink(alloc),
-    }];
-    let served = run_on(alloc, &mut ports, disk)?;
+    let (output, served) = run_session(alloc, LIST, disk)?;
     same(rt, (call, served.status), (call, Status::DiskFault));
     let cause = if call == 0 {
         OpenFault::NotSynced
@@ -60,7 +56,7 @@ fn try_opening(
         OpenFault::DiskFault
     };
     same(rt, served.report.not_opened, Some(cause));
-    same(rt, told_to(&ports)?.len(), 0);
+    same(rt, output.len(), 0);
     let counts = (
         served.order.len(),
         served.report.calls.len(),
@@ -99,11 +95,7 @@ fn an_opening_syncs_and_removes(rt: HostRuntime) -> Result<(), Fail> {
     let alloc = rt.alloc();
     let disk = disk_of(alloc, &OPENED)?;
     let before = disk.calls();
-    let mut ports: Ports<MemSink> = [Port {
-        source: source_of(alloc, b"")?,
-        sink: empty_sink(alloc),
-    }];
-    let served = run_on(alloc, &mut ports, disk)?;
+    let (_, served) = run_session(alloc, b"", disk)?;
     let now = served.disk.calls();
     same(&rt, now, before.saturating_add(CALLS));
     let made = letters(alloc, &served.disk, before, now)?;
