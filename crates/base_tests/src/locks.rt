@@ -50,9 +50,10 @@ fn holder(alloc: Global, book: &mut LockBook, lane: u32, ask: Ask) -> Result<Opt
 /// Asks in turn of an empty book, and compares who holds what is asked for.
 fn ask_all(rt: &impl Abort, alloc: Global, asks: &[(u32, Ask, Option<u32>)]) -> Result<(), Fail> {
     let mut book = LockBook::new(alloc);
-    for (row, (lane, ask, want)) in asks.iter().enumerate() {
+    for (number, row) in asks.iter().enumerate() {
+        let (lane, ask, want) = row;
         let found = holder(alloc, &mut book, *lane, *ask)?;
-        same_at(rt, row, found, *want);
+        same_at(rt, number, found, *want);
     }
     Ok(())
 }
