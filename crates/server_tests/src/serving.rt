@@ -405,7 +405,7 @@ static COUNTED: [(&[u8], &[u64]); 2] = [
 fn calls_are_counted(rt: HostRuntime) -> Result<(), Fail> {
     let alloc = rt.alloc();
     for (input, calls) in &COUNTED {
-        let (_, served) = run_session(alloc, input, MemoryDisk::new(alloc))?;
+        let (_output, served) = run_session(alloc, input, MemoryDisk::new(alloc))?;
         same(&rt, served.report.calls.as_slice(), *calls);
     }
     Ok(())

@@ -409,7 +409,7 @@ static SESSIONS: [(Calls, Calls); 11] = [
 #[test]
 fn sessions_are_told_what_they_may(rt: HostRuntime) -> Result<(), Fail> {
     for (before, calls) in &SESSIONS {
-        try_after(&rt, rt.alloc(), before, calls)?;
+        try_after(&rt, rt.alloc(), *before, *calls)?;
     }
     Ok(())
 }

@@ -458,7 +458,7 @@ fn try_stop(
 ) -> Result<(), Fail> {
     let count = OPENING.saturating_add(calls);
     let disk = FailingDisk::stopping_after(MemoryDisk::new(alloc), count);
-    let (_, served) = run_session(alloc, session.input, disk)?;
+    let (_output, served) = run_session(alloc, session.input, disk)?;
     let left = served.disk.into_inner();
     for choice in 0..3 {
         let mut found = left.crashed(alloc, choice)?;
@@ -533,7 +533,7 @@ pub fn letters(
 
 /// Serves a session and compares the writing calls of its acts.
 fn try_writings(rt: &impl Abort, alloc: Global, input: &[u8], acts: &[&str]) -> Result<(), Fail> {
-    let (_, served) = run_session(alloc, input, MemoryDisk::new(alloc))?;
+    let (_output, served) = run_session(alloc, input, MemoryDisk::new(alloc))?;
     same(rt, served.report.calls.len(), acts.len());
     let mut before = OPENING;
     for (now, act) in served.report.calls.iter().zip(acts) {

@@ -95,7 +95,7 @@ fn an_opening_syncs_and_removes(rt: HostRuntime) -> Result<(), Fail> {
     let alloc = rt.alloc();
     let disk = disk_of(alloc, &OPENED)?;
     let before = disk.calls();
-    let (_, served) = run_session(alloc, b"", disk)?;
+    let (_output, served) = run_session(alloc, b"", disk)?;
     let now = served.disk.calls();
     same(&rt, now, before.saturating_add(CALLS));
     let made = letters(alloc, &served.disk, before, now)?;

@@ -168,7 +168,7 @@ fn served_on(
     steps: &[Steps],
     disk: FailingDisk<MemoryDisk>,
 ) -> Result<Served<FailingDisk<MemoryDisk>, MemoryDisk>, Fail> {
-    let (_, served) = run_session(alloc, &talk_of(alloc, steps)?.sent, disk)?;
+    let (_output, served) = run_session(alloc, &talk_of(alloc, steps)?.sent, disk)?;
     Ok(served)
 }
 
