@@ -1,5 +1,5 @@
 -- The book of a datastore that was opened is that of the history without events.
-use Rattle.std.proofs.Common.{◌≡◌, ◌≢◌, ◌⊎◌, ◌↔◌, inl, inr, ⊎_elim, ℕ, Bool, true, false, cond, ◌&&◌, ◌||◌, if◌then◌else◌, filter, map, List, [], ◌∷◌, Option, Some, None, refl, sym, ap, subst, ◌∙◌, arith}
+use Rattle.std.proofs.Common.{◌≡◌, ◌⊎◌, ◌↔◌, inl, inr, ⊎_elim, ℕ, Bool, true, false, cond, ◌&&◌, ◌||◌, if◌then◌else◌, filter, map, List, [], ◌∷◌, Option, Some, None, refl, sym, ap, subst, ◌∙◌, arith}
 use Rattle.std.specs.Prelude.{is_none, is_some, unwrap_or, nat_le, length, drop}
 use Rattle.std.specs.FinMap.{get, entries}
 use Rattle.std.specs.List.{Contains}
@@ -11,7 +11,6 @@ use Rattle.std.proofs.lemmas.Slice.Eq.{bytes_eq-Decides}
 use Rattle.sha2.specs.Sha256.{sha256}
 use Rattle.disk_trait.specs.declared.disk.Disk.{Ghosts}
 use Rattle.port_traits.specs.Readings.{Readings}
-use Rattle.file_install.specs.Install.{temporary}
 use Rattle.store_types.specs.declared.names.Digest32.{Digest32}
 use Rattle.blob_codec.specs.Blob.{blob, data_limit}
 use Rattle.store_files.specs.Archive.{Snapshot}
@@ -25,7 +24,7 @@ use Rattle.store_model.proofs.Finding.{some_same}
 use Rattle.store_model.proofs.Insertions.{Contains-here, Contains-later, Contains-cases}
 use Rattle.snapshot_files.proofs.Mapped.{contains_map, map_contains, given_contains, entry_read}
 use Rattle.snapshot_files.proofs.Rising.{not_member}
-use Rattle.opening_files.specs.Leaving.{IsLeaving, MayClean}
+use Rattle.opening_files.specs.Leaving.{IsLeaving, IsTemporary, MayClean}
 use Rattle.opening_files.proofs.Endings.{last, last_temporary}
 use Rattle.opening_files.proofs.Leavers.{chunk_stays}
 use Rattle.store_history.specs.History.{Opening}
@@ -42,8 +41,8 @@ use Rattle.core_opening.specs.Opening.{IsBookOf, opening_of}
 
 -- ---- the saved book stays
 
-book_not_temporary : (name : List ℕ) → book_name ≢ temporary name
-book_not_temporary name e =
+book_not_temporary : IsTemporary book_name → ⊥
+book_not_temporary (name, e) =
     let is : last book_name ≡ 112 = ap last e ∙ last_temporary name in
     omega (arith, is)
 
@@ -52,7 +51,7 @@ book_stays m c may = told (may book_name)
   where
     told : (get c book_name ≡ get m book_name) ⊎ ((get c book_name ≡ None) × IsLeaving m book_name) → get c book_name ≡ get m book_name
     told (inl same) = same
-    told (inr (none, inl (name, e))) = absurd (book_not_temporary name e)
+    told (inr (none, inl temporary)) = absurd (book_not_temporary temporary)
     told (inr (none, inr (k, is_k, (name, grammar, at), lacks))) = absurd (book_apart k name at)
 
 pub saved_stays : (m c : Files) → MayClean m m c → saved_book c ≡ saved_book m

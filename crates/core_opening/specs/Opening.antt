@@ -12,6 +12,7 @@ use Rattle.store_types.specs.declared.names.Digest32.{Digest32}
 use Rattle.store_types.specs.declared.names.SnapshotKey.{SnapshotKey}
 use Rattle.store_types.specs.FileNames.{manifest_name}
 use Rattle.store_types.specs.Names.{name_lt}
+use Rattle.store_types.specs.Times.{last_moment}
 use Rattle.store_files.specs.Archive.{Snapshot}
 use Rattle.store_files.specs.Folder.{Files, file_path}
 use Rattle.store_files.specs.Manifest.{Manifest}
@@ -134,6 +135,7 @@ pub record IsNew (x : Opened) : Type 0 where
   pub numbers : NumbersAll x.catalogue.items
   -- no chunk was touched after the book's moment
   pub early : IsEarly (x.upkeep).book
+  pub in_time : (x.upkeep).book.moment ≤ last_moment
 
 -- nothing has happened yet, and no lane has a session
 pub record HasBegun {D E C : Type 0} (core : Core D E C) : Type 0 where

@@ -1,7 +1,8 @@
 //! The book of the chunks that are there, as a datastore is opened.
 
-ghost use Rattle.std.specs.Prelude.{◌≡◌, IfOk, IsErrOf, unwrap_or};
+ghost use Rattle.std.specs.Prelude.{◌≡◌, ◌≤◌, IfOk, IsErrOf, unwrap_or};
 ghost use Rattle.disk_trait.specs.Effects.{OnlyReads};
+ghost use Rattle.store_types.specs.Times.{last_moment};
 ghost use Rattle.store_files.specs.Book.{book_of};
 ghost use Rattle.atime_book.specs.Touches.{IsEarly, empty};
 ghost use Rattle.store_history.specs.Saved.{saved_book};
@@ -20,6 +21,7 @@ const BOOK_NAME: &str = ".chunks/book";
 fn book_in(alloc: Global, bytes: &[u8]) -> Result<Book, AllocError>
     ensures book { IfOk result (λ book. book ≡ unwrap_or (book_of bytes.now) empty) }
     ensures early { IfOk result IsEarly }
+    ensures in_time { IfOk result (λ book. book.moment ≤ last_moment) }
 {
     match Book::read(alloc, bytes)? {
         Some(book) => Ok(book),
@@ -33,6 +35,7 @@ fn saved_book_of<D: Disk>(disk: &mut D, alloc: Global) -> Result<Book, DiskError
     ensures book { D.honest disk.old → IfOk result (λ book. book ≡ saved_book (D.content disk.old)) }
     // on any disk
     ensures early { IfOk result IsEarly }
+    ensures in_time { IfOk result (λ book. book.moment ≤ last_moment) }
 {
     let Some(bytes) = disk.read(alloc, BOOK_NAME)? else {
         return Ok(Book::new(alloc));
@@ -50,6 +53,7 @@ pub fn upkeep_of<D: Disk>(
     ensures keeps { D.honest disk.old → IfOk result (KeepsChunks (D.content disk.old) present.now) }
     // on any disk
     ensures early { IfOk result (λ upkeep. IsEarly upkeep.book) }
+    ensures in_time { IfOk result (λ upkeep. upkeep.book.moment ≤ last_moment) }
 {
     let saved = saved_book_of(disk, alloc)?;
     let present = saved.of_present(alloc, present)?;

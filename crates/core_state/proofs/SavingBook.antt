@@ -10,11 +10,11 @@ use Rattle.disk_trait.specs.Files.{Files}
 use Rattle.disk_trait.specs.declared.disk.Disk.{Ghosts}
 use Rattle.disk_trait.specs.declared.disk.DiskError.{DiskError}
 use Rattle.disk_trait.specs.declared.disk.DiskError.TheVariants.{NoMemory, Failed}
-use Rattle.file_install.specs.Install.{installed, Installs}
+use Rattle.file_install.specs.Install.{installed, Installs, OkInstalls}
 use Rattle.file_install.proofs.InstallLaws.{installed_name}
 use Rattle.port_traits.specs.Readings.{Readings}
 use Rattle.store_files.specs.Archive.{Snapshot}
-use Rattle.store_files.specs.Book.{book_text}
+use Rattle.store_files.specs.Book.{FitsBook, book_text}
 use Rattle.store_files.specs.Folder.{IsDigest, chunk_name}
 use Rattle.store_model.specs.Stands.{StandsFor as Stands}
 use Rattle.atime_book.specs.Touches.{as_of, last_of}
@@ -25,6 +25,7 @@ use Rattle.store_history.specs.Legal.{IsLegal}
 use Rattle.store_history.specs.Saved.{HoldsBook, book_name}
 use Rattle.store_history.specs.Tending.{SameTended}
 use Rattle.store_history.proofs.Longer.{calls_risen}
+use Rattle.core_state.specs.declared.journal.Journal.{Journal}
 use Rattle.core_state.specs.declared.kept.Listed.{Listed}
 use Rattle.core_state.specs.declared.state.Core.{Core}
 use Rattle.core_state.specs.Chunks.{HoldsOnly}
@@ -33,7 +34,7 @@ use Rattle.core_state.specs.Holds.{IsOnDisk, Shows}
 use Rattle.core_state.specs.Locked.{Locked}
 use Rattle.core_state.specs.Minds.{Minds, tending}
 use Rattle.core_state.specs.Recovers.{Recovers}
-use Rattle.core_state.specs.Saving.{HasSaved, KeepsRest, LeavesBook, SavesBook, text_of_book}
+use Rattle.core_state.specs.Saving.{HasSaved, LeavesBook, SavesBook, text_of_book}
 use Rattle.core_state.specs.Upkeeps.{tended_of}
 use Rattle.core_state.proofs.Calls.{later}
 use Rattle.core_state.proofs.SavingNames.{SameStore, on_disk_same, only_as_before, same_installed, same_installs, stands_same}
@@ -59,8 +60,19 @@ reopens_later R w (e ∷ es) t u found legal low le reopens =
 
 -- ---- the core
 
+-- all but the disk, field by field
+pub record KeepsFields {D E C : Type 0} (old new : Core D E C) : Type 0 where
+  pub clock : new.clock ≡ old.clock
+  pub journal : new.journal ≡ old.journal
+  pub upkeep : new.upkeep ≡ old.upkeep
+  pub last : new.last ≡ old.last
+  pub fault : new.fault ≡ old.fault
+  pub catalogue : (new.parts).catalogue ≡ (old.parts).catalogue
+  pub sessions : (new.parts).sessions ≡ (old.parts).sessions
+  pub locks : (new.parts).locks ≡ (old.parts).locks
+
 module _ {D E C : Type 0} (d : Ghosts D) (old new : Core D E C) (result : Result (Unit {0}) DiskError)
-    (serves : Serves d.honest d.faults (old.parts).disk (new.parts).disk (IsErrOf result Failed)) (rest : KeepsRest old new) (crash : LeavesBook d old new)
+    (serves : Serves d.honest d.faults (old.parts).disk (new.parts).disk (IsErrOf result Failed)) (rest : KeepsFields old new) (crash : LeavesBook d old new)
     (saved : OnOk result (HasSaved d old new)) (unchanged : DiskWantKeeps d (old.parts).disk (new.parts).disk result) where
   abbrev read : Files
   read = d.content (old.parts).disk
@@ -83,27 +95,21 @@ module _ {D E C : Type 0} (d : Ghosts D) (old new : Core D E C) (result : Result
   up : d.calls (old.parts).disk ≤ d.calls (new.parts).disk
   up = later d (old.parts).disk (new.parts).disk (Installs read book_name (text_of_book old)) crash
 
-  upkeep_same : new.upkeep ≡ old.upkeep
-  upkeep_same = ap (λ (c : Core D E C). c.upkeep) rest
-
-  fault_same : new.fault ≡ old.fault
-  fault_same = ap (λ (c : Core D E C). c.fault) rest
-
   module _ (readings : C → Option Readings) (h : History) (s : StandsFor d readings old h) where
     stands : (IsErrOf result Failed → ⊥) → StandsFor d readings new h
     stands unfailed = record {
       legal = s.legal;
-      entries = ap (λ (c : Core D E C). (c.journal).entries.items) rest ∙ s.entries;
-      calls = ap (λ (c : Core D E C). (c.journal).calls.items) rest ∙ s.calls;
-      fault = fault_same ∙ s.fault;
-      last = ap (λ (c : Core D E C). c.last) rest ∙ s.last;
-      time = subst (λ (c : C). KeepsTime readings c h) (sym (ap (λ (c : Core D E C). c.clock) rest)) s.time;
+      entries = ap (λ (j : Journal). j.entries.items) rest.journal ∙ s.entries;
+      calls = ap (λ (j : Journal). j.calls.items) rest.journal ∙ s.calls;
+      fault = rest.fault ∙ s.fault;
+      last = rest.last ∙ s.last;
+      time = subst (λ (c : C). KeepsTime readings c h) (sym rest.clock) s.time;
       reached = let reached = s.reached in let risen = up in omega (arith, reached, risen);
       honest = serves.kept.0 s.honest;
       shows = record {
-        catalogue = ap (λ (c : Core D E C). map (λ (x : Listed). x.kept) (c.parts).catalogue.items) rest ∙ (s.shows).catalogue;
-        sessions = ap (λ (c : Core D E C). (c.parts).sessions.items) rest ∙ (s.shows).sessions;
-        locks = subst (λ locks. Locked locks (world h).store) (sym (ap (λ (c : Core D E C). (c.parts).locks) rest)) (s.shows).locks;
+        catalogue = ap (λ xs. map (λ (x : Listed). x.kept) xs.items) rest.catalogue ∙ (s.shows).catalogue;
+        sessions = ap (λ xs. xs.items) rest.sessions ∙ (s.shows).sessions;
+        locks = subst (λ locks. Locked locks (world h).store) (sym rest.locks) (s.shows).locks;
         sound = (s.shows).sound;
       };
       files = λ none. on_disk_same read reads (reads_same unfailed s.honest) (world h).store (s.files none);
@@ -112,9 +118,9 @@ module _ {D E C : Type 0} (d : Ghosts D) (old new : Core D E C) (result : Result
 
     minds : (IsErrOf result Failed → ⊥) → Minds d old h → Minds d new h
     minds unfailed m = record {
-      touches = subst (λ u. SameTended (tended_of u) (tending h)) (sym upkeep_same) m.touches;
+      touches = subst (λ u. SameTended (tended_of u) (tending h)) (sym rest.upkeep) m.touches;
       present = λ none x digest.
-          subst (λ (o : Option (List ℕ)). IsSome o ↔ IsSome ((tending h).last x)) (sym ((reads_same unfailed s.honest).chunks x)) (m.present (sym fault_same ∙ none) x digest);
+          subst (λ (o : Option (List ℕ)). IsSome o ↔ IsSome ((tending h).last x)) (sym ((reads_same unfailed s.honest).chunks x)) (m.present (sym rest.fault ∙ none) x digest);
     }
 
     holds : old.fault ≡ None → Minds d old h → OnOk result (HoldsBook reads old.last (tending h))
@@ -165,11 +171,16 @@ module _ {D E C : Type 0} (d : Ghosts D) (old new : Core D E C) (result : Result
             crash
 
 pub saves_book : {D E C : Type 0} (d : Ghosts D) (old new : Core D E C) (result : Result (Unit {0}) DiskError)
-    → Serves d.honest d.faults (old.parts).disk (new.parts).disk (IsErrOf result Failed) → KeepsRest old new → LeavesBook d old new
-    → OnOk result (HasSaved d old new) → DiskWantKeeps d (old.parts).disk (new.parts).disk result → SavesBook d old new result
-saves_book d old new result serves rest crash saved unchanged = record {
-  stands = λ readings unfailed h s. stands d old new result serves rest crash saved unchanged readings h s unfailed;
-  minds = λ readings unfailed h s m. minds d old new result serves rest crash saved unchanged readings h s unfailed m;
-  holds = λ readings h none s m. holds d old new result serves rest crash saved unchanged readings h s none m;
-  recovers = λ readings start h s r. recovers d old new result serves rest crash saved unchanged readings h s start r;
+    → Serves d.honest d.faults (old.parts).disk (new.parts).disk (IsErrOf result Failed) → KeepsFields old new → LeavesBook d old new
+    → OkInstalls d (old.parts).disk (new.parts).disk book_name (text_of_book old) result → FitsBook (as_of old.last (old.upkeep).book)
+    → DiskWantKeeps d (old.parts).disk (new.parts).disk result → SavesBook d old new result
+saves_book d old new result serves rest crash put fits unchanged = record {
+  stands = λ readings unfailed h s. stands d old new result serves rest crash (saved result put) unchanged readings h s unfailed;
+  minds = λ readings unfailed h s m. minds d old new result serves rest crash (saved result put) unchanged readings h s unfailed m;
+  holds = λ readings h none s m. holds d old new result serves rest crash (saved result put) unchanged readings h s none m;
+  recovers = λ readings start h s r. recovers d old new result serves rest crash (saved result put) unchanged readings h s start r;
 }
+  where
+    saved : (r : Result (Unit {0}) DiskError) → OkInstalls d (old.parts).disk (new.parts).disk book_name (text_of_book old) r → OnOk r (HasSaved d old new)
+    saved (Ok done) put = record { content = put; fits = fits }
+    saved (Err error) put = tt

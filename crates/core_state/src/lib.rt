@@ -21,5 +21,5 @@ pub use kept::{Kept, Listed, Session, StoredFile, Writing};
 pub use parts::Parts;
 pub use state::{Core, CoreParts};
 pub use stop::Stop;
-pub use upkeep::Upkeep;
 pub use store_history::{Act, Answer};
+pub use upkeep::Upkeep;

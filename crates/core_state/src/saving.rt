@@ -19,7 +19,6 @@ impl<D: Disk, E, C> Core<D, E, C> {
     /// that was saved before, or this one.
     ///
     /// It is no act: no entry is made, and a fault of the disk is told alone. Then the store is to be opened again.
-    #[tactic(auto, using(crate::proofs::SavingBook::saves_book))]
     pub fn save_book(&mut self, alloc: Global) -> Result<(), DiskError>
         requires early { NoneAfter self.old.upkeep.book self.old.last }
         ensures serves { Serves D.honest D.faults self.old.parts.disk self.new.parts.disk (IsErrOf result DiskError.Failed) }

@@ -1,6 +1,7 @@
-use Rattle.std.proofs.Common.{refl, inr, subst}
+use Rattle.std.proofs.Common.{◌≤◌, refl, inr, sym, subst}
 use Rattle.disk_trait.specs.Files.{Files}
 use Rattle.disk_trait.specs.Runs.{both_serve}
+use Rattle.store_types.specs.Times.{last_moment}
 use Rattle.opening_files.specs.Leaving.{Cleans, MayClean}
 use Rattle.opening_files.proofs.Openings.{opens}
 use Rattle.core_opening.specs.declared.opening.Opened.{Opened}
@@ -11,6 +12,9 @@ use Rattle.core_opening.proofs.Synced.{of_disk, of_memory, stops_opening}
 use Rattle.core_opening.proofs.opening.open_on.Goals as goal
 
 -- ---- opened
+
+pub invariant_of-result-in-Ok-opened_of : goal.invariant_of-result-in-Ok-opened_of
+invariant_of-result-in-Ok-opened_of g c = record { in_time = subst (λ n. n ≤ last_moment) (sym c.moment.ensures) c.in-Ok-opened_of.ensures.begins.in_time }
 
 pub returns-in-Ok-opened_of-clause-opened : goal.returns-in-Ok-opened_of-clause-opened
 returns-in-Ok-opened_of-clause-opened g c =
