@@ -1,5 +1,5 @@
 -- The core stands for what it stood for once its book is saved, and what a crash leaves for what it did.
-use Rattle.std.proofs.Common.{◌≡◌, ◌<◌, ◌≤◌, ◌⊎◌, ◌↔◌, ⊎_elim, inl, inr, ℕ, Bool, true, false, not, ◌&&◌, ◌==◌, nat_le, is_none, map, List, [], ◌∷◌, Option, Some, None, Result, Ok, Err, refl, sym, ap, subst, ◌∙◌, arith}
+use Rattle.std.proofs.Common.{◌≡◌, ◌<◌, ◌≤◌, ◌⊎◌, ◌↔◌, ⊎_elim, ℕ, Bool, true, false, not, ◌&&◌, ◌==◌, nat_le, is_none, map, List, [], ◌∷◌, Option, Some, None, Result, Ok, Err, refl, sym, ap, subst, ◌∙◌, arith}
 use Rattle.std.specs.Prelude.{IsErrOf, OnOk}
 use Rattle.std.specs.FinMap.{get}
 use Rattle.std.specs.Option.{IsSome}
@@ -10,12 +10,12 @@ use Rattle.disk_trait.specs.Files.{Files}
 use Rattle.disk_trait.specs.declared.disk.Disk.{Ghosts}
 use Rattle.disk_trait.specs.declared.disk.DiskError.{DiskError}
 use Rattle.disk_trait.specs.declared.disk.DiskError.TheVariants.{NoMemory, Failed}
-use Rattle.file_install.specs.Install.{installed, Installs, OkInstalls}
+use Rattle.file_install.specs.Install.{Installs, OkInstalls}
 use Rattle.file_install.proofs.InstallLaws.{installed_name}
 use Rattle.port_traits.specs.Readings.{Readings}
 use Rattle.store_files.specs.Archive.{Snapshot}
-use Rattle.store_files.specs.Book.{FitsBook, book_text}
-use Rattle.store_files.specs.Folder.{IsDigest, chunk_name}
+use Rattle.store_files.specs.Book.{FitsBook}
+use Rattle.store_files.specs.Folder.{chunk_name}
 use Rattle.store_model.specs.Stands.{StandsFor as Stands}
 use Rattle.atime_book.specs.Touches.{as_of, last_of}
 use Rattle.store_history.specs.declared.act.Event.{Event}
@@ -28,9 +28,7 @@ use Rattle.store_history.proofs.Longer.{calls_risen}
 use Rattle.core_state.specs.declared.journal.Journal.{Journal}
 use Rattle.core_state.specs.declared.kept.Listed.{Listed}
 use Rattle.core_state.specs.declared.state.Core.{Core}
-use Rattle.core_state.specs.Chunks.{HoldsOnly}
 use Rattle.core_state.specs.History.{History, KeepsTime, StandsFor, pieces_of, world}
-use Rattle.core_state.specs.Holds.{IsOnDisk, Shows}
 use Rattle.core_state.specs.Locked.{Locked}
 use Rattle.core_state.specs.Minds.{Minds, tending}
 use Rattle.core_state.specs.Recovers.{Recovers}

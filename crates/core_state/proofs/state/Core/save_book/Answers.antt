@@ -1,4 +1,4 @@
-use Rattle.std.proofs.Common.{◌≡◌, inr, List, ℕ, refl, subst, ◌∙◌, rules}
+use Rattle.std.proofs.Common.{inr, refl, subst, ◌∙◌}
 use Rattle.disk_trait.specs.Effects.{LeavesBy, StepsOn}
 use Rattle.file_install.specs.Install.{Installs, OkInstalls}
 use Rattle.store_history.specs.Saved.{book_name}
