@@ -15,7 +15,6 @@ use Rattle.store_types.specs.declared.names.Digest32.{Digest32}
 use Rattle.blob_codec.specs.Blob.{blob, data_limit}
 use Rattle.store_files.specs.Archive.{Snapshot}
 use Rattle.store_files.specs.Folder.{Files, IsDigest, HasWholeChunks, chunk_name}
-use Rattle.chunk_store.specs.Listed.{Lists as ListsDigests}
 use Rattle.atime_book.specs.Touches.{last_of}
 use Rattle.atime_book.specs.Present.{IsOfPresent, is_among}
 use Rattle.store_model.specs.Clash.{chunk_piece, chunk_pieces, is_chunk}
@@ -185,12 +184,12 @@ module _ (m c : Files) (u : Upkeep) (whole : HasWholeChunks m) (may : MayClean m
   among_one x =
       same_test (is_among x book.digests) (is_one x (map sha256 (chunk_pieces m)))
       (λ among.
-          let has = among_has x book.digests among in
-          let is = All-contains (λ (d : Digest32). IsDigest d.0) book.digests (digest x) (book.lists).each has in
-          there_one m x whole is (was_there x (((book.lists).exactly (digest x) is).0 has)))
+      let has = among_has x book.digests among in
+      let is = All-contains (λ (d : Digest32). IsDigest d.0) book.digests (digest x) (book.lists).each has in
+      there_one m x whole is (was_there x (((book.lists).exactly (digest x) is).0 has)))
       (λ one.
-          let held = one_there m x one in
-          has_among x book.digests (((book.lists).exactly (digest x) held.is).1 (is_there x held.there)))
+      let held = one_there m x one in
+      has_among x book.digests (((book.lists).exactly (digest x) held.is).1 (is_there x held.there)))
 
   pub opened_moment : u.book.moment ≡ (saved_book m).moment
   opened_moment = keeps.read
@@ -209,9 +208,10 @@ module _ (m c : Files) (u : Upkeep) (whole : HasWholeChunks m) (may : MayClean m
 
     pub opened_present : (x : List ℕ) → IsDigest x → IsSome (get c (chunk_name x)) ↔ IsSome ((tended_at opening).last x)
     opened_present x is =
-        let when = unwrap_or (last_of (saved_book m) x) (saved_book m).moment in
-        (λ there. ap (λ b. is_some (if b then Some when else None)) (there_one m x whole is (was_there x there)),
-         λ some. is_there x (one_there m x (some_if (is_one x (map sha256 (chunk_pieces m))) when some)).there)
+        let when = unwrap_or (last_of (saved_book m) x) (saved_book m).moment in (
+          λ there. ap (λ b. is_some (if b then Some when else None)) (there_one m x whole is (was_there x there)),
+          λ some. is_there x (one_there m x (some_if (is_one x (map sha256 (chunk_pieces m))) when some)).there,
+        )
 
 -- where an honest disk stands for a list
 pub opened_minds : {D E C : Type 0} (d : Ghosts D) (readings : Option Readings) (old : D) (core : Core D E C) (L : List Snapshot) (R : Option (List Snapshot)) → Stands (d.content old) L

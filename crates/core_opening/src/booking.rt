@@ -32,7 +32,7 @@ fn book_in(alloc: Global, bytes: &[u8]) -> Result<Book, AllocError>
 /// The saved book. It is empty where none is there, or bytes that are none.
 fn saved_book_of<D: Disk>(disk: &mut D, alloc: Global) -> Result<Book, DiskError>
     ensures reads { OnlyReads D.Disk disk.old disk.new (IsErrOf result DiskError.Failed) }
-    ensures book { D.honest disk.old → IfOk result (λ book. book ≡ saved_book (D.content disk.old)) }
+    ensures book { D.honest disk.old → IfOk result (λ b. b ≡ saved_book (D.content disk.old)) }
     // on any disk
     ensures early { IfOk result IsEarly }
     ensures in_time { IfOk result (λ book. book.moment ≤ last_moment) }

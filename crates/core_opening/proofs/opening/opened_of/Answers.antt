@@ -1,4 +1,4 @@
-use Rattle.std.proofs.Common.{List, ap, subst, sym}
+use Rattle.std.proofs.Common.{List, subst, sym}
 use Rattle.disk_trait.specs.Files.{Files}
 use Rattle.store_types.specs.declared.names.Digest32.{Digest32}
 use Rattle.chunk_store.specs.Listed.{Lists as ListsDigests}
