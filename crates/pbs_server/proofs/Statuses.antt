@@ -1,5 +1,5 @@
 -- Which statuses a run of one lane has.
-use Rattle.std.proofs.Common.{◌≡◌, Bool, true, false, List, Option, if◌then◌else◌}
+use Rattle.std.proofs.Common.{◌≡◌, Bool, true, false, List, Option, if◌then◌else◌, ap, sym, ◌∙◌}
 use Rattle.disk_trait.specs.declared.disk.DiskError.{DiskError}
 use Rattle.store_types.specs.declared.order.Entry.{Entry}
 use Rattle.store_model.specs.declared.ending.Ending.{Ending}
@@ -39,3 +39,8 @@ chosen false false false false false s other is = other is
 pub served_other : (order : List Entry) (e : Ending) (not_saved : Option DiskError) → status_by order e not_saved ≡ statuses.Usage → ⊥
 served_other order e not_saved is =
     chosen (has_kind 2 order) (is_short e) (is_wanting not_saved) (has_kind 5 order) (is_failed not_saved) (status_of_ending e) (ending_other e) is
+
+-- by the order and the report that are handed back
+pub status_is : (status : Status) (order kept : List Entry) (e : Ending) (told not_saved : Option DiskError)
+    → status ≡ status_by kept e not_saved → order ≡ kept → told ≡ not_saved → status ≡ status_by order e told
+status_is status order kept e told not_saved is same so = is ∙ ap (λ es. status_by es e not_saved) (sym same) ∙ ap (λ o. status_by order e o) (sym so)

@@ -166,7 +166,9 @@ has_both d readings clock disk first core saved left left' taken taken' order ca
     read_out = ran.read_out;
   };
   halted = λ five.
-      (halted_by {(saved ≡ core) × (not_saved ≡ None)} core.fault (subst (λ o. IsSome o) (sym r.fault) (five_fails 0 None ran.events (sym (ap (has_kind 5) order_is) ∙ five))) ends.halted).1;
+      let failed : IsSome core.fault = subst (λ (o : Option ℕ). IsSome o) (sym r.fault) (five_fails 0 None ran.events (sym (ap (has_kind 5) order_is) ∙ five)) in
+      let both : (saved ≡ core) × (not_saved ≡ None) = halted_by core.fault failed ends.halted in
+      both.1;
   plain = λ L R honest stands clear.
       let at = last_at L R honest stands in
       let stood = subst (λ o. StandsFor d readings first (began o R (readings clock))) (is_opening L at) (opens L R honest stands) in

@@ -1,10 +1,9 @@
 use Rattle.std.proofs.Common.{◌≤◌, ◌∷◌, ◌++◌, [], None, refl, ap, sym, subst, ◌∙◌, arith}
 use Rattle.core_state.specs.History.{began}
 use Rattle.pbs_server.specs.Saving.{EndsSaved}
-use Rattle.pbs_server.specs.Statuses.{status_by}
 use Rattle.pbs_server.proofs.Causes.{caused, handed_back, unsaved}
 use Rattle.pbs_server.proofs.Leaving.{leaves_none, leaves_one, unopened}
-use Rattle.pbs_server.proofs.Statuses.{served_other}
+use Rattle.pbs_server.proofs.Statuses.{served_other, status_is}
 use Rattle.pbs_server.proofs.Woven.{has_both, opening_at}
 use Rattle.pbs_server.proofs.Broken.{reached, not_clean}
 use Rattle.pbs_server.proofs.run.serve_alone.Goals as goal
@@ -31,7 +30,7 @@ returns-in-Ok-open_on-clause-leaves g c = let d = g.D.Disk in let s = g.S.Source
     let ends = subst (EndsSaved d core saved) (sym back.not_saved) c.save-not_saved.ensures in
     let order_as = ap (λ v. v.items) back.order in
     let calls_as = ap (λ v. v.items) back.calls in
-    let status = back.status ∙ ap (λ v. status_by v.items report.ending c.save-not_saved.result) (sym back.order) ∙ ap (λ o. status_by (left.order).items report.ending o) (sym back.not_saved) in
+    let status = status_is left.status (left.order).items (saved.journal).entries.items report.ending not_saved c.save-not_saved.result back.status order_as back.not_saved in
     let entered = c.run_alone-report.ensures.entered in
     let order = handed_back d first core (saved.parts).disk _ (left.order).items ((left.report).calls).items disk left.disk entered (opened.begun).entries (opened.begun).calls (opened.begun).fault
     (order_as ∙ ap (λ x. (x.journal).entries.items) ends.rest) (calls_as ∙ ap (λ x. (x.journal).calls.items) ends.rest) (opened.serves).count (ends.serves).count back.disk in
