@@ -61,6 +61,7 @@ TABLES = {
         "DE_BLOB": [blob(b"de")],
         "TORN_BLOB": [blob(b"abd", crc=0x352441c2)],
         "WRITTEN": [frame(base())],
+        "AT_END": [frame(part(ROOT, 4176))],
         "NOTHING_THERE": [frame(damaged(sha256(b"abc"), 0))],
         "NO_BLOB": [frame(damaged(sha256(b"abc"), 1))],
         "ANOTHER_BLOB": [frame(damaged(sha256(b"abc"), 2, sha256(b"de")))],

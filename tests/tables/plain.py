@@ -177,13 +177,13 @@ TABLES = {
                 ("root.fidx", 4097, fixed_csum([ZEROS, b"x"])),
             ),
         ],
-        "lanes_end": [
+        "ENDS": [
             frame(bye()),
             frame(done()),
             frame(b"c"),
             frame(bad_frame(0)),
-            frame(bye()),
         ],
+        "lanes_end": [frame(bye())],
         "MANIFEST": [blob(manifest(A))],
         "a_loaded_snapshot": [
             frame(open_reader(A)),

@@ -213,11 +213,9 @@ TABLES = {
             frames(keys(), bad_frame(6)),
             frame(prune("host/a", weekly=2, dry=2)),
         ],
-        "blobs_have_a_limit": [
+        "LARGE": [
             frame(open_writer(A)) + u32(len(put_file("a.blob", blob(b""))) + (16 << 20) + 1) + put_file("a.blob", blob(b"")),
             frames(base(), bad_blob(6)),
-        ],
-        "chunks_have_the_same_limit": [
             (frame(open_writer(A)) + frame(chunk(bytes(16 << 20))))[:82],
             frames(base(), done()),
         ],

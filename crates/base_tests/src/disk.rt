@@ -10,7 +10,7 @@ use std::test::Fail;
 use watched::{Record, Watched};
 
 /// A call that changes a disk.
-#[derive(Clone, Copy, Debug)]
+#[derive(Clone, Copy)]
 enum Change {
     Put(&'static str, &'static [u8]),
     Rename(&'static str, &'static str),
@@ -234,9 +234,9 @@ static CHANGES: [Change; 4] = [
 
 // With no folder each call fails, and makes nothing.
 fn try_no_folder<D: Disk>(rt: &impl Abort, alloc: Global, disk: &mut D) -> Result<(), Fail> {
-    for change in &CHANGES {
+    for (row, change) in CHANGES.iter().enumerate() {
         let outcome = make(rt, alloc, disk, *change);
-        same_at(rt, *change, outcome, Err(DiskError::Failed));
+        same_at(rt, row, outcome, Err(DiskError::Failed));
     }
     same(rt, disk.size("a"), Err(Failed));
     same(rt, disk.read_part("a", 0, &mut []), Err(Failed));

@@ -1,4 +1,4 @@
-//! The tests of names, ports, disks, what a writer may name, locks, prunes and files that are installed.
+//! The tests of names, ports, disks, what a writer may name, locks, turns, prunes and files that are installed.
 #![tactic(auto)]
 
 #[cfg(test)]
@@ -19,3 +19,5 @@ mod names;
 mod ports;
 #[cfg(test)]
 mod prune;
+#[cfg(test)]
+mod turns;

@@ -14,7 +14,7 @@ fn snapshot(alloc: Global, text: &str) -> Result<SnapshotKey, Fail> {
 }
 
 /// What a lane asks of a lock book, by the names of groups and snapshots.
-#[derive(Clone, Copy, Debug)]
+#[derive(Clone, Copy)]
 enum Ask {
     Group(&'static str),
     Writer(&'static str),
@@ -50,9 +50,10 @@ fn holder(alloc: Global, book: &mut LockBook, lane: u32, ask: Ask) -> Result<Opt
 /// Asks in turn of an empty book, and compares who holds what is asked for.
 fn ask_all(rt: &impl Abort, alloc: Global, asks: &[(u32, Ask, Option<u32>)]) -> Result<(), Fail> {
     let mut book = LockBook::new(alloc);
-    for (lane, ask, want) in asks {
+    for (number, row) in asks.iter().enumerate() {
+        let (lane, ask, want) = row;
         let found = holder(alloc, &mut book, *lane, *ask)?;
-        same_at(rt, (*lane, *ask), found, *want);
+        same_at(rt, number, found, *want);
     }
     Ok(())
 }
@@ -71,11 +72,6 @@ static GROUPS: [(u32, Ask, Option<u32>); 11] = [
     (2, Ask::Group("host/b"), Some(1)),
 ];
 
-#[test]
-fn a_group_has_one_lane(rt: HostRuntime) -> Result<(), Fail> {
-    ask_all(&rt, rt.alloc(), &GROUPS)
-}
-
 /// A snapshot, and a later one of its group.
 const KEY: &str = "vm/a/2020-01-15T06:30:03Z";
 
@@ -93,11 +89,6 @@ static WRITERS: [(u32, Ask, Option<u32>); 9] = [
     (0, Ask::FreeForWriter("vm/b"), Some(3)),
 ];
 
-#[test]
-fn a_writer_has_a_base(rt: HostRuntime) -> Result<(), Fail> {
-    ask_all(&rt, rt.alloc(), &WRITERS)
-}
-
 static SHARES: [(u32, Ask, Option<u32>); 12] = [
     (0, Ask::FreeForRemoval(KEY), None),
     (5, Ask::Shared(KEY), None),
@@ -113,7 +104,11 @@ static SHARES: [(u32, Ask, Option<u32>); 12] = [
     (0, Ask::FreeForRemoval(LATER), Some(0)),
 ];
 
+/// A group has one lane, a writer a base, and a snapshot is shared.
 #[test]
-fn a_snapshot_is_shared(rt: HostRuntime) -> Result<(), Fail> {
-    ask_all(&rt, rt.alloc(), &SHARES)
+fn lanes_hold_what_they_asked_for(rt: HostRuntime) -> Result<(), Fail> {
+    let alloc = rt.alloc();
+    ask_all(&rt, alloc, &GROUPS)?;
+    ask_all(&rt, alloc, &WRITERS)?;
+    ask_all(&rt, alloc, &SHARES)
 }

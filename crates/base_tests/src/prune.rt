@@ -215,7 +215,7 @@ fn minutes(alloc: Global, count: u16) -> Result<Vec<Item>, AllocError>
     Ok(items)
 }
 
-/// The kept minutes, from the first.
+/// The kept minutes, in the items' order.
 fn kept_minutes(alloc: Global, items: &[Item], marks: &[Mark]) -> Result<Vec<u64>, AllocError> {
     let mut kept = Vec::new(alloc);
     for (item, mark) in items.iter().zip(marks) {
@@ -223,7 +223,6 @@ fn kept_minutes(alloc: Global, items: &[Item], marks: &[Mark]) -> Result<Vec<u64
             kept.push(item.time / 60)?;
         }
     }
-    kept.sort_unstable();
     Ok(kept)
 }
 

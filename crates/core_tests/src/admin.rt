@@ -27,8 +27,9 @@ const LATER_BLOB: &[u8] =
 const ELSEWHERE: &[u8] =
     b"{\"backup-id\":\"b\",\"backup-time\":1579069803,\"backup-type\":\"host\",\"files\":[]}";
 
-/// Two snapshots of one group, the first with a file, and one of another group.
+/// Two snapshots of one group, the first with a file, and one of another group. None is there before.
 static WRITTEN: Calls = &[
+    (5, Call::List(b""), NONE_THERE),
     (3, Call::OpenWriter(OTHER), NO_BASE),
     (3, Call::Manifest(ELSEWHERE), DONE),
     (3, Call::Finish, DONE),
@@ -47,7 +48,7 @@ const OTHER_LISTED: &[u8] = b"!\0\0\0\0\x01\0\x1bhost/b/2020-01-15T06:30:03Z\0\x
 const TWO_LISTED: &[u8] =
     b"?\0\0\0\0\x02\0\x1bhost/a/2020-01-15T06:30:04Z\0\x01\x1bhost/b/2020-01-15T06:30:03Z\0\x01";
 
-static LISTED: Calls = &[
+const LISTED: Calls = &[
     (
         5,
         Call::List(b""),
@@ -59,33 +60,18 @@ static LISTED: Calls = &[
     (5, Call::List(b"host/a"), BAD_NAME),
 ];
 
-#[test]
-fn snapshots_are_listed(rt: HostRuntime) -> Result<(), Fail> {
-    let alloc = rt.alloc();
-    let mut parts = after(&rt, alloc, &[(5, Call::List(b""), NONE_THERE)])?;
-    try_calls(&rt, &mut parts, alloc, WRITTEN)?;
-    try_calls(&rt, &mut parts, alloc, LISTED)
-}
-
 /// The two of one group are told.
 const BOTH: &[u8] =
     b";\0\0\0\0\x02\0\x1bhost/a/2020-01-15T06:30:03Z\x1bhost/a/2020-01-15T06:30:04Z";
 
-static TOLD: Calls = &[
+const TOLD: Calls = &[
     (5, Call::Group(b"host/a"), BOTH),
     (5, Call::Group(b"vm/a"), NONE_THERE),
     (5, Call::Group(FIRST), BAD_NAME),
 ];
 
-#[test]
-fn groups_are_told(rt: HostRuntime) -> Result<(), Fail> {
-    let alloc = rt.alloc();
-    let mut parts = after(&rt, alloc, WRITTEN)?;
-    try_calls(&rt, &mut parts, alloc, TOLD)
-}
-
 /// The first steps of prunes, and what they are refused.
-static BEGUN: Calls = &[
+const BEGUN: Calls = &[
     (
         5,
         Call::Prune(b"host/b", 0),
@@ -101,15 +87,8 @@ static BEGUN: Calls = &[
     (5, Call::Prune(FIRST, 1001), IN_WRITER),
 ];
 
-#[test]
-fn prunes_begin(rt: HostRuntime) -> Result<(), Fail> {
-    let alloc = rt.alloc();
-    let mut parts = after(&rt, alloc, WRITTEN)?;
-    try_calls(&rt, &mut parts, alloc, BEGUN)
-}
-
 /// The files of a snapshot; then its manifest is a blob of other bytes, another snapshot's manifest, and gone.
-static FILES: Calls = &[
+const FILES: Calls = &[
     (
         5,
         Call::Files(FIRST),
@@ -129,11 +108,17 @@ static FILES: Calls = &[
     (5, Call::Files(FIRST), UNREADABLE),
 ];
 
+/// Snapshots are listed, groups are told, prunes begin, and files are told.
+static ASKED: [Calls; 4] = [LISTED, TOLD, BEGUN, FILES];
+
 #[test]
-fn files_are_told(rt: HostRuntime) -> Result<(), Fail> {
+fn snapshots_are_told(rt: HostRuntime) -> Result<(), Fail> {
     let alloc = rt.alloc();
-    let mut parts = after(&rt, alloc, WRITTEN)?;
-    try_calls(&rt, &mut parts, alloc, FILES)
+    for calls in &ASKED {
+        let mut parts = after(&rt, alloc, WRITTEN)?;
+        try_calls(&rt, &mut parts, alloc, calls)?;
+    }
+    Ok(())
 }
 
 /// A writer has the second as base, which is not forgotten then.

@@ -45,7 +45,9 @@ static BEGUN: [(Option<&[u8]>, Contents, Kept); 9] = [
     // a chunk that it lacks stands as of its moment
     (Some(NO_CHUNKS), BOTH, (10, Some(10), Some(10), 2)),
     (
-        Some(b"PBSBOOK1\x0a\0\0\0\0\0\0\0\x01\0\0\0\0\0\0\0\xbax\x16\xbf\x8f\x01\xcf\xeaAA@\xde]\xae\"#\xb0\x03a\xa3\x96\x17z\x9c\xb4\x10\xffa\xf2\0\x15\xad\x05\0\0\0\0\0\0\06\xe8\xda'\x04\x05\xad\xa9\xa3\xfb\x96P\xf9\xaayIe\xd8\x17!\xcd\xce\xc2t%?kn7`D["),
+        Some(
+            b"PBSBOOK1\x0a\0\0\0\0\0\0\0\x01\0\0\0\0\0\0\0\xbax\x16\xbf\x8f\x01\xcf\xeaAA@\xde]\xae\"#\xb0\x03a\xa3\x96\x17z\x9c\xb4\x10\xffa\xf2\0\x15\xad\x05\0\0\0\0\0\0\06\xe8\xda'\x04\x05\xad\xa9\xa3\xfb\x96P\xf9\xaayIe\xd8\x17!\xcd\xce\xc2t%?kn7`D[",
+        ),
         BOTH,
         (10, Some(5), Some(10), 1),
     ),
@@ -122,7 +124,8 @@ fn cores_begin_with_the_saved_book(rt: HostRuntime) -> Result<(), Fail> {
 fn torn_books_count_as_none(rt: HostRuntime) -> Result<(), Fail> {
     let alloc = rt.alloc();
     for len in 0..SAVED.len() {
-        let found = kept(&opened(alloc, Some(&SAVED[..len]), ONE)?);
+        let torn = &SAVED[..len.min(SAVED.len())];
+        let found = kept(&opened(alloc, Some(torn), ONE)?);
         same_at(&rt, len, found, AS_IF_NONE);
     }
     Ok(())
@@ -138,9 +141,18 @@ static DATED: [(Option<&[u8]>, (u32, Step, &[u8]), u64, u64); 8] = [
     (None, (63, Step::OpenWriter(FIRST), NO_BASE), 70, 80),
     // no moment is before the book's
     (Some(NO_CHUNKS), (5, Step::List, NONE_THERE), 70, 80),
-    (Some(b"PBSBOOK1K\0\0\0\0\0\0\0\0\0\0\0\0\0\0\0\xbb8\xd3\x1b\x87\x983\x88\xeby\xcaT\xe5\xcd\xa2\x85D\xbfCH$co\x1e\xa6\xd2\x8a\xb6\xc7\xb0\x14]"), (5, Step::List, NONE_THERE), 75, 80),
     (
-        Some(b"PBSBOOK1\x7fA\xf4\xff:\0\0\0\0\0\0\0\0\0\0\0\xbfk\xe8\xed\x0c\x7f\x8a\xf0.&Cf\xd9\xa0Y\x9cD\xa8\xa5\x17P4K\x81\x0e\x06\\\xcf\x8ee\xf3\xce"),
+        Some(
+            b"PBSBOOK1K\0\0\0\0\0\0\0\0\0\0\0\0\0\0\0\xbb8\xd3\x1b\x87\x983\x88\xeby\xcaT\xe5\xcd\xa2\x85D\xbfCH$co\x1e\xa6\xd2\x8a\xb6\xc7\xb0\x14]",
+        ),
+        (5, Step::List, NONE_THERE),
+        75,
+        80,
+    ),
+    (
+        Some(
+            b"PBSBOOK1\x7fA\xf4\xff:\0\0\0\0\0\0\0\0\0\0\0\xbfk\xe8\xed\x0c\x7f\x8a\xf0.&Cf\xd9\xa0Y\x9cD\xa8\xa5\x17P4K\x81\x0e\x06\\\xcf\x8ee\xf3\xce",
+        ),
         (5, Step::List, NONE_THERE),
         253_402_300_799,
         253_402_300_799,

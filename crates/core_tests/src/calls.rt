@@ -20,7 +20,7 @@ use store_types::{Digest32, Keep, Refusal};
 use wire_commands::Reply;
 
 /// A call of a command, or of the disk beside it.
-#[derive(Clone, Copy, Debug)]
+#[derive(Clone, Copy)]
 pub(crate) enum Call {
     OpenWriter(&'static [u8]),
     NewDynamic(&'static [u8]),
@@ -183,6 +183,7 @@ fn try_call(
     rt: &impl Abort,
     parts: &mut Parts<MemoryDisk>,
     alloc: Global,
+    number: usize,
     row: &(u32, Call, &[u8]),
 ) -> Result<(), Fail> {
     let (lane, made, expected) = row;
@@ -190,7 +191,7 @@ fn try_call(
         return Err("no such lane".into());
     }
     let reply = make(parts, alloc, *lane, *made)?;
-    same_at(rt, *made, frame(alloc, Some(reply))?.as_bytes(), expected);
+    same_at(rt, number, frame(alloc, Some(reply))?.as_bytes(), expected);
     Ok(())
 }
 
@@ -201,8 +202,8 @@ pub(crate) fn try_calls(
     alloc: Global,
     calls: &[(u32, Call, &[u8])],
 ) -> Result<(), Fail> {
-    for row in calls {
-        try_call(rt, parts, alloc, row)?;
+    for (number, row) in calls.iter().enumerate() {
+        try_call(rt, parts, alloc, number, row)?;
     }
     Ok(())
 }

@@ -1,6 +1,6 @@
 //! Chunks on a disk in memory, as a reader's answers need them.
 
-use crate::calls::{Call, Calls, DONE, NO_BASE, NOT_ALLOWED, after, make, try_calls};
+use crate::calls::{Call, Calls, DONE, NO_BASE, NOT_ALLOWED, after, try_calls};
 use crate::fixtures::{ABC, DE, FIRST, NOTHING};
 use core_state::Parts;
 use disk_trait::{Disk, MemoryDisk};
@@ -70,16 +70,17 @@ fn opened(rt: &impl Abort, alloc: Global) -> Result<Parts<MemoryDisk>, Fail> {
     Ok(parts)
 }
 
-/// The reader downloads the archive's index.
-fn download(parts: &mut Parts<MemoryDisk>, alloc: Global) -> Result<(), Fail> {
-    let _ = make(parts, alloc, 5, Call::Download(NAME, 0))?;
-    Ok(())
-}
+/// The reader downloads the archive's index, of 4,176 bytes, from its end on.
+const DOWNLOAD: Call = Call::Download(NAME, 4176);
+
+const AT_END: &[u8] = b"\x09\0\0\0\0P\x10\0\0\0\0\0\0";
 
 const ABC_RANGE: Call = Call::Range(NAME, 0, 3);
 
-/// What stands under the name of `abc`'s chunk, and what a range tells then.
-static RANGES: Calls = &[
+/// What stands under the name of `abc`'s chunk, and what a range tells then: the chunk that is there, and each way in which it is
+/// not.
+const RANGES: Calls = &[
+    (5, DOWNLOAD, AT_END),
     (5, ABC_RANGE, NOTHING_THERE),
     (5, Call::Put(ABC_CHUNK, ABC_BLOB), DONE),
     (5, ABC_RANGE, b"\x04\0\0\0\0abc"),
@@ -91,16 +92,9 @@ static RANGES: Calls = &[
     (5, ABC_RANGE, NOTHING_THERE),
 ];
 
-/// A range is told of a chunk that is there, and each way in which it is not.
-#[test]
-fn damaged_chunks_are_told(rt: HostRuntime) -> Result<(), Fail> {
-    let alloc = rt.alloc();
-    let mut parts = opened(&rt, alloc)?;
-    download(&mut parts, alloc)?;
-    try_calls(&rt, &mut parts, alloc, RANGES)
-}
-
-static IN_ORDER: Calls = &[
+/// Parts of two chunks, and the first that is damaged.
+const IN_ORDER: Calls = &[
+    (5, DOWNLOAD, AT_END),
     (5, Call::Put(ABC_CHUNK, ABC_BLOB), DONE),
     (5, Call::Put(DE_CHUNK, DE_BLOB), DONE),
     (5, Call::Range(NAME, 1, 3), b"\x04\0\0\0\0bcd"),
@@ -110,16 +104,10 @@ static IN_ORDER: Calls = &[
     (5, Call::Range(NAME, 1, 3), NOTHING_THERE),
 ];
 
-/// Parts of two chunks, and the first that is damaged.
-#[test]
-fn parts_are_read_in_order(rt: HostRuntime) -> Result<(), Fail> {
-    let alloc = rt.alloc();
-    let mut parts = opened(&rt, alloc)?;
-    download(&mut parts, alloc)?;
-    try_calls(&rt, &mut parts, alloc, IN_ORDER)
-}
-
-static CHUNKS: Calls = &[
+/// The chunk that is there is given, and each way in which it is not is told.
+const CHUNKS: Calls = &[
+    (5, Call::GetChunk(ABC), NOT_ALLOWED),
+    (5, DOWNLOAD, AT_END),
     (5, Call::GetChunk(NOTHING), NOT_ALLOWED),
     (5, Call::GetChunk(ABC), NOTHING_THERE),
     (5, Call::Put(ABC_CHUNK, ABC_BLOB), DONE),
@@ -136,17 +124,14 @@ static CHUNKS: Calls = &[
     (5, Call::GetChunk(ABC), NOTHING_THERE),
 ];
 
-/// A reader is given a chunk that is there, and told each way in which it is not.
+static ASKED: [Calls; 3] = [RANGES, IN_ORDER, CHUNKS];
+
 #[test]
-fn damaged_chunks_are_not_given(rt: HostRuntime) -> Result<(), Fail> {
+fn damaged_chunks_are_told(rt: HostRuntime) -> Result<(), Fail> {
     let alloc = rt.alloc();
-    let mut parts = opened(&rt, alloc)?;
-    try_calls(
-        &rt,
-        &mut parts,
-        alloc,
-        &[(5, Call::GetChunk(ABC), NOT_ALLOWED)],
-    )?;
-    download(&mut parts, alloc)?;
-    try_calls(&rt, &mut parts, alloc, CHUNKS)
+    for calls in &ASKED {
+        let mut parts = opened(&rt, alloc)?;
+        try_calls(&rt, &mut parts, alloc, calls)?;
+    }
+    Ok(())
 }

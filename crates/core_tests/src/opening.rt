@@ -58,7 +58,7 @@ const NOT_NEWER: &[u8] = b"\x09\0\0\0\x07l\xb1\x1e^\0\0\0\0";
 type Steps = &'static [(u32, Step, &'static [u8])];
 
 /// What is told of them.
-static TOLD: Steps = &[
+const TOLD: Steps = &[
     (5, Step::List, ALL_LISTED),
     (5, Step::Group(b"host/a"), BOTH),
     (
@@ -77,7 +77,7 @@ static TOLD: Steps = &[
 ];
 
 /// What begins a writer. The base is the whole snapshot, though a damaged one is later.
-static WRITTEN: Steps = &[
+const WRITTEN: Steps = &[
     (3, Step::OpenWriter(FIRST), NOT_NEWER),
     (3, Step::OpenWriter(SECOND), NOT_NEWER),
     (3, Step::OpenWriter(THIRD), FIRST_BASE),
@@ -115,18 +115,16 @@ fn opened(rt: &impl Abort, alloc: Global) -> Result<MemoryCore, Fail> {
     opened_over(alloc, left.disk, &[], 1000)
 }
 
+static ASKED: [Steps; 2] = [TOLD, WRITTEN];
+
 #[test]
 fn damaged_snapshots_are_told(rt: HostRuntime) -> Result<(), Fail> {
     let alloc = rt.alloc();
-    let mut core = opened(&rt, alloc)?;
-    try_steps(&rt, &mut core, alloc, TOLD)
-}
-
-#[test]
-fn a_base_is_whole(rt: HostRuntime) -> Result<(), Fail> {
-    let alloc = rt.alloc();
-    let mut core = opened(&rt, alloc)?;
-    try_steps(&rt, &mut core, alloc, WRITTEN)
+    for steps in &ASKED {
+        let mut core = opened(&rt, alloc)?;
+        try_steps(&rt, &mut core, alloc, steps)?;
+    }
+    Ok(())
 }
 
 /// How many names have this front.

@@ -27,7 +27,8 @@ static WRITTEN: Calls = &[
     (3, Call::Finish, DONE),
 ];
 
-static READ: Calls = &[
+/// A reader of one snapshot, and what it is refused.
+const READ: Calls = &[
     (5, Call::Download(NAME, 0), IN_NONE),
     (5, Call::OpenReader(SECOND), NO_SNAPSHOT),
     (5, Call::OpenReader(b"host/a"), BAD_NAME),
@@ -51,15 +52,8 @@ static READ: Calls = &[
     (5, Call::Download(NAME, 0), UNREADABLE),
 ];
 
-/// A reader of one snapshot, and what it is refused.
-#[test]
-fn snapshots_are_read(rt: HostRuntime) -> Result<(), Fail> {
-    let alloc = rt.alloc();
-    let mut parts = after(&rt, alloc, WRITTEN)?;
-    try_calls(&rt, &mut parts, alloc, READ)
-}
-
-static CLOSED: Calls = &[
+/// A reader is closed, and no other session is.
+const CLOSED: Calls = &[
     (5, Call::CloseReader, IN_NONE),
     (3, Call::OpenWriter(OTHER), NO_BASE),
     (3, Call::CloseReader, IN_WRITER),
@@ -70,12 +64,16 @@ static CLOSED: Calls = &[
     (5, Call::CloseReader, IN_NONE),
 ];
 
-/// A reader is closed, and no other session is.
+static ASKED: [Calls; 2] = [READ, CLOSED];
+
 #[test]
-fn readers_are_closed(rt: HostRuntime) -> Result<(), Fail> {
+fn snapshots_are_read(rt: HostRuntime) -> Result<(), Fail> {
     let alloc = rt.alloc();
-    let mut parts = after(&rt, alloc, WRITTEN)?;
-    try_calls(&rt, &mut parts, alloc, CLOSED)
+    for calls in &ASKED {
+        let mut parts = after(&rt, alloc, WRITTEN)?;
+        try_calls(&rt, &mut parts, alloc, calls)?;
+    }
+    Ok(())
 }
 
 /// An act on lane 6, where there is room: the frame of its reply, and the moment, kind and place of its entry.

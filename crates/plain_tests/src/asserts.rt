@@ -3,6 +3,9 @@
 use std::fmt::Debug;
 use std::process::Abort;
 
+/// A failure shows both as one value: each that is formatted is proved by itself.
 pub(crate) fn same<T: PartialEq + Debug + Drop>(rt: &impl Abort, found: T, want: T) {
-    assert_eq!(rt; found, want);
+    let is_same = found == want;
+    let shown = (found, want);
+    assert!(rt; is_same, "{shown:?}");
 }

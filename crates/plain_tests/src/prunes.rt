@@ -5,8 +5,10 @@ ghost use Rattle.wire_commands.specs.HasText.{ReplyHasText};
 ghost use Rattle.store_model.specs.JobReplies.{IsReplyTo};
 ghost use Rattle.store_model.specs.Jobs.{job_of};
 
+use crate::asserts::same;
 use job_steps::{Job, replay};
 use std::alloc::Global;
+use std::process::Abort;
 use std::test::Fail;
 use store_model::Step;
 use store_types::{Bytes, Keep, Rows};
@@ -197,59 +199,95 @@ fn log_of(
     Ok(log)
 }
 
-/// Whether that is its log.
-fn tells(
-    alloc: Global,
-    keep: Keep,
-    dry: bool,
-    snapshots: &[&[u8]],
-    replies: &[&[u8]],
-    wanted: &[u8],
-) -> Result<bool, Fail> {
-    let command = prune_of(alloc, keep, dry)?;
-    let log = log_of(alloc, &command, snapshots, replies)?;
-    Ok(log.as_slice() == wanted)
-}
+/// What is kept, whether the run is dry, the group's snapshots, the replies to the FORGETs, and the log.
+type Row = (
+    Keep,
+    bool,
+    &'static [&'static [u8]],
+    &'static [&'static [u8]],
+    &'static [u8],
+);
 
-#[test]
-fn what_is_not_kept_is_removed(rt: HostRuntime) -> Result<(), Fail> {
-    let alloc = rt.alloc();
+static PRUNES: [Row; 9] = [
     // the last week of 2020 ends in the next year
-    let log = b"?group ?12-31T12:00:00Z 1:01-04T12:00:00Z 1:01-03T12:00:00Z 0:12-31T12:00:00Z ";
-    assert!(rt; tells(alloc, WEEKLY, false, NEW_YEAR, &[DONE], log)?);
+    (
+        WEEKLY,
+        false,
+        NEW_YEAR,
+        &[DONE],
+        b"?group ?12-31T12:00:00Z 1:01-04T12:00:00Z 1:01-03T12:00:00Z 0:12-31T12:00:00Z ",
+    ),
     // the day of the last is served already
-    let log = b"?group ?01-15T00:00:00Z 1:01-15T06:30:03Z 0:01-15T00:00:00Z 1:01-14T23:59:59Z ";
-    assert!(rt; tells(alloc, LAST_AND_DAILY, false, TWO_DAYS, &[DONE], log)?);
+    (
+        LAST_AND_DAILY,
+        false,
+        TWO_DAYS,
+        &[DONE],
+        b"?group ?01-15T00:00:00Z 1:01-15T06:30:03Z 0:01-15T00:00:00Z 1:01-14T23:59:59Z ",
+    ),
     // the newest goes first; one that a lane holds, and one that is gone, do not end the job
-    let log =
-        b"?group ?01-15T00:00:00Z ?01-14T23:59:59Z 1:01-15T06:30:03Z 2:01-15T00:00:00Z 3:01-14T23:59:59Z ";
-    assert!(rt; tells(alloc, ONE, false, TWO_DAYS, &[BUSY, NO_SNAPSHOT], log)?);
-    Ok(())
-}
-
-#[test]
-fn nothing_is_removed(rt: HostRuntime) -> Result<(), Fail> {
-    let alloc = rt.alloc();
+    (
+        ONE,
+        false,
+        TWO_DAYS,
+        &[BUSY, NO_SNAPSHOT],
+        b"?group ?01-15T00:00:00Z ?01-14T23:59:59Z 1:01-15T06:30:03Z 2:01-15T00:00:00Z 3:01-14T23:59:59Z ",
+    ),
     // a dry run asks no more than the group
-    let log = b"?group 1:01-15T06:30:03Z 0:01-15T00:00:00Z 1:01-14T23:59:59Z ";
-    assert!(rt; tells(alloc, LAST_AND_DAILY, true, TWO_DAYS, &[], log)?);
+    (
+        LAST_AND_DAILY,
+        true,
+        TWO_DAYS,
+        &[],
+        b"?group 1:01-15T06:30:03Z 0:01-15T00:00:00Z 1:01-14T23:59:59Z ",
+    ),
     // with no option all is kept
-    let log = b"?group 1:01-04T12:00:00Z 1:01-03T12:00:00Z 1:12-31T12:00:00Z ";
-    assert!(rt; tells(alloc, NONE, false, NEW_YEAR, &[], log)?);
+    (
+        NONE,
+        false,
+        NEW_YEAR,
+        &[],
+        b"?group 1:01-04T12:00:00Z 1:01-03T12:00:00Z 1:12-31T12:00:00Z ",
+    ),
     // a group without snapshots
-    assert!(rt; tells(alloc, ONE, false, &[], &[], b"?group ")?);
+    (ONE, false, &[], &[], b"?group "),
+    // other refusals are the report
+    (
+        ONE,
+        false,
+        TWO_DAYS,
+        &[WRONG_STATE],
+        b"?group ?01-15T00:00:00Z WrongState(Writer)",
+    ),
+    (
+        ONE,
+        false,
+        TWO_DAYS,
+        &[NO_MEMORY],
+        b"?group ?01-15T00:00:00Z NoMemory",
+    ),
+    (
+        ONE,
+        false,
+        TWO_DAYS,
+        &[DONE, DISK_FAULT],
+        b"?group ?01-15T00:00:00Z ?01-14T23:59:59Z DiskFault",
+    ),
+];
+
+fn try_prune(rt: &impl Abort, alloc: Global, row: &Row) -> Result<(), Fail> {
+    let (keep, dry, snapshots, replies, wanted) = row;
+    let command = prune_of(alloc, *keep, *dry)?;
+    let log = log_of(alloc, &command, snapshots, replies)?;
+    same(rt, log.as_slice(), *wanted);
     Ok(())
 }
 
 #[test]
-fn other_refusals_are_the_report(rt: HostRuntime) -> Result<(), Fail> {
-    let alloc = rt.alloc();
-    let log = b"?group ?01-15T00:00:00Z WrongState(Writer)";
-    assert!(rt; tells(alloc, ONE, false, TWO_DAYS, &[WRONG_STATE], log)?);
-    let log = b"?group ?01-15T00:00:00Z NoMemory";
-    assert!(rt; tells(alloc, ONE, false, TWO_DAYS, &[NO_MEMORY], log)?);
-    let log = b"?group ?01-15T00:00:00Z ?01-14T23:59:59Z DiskFault";
-    assert!(rt; tells(alloc, ONE, false, TWO_DAYS, &[DONE, DISK_FAULT], log)?);
+fn prunes_ask_and_report(rt: HostRuntime) -> Result<(), Fail> {
+    for row in &PRUNES {
+        try_prune(&rt, rt.alloc(), row)?;
+    }
     Ok(())
 }
 
@@ -267,15 +305,17 @@ fn log_of_refused(alloc: Global, body: &[u8]) -> Result<Vec<u8>, Fail> {
     Ok(log)
 }
 
+static REFUSED: [(&[u8], &[u8]); 3] = [
+    (WRONG_STATE, b"WrongState(Writer)"),
+    (BAD_NAME, b"BadName"),
+    (TOO_MANY, b"TooMany { limit: 1000 }"),
+];
+
 #[test]
 fn a_refused_group_is_the_report(rt: HostRuntime) -> Result<(), Fail> {
-    for (body, refusal) in [
-        (WRONG_STATE, "WrongState(Writer)"),
-        (BAD_NAME, "BadName"),
-        (TOO_MANY, "TooMany { limit: 1000 }"),
-    ] {
+    for (body, refusal) in &REFUSED {
         let log = log_of_refused(rt.alloc(), body)?;
-        assert_eq!(rt; log.as_slice(), refusal.as_bytes());
+        same(&rt, log.as_slice(), *refusal);
     }
     Ok(())
 }

@@ -3,6 +3,7 @@
 
 ghost use Rattle.std.specs.Prelude.{◌≤◌, length};
 
+use crate::asserts::same;
 use disk_trait::{Disk, DiskError, FailingDisk, MemoryDisk};
 use plain_snapshots::{Content, File, Snapshot, read_snapshots};
 use std::alloc::{AllocError, Global};
@@ -149,12 +150,12 @@ fn try_read(
         )?;
     }
     expected.push_str(OTHER_SHOWN)?;
-    assert_eq!(rt; text.as_str(), expected.as_str(), "{name}");
+    same(rt, (name, text.as_str()), (name, expected.as_str()));
     Ok(())
 }
 
 /// A name, what stands there in place of what stood there, and the files of the snapshot behind its manifest.
-const CASES: [(&str, Option<&[u8]>, Option<&str>); 13] = [
+static CASES: [(&str, Option<&[u8]>, Option<&str>); 13] = [
     (
         "no/name",
         Some(b"x"),
@@ -206,46 +207,41 @@ fn what_is_read(rt: HostRuntime) -> Result<(), Fail> {
             try_read(&rt, alloc, name, *bytes, *files)?;
         }
     }
+    let none = read_snapshots(alloc, &mut MemoryDisk::new(alloc))?;
+    same(&rt, none.len(), 0);
     Ok(())
 }
 
-#[test]
-fn no_snapshots(rt: HostRuntime) -> Result<(), Fail> {
-    let alloc = rt.alloc();
-    let mut disk = MemoryDisk::new(alloc);
-    let snapshots = read_snapshots(alloc, &mut disk)?;
-    assert_eq!(rt; snapshots.len(), 0);
-    Ok(())
-}
+/// Where the files of the first snapshot stand.
+static PATHS: [&str; 4] = [MANIFEST, DYNAMIC, FIXED, BLOB];
 
-/// The texts of a snapshot's files are the bytes that were read.
-#[test]
-fn texts_of_files(rt: HostRuntime) -> Result<(), Fail> {
-    let alloc = rt.alloc();
-    let mut disk = datastore(alloc)?;
-    let snapshots = read_snapshots(alloc, &mut disk)?;
-    let first = snapshots.first().ok_or("no snapshot")?;
-    for (file, path) in first.files.iter().zip([MANIFEST, DYNAMIC, FIXED, BLOB]) {
-        let text = file.content.text(alloc)?;
-        let bytes = disk.read(alloc, path)?.ok_or("nothing is there")?;
-        assert_eq!(rt; text.as_slice(), bytes.as_slice(), "{path}");
+/// The text of a file is the bytes that were read, in which an archive's checksum stands.
+fn try_file(
+    rt: &impl Abort,
+    alloc: Global,
+    disk: &mut MemoryDisk,
+    file: &File,
+    path: &str,
+) -> Result<(), Fail> {
+    let bytes = disk.read(alloc, path)?.ok_or("nothing is there")?;
+    let text = file.content.text(alloc)?;
+    same(rt, (path, text.as_slice()), (path, bytes.as_slice()));
+    if let Content::Archive(archive) = &file.content {
+        let csum = archive.csum(alloc)?;
+        same(rt, bytes.get(32..64), Some(csum.0.as_slice()));
     }
     Ok(())
 }
 
-/// The checksums of archives stand in the texts that were read.
 #[test]
-fn checksums_of_archives(rt: HostRuntime) -> Result<(), Fail> {
+fn texts_and_checksums_of_files(rt: HostRuntime) -> Result<(), Fail> {
     let alloc = rt.alloc();
     let mut disk = datastore(alloc)?;
     let snapshots = read_snapshots(alloc, &mut disk)?;
     let first = snapshots.first().ok_or("no snapshot")?;
-    for (file, path) in first.files.iter().zip([MANIFEST, DYNAMIC, FIXED, BLOB]) {
-        if let Content::Archive(archive) = &file.content {
-            let csum = archive.csum(alloc)?;
-            let bytes = disk.read(alloc, path)?.ok_or("nothing is there")?;
-            assert_eq!(rt; Some(csum.0.as_slice()), bytes.get(32..64), "{path}");
-        }
+    same(&rt, first.files.len(), PATHS.len());
+    for (file, path) in first.files.iter().zip(&PATHS) {
+        try_file(&rt, alloc, &mut disk, file, path)?;
     }
     Ok(())
 }
@@ -266,8 +262,7 @@ fn each_call_fails(rt: HostRuntime) -> Result<(), Fail> {
         } else {
             (None, 0)
         };
-        assert_eq!(rt; cause, expected, "{call}");
-        assert_eq!(rt; disk.faults(), faults, "{call}");
+        same(&rt, (call, cause, disk.faults()), (call, expected, faults));
     }
     Ok(())
 }

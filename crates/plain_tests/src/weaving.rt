@@ -1,5 +1,6 @@
 //! Sessions by the bytes of their commands and replies, which are made by `tests/make-tables`.
 
+use crate::asserts::same;
 use disk_trait::{Disk, DiskError, MemoryDisk};
 use plain_store::{Misfit, Plain, Woven};
 use std::alloc::{AllocError, Global};
@@ -13,7 +14,7 @@ const ZEROS: &[u8] =
     b"\x0e\xad\x7f\xac\xb2Xo\xc6\xe9f\xc0\x04\xd7\xd1\xd1k\x02OX\x05\xff|\xb4|z\x85\xda\xbd\x8bH\x89,\xa7B\xab8\x07\xbe\x83p\xa1\x11\x00\x1c\xc7";
 
 /// What the first lane sends and is told: the bodies of its commands and of the replies.
-const FIRST: [(&[u8], &[u8]); 50] = [
+static FIRST: [(&[u8], &[u8]); 50] = [
     (b"\x0a\x1bhost/a/2020-01-15T06:30:03Z", b"\x00\x00"),
     (b"\x18", b"\x03\x01"),
     (
@@ -166,7 +167,7 @@ const FIRST: [(&[u8], &[u8]); 50] = [
 ];
 
 /// The second lane, which tries two commands before the first finishes a snapshot, and reads that one at the end.
-const SECOND: [(&[u8], &[u8]); 17] = [
+static SECOND: [(&[u8], &[u8]); 17] = [
     // Sessions and locks.
     (b"\x13", b"\x03\x00"),
     (
@@ -286,6 +287,31 @@ fn nothing(alloc: Global) -> Result<Plain, DiskError> {
     Plain::load(alloc, &mut disk)
 }
 
+/// The lanes are told this.
+fn same_replies(rt: &impl Abort, woven: Result<Woven, Misfit>, told: &[&[u8]]) -> Result<(), Fail> {
+    let Woven { replies, .. } = woven.ok().ok_or("a misfit")?;
+    same(rt, replies.as_slice().len(), told.len());
+    for (reply, told) in replies.as_slice().iter().zip(told) {
+        same(rt, reply.as_slice(), *told);
+    }
+    Ok(())
+}
+
+/// The order does not fit at this entry, of this lane, when so much was replayed.
+fn same_misfit(
+    rt: &impl Abort,
+    woven: Result<Woven, Misfit>,
+    wanted: (u64, u32, u64),
+) -> Result<(), Fail> {
+    let Misfit {
+        entry,
+        lane,
+        replayed,
+    } = woven.err().ok_or("it fits")?;
+    same(rt, (entry, lane, replayed), wanted);
+    Ok(())
+}
+
 /// Two lanes with these inputs take their turns over a store.
 #[tactic(auto, unfolding(store_files::specs::Order::keeps_rules))]
 fn woven(
@@ -313,36 +339,16 @@ fn two_lanes_take_turns(rt: HostRuntime) -> Result<(), Fail> {
     let (first, told_first) = frames_of(alloc, &FIRST)?;
     let (second, told_second) = frames_of(alloc, &SECOND)?;
     let store = nothing(alloc)?;
-    let Woven { replies, .. } = woven(alloc, &store, first, second)?.ok().ok_or("a misfit")?;
-    let replies = replies.as_slice();
-    assert_eq!(rt;
-        replies.first().map(|told| told.as_slice()),
-        Some(told_first.as_slice())
-    );
-    assert_eq!(rt;
-        replies.last().map(|told| told.as_slice()),
-        Some(told_second.as_slice())
-    );
-    Ok(())
+    let woven = woven(alloc, &store, first, second)?;
+    let told = [told_first.as_slice(), told_second.as_slice()];
+    same_replies(&rt, woven, &told)
 }
 
-/// One lane whose only entry is its end is told this.
+/// One lane whose only entry is its end.
 #[tactic(auto, unfolding(store_files::specs::Order::keeps_rules))]
-fn ends_with(
-    rt: &impl Abort,
-    alloc: Global,
-    store: &Plain,
-    input: &[u8],
-    expected: &[u8],
-) -> Result<(), Fail> {
+fn ended(alloc: Global, store: &Plain, input: &[u8]) -> Result<Result<Woven, Misfit>, AllocError> {
     let input = Bytes::from_slice(alloc, input)?;
-    let woven = store.weave(alloc, None, &[END], &[input], &[Ending::Clean])?;
-    let Woven { replies, .. } = woven.ok().ok_or("a misfit")?;
-    assert_eq!(rt;
-        replies.as_slice().first().map(|told| told.as_slice()),
-        Some(expected)
-    );
-    Ok(())
+    store.weave(alloc, None, &[END], &[input], &[Ending::Clean])
 }
 
 /// What one lane is told whose entries are a command and its end.
@@ -356,27 +362,23 @@ pub(crate) fn asked(
     store.weave(alloc, None, &[A, END], &[input], &[Ending::Clean])
 }
 
+/// What a lane sends that has no command, and what it is told.
+static ENDS: [(&[u8], &[u8]); 3] = [
+    (b"", b""),
+    (b"\x01\0\0\0\x3f", b"\x01\0\0\0\0"),
+    (b"\x01\0\0\0\x63", b"\x09\0\0\0\x01\0\0\0\0\0\0\0\0"),
+];
+
 #[test]
 fn lanes_end(rt: HostRuntime) -> Result<(), Fail> {
     let alloc = rt.alloc();
     let store = nothing(alloc)?;
-    let cases: [(&[u8], &[u8]); 3] = [
-        (b"", b""),
-        (b"\x01\0\0\0\x3f", b"\x01\0\0\0\0"),
-        (b"\x01\0\0\0\x63", b"\x09\0\0\0\x01\0\0\0\0\0\0\0\0"),
-    ];
-    for (input, expected) in &cases {
-        ends_with(&rt, alloc, &store, input, expected)?;
+    for (input, expected) in &ENDS {
+        let woven = ended(alloc, &store, input)?;
+        same_replies(&rt, woven, &[*expected])?;
     }
-    let Misfit {
-        entry,
-        lane,
-        replayed,
-    } = asked(alloc, &store, b"\x01\0\0\0\x3f")?
-        .err()
-        .ok_or("it fits")?;
-    assert_eq!(rt; (entry, lane, replayed), (0, 0, 0));
-    Ok(())
+    let woven = asked(alloc, &store, b"\x01\0\0\0\x3f")?;
+    same_misfit(&rt, woven, (0, 0, 0))
 }
 
 /// A snapshot with an empty manifest.
@@ -397,16 +399,11 @@ fn a_loaded_snapshot(rt: HostRuntime) -> Result<(), Fail> {
         &store,
         b"\x1d\0\0\0\x14\x1bhost/a/2020-01-15T06:30:03Z",
     )?;
-    let Woven { replies, .. } = woven.ok().ok_or("a misfit")?;
-    assert_eq!(rt;
-        replies.as_slice().first().map(|told| told.as_slice()),
-        Some(b"\x01\0\0\0\0".as_slice())
-    );
-    Ok(())
+    same_replies(&rt, woven, &[b"\x01\0\0\0\0".as_slice()])
 }
 
 /// What a lane asks of six snapshots, and is told.
-const ASKING: [(&[u8], &[u8]); 19] = [
+static ASKING: [(&[u8], &[u8]); 19] = [
     // Listings.
     (
         b"\x1e\x00",
@@ -475,7 +472,7 @@ const ASKING: [(&[u8], &[u8]); 19] = [
 ];
 
 /// What another lane does in between.
-const BESIDE: [(&[u8], &[u8]); 7] = [
+static BESIDE: [(&[u8], &[u8]); 7] = [
     // A reader forgets and prunes nothing.
     (b"\x14\x1bhost/a/2020-01-15T06:30:03Z", b"\x00"),
     (b" \x1bhost/a/2020-01-14T00:00:00Z", b"\x03\x02"),
@@ -492,7 +489,7 @@ const BESIDE: [(&[u8], &[u8]); 7] = [
     (b" \x1bhost/a/2020-01-14T00:00:00Z", b"\x00"),
 ];
 
-const SIX: [&str; 6] = [
+static SIX: [&str; 6] = [
     "host/a/2020-01-14T00:00:00Z/index.json.blob",
     "host/a/2020-01-15T06:30:03Z/index.json.blob",
     "host/a/2020-01-15T12:00:00Z/index.json.blob",
@@ -546,28 +543,13 @@ fn snapshots_are_told_and_pruned(rt: HostRuntime) -> Result<(), Fail> {
     let (first, told_first) = frames_of(alloc, &ASKING)?;
     let (second, told_second) = frames_of(alloc, &BESIDE)?;
     let woven = woven_over(alloc, &store, first, second)?;
-    let Woven { replies, .. } = woven.ok().ok_or("a misfit")?;
-    let replies = replies.as_slice();
-    assert_eq!(rt;
-        replies.first().map(|told| told.as_slice()),
-        Some(told_first.as_slice())
-    );
-    assert_eq!(rt;
-        replies.last().map(|told| told.as_slice()),
-        Some(told_second.as_slice())
-    );
+    let told = [told_first.as_slice(), told_second.as_slice()];
+    same_replies(&rt, woven, &told)?;
     // A job that is open at a clean end.
-    let Misfit {
-        entry,
-        lane,
-        replayed,
-    } = asked(
+    let woven = asked(
         alloc,
         &store,
         b"\x15\0\0\0!\x06host/b\x01\0\0\0\0\0\0\0\0\0\0\0\0",
-    )?
-    .err()
-    .ok_or("it fits")?;
-    assert_eq!(rt; (entry, lane, replayed), (1, 0, 0));
-    Ok(())
+    )?;
+    same_misfit(&rt, woven, (1, 0, 0))
 }

@@ -79,10 +79,7 @@ const SENT: Steps = &[
 const SENT_AGAIN: Steps = &[(OPEN, NO_BASE), (SEND_ABC, DONE)];
 
 /// What is no command.
-const BROKEN: Steps = &[(
-    b"\x01\0\0\0c",
-    b"\x09\0\0\0\x01\0\0\0\0\0\0\0\0",
-)];
+const BROKEN: Steps = &[(b"\x01\0\0\0c", b"\x09\0\0\0\x01\0\0\0\0\0\0\0\0")];
 
 /// A backup names the pieces that it sent.
 const BACKED_UP: Steps = &[
@@ -170,7 +167,6 @@ const REFUSED: Steps = &[
     ),
     (b"\x04\0\0\0\x0f\0\0\0", DONE),
 ];
-
 
 const UNFINISHED: &[Run] = &[
     Run {
@@ -396,7 +392,12 @@ fn assert_book(
     Ok(())
 }
 
-fn try_run(rt: &impl Abort, alloc: Global, disk: MemoryDisk, run: &Run) -> Result<MemoryDisk, Fail> {
+fn try_run(
+    rt: &impl Abort,
+    alloc: Global,
+    disk: MemoryDisk,
+    run: &Run,
+) -> Result<MemoryDisk, Fail> {
     let mut served = told_on(rt, alloc, disk, run)?;
     let ended = (served.status, served.report.not_saved);
     same(rt, ended, (run.status, None));
@@ -481,8 +482,8 @@ fn try_save(
     same(rt, served.report.not_saved, *not_saved);
     same(rt, served.status, status);
     let left = served.disk.into_inner();
-    for (choice, book) in books.iter().enumerate() {
-        let mut crashed = left.crashed(alloc, choice as u8)?;
+    for (choice, book) in [0, 1, 2].iter().zip(books) {
+        let mut crashed = left.crashed(alloc, *choice)?;
         assert_book(rt, alloc, &mut crashed, book)?;
         try_restored(rt, alloc, crashed)?;
     }

@@ -182,11 +182,6 @@ static CLEAN: [Row; 5] = [
     ),
 ];
 
-#[test]
-fn sessions_end_where_their_input_does(rt: HostRuntime) -> Result<(), Fail> {
-    try_rows(&rt, rt.alloc(), &CLEAN)
-}
-
 /// BadFrame at 0, and at 5.
 const AT_0: &[u8] = b"\x09\x00\x00\x00\x01\x00\x00\x00\x00\x00\x00\x00\x00";
 
@@ -230,11 +225,6 @@ static BROKEN: [Row; 5] = [
     ),
 ];
 
-#[test]
-fn what_is_no_command_ends_a_session(rt: HostRuntime) -> Result<(), Fail> {
-    try_rows(&rt, rt.alloc(), &BROKEN)
-}
-
 static PRUNED: [Row; 1] = [(
     &[
         OPEN_WRITER,
@@ -255,11 +245,6 @@ static PRUNED: [Row; 1] = [(
     357,
     Ending::Clean,
 )];
-
-#[test]
-fn jobs_are_done(rt: HostRuntime) -> Result<(), Fail> {
-    try_rows(&rt, rt.alloc(), &PRUNED)
-}
 
 /// A gate that counts its calls, and those that come out of turn: for another lane, with another number, or not before and
 /// after a command in turn.
@@ -428,7 +413,12 @@ static FAILED: [Row; 4] = [
     (&[BYE], FIRST_WRITE, &[], 5, Ending::SinkFault),
 ];
 
+/// Sessions end where their input does, or at what is no command; a job is done; ports may fail.
 #[test]
-fn ports_may_fail(rt: HostRuntime) -> Result<(), Fail> {
-    try_rows(&rt, rt.alloc(), &FAILED)
+fn sessions_are_served(rt: HostRuntime) -> Result<(), Fail> {
+    let alloc = rt.alloc();
+    try_rows(&rt, alloc, &CLEAN)?;
+    try_rows(&rt, alloc, &BROKEN)?;
+    try_rows(&rt, alloc, &PRUNED)?;
+    try_rows(&rt, alloc, &FAILED)
 }

@@ -200,6 +200,20 @@ fn run_on<K: Sink, D: Disk + Drop>(
     ))
 }
 
+/// Serves a session of these bytes at once: what it is told, and how it was served.
+fn run_session<D: Disk + Drop>(
+    alloc: Global,
+    input: &[u8],
+    disk: D,
+) -> Result<(Vec<u8>, Served<D, MemoryDisk>), Fail> {
+    let mut ports: Ports<MemSink> = [Port {
+        source: source_of(alloc, input)?,
+        sink: empty_sink(alloc),
+    }];
+    let served = run_on(alloc, &mut ports, disk)?;
+    Ok((told_to(&ports)?.to_vec(alloc)?, served))
+}
+
 /// What the one port's sink was given.
 fn told_to(ports: &[Port<MemSource, MemSink>]) -> Result<&[u8], Fail> {
     match ports {
@@ -392,11 +406,7 @@ static COUNTED: [(&[u8], &[u64]); 2] = [
 fn calls_are_counted(rt: HostRuntime) -> Result<(), Fail> {
     let alloc = rt.alloc();
     for (input, calls) in &COUNTED {
-        let mut ports: Ports<MemSink> = [Port {
-            source: source_of(alloc, input)?,
-            sink: empty_sink(alloc),
-        }];
-        let served = run_on(alloc, &mut ports, MemoryDisk::new(alloc))?;
+        let (_output, served) = run_session(alloc, input, MemoryDisk::new(alloc))?;
         same(&rt, served.report.calls.as_slice(), *calls);
     }
     Ok(())
@@ -465,22 +475,27 @@ fn try_zeros(
     try_source(rt, alloc, source, &left)
 }
 
-/// A BLOB of one data byte more than a blob may have.
-#[test]
-fn blobs_have_a_limit(rt: HostRuntime) -> Result<(), Fail> {
-    let front =
-        b"\x1d\0\0\0\x0a\x1bhost/a/2020-01-15T06:30:03Z\x15\0\0\x01\x11\x06a.blob\x42\xab\x38\x07\xbe\x83\x70\xa1\0\0\0\0";
-    let replies = b"\x02\0\0\0\0\0\x02\0\0\0\x0b\x06";
-    try_zeros(&rt, rt.alloc(), front, 16_777_217, replies)
-}
+/// A BLOB of one data byte more than a blob may have, and a CHUNK of as many: what stands in front of the zeros, how many they
+/// are, and the replies.
+static LARGE: [(&[u8], usize, &[u8]); 2] = [
+    (
+        b"\x1d\0\0\0\x0a\x1bhost/a/2020-01-15T06:30:03Z\x15\0\0\x01\x11\x06a.blob\x42\xab\x38\x07\xbe\x83\x70\xa1\0\0\0\0",
+        16_777_217,
+        b"\x02\0\0\0\0\0\x02\0\0\0\x0b\x06",
+    ),
+    (
+        b"\x1d\0\0\0\x0a\x1bhost/a/2020-01-15T06:30:03Z-\0\0\x01\x0e\x08\x0a\xcf5\xa5\x07\xac\x98I\xcf\xcb\xa4}\xc2\xad\x83\xe0\x1buf:Qby\xc8\xb9\xd2C\xb7\x19d>B\xab8\x07\xbe\x83p\xa1J\xa1|\xa4",
+        16_777_216,
+        b"\x02\0\0\0\0\0\x01\0\0\0\0",
+    ),
+];
 
-/// A CHUNK of as many data bytes as a blob may have.
 #[test]
-fn chunks_have_the_same_limit(rt: HostRuntime) -> Result<(), Fail> {
-    let front =
-        b"\x1d\0\0\0\x0a\x1bhost/a/2020-01-15T06:30:03Z-\0\0\x01\x0e\x08\x0a\xcf5\xa5\x07\xac\x98I\xcf\xcb\xa4}\xc2\xad\x83\xe0\x1buf:Qby\xc8\xb9\xd2C\xb7\x19d>B\xab8\x07\xbe\x83p\xa1J\xa1|\xa4";
-    let replies = b"\x02\0\0\0\0\0\x01\0\0\0\0";
-    try_zeros(&rt, rt.alloc(), front, 16_777_216, replies)
+fn blobs_and_chunks_have_a_limit(rt: HostRuntime) -> Result<(), Fail> {
+    for (front, zeros, replies) in &LARGE {
+        try_zeros(&rt, rt.alloc(), front, *zeros, replies)?;
+    }
+    Ok(())
 }
 
 #[test]

@@ -31,12 +31,16 @@ const BOTH: Digest32 = Digest32([
 ]);
 
 /// A call of a writer. The index that it appends to or closes is the first.
-#[derive(Clone, Copy, Debug)]
+#[derive(Clone, Copy)]
 enum Call {
     Dynamic(&'static str),
     /// A fixed index, of an archive of so many bytes in pieces of so many.
     Fixed(&'static str, u64, u64),
     Chunk(Digest32, u32),
+    /// The pieces of an archive of the base, the last of one byte.
+    PreviousShort,
+    /// The same, of two whole ones.
+    PreviousWhole,
     Append(&'static [(Digest32, u64)]),
     /// By the number of pieces, their size and the checksum. The file is kept.
     Close(u64, u64, Digest32),
@@ -100,6 +104,24 @@ fn note_chunk(w: &mut Writer, digest: &Digest32, length: u32) -> Result<Told, Fa
         return Err("no chunk's length".into());
     }
     w.chunk(digest, length)?;
+    Ok(Ok(0))
+}
+
+/// Pieces of the base may be appended, the second of one byte.
+fn note_short(w: &mut Writer, alloc: Global) -> Result<Told, Fail>
+    requires { w.old.pending ≡ None }
+    ensures { w.new.pending ≡ None }
+{
+    w.previous(alloc, &[(SEVENS, 4096), (NINES, 1), (DE, 2)])?;
+    Ok(Ok(0))
+}
+
+/// Two whole pieces of the base may be appended.
+fn note_whole(w: &mut Writer, alloc: Global) -> Result<Told, Fail>
+    requires { w.old.pending ≡ None }
+    ensures { w.new.pending ≡ None }
+{
+    w.previous(alloc, &[(SEVENS, 4096), (NINES, 4096)])?;
     Ok(Ok(0))
 }
 
@@ -179,6 +201,8 @@ fn make(w: &mut Writer, alloc: Global, call: Call) -> Result<Told, Fail>
         Call::Dynamic(name) => begin(w, alloc, name),
         Call::Fixed(name, size, chunk_size) => begin_fixed(w, alloc, name, size, chunk_size),
         Call::Chunk(digest, length) => note_chunk(w, &digest, length),
+        Call::PreviousShort => note_short(w, alloc),
+        Call::PreviousWhole => note_whole(w, alloc),
         Call::Append(entries) => append(w, alloc, entries),
         Call::Close(count, size, csum) => close(w, alloc, count, size, &csum, true),
         Call::CloseBack(count, size, csum) => close(w, alloc, count, size, &csum, false),
@@ -193,14 +217,15 @@ fn try_call(
     rt: &impl Abort,
     w: &mut Writer,
     alloc: Global,
-    call: Call,
-    expected: Result<u64, Fault>,
+    number: usize,
+    row: &(Call, Result<u64, Fault>),
 ) -> Result<(), Fail>
     requires { w.old.pending ≡ None }
     ensures { OnOk result (w.new.pending ≡ None) }
 {
-    let told = make(w, alloc, call)?;
-    same_at(rt, call, told, expected_of(alloc, expected)?);
+    let (call, expected) = row;
+    let told = make(w, alloc, *call)?;
+    same_at(rt, number, told, expected_of(alloc, *expected)?);
     Ok(())
 }
 
@@ -214,8 +239,8 @@ fn try_calls(
     requires { w.old.pending ≡ None }
     ensures { OnOk result (w.new.pending ≡ None) }
 {
-    for (call, expected) in calls {
-        try_call(rt, w, alloc, *call, *expected)?;
+    for (number, row) in calls.iter().enumerate() {
+        try_call(rt, w, alloc, number, row)?;
     }
     Ok(())
 }
@@ -240,7 +265,7 @@ fn try_after(rt: &impl Abort, alloc: Global, before: Calls, calls: Calls) -> Res
 }
 
 /// `root.didx` is open, and `abc` may be appended.
-static BEGUN: Calls = &[
+const BEGUN: Calls = &[
     (Call::Dynamic("root.didx"), Ok(0)),
     (Call::Chunk(ABC, 3), Ok(0)),
 ];
@@ -248,7 +273,7 @@ static BEGUN: Calls = &[
 const ABC_AND_DE: Call = Call::Append(&[(ABC, 0), (DE, 3)]);
 
 /// The same with `abc` and `de` appended.
-static GROWN: Calls = &[
+const GROWN: Calls = &[
     (Call::Dynamic("root.didx"), Ok(0)),
     (Call::Chunk(ABC, 3), Ok(0)),
     (Call::Chunk(DE, 2), Ok(0)),
@@ -257,19 +282,14 @@ static GROWN: Calls = &[
 
 const MISPLACED: Call = Call::Append(&[(ABC, 0), (DE, 2)]);
 
-static ALL_OR_NOTHING: Calls = &[
+const ALL_OR_NOTHING: Calls = &[
     (MISPLACED, Err(Fault::UnknownChunk(1))),
     (Call::Chunk(DE, 2), Ok(0)),
     (MISPLACED, Err(Fault::BadOffset(1, 3))),
     (Call::Close(0, 0, NOTHING), Ok(4096)),
 ];
 
-#[test]
-fn appends_all_or_nothing(rt: HostRuntime) -> Result<(), Fail> {
-    try_after(&rt, rt.alloc(), BEGUN, ALL_OR_NOTHING)
-}
-
-static WRONG_FACTS: Calls = &[
+const WRONG_FACTS: Calls = &[
     (
         Call::Close(1, 6, ABC),
         Err(Fault::BadClose(CloseFault::Count(2))),
@@ -284,45 +304,25 @@ static WRONG_FACTS: Calls = &[
     ),
 ];
 
-#[test]
-fn closes_by_its_facts(rt: HostRuntime) -> Result<(), Fail> {
-    try_after(&rt, rt.alloc(), GROWN, WRONG_FACTS)
-}
-
-static CLOSINGS: Calls = &[
+const CLOSINGS: Calls = &[
     (Call::CloseBack(2, 5, CSUM), Ok(4176)),
     (Call::Close(2, 5, CSUM), Ok(4176)),
     (Call::Close(2, 5, CSUM), Err(Fault::NoFile)),
 ];
 
-#[test]
-fn goes_back_or_is_kept(rt: HostRuntime) -> Result<(), Fail> {
-    try_after(&rt, rt.alloc(), GROWN, CLOSINGS)
-}
-
-static NAMES: Calls = &[
+const NAMES: Calls = &[
     (Call::Dynamic("b.blob"), Err(Fault::BadName)),
     (Call::Dynamic("root.didx"), Err(Fault::Exists)),
     (Call::Dynamic("home.didx"), Ok(1)),
 ];
 
-#[test]
-fn names_are_taken_once(rt: HostRuntime) -> Result<(), Fail> {
-    try_after(&rt, rt.alloc(), BEGUN, NAMES)
-}
-
-static MANIFESTS: Calls = &[
+const MANIFESTS: Calls = &[
     (Call::BlobBack("index.json.blob"), Ok(0)),
     (Call::Blob("index.json.blob"), Ok(0)),
     (Call::Blob("index.json.blob"), Err(Fault::Exists)),
 ];
 
-#[test]
-fn the_manifest_is_taken_once(rt: HostRuntime) -> Result<(), Fail> {
-    try_after(&rt, rt.alloc(), &[], MANIFESTS)
-}
-
-static SIZES: Calls = &[
+const SIZES: Calls = &[
     (Call::Fixed("root.didx", 8192, 4096), Err(Fault::BadName)),
     (
         Call::Fixed("root.fidx", 8192, 5000),
@@ -335,24 +335,10 @@ static SIZES: Calls = &[
     (Call::Fixed("root.fidx", 4_294_967_296, 4096), Ok(0)),
 ];
 
-#[test]
-fn sizes_of_fixed_archives(rt: HostRuntime) -> Result<(), Fail> {
-    try_after(&rt, rt.alloc(), &[], SIZES)
-}
-
-/// Pieces of the base may be appended, the second of one byte.
-fn note_short(w: &mut Writer, alloc: Global) -> Result<(), Fail>
-    requires { w.old.pending ≡ None }
-    ensures { w.new.pending ≡ None }
-{
-    w.previous(alloc, &[(SEVENS, 4096), (NINES, 1), (DE, 2)])?;
-    Ok(())
-}
-
-static SHORT_BEGUN: Calls = &[(Call::Fixed("root.fidx", 4097, 4096), Ok(0))];
-
 /// A fixed archive whose last piece has one byte.
-static SHORT: Calls = &[
+const SHORT: Calls = &[
+    (Call::Fixed("root.fidx", 4097, 4096), Ok(0)),
+    (Call::PreviousShort, Ok(0)),
     (
         Call::Append(&[(SEVENS, 0), (DE, 4096)]),
         Err(Fault::WrongSize(1, 2)),
@@ -367,41 +353,16 @@ static SHORT: Calls = &[
     (Call::Close(2, 4097, BOTH), Ok(4160)),
 ];
 
-#[test]
-fn a_short_last_piece(rt: HostRuntime) -> Result<(), Fail> {
-    let alloc = rt.alloc();
-    let mut w = after(&rt, alloc, SHORT_BEGUN)?;
-    note_short(&mut w, alloc)?;
-    try_calls(&rt, &mut w, alloc, SHORT)
-}
-
-/// Two whole pieces of the base may be appended.
-fn note_whole(w: &mut Writer, alloc: Global) -> Result<(), Fail>
-    requires { w.old.pending ≡ None }
-    ensures { w.new.pending ≡ None }
-{
-    w.previous(alloc, &[(SEVENS, 4096), (NINES, 4096)])?;
-    Ok(())
-}
-
-static WHOLE_BEGUN: Calls = &[(Call::Fixed("root.fidx", 8192, 4096), Ok(0))];
-
 /// A fixed archive of two whole pieces.
-static WHOLE: Calls = &[
+const WHOLE: Calls = &[
+    (Call::Fixed("root.fidx", 8192, 4096), Ok(0)),
+    (Call::PreviousWhole, Ok(0)),
     (Call::Append(&[(SEVENS, 0), (NINES, 4096)]), Ok(0)),
     (Call::Close(2, 8192, BOTH), Ok(4160)),
 ];
 
-#[test]
-fn two_whole_pieces(rt: HostRuntime) -> Result<(), Fail> {
-    let alloc = rt.alloc();
-    let mut w = after(&rt, alloc, WHOLE_BEGUN)?;
-    note_whole(&mut w, alloc)?;
-    try_calls(&rt, &mut w, alloc, WHOLE)
-}
-
 /// The file `root.didx`, of 5 bytes in two pieces.
-static UPLOADED: Calls = &[
+const UPLOADED: Calls = &[
     (Call::Dynamic("root.didx"), Ok(0)),
     (Call::Chunk(ABC, 3), Ok(0)),
     (Call::Chunk(DE, 2), Ok(0)),
@@ -410,16 +371,11 @@ static UPLOADED: Calls = &[
     (Call::Close(2, 5, CSUM), Ok(4176)),
 ];
 
-static NO_MANIFEST: Calls = &[
+const NO_MANIFEST: Calls = &[
     (Call::Finish, Err(Fault::NoFile)),
     (Call::Manifest(b"[]"), Ok(0)),
     (Call::Finish, Err(Fault::BadManifest(2))),
 ];
-
-#[test]
-fn no_manifest(rt: HostRuntime) -> Result<(), Fail> {
-    try_after(&rt, rt.alloc(), UPLOADED, NO_MANIFEST)
-}
 
 /// A manifest that lists `root.didx` with its 5 bytes, and one that lists it with 6.
 const OF_FIVE: &[u8] =
@@ -428,16 +384,32 @@ const OF_FIVE: &[u8] =
 const OF_SIX: &[u8] =
     b"{\"backup-type\":\"host\",\"backup-id\":\"a\",\"backup-time\":1579069803,\"files\":[{\"filename\":\"root.didx\",\"size\":6,\"csum\":\"da464aae3d9f63d06f308710062b5db41996b1e36990b92ecc693440e6660151\"}]}";
 
-static LISTED: Calls = &[(Call::Manifest(OF_FIVE), Ok(0)), (Call::Finish, Ok(1))];
+const LISTED: Calls = &[(Call::Manifest(OF_FIVE), Ok(0)), (Call::Finish, Ok(1))];
 
-static MISLISTED: Calls = &[
+const MISLISTED: Calls = &[
     (Call::Manifest(OF_SIX), Ok(0)),
     (Call::Finish, Err(Fault::ManifestMismatch("root.didx", 6))),
 ];
 
+/// What is called of a new writer, and then tried.
+static SESSIONS: [(Calls, Calls); 11] = [
+    (BEGUN, ALL_OR_NOTHING),
+    (GROWN, WRONG_FACTS),
+    (GROWN, CLOSINGS),
+    (BEGUN, NAMES),
+    (&[], MANIFESTS),
+    (&[], SIZES),
+    (&[], SHORT),
+    (&[], WHOLE),
+    (UPLOADED, NO_MANIFEST),
+    (UPLOADED, LISTED),
+    (UPLOADED, MISLISTED),
+];
+
 #[test]
-fn the_manifest_lists_the_files(rt: HostRuntime) -> Result<(), Fail> {
-    let alloc = rt.alloc();
-    try_after(&rt, alloc, UPLOADED, LISTED)?;
-    try_after(&rt, alloc, UPLOADED, MISLISTED)
+fn sessions_are_told_what_they_may(rt: HostRuntime) -> Result<(), Fail> {
+    for (before, calls) in &SESSIONS {
+        try_after(&rt, rt.alloc(), *before, *calls)?;
+    }
+    Ok(())
 }

@@ -73,19 +73,23 @@ const DIGITS: Digest32 = Digest32([
     0x0c, 0x20, 0xe3, 0x20, 0xce, 0x94, 0xc6, 0x5f, 0xbc, 0x8c, 0x33, 0x12, 0x44, 0x8e, 0xb2, 0x25,
 ]);
 
-/// What stands under the name of `abc`'s chunk, and what is told of it.
-static DAMAGE: [(Option<&[u8]>, ChunkFault); 5] = [
-    (None, ChunkFault::Nothing),
-    (Some(b""), ChunkFault::NotABlob),
+/// A digest, what stands under the name of its chunk, and what is told of it.
+static DAMAGE: [(Digest32, Option<&[u8]>, ChunkFault); 6] = [
+    (ABC, None, ChunkFault::Nothing),
+    (ABC, Some(b""), ChunkFault::NotABlob),
     (
+        ABC,
         Some(b"\x42\xab\x38\x07\xbe\x83\x70\xa1\xc2\x41\x24\x35abd"),
         ChunkFault::NotABlob,
     ),
     (
+        ABC,
         Some(b"\x42\xab\x38\x07\xbe\x83\x70\xa1\x26\x39\xf4\xcb123456789"),
         ChunkFault::Other(DIGITS),
     ),
-    (Some(EMPTY), ChunkFault::Other(NOTHING)),
+    (ABC, Some(EMPTY), ChunkFault::Other(NOTHING)),
+    // the blob of nothing is no chunk, not even under the digest of nothing
+    (NOTHING, Some(EMPTY), ChunkFault::Other(NOTHING)),
 ];
 
 fn try_damage(
@@ -107,17 +111,10 @@ fn try_damage(
 
 #[test]
 fn damage_is_told(rt: HostRuntime) -> Result<(), Fail> {
-    for (text, found) in &DAMAGE {
-        try_damage(&rt, rt.alloc(), ABC, *text, *found)?;
+    for (digest, text, found) in &DAMAGE {
+        try_damage(&rt, rt.alloc(), *digest, *text, *found)?;
     }
     Ok(())
-}
-
-/// The blob of nothing is no chunk, not even under the digest of nothing.
-#[test]
-fn nothing_is_no_piece(rt: HostRuntime) -> Result<(), Fail> {
-    let found = ChunkFault::Other(NOTHING);
-    try_damage(&rt, rt.alloc(), NOTHING, Some(EMPTY), found)
 }
 
 /// Names that are none of a chunk.

@@ -4,7 +4,7 @@ use std::alloc::{AllocError, Global};
 use store_types::{Bytes, CloseFault, Refusal};
 
 /// A refusal, with its values in order.
-#[derive(Clone, Copy, Debug)]
+#[derive(Clone, Copy)]
 pub(crate) enum Fault {
     BadName,
     NoFile,

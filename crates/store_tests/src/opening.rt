@@ -101,6 +101,8 @@ fn a_folder_is_opened(rt: HostRuntime) -> Result<(), Fail> {
     same(&rt, text.as_str(), TOLD);
     same(&rt, disk.list(alloc, "")?.len(), STAYING.len());
     same(&rt, count(&mut disk, &STAYING)?, STAYING.len());
+    let empty = open(&mut MemoryDisk::new(alloc), alloc)?;
+    same(&rt, told(alloc, &empty)?.as_str(), "0");
     Ok(())
 }
 
@@ -165,15 +167,5 @@ fn each_call_of_an_opening_fails(rt: HostRuntime) -> Result<(), Fail> {
             k,
         )?;
     }
-    Ok(())
-}
-
-#[test]
-fn an_empty_folder_is_opened(rt: HostRuntime) -> Result<(), Fail> {
-    let alloc = rt.alloc();
-    let mut disk = MemoryDisk::new(alloc);
-    let found = open(&mut disk, alloc)?;
-    let text = told(alloc, &found)?;
-    same(&rt, text.as_str(), "0");
     Ok(())
 }

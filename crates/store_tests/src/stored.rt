@@ -46,7 +46,7 @@ fn disk_of_indexes(alloc: Global) -> Result<MemoryDisk, Fail> {
 }
 
 /// What is read from an offset of a file on: of an index, whose kind is told, or of any file.
-#[derive(Clone, Copy, Debug)]
+#[derive(Clone, Copy)]
 enum Read {
     Fixed(&'static str, u64),
     Dynamic(&'static str, u64),
@@ -115,21 +115,22 @@ fn is_part(reply: &Reply, size: u64, wanted: &[u8]) -> bool {
     matches!(reply, Reply::Part { total, bytes } if *total == size && bytes.as_slice() == wanted)
 }
 
-fn try_told(rt: &impl Abort, read: Read, told: &IndexPart, wanted: &Told) {
+fn try_told(rt: &impl Abort, number: usize, told: &IndexPart, wanted: &Told) {
     let (size, text, entries) = wanted;
-    same_at(rt, read, is_part(&told.part, *size, text), true);
-    same_at(rt, read, told.entries.as_slice(), *entries);
+    same_at(rt, number, is_part(&told.part, *size, text), true);
+    same_at(rt, number, told.entries.as_slice(), *entries);
 }
 
 fn try_read(
     rt: &impl Abort,
     disk: &mut MemoryDisk,
     alloc: Global,
-    read: Read,
-    wanted: &Told,
+    number: usize,
+    row: &(Read, Told),
 ) -> Result<(), Fail> {
-    let told = make(disk, alloc, read)?.ok().ok_or("refused")?;
-    try_told(rt, read, &told, wanted);
+    let (read, wanted) = row;
+    let told = make(disk, alloc, *read)?.ok().ok_or("refused")?;
+    try_told(rt, number, &told, wanted);
     Ok(())
 }
 
@@ -137,11 +138,12 @@ fn try_refused(
     rt: &impl Abort,
     disk: &mut MemoryDisk,
     alloc: Global,
-    read: Read,
-    fault: Fault,
+    number: usize,
+    row: &(Read, Fault),
 ) -> Result<(), Fail> {
-    let found = make(disk, alloc, read)?.err();
-    same_at(rt, read, found, Some(refusal(alloc, fault)?));
+    let (read, fault) = row;
+    let found = make(disk, alloc, *read)?.err();
+    same_at(rt, number, found, Some(refusal(alloc, *fault)?));
     Ok(())
 }
 
@@ -159,16 +161,6 @@ static READ: [(Read, Told); 5] = [
     (Read::Part(CUT, 4175), (4175, b"", &[])),
 ];
 
-#[test]
-fn parts_are_read(rt: HostRuntime) -> Result<(), Fail> {
-    let alloc = rt.alloc();
-    let mut disk = disk_of_indexes(alloc)?;
-    for (read, wanted) in &READ {
-        try_read(&rt, &mut disk, alloc, *read, wanted)?;
-    }
-    Ok(())
-}
-
 static REFUSED: [(Read, Fault); 8] = [
     (Read::Dynamic(ROOT, 4177), Fault::BadRange(4176)),
     // the offset comes before the index
@@ -183,11 +175,14 @@ static REFUSED: [(Read, Fault); 8] = [
 ];
 
 #[test]
-fn reads_are_refused(rt: HostRuntime) -> Result<(), Fail> {
+fn parts_are_read_or_refused(rt: HostRuntime) -> Result<(), Fail> {
     let alloc = rt.alloc();
     let mut disk = disk_of_indexes(alloc)?;
-    for (read, fault) in &REFUSED {
-        try_refused(&rt, &mut disk, alloc, *read, *fault)?;
+    for (number, row) in READ.iter().enumerate() {
+        try_read(&rt, &mut disk, alloc, number, row)?;
+    }
+    for (number, row) in REFUSED.iter().enumerate() {
+        try_refused(&rt, &mut disk, alloc, number, row)?;
     }
     Ok(())
 }
@@ -210,7 +205,7 @@ fn try_root(
     disk: &mut FailingDisk<MemoryDisk>,
 ) -> Result<(), Fail> {
     let told = read_root(disk, alloc).ok().ok_or("not read")?;
-    try_told(rt, Read::Dynamic(ROOT, 4144), &told, &ROOT_READ);
+    try_told(rt, 0, &told, &ROOT_READ);
     Ok(())
 }
 

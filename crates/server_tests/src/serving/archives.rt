@@ -82,12 +82,8 @@ fn archives_come_back(rt: HostRuntime) -> Result<(), Fail> {
         replies: &replies,
         kinds: ARCHIVE_KINDS,
     };
-    let mut ports: Ports<MemSink> = [Port {
-        source: source_of(alloc, ARCHIVE)?,
-        sink: empty_sink(alloc),
-    }];
-    let served = run_on(alloc, &mut ports, MemoryDisk::new(alloc))?;
-    assert_run(&rt, told_to(&ports)?, &served, &left)?;
+    let (output, served) = run_session(alloc, ARCHIVE, MemoryDisk::new(alloc))?;
+    assert_run(&rt, output.as_slice(), &served, &left)?;
     assert_holds(&rt, alloc, served.disk, ARCHIVED)?;
     try_source(&rt, alloc, source_of(alloc, ARCHIVE)?.at_most(1), &left)
 }

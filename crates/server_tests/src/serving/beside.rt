@@ -45,12 +45,8 @@ fn assert_has(rt: &impl Abort, disk: &mut MemoryDisk, files: &[(&str, u64)]) -> 
 /// Serves a session there.
 fn try_beside(rt: &impl Abort, alloc: Global, input: &[u8], left: &Left<'_>) -> Result<(), Fail> {
     let disk = left_earlier(rt, alloc)?;
-    let mut ports: Ports<MemSink> = [Port {
-        source: source_of(alloc, input)?,
-        sink: empty_sink(alloc),
-    }];
-    let mut served = run_on(alloc, &mut ports, disk)?;
-    assert_run(rt, told_to(&ports)?, &served, left)?;
+    let (output, mut served) = run_session(alloc, input, disk)?;
+    assert_run(rt, output.as_slice(), &served, left)?;
     assert_has(rt, &mut served.disk, STAYING)
 }
 

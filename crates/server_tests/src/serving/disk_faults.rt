@@ -375,11 +375,7 @@ fn try_disk(
 ) -> Result<(), Fail> {
     let plan = [OPENING.saturating_add(call)].to_vec(alloc)?;
     let disk = FailingDisk::at_calls(MemoryDisk::new(alloc), plan);
-    let mut ports: Ports<MemSink> = [Port {
-        source: source_of(alloc, session.input)?,
-        sink: empty_sink(alloc),
-    }];
-    let served = run_on(alloc, &mut ports, disk)?;
+    let (output, served) = run_session(alloc, session.input, disk)?;
     let mut replies = front(session.replies, fault.told).to_vec(alloc)?;
     replies.extend_from_slice(fault.behind)?;
     let report = LaneReport {
@@ -393,7 +389,7 @@ fn try_disk(
         replies: &replies,
         kinds: fault.kinds,
     };
-    assert_run(rt, told_to(&ports)?, &served, &left)?;
+    assert_run(rt, output.as_slice(), &served, &left)?;
     assert_holds(rt, alloc, served.disk.into_inner(), fault.files)
 }
 
@@ -491,11 +487,8 @@ fn try_stop(
 ) -> Result<(), Fail> {
     let count = OPENING.saturating_add(calls);
     let disk = FailingDisk::stopping_after(MemoryDisk::new(alloc), count);
-    let mut ports: Ports<MemSink> = [Port {
-        source: source_of(alloc, session.input)?,
-        sink: empty_sink(alloc),
-    }];
-    let left = run_on(alloc, &mut ports, disk)?.disk.into_inner();
+    let (_output, served) = run_session(alloc, session.input, disk)?;
+    let left = served.disk.into_inner();
     for choice in 0..3 {
         let mut found = left.crashed(alloc, choice)?;
         assert_whole(rt, alloc, &mut found, crash.whole)?;
@@ -569,11 +562,7 @@ pub fn letters(
 
 /// Serves a session and compares the writing calls of its acts.
 fn try_writings(rt: &impl Abort, alloc: Global, input: &[u8], acts: &[&str]) -> Result<(), Fail> {
-    let mut ports: Ports<MemSink> = [Port {
-        source: source_of(alloc, input)?,
-        sink: empty_sink(alloc),
-    }];
-    let served = run_on(alloc, &mut ports, MemoryDisk::new(alloc))?;
+    let (_output, served) = run_session(alloc, input, MemoryDisk::new(alloc))?;
     same(rt, served.report.calls.len(), acts.len());
     let mut before = OPENING;
     for (now, act) in served.report.calls.iter().zip(acts) {

@@ -51,11 +51,7 @@ fn try_opening(
     disk: FailingDisk<MemoryDisk>,
     call: usize,
 ) -> Result<(), Fail> {
-    let mut ports: Ports<MemSink> = [Port {
-        source: source_of(alloc, LIST)?,
-        sink: empty_sink(alloc),
-    }];
-    let served = run_on(alloc, &mut ports, disk)?;
+    let (output, served) = run_session(alloc, LIST, disk)?;
     same(rt, (call, served.status), (call, Status::DiskFault));
     let cause = if call == 0 {
         OpenFault::NotSynced
@@ -63,7 +59,7 @@ fn try_opening(
         OpenFault::DiskFault
     };
     same(rt, served.report.not_opened, Some(cause));
-    same(rt, told_to(&ports)?.len(), 0);
+    same(rt, output.len(), 0);
     let counts = (
         served.order.len(),
         served.report.calls.len(),
@@ -102,11 +98,7 @@ fn an_opening_syncs_and_removes(rt: HostRuntime) -> Result<(), Fail> {
     let alloc = rt.alloc();
     let disk = disk_of(alloc, &OPENED)?;
     let before = disk.calls();
-    let mut ports: Ports<MemSink> = [Port {
-        source: source_of(alloc, b"")?,
-        sink: empty_sink(alloc),
-    }];
-    let served = run_on(alloc, &mut ports, disk)?;
+    let (_output, served) = run_session(alloc, b"", disk)?;
     let now = served.disk.calls();
     same(&rt, now, before.saturating_add(CALLS + SAVE));
     let made = letters(alloc, &served.disk, before, now)?;

@@ -33,18 +33,14 @@ fn told_at_fault(
 /// one step.
 fn is_made(rt: &impl Abort, alloc: Global, steps: Steps, call: u64) -> Result<bool, Fail> {
     let disk = FailingDisk::at_calls(MemoryDisk::new(alloc), [call].to_vec(alloc)?);
-    let mut ports: Ports<MemSink> = [Port {
-        source: source_of(alloc, &talk_of(alloc, &[steps])?.sent)?,
-        sink: empty_sink(alloc),
-    }];
-    let served = run_on(alloc, &mut ports, disk)?;
+    let (output, served) = run_session(alloc, &talk_of(alloc, &[steps])?.sent, disk)?;
     let fault = served.order.iter().position(|entry| entry.kind == 5);
     let place = match fault {
         Some(place) => place.min(steps.len().saturating_sub(1)),
         None => steps.len(),
     };
     let told = told_at_fault(alloc, steps, place)?;
-    same(rt, told_to(&ports)?, told.as_slice());
+    same(rt, output.as_slice(), told.as_slice());
     // the save of the book has no entry
     let is_made = served.disk.faults() > 0;
     let status = if is_made {

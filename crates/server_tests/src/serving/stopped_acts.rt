@@ -71,11 +71,6 @@ const UPLOADS: Run = Run {
     states: &[NONE_LEFT, ONE_LEFT],
 };
 
-#[test]
-fn stopped_uploads_are_not_found(rt: HostRuntime) -> Result<(), Fail> {
-    try_stops(&rt, rt.alloc(), &UPLOADS)
-}
-
 /// Two backups more, and a PRUNE that keeps the last: it is three steps, of which two forget, the newer snapshot first.
 const PRUNED_STEPS: Steps = &[
     (OPEN_LATER, BASE),
@@ -155,11 +150,6 @@ const PRUNES: Run = Run {
     ],
 };
 
-#[test]
-fn a_stopped_prune_has_forgotten_some(rt: HostRuntime) -> Result<(), Fail> {
-    try_stops(&rt, rt.alloc(), &PRUNES)
-}
-
 /// DOWNLOAD of the index of `root.fidx` from its end on, and the reply; RANGE of all three bytes, and the reply.
 const FIXED_END: &[u8] = b"\x13\0\0\0\x15\x09root.fidx \x10\0\0\0\0\0\0";
 
@@ -224,7 +214,13 @@ const RESTORES: Run = Run {
     states: &[NO_FIXED_LEFT, FIXED_LEFT],
 };
 
+/// Uploads that are stopped are not found, a prune has forgotten some, and a restore leaves its snapshot.
+static RUNS: [Run; 3] = [UPLOADS, PRUNES, RESTORES];
+
 #[test]
-fn a_stopped_restore_leaves_its_snapshot(rt: HostRuntime) -> Result<(), Fail> {
-    try_stops(&rt, rt.alloc(), &RESTORES)
+fn stopped_acts_are_found_before_or_after(rt: HostRuntime) -> Result<(), Fail> {
+    for run in &RUNS {
+        try_stops(&rt, rt.alloc(), run)?;
+    }
+    Ok(())
 }

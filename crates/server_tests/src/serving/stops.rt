@@ -153,14 +153,10 @@ fn has_files(alloc: Global, disk: &mut MemoryDisk, state: &State) -> Result<bool
 
 /// The number of the state that a second run finds.
 fn found_on(alloc: Global, run: &Run, disk: MemoryDisk) -> Result<Option<usize>, Fail> {
-    let mut ports: Ports<MemSink> = [Port {
-        source: source_of(alloc, &joined(alloc, run.asked)?)?,
-        sink: empty_sink(alloc),
-    }];
-    let mut served = run_on(alloc, &mut ports, disk)?;
+    let (output, mut served) = run_session(alloc, &joined(alloc, run.asked)?, disk)?;
     for (number, state) in run.states.iter().enumerate() {
         let told = joined(alloc, state.told)?;
-        if told_to(&ports)? == told.as_slice() && has_files(alloc, &mut served.disk, state)? {
+        if output.as_slice() == told.as_slice() && has_files(alloc, &mut served.disk, state)? {
             return Ok(Some(number));
         }
     }
@@ -173,11 +169,8 @@ fn served_on(
     steps: &[Steps],
     disk: FailingDisk<MemoryDisk>,
 ) -> Result<Served<FailingDisk<MemoryDisk>, MemoryDisk>, Fail> {
-    let mut ports: Ports<MemSink> = [Port {
-        source: source_of(alloc, &talk_of(alloc, steps)?.sent)?,
-        sink: empty_sink(alloc),
-    }];
-    Ok(run_on(alloc, &mut ports, disk)?)
+    let (_output, served) = run_session(alloc, &talk_of(alloc, steps)?.sent, disk)?;
+    Ok(served)
 }
 
 /// What a crash of each kind leaves is the state behind so many commands that were done, or that behind the next one.
@@ -312,15 +305,10 @@ fn try_crash(
 }
 
 #[test]
-fn a_finish_is_stopped(rt: HostRuntime) -> Result<(), Fail> {
+fn a_finish_and_a_forget_are_stopped(rt: HostRuntime) -> Result<(), Fail> {
     for row in &FINISHES {
         try_crash(&rt, rt.alloc(), TO_FINISH, BEFORE_FINISH, row)?;
     }
-    Ok(())
-}
-
-#[test]
-fn a_forget_is_stopped(rt: HostRuntime) -> Result<(), Fail> {
     for row in &FORGETS {
         try_crash(&rt, rt.alloc(), TO_FORGET, BEFORE_FORGET, row)?;
     }
@@ -355,12 +343,8 @@ fn the_put_of_a_chunk_fails(rt: HostRuntime) -> Result<(), Fail> {
     let talk = talk_of(alloc, TO_CHUNK)?;
     let plan = [OPENING.saturating_add(BEFORE_PUT)].to_vec(alloc)?;
     let disk = FailingDisk::at_calls(MemoryDisk::new(alloc), plan);
-    let mut ports: Ports<MemSink> = [Port {
-        source: source_of(alloc, &talk.sent)?,
-        sink: empty_sink(alloc),
-    }];
-    let served = run_on(alloc, &mut ports, disk)?;
-    same(&rt, told_to(&ports)?, talk.told.as_slice());
+    let (output, served) = run_session(alloc, &talk.sent, disk)?;
+    same(&rt, output.as_slice(), talk.told.as_slice());
     let ended = (served.status, served.status.number());
     same(&rt, ended, (Status::DiskFault, 3));
     try_found(&rt, alloc, served.disk.into_inner())

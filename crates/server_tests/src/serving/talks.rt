@@ -57,17 +57,13 @@ pub fn try_talk(
     disk: MemoryDisk,
     talk: &Talk,
 ) -> Result<MemoryDisk, Fail> {
-    let mut ports: Ports<MemSink> = [Port {
-        source: source_of(alloc, &talk.sent)?,
-        sink: empty_sink(alloc),
-    }];
-    let served = run_on(alloc, &mut ports, disk)?;
+    let (output, served) = run_session(alloc, &talk.sent, disk)?;
     let report = LaneReport {
         taken: talk.sent.len() as u64,
         given: talk.told.len() as u64,
         ending: Ending::Clean,
     };
-    same(rt, told_to(&ports)?, talk.told.as_slice());
+    same(rt, output.as_slice(), talk.told.as_slice());
     same(rt, served.status, Status::Ok);
     same(rt, report_of(&served)?, report);
     Ok(served.disk)

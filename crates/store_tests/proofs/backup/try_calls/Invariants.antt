@@ -1,5 +1,5 @@
 use Rattle.std.proofs.Common.{◌≡◌, None}
 use Rattle.store_tests.proofs.backup.try_calls.Given as goal
 
-abbrev pub invariant-loop-call : goal.invariant-loop-call
-invariant-loop-call g l = l.w.pending ≡ None
+abbrev pub invariant-loop-number : goal.invariant-loop-number
+invariant-loop-number g l = l.w.pending ≡ None
