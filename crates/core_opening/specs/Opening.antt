@@ -93,6 +93,9 @@ pub record IsCatalogue (files : Files) (catalogue : List Listed) : Type 0 where
 abbrev pub CataloguesDisk : {D E : Type 0} → Ghosts D → D → D → Result Opened E → Type 0
 CataloguesDisk d old new result = d.honest old → IfOk result (λ x. IsCatalogue (d.content new) x.catalogue.items)
 
+abbrev pub HasBook : {D E C : Type 0} → Ghosts D → Core D E C → Type 0
+HasBook d core = IsBookOf (d.content (core.parts).disk) core.upkeep
+
 abbrev pub ListsFound : {D E C : Type 0} → Ghosts D → Core D E C → Type 0
 ListsFound d core = IsCatalogue (d.content (core.parts).disk) (core.parts).catalogue.items
 

@@ -6,7 +6,7 @@ ghost use Rattle.core_state.specs.Entering.{AllHeld};
 ghost use Rattle.core_state.specs.declared.kept.Session.TheVariants.{Idle};
 ghost use Rattle.opening_files.specs.Opened.{CleansDisk, WantsMemory};
 ghost use Rattle.opening_files.specs.Removed.{StepsClean};
-ghost use Rattle.core_opening.specs.Opening.{BooksDisk, CataloguesDisk, CleansOpening, HasBegun, IsGivenBack, IsNew, LeavesOpened, ListsFound, MindsOpened, RecordsOpened, RecoversOpened, ServesOpening, StandsOpened, fault_of};
+ghost use Rattle.core_opening.specs.Opening.{BooksDisk, CataloguesDisk, CleansOpening, HasBegun, HasBook, IsGivenBack, IsNew, LeavesOpened, ListsFound, MindsOpened, RecordsOpened, RecoversOpened, ServesOpening, StandsOpened, fault_of};
 
 use crate::booking::upkeep_of;
 use crate::cataloguing::listed_of;
@@ -130,6 +130,8 @@ pub fn open_on<D: Disk, E, C: Clock>(
     ensures reserve { IfOk result (λ core. AllHeld core.journal) }
     // the snapshots that were found, by numbers of their own
     ensures catalogue { D.honest disk → IfOk result (ListsFound D.Disk) }
+    // the book is of the chunks that were found, with the touches that the saved one has of them
+    ensures book { D.honest disk → IfOk result (HasBook D.Disk) }
     // on any disk a fault comes only where its count rose
     ensures serves { ServesOpening D.Disk disk result }
     // opened or not: up to a moment a crash leaves what it could before, and from it on what was read without some of what

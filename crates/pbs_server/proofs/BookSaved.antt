@@ -16,7 +16,7 @@ use Rattle.store_history.specs.History.{entries, kind}
 use Rattle.store_history.specs.Saved.{book_name}
 use Rattle.core_state.specs.declared.state.Core.{Core}
 use Rattle.core_state.specs.Answers.{fault_after}
-use Rattle.core_state.specs.Foreign.{IsForeign, KeepsForeign}
+use Rattle.core_state.specs.Foreign.{IsForeign}
 use Rattle.core_state.specs.Records.{fault_in}
 use Rattle.core_state.specs.Saving.{HasSaved, KeepsRest, LeavesBook, SavesBook, text_of_book}
 use Rattle.lane.specs.Entries.{has_kind}
@@ -48,9 +48,10 @@ none_is (Some place) is = cc
 
 module _ {D E C : Type 0} (d : Ghosts D) (old new : Core D E C) where
   -- names that are none of the store's
-  installed_foreign : HasSaved d old new → d.honest (old.parts).disk → KeepsForeign d (old.parts).disk (new.parts).disk
-  installed_foreign saved honest q own =
-      ap (λ m. get m q) (saved.content honest) ∙ installed_other (d.content (old.parts).disk) book_name (text_of_book old) q own.book (own.lasting book_name)
+  installed_foreign : HasSaved d old new → d.honest (old.parts).disk → (q : List ℕ) → IsForeign q → q ≢ book_name
+      → get (d.content (new.parts).disk) q ≡ get (d.content (old.parts).disk) q
+  installed_foreign saved honest q own apart =
+      ap (λ m. get m q) (saved.content honest) ∙ installed_other (d.content (old.parts).disk) book_name (text_of_book old) q apart (own.lasting book_name)
 
   later_by : LeavesBook d old new → d.calls (old.parts).disk ≤ d.calls (new.parts).disk
   later_by (inl same) = subst (λ x. d.calls (old.parts).disk ≤ d.calls x) (sym same) (omega arith)
@@ -69,6 +70,8 @@ module _ {D E C : Type 0} (d : Ghosts D) (old new : Core D E C) where
     halted = not_halted _ none;
     serves = record { kept = serves.kept; count = serves.count; cause = λ is. absurd (failed_none is) };
     later = later_by crash;
+    crash = crash;
+    saved = λ _. saved;
     foreign = λ honest calm. installed_foreign saved honest;
     history = history;
   }
@@ -77,7 +80,9 @@ module _ {D E C : Type 0} (d : Ghosts D) (old new : Core D E C) where
     halted = not_halted _ none;
     serves = record { kept = serves.kept; count = serves.count; cause = λ is. absurd (failed_want is) };
     later = later_by crash;
-    foreign = λ honest calm q own. ap (λ m. get m q) ((unchanged refl).0 honest);
+    crash = crash;
+    saved = λ _. saved;
+    foreign = λ honest calm q own apart. ap (λ m. get m q) ((unchanged refl).0 honest);
     history = history;
   }
   saved_so (Err Failed) none serves rest crash saved unchanged history = record {
@@ -85,6 +90,8 @@ module _ {D E C : Type 0} (d : Ghosts D) (old new : Core D E C) where
     halted = not_halted _ none;
     serves = record { kept = serves.kept; count = serves.count; cause = λ is. serves.cause refl };
     later = later_by crash;
+    crash = crash;
+    saved = λ _. saved;
     foreign = λ honest calm. absurd (calm refl);
     history = history;
   }
@@ -104,7 +111,9 @@ not_tried d core failed = record {
   halted = if_some _ core.fault (refl, refl);
   serves = record { kept = (λ h. h, λ h. h); count = omega arith; cause = λ is. absurd (failed_none is) };
   later = omega arith;
-  foreign = λ honest calm q own. refl;
+  crash = inl refl;
+  saved = λ none. absurd (some_none core.fault failed none);
+  foreign = λ honest calm q own apart. refl;
   history = record {
     stands = λ readings calm h s. s;
     minds = λ readings calm h s m. m;

@@ -17,7 +17,7 @@ use Rattle.lane.proofs.Caused.{rose_later}
 use Rattle.pbs_server.specs.declared.status.Status.{Status}
 use Rattle.pbs_server.specs.declared.status.Status.TheVariants as statuses
 use Rattle.pbs_server.specs.Statuses.{status_by, status_of_ending, is_short, is_wanting, is_failed}
-use Rattle.pbs_server.specs.Causes.{IsOrder, IsUnsaved, HasNotFailed, ReachesNoCommand, HasCause}
+use Rattle.pbs_server.specs.Causes.{IsOrder, SaveIsTold, HasNotFailed, ReachesNoCommand, HasCause}
 use Rattle.pbs_server.proofs.Broken.{IsBroken}
 
 -- ---- the first that applies
@@ -285,9 +285,9 @@ handed_back d old new last wanting order calls disk disk' x no_entries no_calls 
     counts = calls_are ∙ x.calls ∙ ap (λ ns. ns ++ x.counts) no_calls
 
 -- the disk failed as the book was saved: the count rose in the whole
-pub unsaved : (order : List Entry) (not_saved : Option DiskError) (disk before after disk' : ℕ) → (has_kind 5 order ≡ true → not_saved ≡ None)
-    → disk ≤ before → (not_saved ≡ Some disks.Failed → Rose before after) → disk' ≡ after → IsUnsaved order not_saved disk disk'
-unsaved order not_saved disk before after disk' halted later rose disk_after = record {
+pub save_told : (order : List Entry) (not_saved : Option DiskError) (disk before after disk' : ℕ) → (has_kind 5 order ≡ true → not_saved ≡ None)
+    → disk ≤ before → (not_saved ≡ Some disks.Failed → Rose before after) → disk' ≡ after → SaveIsTold order not_saved disk disk'
+save_told order not_saved disk before after disk' halted later rose disk_after = record {
   halted = halted;
   faults = λ is. subst (Rose disk) (sym disk_after) (rose_later disk before after later (rose is));
 }

@@ -30,7 +30,7 @@ use Rattle.core_state.specs.Foreign.{IsForeign}
 use Rattle.core_state.specs.Records.{Records, Reaches}
 use Rattle.core_state.specs.Recovers.{Recovers, TellsMoments}
 use Rattle.opening_files.specs.Leaving.{IsFileOf, IsLeaving, Cleans}
-use Rattle.core_opening.specs.Opening.{MindsOpened, RecoversOpened, StandsOpened, opening_of}
+use Rattle.core_opening.specs.Opening.{HasBook, MindsOpened, RecoversOpened, StandsOpened, opening_of}
 use Rattle.lane.specs.declared.port.LaneReport.{LaneReport}
 use Rattle.lane.specs.Entries.{has_kind}
 use Rattle.lane.specs.Ran.{RanAlone, with_events}
@@ -131,6 +131,7 @@ le_more a b c first then = omega (arith, first, then)
 pub record HasBoth {D : Type 0} (d : Ghosts D) (clock : Option Readings) (start : ℕ) (disk opened last : D) (left left' taken taken' : Option (List ℕ)) (order : List Entry) (calls : List ℕ)
     (not_saved : Option DiskError) (report : LaneReport) : Type 0 where
   pub told : HasTold clock left left' taken taken' order calls report
+  pub since_is : d.honest disk → told.since ≡ (saved_book (d.content opened)).moment
   pub halted : has_kind 5 order ≡ true → not_saved ≡ None
   pub plain : (L : List Snapshot) (R : Option (List Snapshot)) → d.honest disk → Stands (d.content disk) L → NoClash (chunk_pieces (d.content disk) ++ sent told.events)
       → IsPlain (opening_of d disk opened L) R told.since (d.calls last) (d.honest last) told.input told.events told.replies order not_saved report (d.content disk) (d.content last)
@@ -140,13 +141,14 @@ pub record HasBoth {D : Type 0} (d : Ghosts D) (clock : Option Readings) (start 
 pub has_both : {D E C : Type 0} (d : Ghosts D) (readings : C → Option Readings) (clock : C) (disk : D) (first core saved : Core D E C)
     (left left' taken taken' : Option (List ℕ)) (order : List Entry) (calls : List ℕ) (not_saved : Option DiskError) (report : LaneReport) (last : D)
     → TellsMoments d → StandsOpened d readings disk clock first → MindsOpened d readings disk clock first → (recovers : RecoversOpened d readings disk clock first)
+    → first.last ≡ (first.upkeep).book.moment → (d.honest disk → HasBook d first)
     → (d.honest disk → Cleans (d.content disk) (d.content (first.parts).disk))
     → RanAlone (Reaches d readings first (began (opening_at d disk first []) None (readings clock)) core)
     (began (opening_at d disk first []) None (readings clock)) 0 left left' taken taken' report
     → EndsSaved d core saved not_saved
     → order ≡ (saved.journal).entries.items → calls ≡ (saved.journal).calls.items → last ≡ (saved.parts).disk
     → HasBoth d (readings clock) (recovers.opens).start disk (first.parts).disk last left left' taken taken' order calls not_saved report
-has_both d readings clock disk first core saved left left' taken taken' order calls not_saved report last moments opens minds recovers cleaned ran ends order_as calls_as disk_as = record {
+has_both d readings clock disk first core saved left left' taken taken' order calls not_saved report last moments opens minds recovers last_is booked cleaned ran ends order_as calls_as disk_as = record {
   told = record {
     input = ran.input;
     events = ran.events;
@@ -165,6 +167,7 @@ has_both d readings clock disk first core saved left left' taken taken' order ca
     calls_are = calls_as ∙ ap (λ x. (x.journal).calls.items) ends.rest ∙ r.calls;
     read_out = ran.read_out;
   };
+  since_is = λ honest. last_is ∙ ((booked honest).keeps).read;
   halted = λ five.
       let failed : IsSome core.fault = subst (λ (o : Option ℕ). IsSome o) (sym r.fault) (five_fails 0 None ran.events (sym (ap (has_kind 5) order_is) ∙ five)) in
       let both : (saved ≡ core) × (not_saved ≡ None) = halted_by core.fault failed ends.halted in
@@ -238,6 +241,6 @@ has_both d readings clock disk first core saved left left' taken taken' order ca
               let kept : HoldsBook (d.content (saved.parts).disk) core.last (tending h) = subst (λ o. OnOk (saving_of o) (HoldsBook (d.content (saved.parts).disk) core.last (tending h))) saved_is held in
               subst (λ x. HoldsBook (d.content x) (moment_after first.last ran.events) (tended_all (tended_at (opening L)) ran.events)) (sym disk_as)
               (subst (λ n. HoldsBook (d.content (saved.parts).disk) n (tended_all (tended_at (opening L)) ran.events)) r.last kept);
-          foreign = λ unfailed q own.
-              ap (λ x. get (d.content x) q) disk_as ∙ ends.foreign s.honest unfailed.saving q own ∙ foreign (s.fault ∙ calm L R unfailed.acts) q own;
+          foreign = λ unfailed q own apart.
+              ap (λ x. get (d.content x) q) disk_as ∙ ends.foreign s.honest unfailed.saving q own apart ∙ foreign (s.fault ∙ calm L R unfailed.acts) q own;
         }

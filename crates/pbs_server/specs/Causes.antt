@@ -25,8 +25,9 @@ pub record IsOrder (order : List Entry) (calls : List ℕ) (disk disk' : ℕ) : 
   pub beside : length calls ≡ length order
   pub faults : has_kind 5 order ≡ true → Rose disk disk'
 
--- The book was not saved: that was not tried where the disk had failed, and the disk fails in it only where its count of faults rose.
-pub record IsUnsaved (order : List Entry) (not_saved : Option DiskError) (disk disk' : ℕ) : Type 0 where
+-- What is told of the save of the book: nothing after an entry of a fault of the disk; and the disk is said to have failed in it only where
+-- its count of faults rose.
+pub record SaveIsTold (order : List Entry) (not_saved : Option DiskError) (disk disk' : ℕ) : Type 0 where
   pub halted : has_kind 5 order ≡ true → not_saved ≡ None
   pub faults : not_saved ≡ Some disks.Failed → Rose disk disk'
 

@@ -22,7 +22,7 @@ use Rattle.store_history.specs.CrashPoints.{Reopens}
 use Rattle.store_history.specs.History.{Opening, opened, after_all, entries, sent}
 use Rattle.store_history.specs.LaneRun.{text, LaneRan}
 use Rattle.store_history.specs.Legal.{IsLegal, IsTimed, moment_after}
-use Rattle.store_history.specs.Saved.{HoldsBook, saved_book}
+use Rattle.store_history.specs.Saved.{HoldsBook, book_name, saved_book}
 use Rattle.store_history.specs.Tending.{tended_all, tended_at}
 use Rattle.core_state.specs.Chunks.{HoldsOnly}
 use Rattle.core_state.specs.Foreign.{IsForeign}
@@ -39,13 +39,13 @@ use Rattle.lane.specs.Entries.{has_kind}
 use Rattle.lane.specs.Ran.{Took, EndsRead}
 use Rattle.pbs_server.specs.declared.served.Served.{Served}
 use Rattle.pbs_server.specs.declared.status.Status.TheVariants as statuses
-use Rattle.pbs_server.specs.Causes.{IsOrder, IsUnsaved, NoDiskFault, HasCause}
+use Rattle.pbs_server.specs.Causes.{IsOrder, SaveIsTold, NoDiskFault, HasCause}
 use Rattle.pbs_server.specs.Statuses.{status_by, status_of_opening}
 use Rattle.pbs_server.specs.Words.{reading}
 
 -- What a session did, on any disk: its acts are a run of the lane's program on the bytes that its source gave, its sink was given the
--- replies (a front of them where it failed), the order is that of the acts, and its moments are by the clock's readings, from the last
--- moment of the saved book on.
+-- replies (a front of them where it failed), the order is that of the acts, and its moments are by the clock's readings, from a last
+-- moment on.
 pub record HasTold (readings : Option Readings) (left left' taken taken' : Option (List ℕ)) (order : List Entry) (calls : List ℕ) (report : LaneReport) : Type 0 where
   -- the bytes that the session's source gave, the acts with their answers, all replies, and their bytes
   pub input : List ℕ
@@ -93,7 +93,7 @@ pub record IsPlain (opening : Opening) (remote : Option (List Snapshot)) (since 
   pub stands : NoDiskFault order not_saved → StandsFor files store.snapshots
   pub chunks : NoDiskFault order not_saved → HoldsOnly files (chunk_pieces before ++ sent events)
   pub book : has_kind 5 order ≡ false → not_saved ≡ None → HoldsBook files (moment_after since events) (tended_all (tended_at opening) events)
-  pub foreign : NoDiskFault order not_saved → (q : List ℕ) → IsForeign q → get files q ≡ get before q
+  pub foreign : NoDiskFault order not_saved → (q : List ℕ) → IsForeign q → q ≢ book_name → get files q ≡ get before q
 
 -- What a crash leaves of a moment since this one stands for the plain store's snapshots after the events that were answered by then, or after
 -- one more: of a moment without a fault before it, a front of the events with each that was answered.
@@ -109,6 +109,8 @@ pub record HasServed {D E S K : Type 0} (d : Ghosts D) (left : S → Option (Lis
   -- the disk once it was opened, before the first command
   pub opened : D
   pub was_opened : WasOpened d disk opened
+  -- the last moment before the first command, whatever an honest disk holds: that of the saved book
+  pub since_is : d.honest disk → told.since ≡ (saved_book (d.content opened)).moment
   -- on an honest disk that stands for any list of snapshots, whatever the remote has, where no two unequal pieces have one digest of those in
   -- the chunk files at opening and those that the session sent
   pub plain : (L : List Snapshot) (R : Option (List Snapshot)) → d.honest disk → StandsFor (d.content disk) L → NoClash (chunk_pieces (d.content disk) ++ sent told.events)
@@ -122,7 +124,7 @@ pub record HasServed {D E S K : Type 0} (d : Ghosts D) (left : S → Option (Lis
   pub causes : HasCauses (source_faults old.source) (source_faults new.source) (sink_faults old.sink) (sink_faults new.sink) report.taken (Some report.ending)
   pub why : HasCause result.status (result.order).items (result.report).not_saved report told.input told.events (d.faults disk) (d.faults result.disk) (source_faults old.source) (source_faults new.source) (sink_faults old.sink) (sink_faults new.sink)
   pub order : IsOrder (result.order).items ((result.report).calls).items (d.faults disk) (d.faults result.disk)
-  pub unsaved : IsUnsaved (result.order).items (result.report).not_saved (d.faults disk) (d.faults result.disk)
+  pub save : SaveIsTold (result.order).items (result.report).not_saved (d.faults disk) (d.faults result.disk)
   pub budget : report.taken ≤ 2 ^ 40
   pub faults : d.faults disk ≤ d.faults result.disk
   pub remote_is : result.remote ≡ remote

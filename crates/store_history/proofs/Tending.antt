@@ -1,9 +1,10 @@
 -- A history that is longer by one event, and that no chunk's last touch is after the last moment.
-use Rattle.std.proofs.Common.{◌≡◌, ◌≤◌, ℕ, max, Bool, true, false, cond, List, [], ◌∷◌, ◌++◌, map, Option, Some, None, IfSome, Result, refl, ap, ◌∙◌, arith}
-use Rattle.std.specs.Prelude.{option_map, unwrap_or}
+use Rattle.std.proofs.Common.{◌≡◌, ◌≤◌, ℕ, max, Bool, true, false, cond, List, [], ◌∷◌, ◌++◌, map, Option, Some, None, IfSome, IsSome, Result, refl, ap, ◌∙◌, arith}
+use Rattle.std.specs.Prelude.{◌&&◌, is_none, option_map, unwrap_or}
 use Rattle.std.specs.Str.{bytes_eq}
 use Rattle.std.proofs.lemmas.Slice.Eq.{bytes_eq-Decides}
 use Rattle.sha2.specs.Sha256.{sha256}
+use Rattle.store_types.specs.declared.append.AppendEntry.{AppendEntry}
 use Rattle.store_types.specs.declared.names.Digest32.{Digest32}
 use Rattle.store_types.specs.declared.refusal.Refusal.{Refusal}
 use Rattle.store_files.specs.Archive.{Snapshot}
@@ -48,17 +49,17 @@ arrived_one m true None within = omega arith
 arrived_one m true (Some when) within = omega arith
 arrived_one m false last within = within
 
-touched_within : (act : Act) (r : Option Reply) (m : ℕ) (t : Tended) → NoneBehind m t → NoneBehind m (touched_by act r m t)
-touched_within (Chunk digest checked) (Some Done) m t within = λ d. arrived_one m (bytes_eq digest.0 d) (t.last d) (within d)
-touched_within (Plain (Append number entries)) (Some Done) m t within = λ d. touched_one m (is_one d (map (λ e. (e.digest).0) entries)) (t.last d) (within d)
-touched_within act r m t within = within
+within_at : (act : Act) (r : Option Reply) (m : ℕ) (t : Tended) (d : List ℕ) → IsWithin m (t.last d) → IsWithin m ((touched_by act r m t).last d)
+within_at (Chunk digest checked) (Some Done) m t d within = arrived_one m (bytes_eq digest.0 d) (t.last d) within
+within_at (Plain (Append number entries)) (Some Done) m t d within = touched_one m (is_one d (map (λ e. (e.digest).0) entries)) (t.last d) within
+within_at act r m t d within = within
 
 dated_within : (m : ℕ) (t : Tended) → NoneBehind m t → NoneBehind m (dated m t)
 dated_within m t within d = touched_one m (t.undated d) (t.last d) (within d)
 
 after_within : (e : Event) (m : ℕ) (t : Tended) → m ≤ moment e → NoneBehind m t → NoneBehind (moment e) (tended_after t e)
 after_within e m t risen within =
-    dated_within (moment e) (touched_by e.act (reply e) (moment e) t) (touched_within e.act (reply e) (moment e) t (λ d. later m (moment e) risen (t.last d) (within d)))
+    dated_within (moment e) (touched_by e.act (reply e) (moment e) t) (λ d. within_at e.act (reply e) (moment e) t d (later m (moment e) risen (t.last d) (within d)))
 
 all_within : (R : Option (List Snapshot)) (w : World) (t : Tended) (es : List Event) → IsLegal R w es → NoneBehind w.moment t → NoneBehind (after_all R w es).moment (tended_all t es)
 unfolding tended_all after_all after
@@ -116,7 +117,77 @@ sent_touched R o es e digest checked legal early act_is done =
     ∙ ap (λ r. (dated (moment e) (touched_by (Chunk digest checked) r (moment e) t)).last digest.0) done
     ∙ sent_at digest checked (moment e) t within
 
+-- ---- a chunk that is named
+
+-- it is there, so it is touched
+touch_is : (m : ℕ) (here : Bool) (last : Option ℕ) → here ≡ true → IsSome last → IsWithin m last → cond here (option_map (λ when. max when m) last) last ≡ Some m
+touch_is m true None is known within = cc
+touch_is m true (Some when) is known within = let same : max when m ≡ m = omega (arith, within) in ap Some same
+touch_is m false last is known within = cc
+
+named_at : (number : ℕ) (entries : List AppendEntry) (m : ℕ) (t : Tended) (d : List ℕ) → is_one d (map (λ x. (x.digest).0) entries) ≡ true
+    → IsSome (t.last d) → IsWithin m (t.last d) → (dated m (touched_by (Plain (Append number entries)) (Some Done) m t)).last d ≡ Some m
+named_at number entries m t d named known within =
+    ap (λ last. cond (t.undated d) (option_map (λ when. max when m) last) last) (touch_is m (is_one d (map (λ x. (x.digest).0) entries)) (t.last d) named known within)
+    ∙ dated_same m (t.undated d)
+
+pub named_touched : (R : Option (List Snapshot)) (o : Opening) (es : List Event) (e : Event) (number : ℕ) (entries : List AppendEntry) (d : List ℕ)
+    → IsLegal R (opened o) (es ++ e ∷ []) → IsEarly o → e.act ≡ Plain (Append number entries) → reply e ≡ Some Done
+    → is_one d (map (λ x. (x.digest).0) entries) ≡ true → IsSome ((tended_all (tended_at o) es).last d)
+    → (tended_after (tended_all (tended_at o) es) e).last d ≡ Some (moment e)
+named_touched R o es e number entries d legal early act_is done named known =
+    let t = tended_all (tended_at o) es in
+    let risen = (legal_last R (opened o) es e legal).risen in
+    let within = later (after_all R (opened o) es).moment (moment e) risen (t.last d) (none_later R o es d (legal_front R (opened o) es e legal) early) in
+    ap (λ act. (dated (moment e) (touched_by act (reply e) (moment e) t)).last d) act_is
+    ∙ ap (λ r. (dated (moment e) (touched_by (Plain (Append number entries)) r (moment e) t)).last d) done
+    ∙ named_at number entries (moment e) t d named known within
+
 -- ---- the first entry
 
-pub first_dates : (t : Tended) (e : Event) (d : List ℕ) → (tended_after t e).undated d ≡ false
-first_dates t e d = refl
+known_touched : (m : ℕ) (here : Bool) (last : Option ℕ) → IsSome last → IsSome (cond here (option_map (λ when. max when m) last) last)
+known_touched m true None known = known
+known_touched m true (Some when) known = refl
+known_touched m false last known = known
+
+known_arrived : (m : ℕ) (here : Bool) (last : Option ℕ) → IsSome last → IsSome (cond here (Some (greatest last m)) last)
+known_arrived m true last known = refl
+known_arrived m false last known = known
+
+known_at : (act : Act) (r : Option Reply) (m : ℕ) (t : Tended) (d : List ℕ) → IsSome (t.last d) → IsSome ((touched_by act r m t).last d)
+known_at (Chunk digest checked) (Some Done) m t d known = known_arrived m (bytes_eq digest.0 d) (t.last d) known
+known_at (Plain (Append number entries)) (Some Done) m t d known = known_touched m (is_one d (map (λ e. (e.digest).0) entries)) (t.last d) known
+known_at act r m t d known = known
+
+undated_at : (act : Act) (r : Option Reply) (m : ℕ) (t : Tended) (d : List ℕ) → (touched_by act r m t).undated d ≡ t.undated d
+undated_at (Chunk digest checked) (Some Done) m t d = refl
+undated_at (Plain (Append number entries)) (Some Done) m t d = refl
+undated_at act r m t d = refl
+
+-- an undated chunk stands as of the saved book's moment
+opened_known : (o : Opening) (d : List ℕ) → (tended_at o).undated d ≡ true → IsSome ((tended_at o).last d)
+opened_known o d = by_test (is_one d (map sha256 o.chunks)) (last_in o.touches d)
+  where
+    by_test : (here : Bool) (last : Option ℕ) → here && is_none last ≡ true → IsSome (cond here (Some (unwrap_or last o.moment)) None)
+    by_test true last is = refl
+    by_test false last is = is
+
+opened_early : (o : Opening) (d : List ℕ) (m : ℕ) → o.moment ≤ m → (tended_at o).undated d ≡ true → IsWithin m ((tended_at o).last d)
+opened_early o d m risen = by_test (is_one d (map sha256 o.chunks)) (last_in o.touches d)
+  where
+    false_true : false ≡ true → ⊥
+    false_true e = cc
+
+    by_test : (here : Bool) (last : Option ℕ) → here && is_none last ≡ true → IsWithin m (cond here (Some (unwrap_or last o.moment)) None)
+    by_test true None is = risen
+    by_test true (Some when) is = absurd (false_true is)
+    by_test false last is = tt
+
+pub first_dates : (R : Option (List Snapshot)) (o : Opening) (e : Event) (d : List ℕ) → IsLegal R (opened o) (e ∷ []) → (tended_at o).undated d ≡ true
+    → (tended_after (tended_at o) e).last d ≡ Some (moment e)
+first_dates R o e d legal undated =
+    let t = tended_at o in
+    let acted = touched_by e.act (reply e) (moment e) t in
+    touch_is (moment e) (acted.undated d) (acted.last d) (undated_at e.act (reply e) (moment e) t d ∙ undated)
+    (known_at e.act (reply e) (moment e) t d (opened_known o d undated))
+    (within_at e.act (reply e) (moment e) t d (opened_early o d (moment e) (legal.0).risen undated))

@@ -1,15 +1,17 @@
 -- What holds of touches in every legal history.
-use Rattle.std.specs.Prelude.{◌≡◌, ◌≤◌, ℕ, false, List, [], ◌∷◌, ◌++◌, Option, Some, IfSome, Result}
+use Rattle.std.specs.Prelude.{◌≡◌, ◌≤◌, ℕ, true, List, [], ◌∷◌, ◌++◌, map, Option, Some, IfSome, IsSome, Result}
 use Rattle.atime_book.specs.Touches.{last_in}
 use Rattle.store_files.specs.Archive.{Snapshot}
+use Rattle.store_types.specs.declared.append.AppendEntry.{AppendEntry}
 use Rattle.store_types.specs.declared.names.Digest32.{Digest32}
 use Rattle.store_types.specs.declared.refusal.Refusal.{Refusal}
+use Rattle.wire_commands.specs.declared.command.Command.TheVariants.{Append}
 use Rattle.wire_commands.specs.declared.reply.Reply.TheVariants.{Done}
-use Rattle.store_history.specs.declared.act.Act.TheVariants.{Chunk}
+use Rattle.store_history.specs.declared.act.Act.TheVariants.{Plain, Chunk}
 use Rattle.store_history.specs.declared.act.Event.{Event}
 use Rattle.store_history.specs.History.{Opening, opened, after_all, moment, reply}
 use Rattle.store_history.specs.Legal.{IsLegal}
-use Rattle.store_history.specs.Tending.{Tended, tended_at, tended_after, tended_all}
+use Rattle.store_history.specs.Tending.{is_one, tended_at, tended_after, tended_all}
 
 -- no entry of the saved book is of a moment after its last one
 abbrev pub IsEarly : Opening → Type 0
@@ -27,6 +29,14 @@ SentIsTouched = (remote : Option (List Snapshot)) (o : Opening) (events : List E
     → IsLegal remote (opened o) (events ++ e ∷ []) → IsEarly o → e.act ≡ Chunk digest checked → reply e ≡ Some Done
     → (tended_after (tended_all (tended_at o) events) e).last digest.0 ≡ Some (moment e)
 
--- once an act was entered, no chunk is undated
+-- a chunk that is there and that an APPEND named was last touched at the act's moment
+abbrev pub NamedIsTouched : Type 0
+NamedIsTouched = (remote : Option (List Snapshot)) (o : Opening) (events : List Event) (e : Event) (number : ℕ) (entries : List AppendEntry) (d : List ℕ)
+    → IsLegal remote (opened o) (events ++ e ∷ []) → IsEarly o → e.act ≡ Plain (Append number entries) → reply e ≡ Some Done
+    → is_one d (map (λ x. (x.digest).0) entries) ≡ true → IsSome ((tended_all (tended_at o) events).last d)
+    → (tended_after (tended_all (tended_at o) events) e).last d ≡ Some (moment e)
+
+-- a chunk that the saved book lacks was last touched at the moment of the first entry, once that is made
 abbrev pub FirstEntryDates : Type 0
-FirstEntryDates = (t : Tended) (e : Event) (d : List ℕ) → (tended_after t e).undated d ≡ false
+FirstEntryDates = (remote : Option (List Snapshot)) (o : Opening) (e : Event) (d : List ℕ) → IsLegal remote (opened o) (e ∷ [])
+    → (tended_at o).undated d ≡ true → (tended_after (tended_at o) e).last d ≡ Some (moment e)

@@ -1,7 +1,7 @@
 //! What holds of every history.
 
 ghost use Rattle.store_history.specs.Seats.{PicksOwn};
-ghost use Rattle.store_history.specs.Touches.{FirstEntryDates, NoneLater, SentIsTouched};
+ghost use Rattle.store_history.specs.Touches.{FirstEntryDates, NamedIsTouched, NoneLater, SentIsTouched};
 ghost use Rattle.store_history.specs.Woven.{ServedFitsRules, ServedIsWoven};
 
 /// Where a history is legal and each lane's own events are a run of its program, the plain store, asked in the
@@ -35,7 +35,13 @@ pub fn what_is_sent_is_touched()
     ensures { SentIsTouched }
 {}
 
-/// Once an act was entered, no chunk is undated.
+/// A chunk that is there and that an APPEND named was touched at the moment of that act.
+#[tactic(auto, using(crate::proofs::Tending::named_touched))]
+pub fn what_is_named_is_touched()
+    ensures { NamedIsTouched }
+{}
+
+/// A chunk that the saved book lacks was touched at the moment of the first entry.
 #[tactic(auto, using(crate::proofs::Tending::first_dates))]
 pub fn first_entries_date()
     ensures { FirstEntryDates }

@@ -42,6 +42,9 @@ returns-in-Ok-opened_of-clause-minds g c =
 pub returns-in-Ok-opened_of-clause-catalogue : goal.returns-in-Ok-opened_of-clause-catalogue
 returns-in-Ok-opened_of-clause-catalogue g c = λ honest. c.in-Ok-opened_of.ensures.catalogue (c.sync.ensures.serves.kept.0 honest)
 
+pub returns-in-Ok-opened_of-clause-book : goal.returns-in-Ok-opened_of-clause-book
+returns-in-Ok-opened_of-clause-book g c = λ honest. c.in-Ok-opened_of.ensures.book (c.sync.ensures.serves.kept.0 honest)
+
 pub returns-in-Ok-opened_of-clause-serves : goal.returns-in-Ok-opened_of-clause-serves
 returns-in-Ok-opened_of-clause-serves g c =
     let d = g.D.Disk in

@@ -1,7 +1,7 @@
 use Rattle.std.proofs.Common.{◌≤◌, ◌∷◌, ◌++◌, [], None, refl, ap, sym, subst, ◌∙◌, arith}
 use Rattle.core_state.specs.History.{began}
 use Rattle.pbs_server.specs.Saving.{EndsSaved}
-use Rattle.pbs_server.proofs.Causes.{caused, handed_back, unsaved}
+use Rattle.pbs_server.proofs.Causes.{caused, handed_back, save_told}
 use Rattle.pbs_server.proofs.Leaving.{leaves_none, leaves_one, unopened}
 use Rattle.pbs_server.proofs.Statuses.{served_other, status_is}
 use Rattle.pbs_server.proofs.Woven.{has_both, opening_at}
@@ -37,11 +37,11 @@ returns-in-Ok-open_on-clause-leaves g c = let d = g.D.Disk in let s = g.S.Source
     let both = has_both d readings c.args.clock disk first core saved
     (s.left c.args.port.now.source) (s.left c.run_alone-report.new.port.source) (k.taken c.args.port.now.sink) (k.taken c.run_alone-report.new.port.sink)
     (left.order).items ((left.report).calls).items not_saved report left.disk
-    g.met.D.Disk.told opened.opened opened.minds opened.recovers opened.cleaned
+    g.met.D.Disk.told opened.opened opened.minds opened.recovers (opened.begun).last opened.book opened.cleaned
     (c.run_alone-report.ensures.ran (began (opening_at d disk first []) None (readings c.args.clock)) (opened.records (opening_at d disk first []) None refl) refl)
     ends order_as calls_as back.disk in
     let count_before : d.faults disk ≤ d.faults (core.parts).disk = let a = (opened.serves).count in omega (arith, a, entered.count) in
-    let told = unsaved (left.order).items not_saved (d.faults disk) (d.faults (core.parts).disk) (d.faults (saved.parts).disk) (d.faults left.disk)
+    let told = save_told (left.order).items not_saved (d.faults disk) (d.faults (core.parts).disk) (d.faults (saved.parts).disk) (d.faults left.disk)
     both.halted count_before (ends.serves).cause (ap d.faults back.disk) in
     leaves_one d s.left s.faults k.taken k.faults (readings c.args.clock) disk c.args.remote left c.args.port.now c.run_alone-report.new.port _ report
     (ap (λ v. v.items) back.lanes ∙ c.push_reserved.ensures.items ∙ ap (λ xs. xs ++ report ∷ []) c.in-Ok.ensures.items)
@@ -49,6 +49,7 @@ returns-in-Ok-open_on-clause-leaves g c = let d = g.D.Disk in let s = g.S.Source
       told = both.told;
       opened = (first.parts).disk;
       was_opened = record { opens = (opened.recovers).opens; cleaned = opened.cleaned };
+      since_is = both.since_is;
       plain = both.plain;
       stops = both.stops;
       status = status;
@@ -57,7 +58,7 @@ returns-in-Ok-open_on-clause-leaves g c = let d = g.D.Disk in let s = g.S.Source
           (reached report.ending (both.told).input (both.told).events (both.told).told _ (both.told).ran (both.told).read_out)
           (not_clean report.ending (both.told).input (both.told).events (both.told).told (both.told).ran);
       order = order.order_is;
-      unsaved = told;
+      save = told;
       budget = c.run_alone-report.ensures.budget;
       faults = let a = (opened.serves).count in let b = ap d.faults back.disk in let n = (ends.serves).count in omega (arith, a, b, n, entered.count);
       remote_is = back.remote ∙ ap (λ x. x.remote) ends.rest ∙ c.run_alone-report.ensures.remote ∙ (opened.handed).0;
