@@ -2,13 +2,12 @@
 use Rattle.disk_trait.specs.declared.disk.Disk.{Ghosts}
 use Rattle.disk_trait.specs.declared.disk.DiskError.{DiskError}
 use Rattle.disk_trait.specs.declared.disk.DiskError.TheVariants.{NoMemory, Failed}
-use Rattle.disk_trait.specs.Disk.{Rose, Serves, Same}
+use Rattle.disk_trait.specs.Disk.{Serves}
 use Rattle.disk_trait.specs.Effects.{DiskWantKeeps}
-use Rattle.std.proofs.Common.{◌≡◌, ◌≢◌, ◌≤◌, ◌+◌, ◌↔◌, ◌⊎◌, inl, inr, ℕ, Bool, true, false, List, [], ◌∷◌, ◌||◌, ◌==◌, if◌then◌else◌, Option, Some, None, IfSome, IsSome, Result, Ok, Err, OnOk, refl, sym, ap, subst, ◌∙◌, arith}
+use Rattle.std.proofs.Common.{◌≡◌, ◌≤◌, ◌+◌, inl, inr, ℕ, Bool, true, false, List, [], ◌∷◌, ◌||◌, ◌==◌, if◌then◌else◌, Option, Some, None, IfSome, IsSome, Result, Ok, Err, OnOk, refl, sym, ap, subst, ◌∙◌, arith}
 use Rattle.std.specs.Prelude.{IsErrOf, is_some}
 use Rattle.std.specs.Result.{result_err}
 use Rattle.std.specs.FinMap.{get}
-use Rattle.file_install.specs.Install.{temporary, installed}
 use Rattle.file_install.proofs.InstallLaws.{installed_other}
 use Rattle.store_model.specs.Weave.{first_fault}
 use Rattle.store_history.specs.declared.act.Event.{Event}
@@ -16,7 +15,7 @@ use Rattle.store_history.specs.History.{entries, kind}
 use Rattle.store_history.specs.Saved.{book_name}
 use Rattle.core_state.specs.declared.state.Core.{Core}
 use Rattle.core_state.specs.Answers.{fault_after}
-use Rattle.core_state.specs.Foreign.{IsForeign, KeepsForeign}
+use Rattle.core_state.specs.Foreign.{KeepsForeign}
 use Rattle.core_state.specs.Records.{fault_in}
 use Rattle.core_state.specs.Saving.{HasSaved, KeepsRest, LeavesBook, SavesBook, text_of_book}
 use Rattle.lane.specs.Entries.{has_kind}
