@@ -1,7 +1,6 @@
 -- A session that was served is answered as by the plain store.
 use Rattle.disk_trait.specs.declared.disk.Disk.{Ghosts}
 use Rattle.disk_trait.specs.declared.disk.DiskError.{DiskError}
-use Rattle.disk_trait.specs.declared.disk.DiskError.TheVariants.{Failed}
 use Rattle.std.proofs.Common.{◌≡◌, ◌≤◌, ℕ, zero, suc, Bool, true, false, ◌||◌, ◌==◌, ◌⊎◌, inl, inr, List, [], ◌∷◌, ◌++◌, Option, Some, None, IfSome, IsSome, IsTrue, Ok, OnOk, refl, sym, ap, subst, ◌∙◌, arith}
 use Rattle.std.specs.FinMap.{get}
 use Rattle.port_traits.specs.Readings.{Readings}
@@ -19,7 +18,7 @@ use Rattle.store_history.proofs.Alone.{served_alone}
 use Rattle.store_history.proofs.Whole.{served_woven}
 use Rattle.store_history.specs.Legal.{IsTimed, moment_after, readings_left}
 use Rattle.store_history.specs.Saved.{HoldsBook, saved_book}
-use Rattle.store_history.specs.Tending.{Tended, tended_all, tended_at}
+use Rattle.store_history.specs.Tending.{tended_all, tended_at}
 use Rattle.store_files.specs.Order.{keeps_rules}
 use Rattle.snapshot_files.proofs.Loading.{loaded}
 use Rattle.core_state.specs.declared.state.Core.{Core}

@@ -115,7 +115,7 @@ pub record HasServed {D E S K : Type 0} (d : Ghosts D) (left : S → Option (Lis
   -- the chunk files at opening and those that the session sent
   pub plain : (L : List Snapshot) (R : Option (List Snapshot)) → d.honest disk → StandsFor (d.content disk) L → NoClash (chunk_pieces (d.content disk) ++ sent told.events)
       → IsPlain (opening_of d disk opened L) R told.since (d.calls result.disk) (d.honest result.disk) told.input told.events told.replies
-          (result.order).items (result.report).not_saved report (d.content disk) (d.content result.disk)
+      (result.order).items (result.report).not_saved report (d.content disk) (d.content result.disk)
   -- under the same premises, what a crash leaves from that moment of opening on, also as the book was saved
   pub stops : (L : List Snapshot) (R : Option (List Snapshot)) → d.honest disk → StandsFor (d.content disk) L → NoClash (chunk_pieces (d.content disk) ++ sent told.events)
       → StopsLeave d ((was_opened.opens).start) result.disk R (opening_of d disk opened L) told.events

@@ -1,4 +1,4 @@
-use Rattle.std.proofs.Common.{◌≡◌, sym, ◌∙◌}
+use Rattle.std.proofs.Common.{sym, ◌∙◌}
 use Rattle.pbs_server.proofs.BookSaved.{ends_saved, none_is, not_tried}
 use Rattle.pbs_server.proofs.saving.save.Goals as goal
 
