@@ -4,9 +4,10 @@ use Rattle.disk_trait.specs.declared.disk.DiskError.{DiskError}
 use Rattle.disk_trait.specs.declared.disk.DiskError.TheVariants.{NoMemory, Failed}
 use Rattle.disk_trait.specs.Disk.{Serves}
 use Rattle.disk_trait.specs.Effects.{DiskWantKeeps}
-use Rattle.std.proofs.Common.{◌≡◌, ◌≤◌, ◌+◌, inl, inr, ℕ, Bool, true, false, List, [], ◌∷◌, ◌||◌, ◌==◌, if◌then◌else◌, Option, Some, None, IfSome, IsSome, Result, Ok, Err, OnOk, refl, sym, ap, subst, ◌∙◌, arith}
+use Rattle.std.proofs.Common.{◌≡◌, ◌≢◌, ◌≤◌, ◌+◌, inl, inr, ℕ, Bool, true, false, List, [], ◌∷◌, ◌||◌, ◌==◌, if◌then◌else◌, Option, Some, None, IfSome, IsSome, Result, Ok, Err, OnOk, refl, sym, ap, subst, ◌∙◌, arith}
 use Rattle.std.specs.Prelude.{IsErrOf, is_some}
 use Rattle.std.specs.Result.{result_err}
+use Rattle.std.specs.FinMap.{get}
 use Rattle.std.specs.FinMap.{get}
 use Rattle.file_install.proofs.InstallLaws.{installed_other}
 use Rattle.store_model.specs.Weave.{first_fault}
