@@ -8,7 +8,6 @@ use Rattle.std.proofs.Common.{◌≡◌, ◌≢◌, ◌≤◌, ◌+◌, inl, inr
 use Rattle.std.specs.Prelude.{IsErrOf, is_some}
 use Rattle.std.specs.Result.{result_err}
 use Rattle.std.specs.FinMap.{get}
-use Rattle.std.specs.FinMap.{get}
 use Rattle.file_install.proofs.InstallLaws.{installed_other}
 use Rattle.store_model.specs.Weave.{first_fault}
 use Rattle.store_history.specs.declared.act.Event.{Event}
