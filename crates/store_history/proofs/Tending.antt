@@ -101,9 +101,9 @@ arrived_at : (digest : List ℕ) (m : ℕ) (t : Tended) → IsWithin m (t.last d
 arrived_at digest m t within =
     ap (λ b. cond b (Some (greatest (t.last digest) m)) (t.last digest)) ((bytes_eq-Decides digest digest).1 refl) ∙ ap Some (greatest_is m (t.last digest) within)
 
-sent_at : (digest : Digest32) (checked : Result (List ℕ) Refusal) (m : ℕ) (t : Tended) → IsWithin m (t.last digest.0)
+sent_is : (digest : Digest32) (checked : Result (List ℕ) Refusal) (m : ℕ) (t : Tended) → IsWithin m (t.last digest.0)
     → (dated m (touched_by (Chunk digest checked) (Some Done) m t)).last digest.0 ≡ Some m
-sent_at digest checked m t within =
+sent_is digest checked m t within =
     ap (λ last. cond (t.undated digest.0) (option_map (λ when. max when m) last) last) (arrived_at digest.0 m t within) ∙ dated_same m (t.undated digest.0)
 
 pub sent_touched : (R : Option (List Snapshot)) (o : Opening) (es : List Event) (e : Event) (digest : Digest32) (checked : Result (List ℕ) Refusal)
@@ -115,7 +115,7 @@ sent_touched R o es e digest checked legal early act_is done =
     let within = later (after_all R (opened o) es).moment (moment e) risen (t.last digest.0) (none_later R o es digest.0 (legal_front R (opened o) es e legal) early) in
     ap (λ act. (dated (moment e) (touched_by act (reply e) (moment e) t)).last digest.0) act_is
     ∙ ap (λ r. (dated (moment e) (touched_by (Chunk digest checked) r (moment e) t)).last digest.0) done
-    ∙ sent_at digest checked (moment e) t within
+    ∙ sent_is digest checked (moment e) t within
 
 -- ---- a chunk that is named
 
