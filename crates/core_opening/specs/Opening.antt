@@ -93,9 +93,6 @@ pub record IsCatalogue (files : Files) (catalogue : List Listed) : Type 0 where
 abbrev pub CataloguesDisk : {D E : Type 0} → Ghosts D → D → D → Result Opened E → Type 0
 CataloguesDisk d old new result = d.honest old → IfOk result (λ x. IsCatalogue (d.content new) x.catalogue.items)
 
-abbrev pub HasBook : {D E C : Type 0} → Ghosts D → Core D E C → Type 0
-HasBook d core = IsBookOf (d.content (core.parts).disk) core.upkeep
-
 abbrev pub ListsFound : {D E C : Type 0} → Ghosts D → Core D E C → Type 0
 ListsFound d core = IsCatalogue (d.content (core.parts).disk) (core.parts).catalogue.items
 
@@ -114,6 +111,9 @@ pub record IsBookOf (files : Files) (u : Upkeep) : Type 0 where
 -- that of an honest disk, as it reads when it was opened
 abbrev pub BooksDisk : {D E : Type 0} → Ghosts D → D → D → Result Opened E → Type 0
 BooksDisk d old new result = d.honest old → IfOk result (λ x. IsBookOf (d.content new) x.upkeep)
+
+abbrev pub HasBook : {D E C : Type 0} → Ghosts D → Core D E C → Type 0
+HasBook d core = IsBookOf (d.content (core.parts).disk) core.upkeep
 
 -- ---- the core
 
