@@ -39,7 +39,7 @@ use Rattle.core_state.specs.declared.state.Core.{Core}
 use Rattle.core_state.specs.declared.upkeep.Upkeep.{Upkeep}
 use Rattle.core_state.specs.Entering.{AllHeld}
 use Rattle.core_state.specs.History.{StandsFor, began}
-use Rattle.core_state.specs.Minds.{Minds}
+use Rattle.core_state.specs.KeepsTouches.{KeepsTouches}
 use Rattle.core_state.specs.Named.{is_named_snapshot}
 use Rattle.core_state.specs.Numbers.{AreNumbered, first_number}
 use Rattle.core_state.specs.Records.{Records}
@@ -93,9 +93,6 @@ pub record IsCatalogue (files : Files) (catalogue : List Listed) : Type 0 where
 abbrev pub CataloguesDisk : {D E : Type 0} → Ghosts D → D → D → Result Opened E → Type 0
 CataloguesDisk d old new result = d.honest old → IfOk result (λ x. IsCatalogue (d.content new) x.catalogue.items)
 
-abbrev pub HasBook : {D E C : Type 0} → Ghosts D → Core D E C → Type 0
-HasBook d core = IsBookOf (d.content (core.parts).disk) core.upkeep
-
 abbrev pub ListsFound : {D E C : Type 0} → Ghosts D → Core D E C → Type 0
 ListsFound d core = IsCatalogue (d.content (core.parts).disk) (core.parts).catalogue.items
 
@@ -114,6 +111,9 @@ pub record IsBookOf (files : Files) (u : Upkeep) : Type 0 where
 -- that of an honest disk, as it reads when it was opened
 abbrev pub BooksDisk : {D E : Type 0} → Ghosts D → D → D → Result Opened E → Type 0
 BooksDisk d old new result = d.honest old → IfOk result (λ x. IsBookOf (d.content new) x.upkeep)
+
+abbrev pub HasBook : {D E C : Type 0} → Ghosts D → Core D E C → Type 0
+HasBook d core = IsBookOf (d.content (core.parts).disk) core.upkeep
 
 -- ---- the core
 
@@ -158,10 +158,10 @@ StandsOpened d readings disk clock core =
     → StandsFor d readings core (began (opening_of d disk (core.parts).disk L) R (readings clock))
 
 -- its book is that of this history
-abbrev pub MindsOpened : {D E C : Type 0} → Ghosts D → (C → Option Readings) → D → C → Core D E C → Type 0
-MindsOpened d readings disk clock core =
+abbrev pub TouchesOpened : {D E C : Type 0} → Ghosts D → (C → Option Readings) → D → C → Core D E C → Type 0
+TouchesOpened d readings disk clock core =
     (L : List Snapshot) (R : Option (List Snapshot)) → d.honest disk → Stands (d.content disk) L
-    → Minds d core (began (opening_of d disk (core.parts).disk L) R (readings clock))
+    → KeepsTouches d core (began (opening_of d disk (core.parts).disk L) R (readings clock))
 
 -- From the moment of opening on at which what a crash leaves lacks only what opening takes away, it stands for each list of snapshots that the
 -- disk stood for.

@@ -12,6 +12,6 @@ pub mod Jobs
 pub mod Prefixes
 pub mod Alone
 pub mod Lasting
-pub mod Tending
+pub mod LastTouches
 pub mod Naming
 mod Examples

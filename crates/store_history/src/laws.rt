@@ -24,25 +24,25 @@ pub fn seats_know_their_own()
 {}
 
 /// No chunk's last touch is after the last moment.
-#[tactic(auto, using(crate::proofs::Tending::none_later))]
+#[tactic(auto, using(crate::proofs::LastTouches::none_later))]
 pub fn no_touch_is_later()
     ensures { NoneLater }
 {}
 
 /// A chunk that was sent was touched at the moment of that act.
-#[tactic(auto, using(crate::proofs::Tending::sent_touched))]
+#[tactic(auto, using(crate::proofs::LastTouches::sent_touched))]
 pub fn what_is_sent_is_touched()
     ensures { SentIsTouched }
 {}
 
 /// A chunk that is there and that an APPEND named was touched at the moment of that act.
-#[tactic(auto, using(crate::proofs::Tending::named_touched))]
+#[tactic(auto, using(crate::proofs::LastTouches::named_touched))]
 pub fn what_is_named_is_touched()
     ensures { NamedIsTouched }
 {}
 
 /// A chunk that the saved book lacks was touched at the moment of the first entry.
-#[tactic(auto, using(crate::proofs::Tending::first_dates))]
+#[tactic(auto, using(crate::proofs::LastTouches::first_dates))]
 pub fn first_entries_date()
     ensures { FirstEntryDates }
 {}
