@@ -30,8 +30,8 @@ pub record HasSaved {D E C : Type 0} (d : Ghosts D) (old new : Core D E C) : Typ
   pub content : d.honest (old.parts).disk → d.content (new.parts).disk ≡ installed (d.content (old.parts).disk) book_name (text_of_book old)
   pub fits : FitsBook (as_of old.last (old.upkeep).book)
 
--- Unless the disk failed the core stands for each history that it stood for, and its book is that of the history; at Ok the folder has
--- it. What a crash leaves stands for what it stood for, at a fault too.
+-- Unless the disk failed the core stands for each history that it stood for, and its book is that of the history; at Ok, where no fault was
+-- before, the folder has it. What a crash leaves stands for what it stood for, at a fault too.
 pub record SavesBook {D E C : Type 0} (d : Ghosts D) (old new : Core D E C) (result : Result (Unit {0}) DiskError) : Type 0 where
   pub stands : (readings : C → Option Readings) → (IsErrOf result Failed → ⊥) → (h : History) → StandsFor d readings old h → StandsFor d readings new h
   pub touches : (readings : C → Option Readings) → (IsErrOf result Failed → ⊥) → (h : History) → StandsFor d readings old h → KeepsTouches d old h → KeepsTouches d new h

@@ -18,7 +18,8 @@ impl<D: Disk, E, C> Core<D, E, C> {
     /// Installs the book of touches as of the last moment: the last touch of each chunk that is there. A crash leaves the book
     /// that was saved before, or this one.
     ///
-    /// It is no act: no entry is made, and a fault of the disk is told alone. Then the store is to be opened again.
+    /// It is no act: no entry is made, and a fault of the disk is told alone. Then the store is to be opened again. Before the first
+    /// entry, chunks that are undated are saved as of the last moment.
     pub fn save_book(&mut self, alloc: Global) -> Result<(), DiskError>
         requires early { NoneAfter self.old.upkeep.book self.old.last }
         ensures serves { Serves D.honest D.faults self.old.parts.disk self.new.parts.disk (IsErrOf result DiskError.Failed) }
