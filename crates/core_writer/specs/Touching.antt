@@ -1,5 +1,5 @@
 -- What the acts of writers do to the last touches of chunks.
-use Rattle.std.specs.Prelude.{◌≡◌, ℕ, Bool, true, false, List, map, max, if◌then◌else◌, Option, Some, None, option_map, IsSome, Result}
+use Rattle.std.specs.Prelude.{◌≡◌, ℕ, Bool, true, false, List, map, max, if◌then◌else◌, Some, None, option_map, IsSome, Result}
 use Rattle.store_types.specs.declared.append.AppendEntry.{AppendEntry}
 use Rattle.store_files.specs.Book.{Book}
 use Rattle.atime_book.specs.Touches.{SweptAt, TouchedAt, TouchesKnown, last_of}
