@@ -3,6 +3,7 @@ mod ExampleBytes
 mod SessionExamples
 mod ArchiveExamples
 mod LaneExamples
+mod CollectorExamples
 mod AdminExamples
 mod LoadExamples
 pub mod Paths
