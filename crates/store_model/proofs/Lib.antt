@@ -4,6 +4,7 @@ mod SessionExamples
 mod ArchiveExamples
 mod LaneExamples
 mod CollectorExamples
+mod VerifyExamples
 mod AdminExamples
 mod LoadExamples
 pub mod Paths

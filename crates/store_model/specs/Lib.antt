@@ -9,6 +9,7 @@ pub mod AdminSteps
 pub mod Steps
 pub mod Job
 pub mod PruneJob
+pub mod VerifyJob
 pub mod Jobs
 pub mod JobSteps
 pub mod JobReplies
