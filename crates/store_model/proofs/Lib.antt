@@ -5,6 +5,7 @@ mod ArchiveExamples
 mod LaneExamples
 mod CollectorExamples
 mod VerifyExamples
+mod SyncExamples
 mod AdminExamples
 mod LoadExamples
 pub mod Paths

@@ -1,11 +1,13 @@
 -- Where a job is: what it asks next, and what it still needs of the replies before.
-use Rattle.std.specs.Prelude.{Bool, ℕ, List, length, Option, Some, None}
+use Rattle.std.specs.Prelude.{Bool, true, false, ℕ, List, length, Option, Some, None}
 use Rattle.store_types.specs.declared.names.Digest32.{Digest32}
 use Rattle.store_types.specs.declared.names.Keep.{Keep}
 use Rattle.store_types.specs.declared.refusal.Refusal.{Refusal}
 use Rattle.store_types.specs.declared.refusal.Refusal.TheVariants.{DiskFault, Halted, NoMemory}
+use Rattle.store_types.specs.Names.{key_text}
+use Rattle.store_files.specs.Archive.{Snapshot}
 use Rattle.wire_commands.specs.declared.command.Command.{Command}
-use Rattle.wire_commands.specs.declared.command.Command.TheVariants.{OpenReader, Files, CloseReader, Forget}
+use Rattle.wire_commands.specs.declared.command.Command.TheVariants.{OpenWriter, Abort, OpenReader, Files, CloseReader, Forget}
 use Rattle.wire_commands.specs.declared.rows.FileRow.{FileRow}
 use Rattle.wire_commands.specs.declared.rows.FileFault.{FileFault}
 use Rattle.wire_commands.specs.declared.rows.FaultRow.{FaultRow}
@@ -24,6 +26,12 @@ pub record Visit : Type 0 where
   pub faults : List FaultRow
   pub later : List FileRow
 
+-- the snapshot that a SYNC is at, those to come, and those that are pulled
+pub record Pull : Type 0 where
+  pub snapshot : Snapshot
+  pub later : List Snapshot
+  pub pulled : List (List ℕ)
+
 -- a job that asks for a step
 pub data Asking : Type 0 where
   -- PRUNE asks for its group's snapshots, by its own command
@@ -39,6 +47,11 @@ pub data Asking : Type 0 where
   checking : Visit → FileRow → Option FileFault → ℕ → Digest32 → List Digest32 → Asking
   -- VERIFY closes its reader, and then this is its report
   closing : Reply → Asking
+  -- SYNC asks for a writer of its snapshot, and then for this command of the snapshot's, before the others
+  beginning : Pull → Asking
+  sending : Pull → Command → List Command → Asking
+  -- SYNC ends its writer, and then this is its report
+  aborting : Reply → Asking
 
 pub data Job : Type 0 where
   -- nothing more is asked, and this is the report
@@ -54,6 +67,15 @@ step_of (listing snapshot) = steps.Command (Files snapshot)
 step_of (reading v row bytes) = steps.ReadFile row.file (length bytes)
 step_of (checking v row fault place digest later) = steps.ReadChunk row.file place
 step_of (closing report) = steps.Command CloseReader
+step_of (beginning p) = steps.Command (OpenWriter (key_text (p.snapshot).key))
+step_of (sending p c later) = steps.Command c
+step_of (aborting report) = steps.Command Abort
+
+abbrev pub is_sync : Asking → Bool
+is_sync (beginning p) = true
+is_sync (sending p c later) = true
+is_sync (aborting report) = true
+is_sync _ = false
 
 abbrev pub next : Job → Option Step
 next (over report) = None

@@ -5,12 +5,13 @@ use Rattle.wire_commands.specs.declared.command.Command.{Command}
 use Rattle.wire_commands.specs.declared.command.Command.TheVariants.{Prune, Verify}
 use Rattle.wire_commands.specs.declared.reply.Reply.{Reply}
 use Rattle.store_model.specs.declared.step.Step.{Step}
-use Rattle.store_model.specs.Job.{Asking, grouping, forgetting, opening, listing, reading, checking, closing, Job, over, asking, closed}
+use Rattle.store_model.specs.Job.{Asking, grouping, forgetting, opening, listing, reading, checking, closing, beginning, sending, aborting, Job, over, asking, closed}
 use Rattle.store_model.specs.Job as job
 use Rattle.store_model.specs.PruneJob as prune
 use Rattle.store_model.specs.VerifyJob as verify
+use Rattle.store_model.specs.SyncJob as sync
 
--- the job of a command, with nothing done; other commands are no jobs
+-- The job of a command, with nothing done. A SYNC is none before its first step, nor is a GC.
 abbrev pub job_of : Command → Option Asking
 job_of (Prune group keep dry) = Some (grouping (Prune group keep dry) keep dry)
 job_of (Verify snapshot) = Some (opening snapshot)
@@ -25,6 +26,9 @@ take (listing snapshot) reply = verify.listed snapshot reply
 take (reading v row bytes) reply = verify.read_part v row bytes reply
 take (checking v row fault place digest later) reply = verify.checked v row fault place digest later reply
 take (closing report) reply = closed closing report reply
+take (beginning p) reply = sync.begun p reply
+take (sending p c later) reply = sync.replied p later reply
+take (aborting report) reply = closed aborting report reply
 
 -- ---- of all replies so far
 

@@ -5,7 +5,7 @@ use Rattle.store_types.specs.declared.refusal.Refusal.TheVariants.{BadFrame, Too
 use Rattle.store_files.specs.Archive.{Snapshot}
 use Rattle.wire_frames.specs.Frames.{frame}
 use Rattle.wire_commands.specs.declared.command.Command.{Command}
-use Rattle.wire_commands.specs.declared.command.Command.TheVariants.{Gc, Bye}
+use Rattle.wire_commands.specs.declared.command.Command.TheVariants.{Sync, Gc, Bye}
 use Rattle.wire_commands.specs.declared.reply.Reply.{Reply}
 use Rattle.wire_commands.specs.Inputs.{InputFront, nothing, next, over_limit, no_command, front}
 use Rattle.wire_commands.specs.ReplyText.{reply_text}
@@ -57,6 +57,8 @@ pub data Next : Type 0 where
   job_step : Asking → List ℕ → Next
   -- a command that is no job's, and what is left behind it
   plain : Command → List ℕ → Next
+  -- a SYNC of this group that has not begun, and what is left behind it
+  sync : List ℕ → List ℕ → Next
   -- GC, and what is left behind it
   collect : List ℕ → Next
   -- an act of the lane's own collector, and whether memory was wanting since it opened
@@ -67,6 +69,7 @@ pub data Next : Type 0 where
   end : Next
 
 unfoldable pub command_next : Command → List ℕ → Next
+command_next (Sync group) left = sync group left
 command_next Gc left = collect left
 command_next Bye left = bye
 command_next c left = elim (job_of c) [ None ↦ plain c left | Some j ↦ job_step j left ]

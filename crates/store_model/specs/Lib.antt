@@ -10,6 +10,7 @@ pub mod Steps
 pub mod Job
 pub mod PruneJob
 pub mod VerifyJob
+pub mod SyncJob
 pub mod Jobs
 pub mod JobSteps
 pub mod JobReplies
