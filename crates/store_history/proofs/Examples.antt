@@ -52,7 +52,7 @@ told = no_session ∷ Refused NoMemory ∷ Refused DiskFault ∷ Refused (Halted
 
 ran : LaneRan (sent (Finish ∷ Finish ∷ Finish ∷ Finish ∷ Bye ∷ [])) endings.Clean h told
 unfolding on_histories
-ran = (refl, (refl, refl), (refl, (refl, refl), (refl, (refl, refl), (refl, (refl, refl), (refl, (refl, λ five. cc), (refl, refl))))))
+ran = (refl, (refl, refl), (refl, (refl, refl), (refl, (refl, refl), (refl, (refl, refl), (refl, (refl, (λ five. cc), refl), (refl, refl))))))
 
 abbrev start : Opening
 start = record { snapshots = []; moment = 4; touches = []; calls = 3; chunks = [] }
@@ -89,11 +89,11 @@ one = event (acts.Plain Finish) 0 (Some no_session) 0 false
 
 cut_frame : LaneRan cut_input (endings.Broken 5) (one ∷ end 1 ∷ []) (no_session ∷ Refused (BadFrame 5) ∷ [])
 unfolding on_histories
-cut_frame = (refl, (refl, refl), (refl, ((refl, refl), λ five. cc), (refl, refl)))
+cut_frame = (refl, (refl, refl), (refl, ((refl, refl), (λ five. cc), refl), (refl, refl)))
 
 source_failed : LaneRan cut_input endings.SourceFault (one ∷ end 1 ∷ []) (no_session ∷ [])
 unfolding on_histories
-source_failed = (refl, (refl, refl), (refl, ((refl, refl, refl), λ five. cc), (refl, refl)))
+source_failed = (refl, (refl, refl), (refl, ((refl, refl, refl), (λ five. cc), refl), (refl, refl)))
 
 -- no lane leaves a whole frame without a reply because its source failed
 no_command_left : LaneRan (1 ∷ 0 ∷ 0 ∷ 0 ∷ 99 ∷ []) endings.SourceFault (end 0 ∷ []) [] → ⊥
@@ -104,7 +104,7 @@ no_command_left ran = let is : Rattle.wire_frames.specs.Frames.whole (99 ∷ [])
 not_held : LaneRan (2 ∷ 0 ∷ 0 ∷ 0 ∷ []) endings.NoMemory
     (event acts.Short 2 short 0 true ∷ event acts.End 5 (Some (Refused DiskFault)) 1 false ∷ end 2 ∷ []) (Refused NoMemory ∷ [])
 unfolding on_histories
-not_held = (refl, (refl, refl), (refl, (refl, λ five. (refl, refl)), (refl, (refl, λ five. cc), (refl, refl))))
+not_held = (refl, (refl, refl), (refl, (refl, (λ five. (refl, refl)), refl), (refl, (refl, (λ five. cc), refl), (refl, refl))))
 
 -- and no lane ends as if its input had ended, where it was used up
 not_clean : LaneRan (2 ∷ 0 ∷ 0 ∷ 0 ∷ []) endings.Clean (event acts.Short 2 short 0 false ∷ end 1 ∷ []) (Refused NoMemory ∷ []) → ⊥
@@ -120,7 +120,7 @@ no_short_bye ran = let is : false ≡ true = (ran.1).1 in cc
 sink_failed : LaneRan (sent (Finish ∷ Finish ∷ [])) endings.SinkFault
     (one ∷ event acts.End 5 (Some (Refused DiskFault)) 1 false ∷ end 2 ∷ []) (no_session ∷ Refused DiskFault ∷ [])
 unfolding on_histories
-sink_failed = (refl, (refl, refl), (refl, (tt, λ five. (refl, refl)), (refl, (tt, λ five. cc), (refl, refl))))
+sink_failed = (refl, (refl, refl), (refl, (tt, (λ five. (refl, refl)), refl), (refl, (tt, (λ five. cc), refl), (refl, refl))))
 
 -- ---- a job
 
@@ -143,17 +143,17 @@ forget kind r = event (acts.Plain (Forget older)) kind r 1 false
 held : LaneRan (sent (prune ∷ Bye ∷ [])) endings.Clean (grouped ∷ forget 0 (Some (Refused (SnapshotBusy 3))) ∷ end 2 ∷ [])
     (Marks (row Kept newer ∷ row Held older ∷ []) ∷ Done ∷ [])
 unfolding on_histories
-held = (refl, (refl, refl), (refl, (refl, refl), (refl, (refl, λ five. cc), (refl, refl))))
+held = (refl, (refl, refl), (refl, (refl, refl), (refl, (refl, (λ five. cc), refl), (refl, refl))))
 
 -- a fault of the disk is the job's answer
 faulted : LaneRan (sent (prune ∷ Bye ∷ [])) endings.Clean (grouped ∷ forget 5 (Some (Refused DiskFault)) ∷ end 2 ∷ []) (Refused DiskFault ∷ Done ∷ [])
 unfolding on_histories
-faulted = (refl, (refl, refl), (refl, (refl, refl), (refl, (refl, λ five. cc), (refl, refl))))
+faulted = (refl, (refl, refl), (refl, (refl, refl), (refl, (refl, (λ five. cc), refl), (refl, refl))))
 
 -- and so is want of memory within the job, which ends the lane where its entry was the reserve's
 wanted : LaneRan (sent (prune ∷ Bye ∷ [])) endings.NoMemory (grouped ∷ event acts.Short 2 short 1 true ∷ end 2 ∷ []) (Refused NoMemory ∷ [])
 unfolding on_histories
-wanted = (refl, (refl, refl), (refl, (refl, refl), (refl, (refl, λ five. cc), (refl, refl))))
+wanted = (refl, (refl, refl), (refl, (refl, refl), (refl, (refl, (λ five. cc), refl), (refl, refl))))
 
 -- no lane's input has ended while its job is open
 not_open : LaneRan (sent (prune ∷ [])) endings.Clean (grouped ∷ end 1 ∷ []) [] → ⊥

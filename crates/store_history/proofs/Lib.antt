@@ -1,7 +1,10 @@
+pub mod Plainly
+pub mod Collectors
 pub mod Placed
 pub mod Wanting
 pub mod Checking
 pub mod Events
+pub mod Keeping
 pub mod Whole
 pub mod Rules
 pub mod Picking

@@ -93,7 +93,7 @@ heard_at p kind (Some r) (job_step j left) = goes_on p left (job_take j r)
 heard_at p kind (Some r) (plain c left) = tells p left r
 heard_at p kind (Some r) (sync group left) = tells p left r
 heard_at p kind (Some r) (collect left) = tells p left r
-heard_at p kind None (collect left) = record p { left = left; collecting = Some false }
+heard_at p kind None (collect left) = if kind == 3 then record p { left = left; collecting = Some false } else p
 heard_at p kind (Some r) (collecting is_short) = swept p kind r
 heard_at p kind (Some r) (broken refusal) = if kind == 2 then used_up p r else p
 heard_at p kind _ _ = p
