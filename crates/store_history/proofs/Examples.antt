@@ -1,14 +1,15 @@
 -- Lanes that run, and histories that are legal.
-use Rattle.std.specs.Prelude.{◌≡◌, ℕ, Bool, List, [], ◌∷◌, ◌++◌, codes, refl, Option, Some, None, true, false, ⊤}
+use Rattle.std.specs.Prelude.{◌≡◌, ℕ, Bool, List, [], ◌∷◌, ◌++◌, codes, refl, Option, Some, None, Result, Ok, Err, true, false, ⊤}
 use Rattle.std.specs.List.{flat_map}
 use Rattle.std.proofs.Common.{arith, ap}
-use Rattle.store_types.specs.declared.refusal.Refusal.TheVariants.{BadFrame, DiskFault, Halted, NoMemory, SnapshotBusy, WrongState}
+use Rattle.store_types.specs.declared.refusal.Refusal.{Refusal}
+use Rattle.store_types.specs.declared.refusal.Refusal.TheVariants.{BadFrame, CollectorBusy, DiskFault, Halted, NoMemory, SnapshotBusy, WrongState}
 use Rattle.store_types.specs.declared.refusal.SessionState.TheVariants.{Idle}
 use Rattle.wire_frames.specs.Frames.{frame}
 use Rattle.wire_commands.specs.declared.command.Command.{Command}
-use Rattle.wire_commands.specs.declared.command.Command.TheVariants.{Abort, CloseReader, Finish, Forget, Prune, Bye}
+use Rattle.wire_commands.specs.declared.command.Command.TheVariants.{Abort, CloseReader, Finish, Forget, Prune, Gc, Bye}
 use Rattle.wire_commands.specs.declared.reply.Reply.{Reply}
-use Rattle.wire_commands.specs.declared.reply.Reply.TheVariants.{Done, Keys, Marks, Refused}
+use Rattle.wire_commands.specs.declared.reply.Reply.TheVariants.{Done, Keys, Marks, Collected, Refused}
 use Rattle.wire_commands.specs.declared.rows.PruneMark.TheVariants.{Kept, Held}
 use Rattle.wire_commands.specs.CommandText.{command_text}
 use Rattle.store_model.specs.declared.ending.Ending.TheVariants as endings
@@ -167,3 +168,74 @@ legal_job = (
   record { says = (refl, refl); formed = tt; inside = omega arith; place = refl; last = λ is. cc; risen = omega arith; in_time = omega arith; counted = omega arith },
   (record { says = refl; formed = tt; inside = omega arith; place = refl; last = λ is. cc; risen = omega arith; in_time = omega arith; counted = omega arith }, tt),
 )
+
+-- ---- a collector
+
+abbrev opens : Event
+opens = event acts.Start 3 None 0 false
+
+abbrev acted : ℕ → Option Reply → ℕ → Bool → Event
+acted kind r place last = event acts.Step kind r place last
+
+-- its five numbers may be any
+abbrev report : Reply
+report = Collected 1_000_000 913_300 2 0 0
+
+-- it opens, does two acts and reports
+collected : LaneRan (sent (Gc ∷ Bye ∷ [])) endings.Clean (opens ∷ acted 1 None 1 false ∷ acted 1 None 2 false ∷ acted 4 (Some report) 3 false ∷ end 4 ∷ []) (report ∷ Done ∷ [])
+unfolding on_histories
+collected = (refl, (refl, refl), (refl, refl, (refl, refl, (refl, refl, (refl, (refl, (λ five. cc), refl), (refl, refl))))))
+
+legal_collected : IsLegal None (opened start) (opens ∷ acted 1 None 1 false ∷ acted 4 (Some report) 2 false ∷ end 3 ∷ [])
+unfolding on_histories
+legal_collected = (
+  record { says = (refl, refl, refl); formed = tt; inside = omega arith; place = refl; last = λ is. cc; risen = omega arith; in_time = omega arith; counted = omega arith },
+  (
+    record { says = (refl, refl, refl); formed = tt; inside = omega arith; place = refl; last = λ is. cc; risen = omega arith; in_time = omega arith; counted = omega arith },
+    (
+      record { says = (refl, tt); formed = tt; inside = omega arith; place = refl; last = λ is. cc; risen = omega arith; in_time = omega arith; counted = omega arith },
+      (record { says = refl; formed = tt; inside = omega arith; place = refl; last = λ is. cc; risen = omega arith; in_time = omega arith; counted = omega arith }, tt),
+    ),
+  ),
+)
+
+-- Memory was wanting for an act of it, whose entry was the reserve's: it is closed by one act more, which tells this, and then the lane ends.
+cut_short : LaneRan (sent (Gc ∷ Finish ∷ [])) endings.NoMemory (opens ∷ acted 2 short 1 true ∷ acted 4 short 2 false ∷ end 3 ∷ []) (Refused NoMemory ∷ [])
+unfolding on_histories
+cut_short = (refl, (refl, refl), (refl, refl, (refl, refl, (refl, (refl, (λ five. cc), refl), (refl, refl)))))
+
+legal_cut : IsLegal None (opened start) (opens ∷ acted 2 short 1 true ∷ acted 4 short 2 false ∷ end 3 ∷ [])
+unfolding on_histories
+legal_cut = (
+  record { says = (refl, refl, refl); formed = tt; inside = omega arith; place = refl; last = λ is. cc; risen = omega arith; in_time = omega arith; counted = omega arith },
+  (
+    record { says = (refl, λ is. (let e : Some false ≡ Some true = is in cc)); formed = tt; inside = omega arith; place = refl; last = λ is. refl; risen = omega arith; in_time = omega arith; counted = omega arith },
+    (
+      record { says = (refl, refl); formed = tt; inside = omega arith; place = refl; last = λ is. cc; risen = omega arith; in_time = omega arith; counted = omega arith },
+      (record { says = refl; formed = tt; inside = omega arith; place = refl; last = λ is. cc; risen = omega arith; in_time = omega arith; counted = omega arith }, tt),
+    ),
+  ),
+)
+
+-- no lane ends while its collector is open
+not_left_open : LaneRan (sent (Gc ∷ [])) endings.SinkFault (opens ∷ end 1 ∷ []) [] → ⊥
+unfolding on_histories
+not_left_open ran = let is : Some false ≡ None = ((ran.2).1).2 in cc
+
+-- nor does it want memory outside the collector's acts
+not_short_open : LaneRan (sent (Gc ∷ Finish ∷ [])) endings.NoMemory (opens ∷ event acts.Short 2 short 1 true ∷ end 2 ∷ []) [] → ⊥
+unfolding on_histories
+not_short_open ran = let is : false ≡ true = ((ran.2).1).1 in cc
+
+-- once memory was wanting, its next act is its last
+not_marked : IsRight None (record (opened start) { collecting = Some (record { lane = 0; is_short = true }) }) (acted 1 None 0 false) → ⊥
+unfolding on_histories
+not_marked right = let is : Some true ≡ Some false = (right.says).1 in cc
+
+-- and a second one does not open
+not_opened : IsRight None (record (opened start) { collecting = Some (record { lane = 1; is_short = false }) }) opens → ⊥
+unfolding on_histories
+not_opened right = no_two (right.says).1
+  where
+    no_two : ◌≡◌ {A = Result (Unit {0}) Refusal} (Err (CollectorBusy 1)) (Ok tt) → ⊥
+    no_two is = cc

@@ -12,6 +12,7 @@ pub mod Growing
 pub mod Longer
 pub mod Ending
 pub mod Jobs
+pub mod Collecting
 pub mod Prefixes
 pub mod Alone
 pub mod Lasting
