@@ -4,7 +4,7 @@ use Rattle.wire_commands.specs.declared.command.Command.TheVariants.{OpenWriter,
 use Rattle.store_history.specs.Acts.{IsWellFormed, class_of, stepping}
 use Rattle.store_history.specs.declared.act.Act.{Act}
 use Rattle.store_history.specs.declared.act.Act.TheVariants.{Plain, JobGroup, Blob, Chunk, Short, End}
-use Rattle.store_history.specs.Tending.{may_touch}
+use Rattle.store_history.specs.LastTouches.{may_touch}
 use Rattle.core_admin.specs.AdminActs.{IsAdmins}
 
 pub admins_formed : (a : Act) → IsAdmins a → IsWellFormed a

@@ -29,13 +29,13 @@ use Rattle.opening_files.proofs.Endings.{last, last_temporary}
 use Rattle.opening_files.proofs.Leavers.{chunk_stays}
 use Rattle.store_history.specs.History.{Opening}
 use Rattle.store_history.specs.Saved.{book_in, book_name, saved_book}
-use Rattle.store_history.specs.Tending.{SameTended, is_one, tended_all, tended_at}
+use Rattle.store_history.specs.LastTouches.{SameTouches, is_one_of, touches_after_all, touches_at_opening}
 use Rattle.store_history.proofs.Naming.{book_apart}
 use Rattle.core_state.specs.declared.state.Core.{Core}
 use Rattle.core_state.specs.declared.upkeep.Upkeep.{Upkeep}
 use Rattle.core_state.specs.History.{began}
-use Rattle.core_state.specs.Minds.{Minds}
-use Rattle.core_state.specs.Upkeeps.{tended_of}
+use Rattle.core_state.specs.KeepsTouches.{KeepsTouches}
+use Rattle.core_state.specs.Upkeeps.{touches_kept}
 use Rattle.core_state.proofs.Chunks.{is_digest, opened_only}
 use Rattle.core_opening.specs.Opening.{IsBookOf, opening_of}
 
@@ -63,20 +63,20 @@ or_right : (a b : Bool) → b ≡ true → (a || b) ≡ true
 or_right true b e = refl
 or_right false b e = e
 
-one_has : (q : List ℕ) (xs : List (List ℕ)) → is_one q xs ≡ true → Contains xs q
+one_has : (q : List ℕ) (xs : List (List ℕ)) → is_one_of q xs ≡ true → Contains xs q
 one_has q [] h = cc
 one_has q (x ∷ xs) h = by_test (bytes_eq x q) refl h (one_has q xs)
   where
-    by_test : (b : Bool) → bytes_eq x q ≡ b → (b || is_one q xs) ≡ true → (is_one q xs ≡ true → Contains xs q) → Contains (x ∷ xs) q
+    by_test : (b : Bool) → bytes_eq x q ≡ b → (b || is_one_of q xs) ≡ true → (is_one_of q xs ≡ true → Contains xs q) → Contains (x ∷ xs) q
     by_test true e h later = subst (Contains (x ∷ xs)) ((bytes_eq-Decides x q).0 e) (Contains-here x xs)
     by_test false e h later = Contains-later x xs q (later h)
 
-has_one : (q : List ℕ) (xs : List (List ℕ)) → Contains xs q → is_one q xs ≡ true
+has_one : (q : List ℕ) (xs : List (List ℕ)) → Contains xs q → is_one_of q xs ≡ true
 has_one q [] has = absurd (not_member q has)
 has_one q (x ∷ xs) has =
     ⊎_elim
-    (λ (e : x ≡ q). ap (λ b. b || is_one q xs) ((bytes_eq-Decides x q).1 e))
-    (λ (c : Contains xs q). or_right (bytes_eq x q) (is_one q xs) (has_one q xs c))
+    (λ (e : x ≡ q). ap (λ b. b || is_one_of q xs) ((bytes_eq-Decides x q).1 e))
+    (λ (c : Contains xs q). or_right (bytes_eq x q) (is_one_of q xs) (has_one q xs c))
     (Contains-cases x xs q has)
 
 abbrev digest : List ℕ → Digest32
@@ -137,15 +137,15 @@ named file p e = by_test (is_chunk (drop 12 file.1) file) refl e
     by_test false is e = cc
 
 -- the piece of a chunk's file that is there has its digest
-pub there_one : (m : Files) (x : List ℕ) → HasWholeChunks m → IsDigest x → IsSome (get m (chunk_name x)) → is_one x (map sha256 (chunk_pieces m)) ≡ true
+pub there_one : (m : Files) (x : List ℕ) → HasWholeChunks m → IsDigest x → IsSome (get m (chunk_name x)) → is_one_of x (map sha256 (chunk_pieces m)) ≡ true
 there_one m x whole is there = by_bytes (get m (chunk_name x)) refl there
   where
-    by_bytes : (o : Option (List ℕ)) → get m (chunk_name x) ≡ o → IsSome o → is_one x (map sha256 (chunk_pieces m)) ≡ true
+    by_bytes : (o : Option (List ℕ)) → get m (chunk_name x) ≡ o → IsSome o → is_one_of x (map sha256 (chunk_pieces m)) ≡ true
     by_bytes None at some = cc
     by_bytes (Some bytes) at some =
         let (p, piece, text, of) = whole x bytes is at in
         let here : get m (chunk_name (sha256 p)) ≡ Some (blob p) = ap (λ q. get m (chunk_name q)) of ∙ at ∙ ap (λ b. Some b) text in
-        subst (λ q. is_one q (map sha256 (chunk_pieces m)) ≡ true) of
+        subst (λ q. is_one_of q (map sha256 (chunk_pieces m)) ≡ true) of
         (has_one (sha256 p) (map sha256 (chunk_pieces m)) (contains_map sha256 (chunk_pieces m) p (opened_only m whole p here)))
 
 -- and where a piece has this digest, its chunk's file is there
@@ -153,7 +153,7 @@ pub record IsHeld (m : Files) (x : List ℕ) : Type 0 where
   pub is : IsDigest x
   pub there : IsSome (get m (chunk_name x))
 
-pub one_there : (m : Files) (x : List ℕ) → is_one x (map sha256 (chunk_pieces m)) ≡ true → IsHeld m x
+pub one_there : (m : Files) (x : List ℕ) → is_one_of x (map sha256 (chunk_pieces m)) ≡ true → IsHeld m x
 one_there m x one =
     let piece = map_contains sha256 (chunk_pieces m) x (one_has x (map sha256 (chunk_pieces m)) one) in
     let file = given_contains chunk_piece (entries m) piece.from piece.among in
@@ -181,9 +181,9 @@ module _ (m c : Files) (u : Upkeep) (whole : HasWholeChunks m) (may : MayClean m
   is_there : (x : List ℕ) → IsSome (get m (chunk_name x)) → IsSome (get c (chunk_name x))
   is_there x there = subst (λ (o : Option (List ℕ)). IsSome o) (sym (chunk_stays m c may x)) there
 
-  among_one : (x : List ℕ) → is_among x book.digests ≡ is_one x (map sha256 (chunk_pieces m))
+  among_one : (x : List ℕ) → is_among x book.digests ≡ is_one_of x (map sha256 (chunk_pieces m))
   among_one x =
-      same_test (is_among x book.digests) (is_one x (map sha256 (chunk_pieces m)))
+      same_test (is_among x book.digests) (is_one_of x (map sha256 (chunk_pieces m)))
       (λ among.
           let has = among_has x book.digests among in
           let is = All-contains (λ (d : Digest32). IsDigest d.0) book.digests (digest x) (book.lists).each has in
@@ -199,29 +199,29 @@ module _ (m c : Files) (u : Upkeep) (whole : HasWholeChunks m) (may : MayClean m
     abbrev opening : Opening
     opening = record { snapshots = L; moment = (saved_book m).moment; touches = (saved_book m).touches; calls = calls; chunks = chunk_pieces m }
 
-    pub opened_tended : SameTended (tended_of u) (tended_at opening)
-    opened_tended = record {
+    pub opened_touches_are : SameTouches (touches_kept u) (touches_at_opening opening)
+    opened_touches_are = record {
       last = λ x. keeps.last x ∙ ap (λ b. if b then Some (unwrap_or (last_of (saved_book m) x) (saved_book m).moment) else None) (among_one x);
       undated = λ x.
           ap (is_among x) keeps.unknown ∙ among_filter (λ (d : Digest32). is_none (last_of (saved_book m) d.0)) x book.digests
           ∙ ap (λ b. b && is_none (last_of (saved_book m) x)) (among_one x);
     }
 
-    pub opened_present : (x : List ℕ) → IsDigest x → IsSome (get c (chunk_name x)) ↔ IsSome ((tended_at opening).last x)
+    pub opened_present : (x : List ℕ) → IsDigest x → IsSome (get c (chunk_name x)) ↔ IsSome ((touches_at_opening opening).last x)
     opened_present x is =
         let when = unwrap_or (last_of (saved_book m) x) (saved_book m).moment in
         (λ there. ap (λ b. is_some (if b then Some when else None)) (there_one m x whole is (was_there x there)),
-         λ some. is_there x (one_there m x (some_if (is_one x (map sha256 (chunk_pieces m))) when some)).there)
+         λ some. is_there x (one_there m x (some_if (is_one_of x (map sha256 (chunk_pieces m))) when some)).there)
 
 -- where an honest disk stands for a list
-pub opened_minds : {D E C : Type 0} (d : Ghosts D) (readings : Option Readings) (old : D) (core : Core D E C) (L : List Snapshot) (R : Option (List Snapshot)) → Stands (d.content old) L
+pub opened_touches : {D E C : Type 0} (d : Ghosts D) (readings : Option Readings) (old : D) (core : Core D E C) (L : List Snapshot) (R : Option (List Snapshot)) → Stands (d.content old) L
     → MayClean (d.content old) (d.content old) (d.content (core.parts).disk) → IsBookOf (d.content (core.parts).disk) core.upkeep
-    → Minds d core (began (opening_of d old (core.parts).disk L) R readings)
-unfolding tended_all
-opened_minds d readings old core L R stands may book =
+    → KeepsTouches d core (began (opening_of d old (core.parts).disk L) R readings)
+unfolding touches_after_all
+opened_touches d readings old core L R stands may book =
     let m = d.content old in
     let c = d.content (core.parts).disk in
     record {
-      touches = opened_tended m c core.upkeep stands.chunks may book L (d.calls (core.parts).disk);
+      touches = opened_touches_are m c core.upkeep stands.chunks may book L (d.calls (core.parts).disk);
       present = λ calm. opened_present m c core.upkeep stands.chunks may book L (d.calls (core.parts).disk);
     }

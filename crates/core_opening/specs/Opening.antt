@@ -39,7 +39,7 @@ use Rattle.core_state.specs.declared.state.Core.{Core}
 use Rattle.core_state.specs.declared.upkeep.Upkeep.{Upkeep}
 use Rattle.core_state.specs.Entering.{AllHeld}
 use Rattle.core_state.specs.History.{StandsFor, began}
-use Rattle.core_state.specs.Minds.{Minds}
+use Rattle.core_state.specs.KeepsTouches.{KeepsTouches}
 use Rattle.core_state.specs.Named.{is_named_snapshot}
 use Rattle.core_state.specs.Numbers.{AreNumbered, first_number}
 use Rattle.core_state.specs.Records.{Records}
@@ -155,10 +155,10 @@ StandsOpened d readings disk clock core =
     → StandsFor d readings core (began (opening_of d disk (core.parts).disk L) R (readings clock))
 
 -- its book is that of this history
-abbrev pub MindsOpened : {D E C : Type 0} → Ghosts D → (C → Option Readings) → D → C → Core D E C → Type 0
-MindsOpened d readings disk clock core =
+abbrev pub TouchesOpened : {D E C : Type 0} → Ghosts D → (C → Option Readings) → D → C → Core D E C → Type 0
+TouchesOpened d readings disk clock core =
     (L : List Snapshot) (R : Option (List Snapshot)) → d.honest disk → Stands (d.content disk) L
-    → Minds d core (began (opening_of d disk (core.parts).disk L) R (readings clock))
+    → KeepsTouches d core (began (opening_of d disk (core.parts).disk L) R (readings clock))
 
 -- From the moment of opening on at which what a crash leaves lacks only what opening takes away, it stands for each list of snapshots that the
 -- disk stood for.

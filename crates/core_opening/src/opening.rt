@@ -6,7 +6,7 @@ ghost use Rattle.core_state.specs.Entering.{AllHeld};
 ghost use Rattle.core_state.specs.declared.kept.Session.TheVariants.{Idle};
 ghost use Rattle.opening_files.specs.Opened.{CleansDisk, WantsMemory};
 ghost use Rattle.opening_files.specs.Removed.{StepsClean};
-ghost use Rattle.core_opening.specs.Opening.{BooksDisk, CataloguesDisk, CleansOpening, HasBegun, IsGivenBack, IsNew, LeavesOpened, ListsFound, MindsOpened, RecordsOpened, RecoversOpened, ServesOpening, StandsOpened, fault_of};
+ghost use Rattle.core_opening.specs.Opening.{BooksDisk, CataloguesDisk, CleansOpening, HasBegun, IsGivenBack, IsNew, LeavesOpened, ListsFound, TouchesOpened, RecordsOpened, RecoversOpened, ServesOpening, StandsOpened, fault_of};
 
 use crate::booking::upkeep_of;
 use crate::cataloguing::listed_of;
@@ -123,7 +123,7 @@ pub fn open_on<D: Disk, E, C: Clock>(
     // it stands for a history without events, opened with the list that the disk stood for
     ensures opened { IfOk result (StandsOpened D.Disk C.readings disk clock) }
     // of this history is its book: each chunk that is there has its touch of the saved book, or is undated
-    ensures minds { IfOk result (MindsOpened D.Disk C.readings disk clock) }
+    ensures touches { IfOk result (TouchesOpened D.Disk C.readings disk clock) }
     // on any disk it keeps a history without events
     ensures records { IfOk result (RecordsOpened C.readings clock) }
     ensures begun { IfOk result HasBegun }

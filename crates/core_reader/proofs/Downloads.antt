@@ -259,7 +259,7 @@ module _ {D : Type 0} (d : Ghosts D) (old : Parts D) (s : Store) (lane m : ℕ) 
   -- an archive's index, read whole
   record IsIndex (is_fixed : Bool) : Type 0 where
     pub one : Archive
-    pub is_one : stored ≡ archive one
+    pub is_one_of : stored ≡ archive one
     pub read : index_at (d.content old.disk) path is_fixed offset ≡ read_index (file_text stored) offset (ends_from 0 one.pieces)
 
   index_there : (is_fixed : Bool) → whole_for r name ≡ Some is_fixed → IsIndex is_fixed
@@ -271,7 +271,7 @@ module _ {D : Type 0} (d : Ghosts D) (old : Parts D) (s : Store) (lane m : ℕ) 
       let text : get (d.content old.disk) path ≡ Some (file_text (archive a)) = text_there ∙ ap (λ x. Some (file_text x)) w.1 in
       record {
         one = a;
-        is_one = w.1;
+        is_one_of = w.1;
         read =
             ap (λ b. index_at (d.content old.disk) path b offset) w.2
             ∙ archive_at (d.content old.disk) path offset a fits text
@@ -295,11 +295,11 @@ module _ {D : Type 0} (d : Ghosts D) (old : Parts D) (s : Store) (lane m : ℕ) 
       let told = indexed (part_from (file_text stored) offset) (ends_from 0 a.pieces) x (sym i.read ∙ tells) in
       let w = note name (archive a) v in
       let at_name : content_at (files_named v.key s.snapshots) name ≡ Some (archive a) =
-      ap (option_map (λ f. f.content)) (there_named s.snapshots v.key name path there) ∙ ap (λ y. Some y) i.is_one in
+      ap (option_map (λ f. f.content)) (there_named s.snapshots v.key name path there) ∙ ap (λ y. Some y) i.is_one_of in
       let reads : IsReader s.snapshots w = record { finished = is_some _ there.snapshot (ap (λ q. snapshot_named q s.snapshots) (note_key name (archive a) v) ∙ there.kept) } in
       let within : lane < length s.sessions = omega (arith, sound.lanes, lt) in (
         with_session s lane (reader w),
-        step_there ∙ ap (λ y. with_part s lane (note name y v) (part_from (file_text stored) offset)) i.is_one ∙ ap (with_part s lane w) told.0,
+        step_there ∙ ap (λ y. with_part s lane (note name y v) (part_from (file_text stored) offset)) i.is_one_of ∙ ap (with_part s lane w) told.0,
         shows_changed old new s lane (reader w) noted c l (notes a at_name told.1)
             (locked_reads_on old.locks new.locks s lane v w within k at (note_key name (archive a) v) (h.shows).locks) (sound_reader s lane w lt reads sound) h.shows,
         disk_reader (d.content new.disk) s lane w within (subst (λ f. IsOnDisk f s) (sym (same h.honest)) h.files),

@@ -17,7 +17,7 @@ use Rattle.store_history.specs.declared.act.Act.TheVariants.{Chunk, Short, End}
 use Rattle.store_history.specs.declared.act.Answer.{Answer}
 use Rattle.store_history.specs.Acts.{IsWellFormed, class_of, stepping, wanting, ending}
 use Rattle.store_history.specs.History.{act_outcome}
-use Rattle.store_history.specs.Tending.{SameTended, tended_by, touched_by}
+use Rattle.store_history.specs.LastTouches.{SameTouches, touches_by_entry, touched_by}
 use Rattle.core_state.specs.declared.kept.Session.{Session}
 use Rattle.core_state.specs.declared.entering.Admitted.TheVariants.{Answered}
 use Rattle.core_state.specs.declared.entering.Place.{Place}
@@ -37,7 +37,7 @@ use Rattle.core_state.specs.Holds.{Holds}
 use Rattle.core_state.specs.Replies.{may_answer}
 use Rattle.core_state.specs.Settles.{Settles, fault_by, kind_by, reply_by, with_fault}
 use Rattle.core_state.specs.Stops.{told}
-use Rattle.core_state.specs.Upkeeps.{tended_of}
+use Rattle.core_state.specs.Upkeeps.{touches_kept}
 use Rattle.core_state.specs.Wanted.{session_at}
 use Rattle.core_state.proofs.Answered.{refused_stands, short_stands, done_stands}
 use Rattle.core_state.proofs.Answering.{refused_answered, short_answered, done_answered, refused_told, short_told, where_some, where_none, refused_same}
@@ -46,11 +46,11 @@ use Rattle.core_state.proofs.Caused.{refused_caused, short_caused, done_caused, 
 use Rattle.core_state.proofs.Chunks.{clear_safe}
 use Rattle.core_state.proofs.Commanding.{same_leaves, unlisted}
 use Rattle.core_state.proofs.ForeignLemmas.{never_told}
-use Rattle.core_state.proofs.Minding.{minds_more}
+use Rattle.core_state.proofs.KeepingTouches.{touches_more}
 use Rattle.core_state.proofs.Recorded.{records_more, refused_timely, settled_timely, short_timely, step_kind, tells_reply, wanting_kind}
 use Rattle.core_state.proofs.Recovering.{StandsMore, recovers_more}
 use Rattle.core_state.proofs.Reserves.{refused_keeps, done_keeps, closing_kind, closing_before, no_end_keeps}
-use Rattle.core_state.proofs.Touching.{entered_tended, refusal_untouched}
+use Rattle.core_state.proofs.Touching.{entered_touches, refusal_untouched}
 use Rattle.core_state.proofs.Unchanging.{refused_parts, refused_unchanged, done_unchanged}
 
 -- between the beginning of an act and its entry the parts change alone, and the last touches by what the act is answered
@@ -59,7 +59,7 @@ pub record SameRest {D E C : Type 0} (mid acted : Core D E C) (when : ℕ) (act 
   pub clock : acted.clock ≡ mid.clock
   pub fault : acted.fault ≡ mid.fault
   pub remote : acted.remote ≡ mid.remote
-  pub upkeep : SameTended (tended_of acted.upkeep) (touched_by act reply when (tended_of mid.upkeep))
+  pub upkeep : SameTouches (touches_kept acted.upkeep) (touched_by act reply when (touches_kept mid.upkeep))
 
 -- ---- the change by the reply
 
@@ -171,14 +171,14 @@ module _ {D E C : Type 0} (d : Ghosts D) (clock : clocks.Ghosts C) where
   refused_remote old new lane answer (halted is) = (is.entered).remote ∙ (is.begun).remote
 
   -- what is refused before it is done touches nothing
-  refused_tended : (old new : Core D E C) (lane : ℕ) (act : Act) (answer : Answer) → Refuses d clock.readings old new lane answer
-      → SameTended (tended_of new.upkeep) (tended_by act answer.reply (answer.entry).moment (tended_of old.upkeep))
-  refused_tended old new lane act answer (short is) =
-      entered_tended d old is.between is.between new lane is.moment 2 act (Some (replies.Refused refusals.NoMemory)) answer (is.begun).upkeep
-      (refusal_untouched act refusals.NoMemory is.moment (tended_of (is.between).upkeep)) is.entered
-  refused_tended old new lane act answer (halted is) =
-      entered_tended d old is.between is.between new lane is.moment 5 act (Some (replies.Refused (refusals.Halted is.first))) answer (is.begun).upkeep
-      (refusal_untouched act (refusals.Halted is.first) is.moment (tended_of (is.between).upkeep)) is.entered
+  refused_touches_none : (old new : Core D E C) (lane : ℕ) (act : Act) (answer : Answer) → Refuses d clock.readings old new lane answer
+      → SameTouches (touches_kept new.upkeep) (touches_by_entry act answer.reply (answer.entry).moment (touches_kept old.upkeep))
+  refused_touches_none old new lane act answer (short is) =
+      entered_touches d old is.between is.between new lane is.moment 2 act (Some (replies.Refused refusals.NoMemory)) answer (is.begun).upkeep
+      (refusal_untouched act refusals.NoMemory is.moment (touches_kept (is.between).upkeep)) is.entered
+  refused_touches_none old new lane act answer (halted is) =
+      entered_touches d old is.between is.between new lane is.moment 5 act (Some (replies.Refused (refusals.Halted is.first))) answer (is.begun).upkeep
+      (refusal_untouched act (refusals.Halted is.first) is.moment (touches_kept (is.between).upkeep)) is.entered
 
   -- the refusal is none of the disk's in this act
   refused_as : (old new : Core D E C) (lane : ℕ) (answer : Answer) → Refuses d clock.readings old new lane answer
@@ -206,7 +206,7 @@ module _ {D E C : Type 0} (d : Ghosts D) (clock : clocks.Ghosts C) where
         ended = λ _. undone answer refusal is;
         halted = where_some _ _ (refused_same d clock.readings old new lane answer refuses);
         remote = refused_remote old new lane answer refuses;
-        upkeep = refused_tended old new lane act answer refuses;
+        upkeep = refused_touches_none old new lane act answer refuses;
         memory = memory;
         reserve = no_end_keeps old new lane act answer other (refused_keeps d clock.readings old new lane _ answer refuses);
       }
@@ -227,7 +227,7 @@ module _ {D E C : Type 0} (d : Ghosts D) (clock : clocks.Ghosts C) where
         history = more;
         records = λ h. records_more d clock.readings old new lane act answer h answers timely (step_kind d old new act answer step cause) (tells_reply d old new act answer cause answers.text) keeps.listed keeps.upkeep;
         recovers = recovers_more d clock old new lane act answer lt more answers (step_caused d old new act answer step cause) keeps;
-        minds = minds_more d clock old new lane act answer lt formed more answers (step_caused d old new act answer step cause) keeps;
+        touches = touches_more d clock old new lane act answer lt formed more answers (step_caused d old new act answer step cause) keeps;
         answers = answers;
         timely = timely;
         told = class_told act answer (step_no_end act step) (refused_told d clock.readings old new lane answer refuses);
@@ -254,7 +254,7 @@ module _ {D E C : Type 0} (d : Ghosts D) (clock : clocks.Ghosts C) where
         history = more;
         records = λ h. records_more d clock.readings old new lane act answer h answers timely (wanting_kind old act answer want (ap (λ x. x.kind) (is.entered).entry)) (tells_reply d old new act answer cause answers.text) keeps.listed keeps.upkeep;
         recovers = recovers_more d clock old new lane act answer lt more answers (want_caused d clock.readings old new lane act answer want is) keeps;
-        minds = minds_more d clock old new lane act answer lt formed more answers (want_caused d clock.readings old new lane act answer want is) keeps;
+        touches = touches_more d clock old new lane act answer lt formed more answers (want_caused d clock.readings old new lane act answer want is) keeps;
         answers = answers;
         timely = timely;
         told = class_told act answer (want_no_end act want) (short_told d clock.readings old new lane answer is);
@@ -292,7 +292,7 @@ module _ {D E C : Type 0} (d : Ghosts D) (clock : clocks.Ghosts C) where
         ended = λ ends done. ap (λ p. session_at p at.lane) settles.parts ∙ done_told _ result (leaves.ended ends) (if_plain answer.reply _ reply done);
         halted = where_none _ _ ready.no_fault;
         remote = settles.remote ∙ rest.remote ∙ (ready.begun).remote;
-        upkeep = entered_tended d old mid (with_fault acted (fault_by acted.fault (length (acted.journal).entries.items) (told result))) new at.lane at.moment (kind_by (told result)) act (Some (reply_by (told result))) answer
+        upkeep = entered_touches d old mid (with_fault acted (fault_by acted.fault (length (acted.journal).entries.items) (told result))) new at.lane at.moment (kind_by (told result)) act (Some (reply_by (told result))) answer
             (ready.begun).upkeep rest.upkeep settles;
         memory = λ closing. closing_kind d acted new at.lane at.moment (told result) answer (closed closing) settles;
         reserve = no_end_keeps old new at.lane act answer other (done_keeps d clock.readings old mid acted new at.lane at.moment act (told result) answer ready rest.journal filled closed settles);
@@ -319,7 +319,7 @@ module _ {D E C : Type 0} (d : Ghosts D) (clock : clocks.Ghosts C) where
         history = more;
         records = λ h. records_more d clock.readings old new at.lane act answer h answers timely (step_kind d old new act answer step cause) (tells_reply d old new act answer cause answers.text) keeps.listed keeps.upkeep;
         recovers = recovers_more d clock old new at.lane act answer lt more answers (step_caused d old new act answer step cause) keeps;
-        minds = minds_more d clock old new at.lane act answer lt formed more answers (step_caused d old new act answer step cause) keeps;
+        touches = touches_more d clock old new at.lane act answer lt formed more answers (step_caused d old new act answer step cause) keeps;
         answers = answers;
         timely = timely;
         told = class_told act answer (step_no_end act step) (ap is_some settles.reply_is);

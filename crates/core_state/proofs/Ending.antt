@@ -30,11 +30,11 @@ use Rattle.core_state.proofs.Calls.{later}
 use Rattle.core_state.proofs.Caused.{ended_caused, end_failed_caused}
 use Rattle.core_state.proofs.Clocks.{next_begun}
 use Rattle.core_state.proofs.Ended.{IsClosed, ended_stands, end_failed_stands, end_halted_stands}
-use Rattle.core_state.proofs.Minding.{minds_more}
+use Rattle.core_state.proofs.KeepingTouches.{touches_more}
 use Rattle.core_state.proofs.Recovering.{StandsMore, recovers_more}
 use Rattle.core_state.proofs.Recorded.{records_more, entered_timely, end_kind, end_tells_reply}
 use Rattle.core_state.proofs.Reserves.{ended_keeps, end_failed_keeps}
-use Rattle.core_state.proofs.Touching.{entered_tended}
+use Rattle.core_state.proofs.Touching.{entered_touches}
 use Rattle.core_state.proofs.Unchanging.{untold_unchanged, unchanged_between}
 
 none_some : (first : ℕ) → Some first ≡ None → ⊥
@@ -79,7 +79,7 @@ module _ {D E C : Type 0} (d : Ghosts D) (clock : clocks.Ghosts C) where
     ended = λ _ _. ap (λ p. session_at p at.lane) entered.parts ∙ leaves.ended refl;
     halted = where_none _ _ none;
     remote = entered.remote ∙ rest.remote ∙ next.remote;
-    upkeep = entered_tended d old mid acted new at.lane at.moment 6 End None answer next.upkeep rest.upkeep entered;
+    upkeep = entered_touches d old mid acted new at.lane at.moment 6 End None answer next.upkeep rest.upkeep entered;
     memory = λ closing. absurd (closes_none old.fault End (session_at old.parts at.lane) refl closing);
     reserve = ended_keeps d clock.readings old mid acted new at.lane at.moment answer next.journal rest.journal entered;
   }
@@ -97,7 +97,7 @@ module _ {D E C : Type 0} (d : Ghosts D) (clock : clocks.Ghosts C) where
         history = more;
         records = λ h. records_more d clock.readings old new at.lane End answer h answers timely (end_kind d old new End answer refl cause) (end_tells_reply d old new End answer cause) keeps.listed keeps.upkeep;
         recovers = recovers_more d clock old new at.lane End answer lt more answers cause keeps;
-        minds = minds_more d clock old new at.lane End answer lt tt more answers cause keeps;
+        touches = touches_more d clock old new at.lane End answer lt tt more answers cause keeps;
         answers = answers;
         timely = timely;
         told = ended_told d acted new at.lane at.moment answer entered;
@@ -146,7 +146,7 @@ module _ {D E C : Type 0} (d : Ghosts D) (clock : clocks.Ghosts C) where
     ended = λ _. undone answer DiskFault settles.reply_is;
     halted = where_none _ _ none;
     remote = settles.remote ∙ rest.remote ∙ next.remote;
-    upkeep = entered_tended d old mid (with_fault acted (Some (length (acted.journal).entries.items))) new at.lane at.moment 5 End (Some (reply_by (Err disks.Failed))) answer next.upkeep rest.upkeep settles;
+    upkeep = entered_touches d old mid (with_fault acted (Some (length (acted.journal).entries.items))) new at.lane at.moment 5 End (Some (reply_by (Err disks.Failed))) answer next.upkeep rest.upkeep settles;
     memory = λ closing. absurd (closes_none old.fault End (session_at old.parts at.lane) refl closing);
     reserve = end_failed_keeps d clock.readings old mid (with_fault acted (Some (length (acted.journal).entries.items))) new at.lane at.moment answer none busy next.journal rest.journal _ refl settles;
   }
@@ -163,7 +163,7 @@ module _ {D E C : Type 0} (d : Ghosts D) (clock : clocks.Ghosts C) where
         history = more;
         records = λ h. records_more d clock.readings old new at.lane End answer h answers timely (end_kind d old new End answer refl cause) (end_tells_reply d old new End answer cause) keeps.listed keeps.upkeep;
         recovers = recovers_more d clock old new at.lane End answer lt more answers cause keeps;
-        minds = minds_more d clock old new at.lane End answer lt tt more answers cause keeps;
+        touches = touches_more d clock old new at.lane End answer lt tt more answers cause keeps;
         answers = answers;
         timely = timely;
         told = end_failed_told d mid acted new at.lane at.moment answer rest.fault settles;
@@ -212,7 +212,7 @@ module _ {D E C : Type 0} (d : Ghosts D) (clock : clocks.Ghosts C) where
         ended = λ _ _. ap (λ p. session_at p at.lane) entered.parts ∙ idle;
         halted = where_some _ _ still;
         remote = entered.remote ∙ rest.remote ∙ next.remote;
-        upkeep = entered_tended d old mid acted new at.lane at.moment 6 End None answer next.upkeep rest.upkeep entered;
+        upkeep = entered_touches d old mid acted new at.lane at.moment 6 End None answer next.upkeep rest.upkeep entered;
         memory = λ closing. absurd (closes_none old.fault End (session_at old.parts at.lane) refl closing);
         reserve = ended_keeps d clock.readings old mid acted new at.lane at.moment answer next.journal rest.journal entered;
       }
@@ -229,7 +229,7 @@ module _ {D E C : Type 0} (d : Ghosts D) (clock : clocks.Ghosts C) where
         history = more;
         records = λ h. records_more d clock.readings old new at.lane End answer h answers timely (end_kind d old new End answer refl cause) (end_tells_reply d old new End answer cause) keeps.listed keeps.upkeep;
         recovers = recovers_more d clock old new at.lane End answer lt more answers cause keeps;
-        minds = minds_more d clock old new at.lane End answer lt tt more answers cause keeps;
+        touches = touches_more d clock old new at.lane End answer lt tt more answers cause keeps;
         answers = answers;
         timely = timely;
         told = ended_told d acted new at.lane at.moment answer entered;

@@ -37,6 +37,6 @@ pub mod Storing
 pub mod Sparing
 pub mod Leading
 pub mod Recovering
-pub mod Minding
+pub mod KeepingTouches
 pub mod SavingNames
 pub mod SavingBook

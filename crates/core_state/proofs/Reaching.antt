@@ -16,7 +16,7 @@ use Rattle.core_state.proofs.Recovering.{clear_for}
 
 pub reaches_first : {D E C : Type 0} (d : Ghosts D) (readings : C → Option Readings) (core : Core D E C) (h : History)
     → Records readings core h → Reaches d readings core h core h
-reaches_first d readings core h r = record { records = r; stands = λ L R s _. s; foreign = λ L R s clear none q own. refl; recovers = λ told start L R s r _. r; minds = λ L R s m _. m }
+reaches_first d readings core h r = record { records = r; stands = λ L R s _. s; foreign = λ L R s clear none q own. refl; recovers = λ told start L R s r _. r; touches = λ L R s m _. m }
 
 -- one act more
 pub reaches_more : {D E C : Type 0} (d : Ghosts D) (clock : clocks.Ghosts C) (first : Core D E C) (began : History) (old new : Core D E C) (lane : ℕ) (act : Act) (answer : Answer)
@@ -34,7 +34,7 @@ reaches_more d clock first began old new lane act answer lt applies keeps h x =
       recovers = λ told start L R s r clear.
           let was = clear_before h e clear in
           applies.recovers told start (opened_with L R h) (x.stands L R s was) clear (x.recovers told start L R s r was);
-      minds = λ L R s m clear.
+      touches = λ L R s m clear.
           let was = clear_before h e clear in
-          applies.minds (opened_with L R h) (x.stands L R s was) (x.minds L R s m was) (clear_for act (opened_with L R (then_event h e)) clear);
+          applies.touches (opened_with L R h) (x.stands L R s was) (x.touches L R s m was) (clear_for act (opened_with L R (then_event h e)) clear);
     }

@@ -15,7 +15,7 @@ use Rattle.store_history.specs.Acts.{stepping, wanting, ending, class_of}
 use Rattle.store_history.specs.History.{entry, kind, moment, kind_of}
 use Rattle.store_history.specs.History as kinds
 use Rattle.store_history.specs.Legal.{moment_after}
-use Rattle.store_history.specs.Tending.{SameTended, tended_by}
+use Rattle.store_history.specs.LastTouches.{SameTouches, touches_by_entry}
 use Rattle.store_history.proofs.Longer.{moment_more, entries_more}
 use Rattle.core_state.specs.declared.state.Core.{Core}
 use Rattle.core_state.specs.History.{History, then_event, event_of}
@@ -25,7 +25,7 @@ use Rattle.core_state.specs.Answers.{IsAnswered, fault_after, HasCause, done, sh
 use Rattle.core_state.specs.Records.{IsTimely, FitsKind, FitsReply, IsKept, AreKept, fault_in, Records}
 use Rattle.core_state.specs.Catalogue.{Lists, listed_by}
 use Rattle.core_state.specs.Numbers.{AreNumbered}
-use Rattle.core_state.specs.Upkeeps.{tended_of}
+use Rattle.core_state.specs.Upkeeps.{touches_kept}
 use Rattle.core_state.specs.Wanted.{session_at}
 use Rattle.core_state.proofs.Entered.{time_more}
 use Rattle.core_state.proofs.Numbering.{numbered_by}
@@ -67,7 +67,7 @@ numbers_more old new lane act answer place entered lists numbers =
 pub records_more : {D E C : Type 0} (d : Ghosts D) (readings : C → Option Readings) (old new : Core D E C) (lane : ℕ) (act : Act) (answer : Answer) (h : History)
     → IsAnswered d old new lane answer → IsTimely readings old new answer → FitsKind (class_of act) old.fault (answer.entry).kind
     → FitsReply old.fault act (kind_of (answer.entry).kind) answer.reply → Lists old new lane act answer
-    → SameTended (tended_of new.upkeep) (tended_by act answer.reply (answer.entry).moment (tended_of old.upkeep))
+    → SameTouches (touches_kept new.upkeep) (touches_by_entry act answer.reply (answer.entry).moment (touches_kept old.upkeep))
     → Records readings old h → Records readings new (then_event h (event_of act answer (d.calls (new.parts).disk)))
 records_more d readings old new lane act answer h a t fits tells lists touches r = record {
   kept = kept_more 0 None (h.opening).moment h.events e r.kept (record {

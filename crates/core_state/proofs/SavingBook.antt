@@ -23,7 +23,7 @@ use Rattle.store_history.specs.CrashPoints.{Either, Reopens, is_past, one_more}
 use Rattle.store_history.specs.History.{World, after, after_all, kind, opened}
 use Rattle.store_history.specs.Legal.{IsLegal}
 use Rattle.store_history.specs.Saved.{HoldsBook, book_name}
-use Rattle.store_history.specs.Tending.{SameTended}
+use Rattle.store_history.specs.LastTouches.{SameTouches}
 use Rattle.store_history.proofs.Longer.{calls_risen}
 use Rattle.core_state.specs.declared.journal.Journal.{Journal}
 use Rattle.core_state.specs.declared.kept.Listed.{Listed}
@@ -32,10 +32,10 @@ use Rattle.core_state.specs.Chunks.{HoldsOnly}
 use Rattle.core_state.specs.History.{History, KeepsTime, StandsFor, pieces_of, world}
 use Rattle.core_state.specs.Holds.{IsOnDisk, Shows}
 use Rattle.core_state.specs.Locked.{Locked}
-use Rattle.core_state.specs.Minds.{Minds, tending}
+use Rattle.core_state.specs.KeepsTouches.{KeepsTouches, touches_of_history}
 use Rattle.core_state.specs.Recovers.{Recovers}
 use Rattle.core_state.specs.Saving.{HasSaved, LeavesBook, SavesBook, text_of_book}
-use Rattle.core_state.specs.Upkeeps.{tended_of}
+use Rattle.core_state.specs.Upkeeps.{touches_kept}
 use Rattle.core_state.proofs.Calls.{later}
 use Rattle.core_state.proofs.SavingNames.{SameStore, on_disk_same, only_as_before, same_installed, same_installs, stands_same}
 
@@ -116,17 +116,17 @@ module _ {D E C : Type 0} (d : Ghosts D) (old new : Core D E C) (result : Result
       chunks = λ none. only_as_before read reads (reads_same unfailed s.honest) (pieces_of h) (s.chunks none);
     }
 
-    minds : (IsErrOf result Failed → ⊥) → Minds d old h → Minds d new h
-    minds unfailed m = record {
-      touches = subst (λ u. SameTended (tended_of u) (tending h)) (sym rest.upkeep) m.touches;
+    touches : (IsErrOf result Failed → ⊥) → KeepsTouches d old h → KeepsTouches d new h
+    touches unfailed m = record {
+      touches = subst (λ u. SameTouches (touches_kept u) (touches_of_history h)) (sym rest.upkeep) m.touches;
       present = λ none x digest.
-          subst (λ (o : Option (List ℕ)). IsSome o ↔ IsSome ((tending h).last x)) (sym ((reads_same unfailed s.honest).chunks x)) (m.present (sym rest.fault ∙ none) x digest);
+          subst (λ (o : Option (List ℕ)). IsSome o ↔ IsSome ((touches_of_history h).last x)) (sym ((reads_same unfailed s.honest).chunks x)) (m.present (sym rest.fault ∙ none) x digest);
     }
 
-    holds : old.fault ≡ None → Minds d old h → OnOk result (HoldsBook reads old.last (tending h))
+    holds : old.fault ≡ None → KeepsTouches d old h → OnOk result (HoldsBook reads old.last (touches_of_history h))
     holds none m = by_result result refl saved
       where
-        held : HasSaved d old new → (IsErrOf result Failed → ⊥) → HoldsBook reads old.last (tending h)
+        held : HasSaved d old new → (IsErrOf result Failed → ⊥) → HoldsBook reads old.last (touches_of_history h)
         held has unfailed = record {
           book = as_of old.last (old.upkeep).book;
           file = subst (λ (files : Files). get files book_name ≡ Some (text_of_book old)) (sym (has.content s.honest)) (installed_name read book_name (text_of_book old));
@@ -138,7 +138,7 @@ module _ {D E C : Type 0} (d : Ghosts D) (old new : Core D E C) (result : Result
               (subst (λ (o : Option ℕ). IsSome (get read (chunk_name x)) ↔ IsSome o) (sym ((m.touches).last x)) (m.present none x digest));
         }
 
-        by_result : (r : Result (Unit {0}) DiskError) → result ≡ r → OnOk r (HasSaved d old new) → OnOk r (HoldsBook reads old.last (tending h))
+        by_result : (r : Result (Unit {0}) DiskError) → result ≡ r → OnOk r (HasSaved d old new) → OnOk r (HoldsBook reads old.last (touches_of_history h))
         by_result (Ok done) is has = held has (λ failed. ok_err done (sym is ∙ failed))
           where
             ok_err : (x : Unit {0}) → ◌≡◌ {A = Result (Unit {0}) DiskError} (Ok x) (Err Failed) → ⊥
@@ -176,7 +176,7 @@ pub saves_book : {D E C : Type 0} (d : Ghosts D) (old new : Core D E C) (result 
     → DiskWantKeeps d (old.parts).disk (new.parts).disk result → SavesBook d old new result
 saves_book d old new result serves rest crash put fits unchanged = record {
   stands = λ readings unfailed h s. stands d old new result serves rest crash (saved result put) unchanged readings h s unfailed;
-  minds = λ readings unfailed h s m. minds d old new result serves rest crash (saved result put) unchanged readings h s unfailed m;
+  touches = λ readings unfailed h s m. touches d old new result serves rest crash (saved result put) unchanged readings h s unfailed m;
   holds = λ readings h none s m. holds d old new result serves rest crash (saved result put) unchanged readings h s none m;
   recovers = λ readings start h s r. recovers d old new result serves rest crash (saved result put) unchanged readings h s start r;
 }

@@ -16,26 +16,26 @@ use Rattle.atime_book.specs.Touches.{NoneAfter, TouchesKnown, greatest, last_of}
 use Rattle.store_history.specs.declared.act.Act.{Act}
 use Rattle.store_history.specs.declared.act.Act.TheVariants.{Plain, Chunk}
 use Rattle.store_history.specs.declared.act.Answer.{Answer}
-use Rattle.store_history.specs.Tending.{Tended, SameTended, arrived, dated, is_one, may_touch, tended_by, touched, touched_by}
+use Rattle.store_history.specs.LastTouches.{LastTouches, SameTouches, sent_at, dated, is_one_of, may_touch, touches_by_entry, touched, touched_by}
 use Rattle.core_state.specs.declared.state.Core.{Core}
 use Rattle.core_state.specs.declared.upkeep.Upkeep.{Upkeep}
 use Rattle.core_state.specs.Settles.{IsEntered}
-use Rattle.core_state.specs.Upkeeps.{tended_of, touched_in}
+use Rattle.core_state.specs.Upkeeps.{touches_kept, touched_in}
 
 -- ---- alike
 
-pub same_tended : (t : Tended) → SameTended t t
-same_tended t = record { last = λ d. refl; undated = λ d. refl }
+pub same_touches : (t : LastTouches) → SameTouches t t
+same_touches t = record { last = λ d. refl; undated = λ d. refl }
 
-pub same_back : (a b : Tended) → SameTended a b → SameTended b a
+pub same_back : (a b : LastTouches) → SameTouches a b → SameTouches b a
 same_back a b same = record { last = λ d. sym (same.last d); undated = λ d. sym (same.undated d) }
 
-pub same_then : (a b c : Tended) → SameTended a b → SameTended b c → SameTended a c
+pub same_then : (a b c : LastTouches) → SameTouches a b → SameTouches b c → SameTouches a c
 same_then a b c first next = record { last = λ d. first.last d ∙ next.last d; undated = λ d. first.undated d ∙ next.undated d }
 
 -- ---- alike after the same
 
-pub arrived_same : (digest : List ℕ) (when : ℕ) (a b : Tended) → SameTended a b → SameTended (arrived digest when a) (arrived digest when b)
+pub arrived_same : (digest : List ℕ) (when : ℕ) (a b : LastTouches) → SameTouches a b → SameTouches (sent_at digest when a) (sent_at digest when b)
 arrived_same digest when a b same = record {
   last = λ d. ap (λ last. cond (bytes_eq digest d) (Some (greatest last when)) last) (same.last d);
   undated = same.undated;
@@ -46,61 +46,61 @@ touched_last : (which also : Bool) (when : ℕ) (a b : Option ℕ) → which ≡
 touched_last which also when a b is same =
     ap (λ w. cond w (option_map (λ last. max last when) a) a) is ∙ ap (λ o. cond also (option_map (λ last. max last when) o) o) same
 
-pub touched_same : (which : List ℕ → Bool) (when : ℕ) (a b : Tended) → SameTended a b → SameTended (touched which when a) (touched which when b)
+pub touched_same : (which : List ℕ → Bool) (when : ℕ) (a b : LastTouches) → SameTouches a b → SameTouches (touched which when a) (touched which when b)
 touched_same which when a b same = record {
   last = λ d. touched_last (which d) (which d) when (a.last d) (b.last d) refl (same.last d);
   undated = same.undated;
 }
 
-pub dated_same : (when : ℕ) (a b : Tended) → SameTended a b → SameTended (dated when a) (dated when b)
+pub dated_same : (when : ℕ) (a b : LastTouches) → SameTouches a b → SameTouches (dated when a) (dated when b)
 dated_same when a b same = record {
   last = λ d. touched_last (a.undated d) (b.undated d) when (a.last d) (b.last d) (same.undated d) (same.last d);
   undated = λ d. refl;
 }
 
-pub touched_by_same : (act : Act) (reply : Option Reply) (when : ℕ) (a b : Tended) → SameTended a b → SameTended (touched_by act reply when a) (touched_by act reply when b)
+pub touched_by_same : (act : Act) (reply : Option Reply) (when : ℕ) (a b : LastTouches) → SameTouches a b → SameTouches (touched_by act reply when a) (touched_by act reply when b)
 touched_by_same (Chunk digest checked) (Some Done) when a b same = arrived_same digest.0 when a b same
-touched_by_same (Plain (Append number entries)) (Some Done) when a b same = touched_same (λ d. is_one d (map (λ e. (e.digest).0) entries)) when a b same
+touched_by_same (Plain (Append number entries)) (Some Done) when a b same = touched_same (λ d. is_one_of d (map (λ e. (e.digest).0) entries)) when a b same
 touched_by_same act reply when a b same = same
 
-pub tended_same : (act : Act) (reply : Option Reply) (when : ℕ) (a b : Tended) → SameTended a b → SameTended (tended_by act reply when a) (tended_by act reply when b)
-tended_same act reply when a b same = dated_same when (touched_by act reply when a) (touched_by act reply when b) (touched_by_same act reply when a b same)
+pub touches_by_same_all : (act : Act) (reply : Option Reply) (when : ℕ) (a b : LastTouches) → SameTouches a b → SameTouches (touches_by_entry act reply when a) (touches_by_entry act reply when b)
+touches_by_same_all act reply when a b same = dated_same when (touched_by act reply when a) (touched_by act reply when b) (touched_by_same act reply when a b same)
 
 -- ---- nothing is touched
 
 true_false : true ≡ false → ⊥
 true_false e = cc
 
-pub untouched : (act : Act) (reply : Option Reply) (when : ℕ) (t : Tended) → may_touch act ≡ false → SameTended t (touched_by act reply when t)
+pub untouched : (act : Act) (reply : Option Reply) (when : ℕ) (t : LastTouches) → may_touch act ≡ false → SameTouches t (touched_by act reply when t)
 untouched (Chunk digest checked) reply when t none = absurd (true_false none)
 untouched (Plain (Append number entries)) reply when t none = absurd (true_false none)
-untouched act reply when t none = same_tended t
+untouched act reply when t none = same_touches t
 
-pub refusal_untouched : (act : Act) (refusal : Refusal) (when : ℕ) (t : Tended) → SameTended t (touched_by act (Some (Refused refusal)) when t)
-refusal_untouched (Chunk digest checked) refusal when t = same_tended t
-refusal_untouched (Plain (Append number entries)) refusal when t = same_tended t
-refusal_untouched act refusal when t = same_tended t
+pub refusal_untouched : (act : Act) (refusal : Refusal) (when : ℕ) (t : LastTouches) → SameTouches t (touched_by act (Some (Refused refusal)) when t)
+refusal_untouched (Chunk digest checked) refusal when t = same_touches t
+refusal_untouched (Plain (Append number entries)) refusal when t = same_touches t
+refusal_untouched act refusal when t = same_touches t
 
 -- ---- an entry
 
 -- what the act touched since it was begun, and dated by its entry
-pub entered_tended : {D E C : Type 0} (d : Ghosts D) (old mid acted new : Core D E C) (lane moment kind : ℕ) (act : Act) (reply : Option Reply) (answer : Answer)
-    → mid.upkeep ≡ old.upkeep → SameTended (tended_of acted.upkeep) (touched_by act reply moment (tended_of mid.upkeep)) → IsEntered d acted new lane moment kind reply answer
-    → SameTended (tended_of new.upkeep) (tended_by act answer.reply (answer.entry).moment (tended_of old.upkeep))
-entered_tended d old mid acted new lane moment kind act reply answer begun same e =
+pub entered_touches : {D E C : Type 0} (d : Ghosts D) (old mid acted new : Core D E C) (lane moment kind : ℕ) (act : Act) (reply : Option Reply) (answer : Answer)
+    → mid.upkeep ≡ old.upkeep → SameTouches (touches_kept acted.upkeep) (touched_by act reply moment (touches_kept mid.upkeep)) → IsEntered d acted new lane moment kind reply answer
+    → SameTouches (touches_kept new.upkeep) (touches_by_entry act answer.reply (answer.entry).moment (touches_kept old.upkeep))
+entered_touches d old mid acted new lane moment kind act reply answer begun same e =
     let moment_is : (answer.entry).moment ≡ moment = ap (λ x. x.moment) e.entry in
-    let was = subst (λ u. SameTended (tended_of acted.upkeep) (touched_by act reply moment (tended_of u))) begun same in
-    subst (λ m. SameTended (tended_of new.upkeep) (tended_by act answer.reply m (tended_of old.upkeep))) (sym moment_is)
-    (subst (λ r. SameTended (tended_of new.upkeep) (tended_by act r moment (tended_of old.upkeep))) (sym e.reply_is)
-    (same_then (tended_of new.upkeep) (dated moment (tended_of acted.upkeep)) (tended_by act reply moment (tended_of old.upkeep)) e.upkeep
-    (dated_same moment (tended_of acted.upkeep) (touched_by act reply moment (tended_of old.upkeep)) was)))
+    let was = subst (λ u. SameTouches (touches_kept acted.upkeep) (touched_by act reply moment (touches_kept u))) begun same in
+    subst (λ m. SameTouches (touches_kept new.upkeep) (touches_by_entry act answer.reply m (touches_kept old.upkeep))) (sym moment_is)
+    (subst (λ r. SameTouches (touches_kept new.upkeep) (touches_by_entry act r moment (touches_kept old.upkeep))) (sym e.reply_is)
+    (same_then (touches_kept new.upkeep) (dated moment (touches_kept acted.upkeep)) (touches_by_entry act reply moment (touches_kept old.upkeep)) e.upkeep
+    (dated_same moment (touches_kept acted.upkeep) (touched_by act reply moment (touches_kept old.upkeep)) was)))
 
 -- ---- no touch is later
 
 abbrev IsWithin : ℕ → Option ℕ → Type 0
 IsWithin m last = IfSome last (λ when. when ≤ m)
 
-abbrev NoneBehind : ℕ → Tended → Type 0
+abbrev NoneBehind : ℕ → LastTouches → Type 0
 NoneBehind m t = (d : List ℕ) → IsWithin m (t.last d)
 
 later : (m n : ℕ) → m ≤ n → (last : Option ℕ) → IsWithin m last → IsWithin n last
@@ -117,22 +117,22 @@ arrived_one m true None within = omega arith
 arrived_one m true (Some when) within = omega arith
 arrived_one m false last within = within
 
-touched_within : (act : Act) (reply : Option Reply) (m : ℕ) (t : Tended) → NoneBehind m t → NoneBehind m (touched_by act reply m t)
+touched_within : (act : Act) (reply : Option Reply) (m : ℕ) (t : LastTouches) → NoneBehind m t → NoneBehind m (touched_by act reply m t)
 touched_within (Chunk digest checked) (Some Done) m t within = λ d. arrived_one m (bytes_eq digest.0 d) (t.last d) (within d)
-touched_within (Plain (Append number entries)) (Some Done) m t within = λ d. touched_one m (is_one d (map (λ e. (e.digest).0) entries)) (t.last d) (within d)
+touched_within (Plain (Append number entries)) (Some Done) m t within = λ d. touched_one m (is_one_of d (map (λ e. (e.digest).0) entries)) (t.last d) (within d)
 touched_within act reply m t within = within
 
-tended_within : (act : Act) (reply : Option Reply) (m : ℕ) (t : Tended) → NoneBehind m t → NoneBehind m (tended_by act reply m t)
-tended_within act reply m t within d =
+touches_within : (act : Act) (reply : Option Reply) (m : ℕ) (t : LastTouches) → NoneBehind m t → NoneBehind m (touches_by_entry act reply m t)
+touches_within act reply m t within d =
     let u = touched_by act reply m t in touched_one m (u.undated d) (u.last d) (touched_within act reply m t within d)
 
 -- moments never fall
 pub early_more : (old new : Upkeep) (act : Act) (reply : Option Reply) (before when last : ℕ) → before ≤ when → last ≡ when
-    → SameTended (tended_of new) (tended_by act reply when (tended_of old)) → NoneAfter old.book before → NoneAfter new.book last
+    → SameTouches (touches_kept new) (touches_by_entry act reply when (touches_kept old)) → NoneAfter old.book before → NoneAfter new.book last
 early_more old new act reply before when last risen is same early = λ d.
     subst (λ n. IsWithin n (last_of new.book d)) (sym is)
     (subst (IsWithin when) (sym (same.last d))
-    (tended_within act reply when (tended_of old) (λ q. later before when risen (last_of old.book q) (early q)) d))
+    (touches_within act reply when (touches_kept old) (λ q. later before when risen (last_of old.book q) (early q)) d))
 
 -- ---- one chunk after another
 

@@ -8,7 +8,7 @@ use Rattle.wire_commands.specs.declared.reply.Reply.TheVariants.{Refused}
 use Rattle.store_history.specs.declared.act.Act.{Act}
 use Rattle.store_history.specs.declared.act.Act.TheVariants.{Chunk}
 use Rattle.store_history.specs.declared.act.Answer.{Answer}
-use Rattle.store_history.specs.Tending.{SameTended, tended_by}
+use Rattle.store_history.specs.LastTouches.{SameTouches, touches_by_entry}
 use Rattle.core_state.specs.declared.kept.Session.TheVariants.{Idle}
 use Rattle.core_state.specs.declared.state.Core.{Core}
 use Rattle.core_state.specs.Answers.{IsAnswered, IsCaused, IsTold}
@@ -18,12 +18,12 @@ use Rattle.core_state.specs.Closing.{is_closing}
 use Rattle.core_state.specs.Commands.{IsNoRefusal, change_at, ends_session, is_admins, is_quiet, reads_only}
 use Rattle.core_state.specs.Due.{DueAt}
 use Rattle.core_state.specs.History.{History, IsClear, StandsFor, then_event, event_of}
-use Rattle.core_state.specs.Minds.{Minds}
+use Rattle.core_state.specs.KeepsTouches.{KeepsTouches}
 use Rattle.core_state.specs.Records.{IsTimely, Records}
 use Rattle.core_state.specs.Recovers.{Recovers, TellsMoments}
 use Rattle.core_state.specs.Reserved.{Keeps}
 use Rattle.core_state.specs.Unchanged.{Unchanged}
-use Rattle.core_state.specs.Upkeeps.{tended_of}
+use Rattle.core_state.specs.Upkeeps.{touches_kept}
 use Rattle.core_state.specs.Wanted.{session_at}
 
 -- the act was done: it has no reply, or one that is no refusal
@@ -45,8 +45,8 @@ pub record ActApplies {D E C : Type 0} (d : Ghosts D) (clock : clocks.Ghosts C) 
   pub recovers : TellsMoments d → (start : ℕ) (h : History) → StandsFor d clock.readings old h → IsClear (then_event h (event_of act answer (d.calls (new.parts).disk)))
       → Recovers d start old h → Recovers d start new (then_event h (event_of act answer (d.calls (new.parts).disk)))
   -- the core's book is that of the history, and until the disk failed its chunks are the chunk files
-  pub minds : (h : History) → StandsFor d clock.readings old h → Minds d old h → IsClearFor act (then_event h (event_of act answer (d.calls (new.parts).disk)))
-      → Minds d new (then_event h (event_of act answer (d.calls (new.parts).disk)))
+  pub touches : (h : History) → StandsFor d clock.readings old h → KeepsTouches d old h → IsClearFor act (then_event h (event_of act answer (d.calls (new.parts).disk)))
+      → KeepsTouches d new (then_event h (event_of act answer (d.calls (new.parts).disk)))
   pub answers : IsAnswered d old new lane answer
   pub timely : IsTimely clock.readings old new answer
   pub told : IsTold act answer
@@ -75,7 +75,7 @@ pub record ActKeeps {D E C : Type 0} (d : Ghosts D) (old new : Core D E C) (lane
   pub halted : IfSome old.fault (λ _. (new.parts).disk ≡ (old.parts).disk)
   pub remote : new.remote ≡ old.remote
   -- the last touches are as the act's reply makes them of those before: a refused act touches nothing
-  pub upkeep : SameTended (tended_of new.upkeep) (tended_by act answer.reply (answer.entry).moment (tended_of old.upkeep))
+  pub upkeep : SameTouches (touches_kept new.upkeep) (touches_by_entry act answer.reply (answer.entry).moment (touches_kept old.upkeep))
   -- an ABORT or a CLOSE_READER that ends a session wants no memory
   pub memory : is_closing old lane act ≡ true → (answer.entry).kind ≡ 2 → ⊥
   pub reserve : Keeps act old new lane answer

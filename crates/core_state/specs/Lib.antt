@@ -6,7 +6,7 @@ pub mod Holds
 pub mod Chunks
 pub mod History
 pub mod Upkeeps
-pub mod Minds
+pub mod KeepsTouches
 pub mod Settles
 pub mod Begins
 pub mod States

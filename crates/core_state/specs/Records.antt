@@ -21,7 +21,7 @@ use Rattle.core_state.specs.Answers.{fault_after}
 use Rattle.core_state.specs.Begins.{ReadsClock}
 use Rattle.core_state.specs.Foreign.{KeepsForeign}
 use Rattle.core_state.specs.History.{History, KeepsTime, IsClear, StandsFor}
-use Rattle.core_state.specs.Minds.{Minds}
+use Rattle.core_state.specs.KeepsTouches.{KeepsTouches}
 use Rattle.core_state.specs.Numbers.{AreNumbered}
 use Rattle.core_state.specs.Recovers.{Recovers, TellsMoments}
 use Rattle.core_state.specs.Replies.{may_answer}
@@ -99,5 +99,5 @@ pub record Reaches {D E C : Type 0} (d : Ghosts D) (readings : C → Option Read
   pub recovers : TellsMoments d → (start : ℕ) (L : List Snapshot) (R : Option (List Snapshot)) → StandsFor d readings first (opened_with L R began)
       → Recovers d start first (opened_with L R began) → IsClear h → Recovers d start core (opened_with L R h)
   -- the core's book is that of the history
-  pub minds : (L : List Snapshot) (R : Option (List Snapshot)) → StandsFor d readings first (opened_with L R began) → Minds d first (opened_with L R began) → IsClear h
-      → Minds d core (opened_with L R h)
+  pub touches : (L : List Snapshot) (R : Option (List Snapshot)) → StandsFor d readings first (opened_with L R began) → KeepsTouches d first (opened_with L R began) → IsClear h
+      → KeepsTouches d core (opened_with L R h)

@@ -11,7 +11,7 @@ use Rattle.atime_book.specs.Touches.{as_of}
 use Rattle.store_history.specs.Saved.{HoldsBook, book_name}
 use Rattle.core_state.specs.declared.state.Core.{Core}
 use Rattle.core_state.specs.History.{History, StandsFor}
-use Rattle.core_state.specs.Minds.{Minds, tending}
+use Rattle.core_state.specs.KeepsTouches.{KeepsTouches, touches_of_history}
 use Rattle.core_state.specs.Recovers.{Recovers}
 
 -- all but the disk is as before
@@ -34,7 +34,7 @@ pub record HasSaved {D E C : Type 0} (d : Ghosts D) (old new : Core D E C) : Typ
 -- it. What a crash leaves stands for what it stood for, at a fault too.
 pub record SavesBook {D E C : Type 0} (d : Ghosts D) (old new : Core D E C) (result : Result (Unit {0}) DiskError) : Type 0 where
   pub stands : (readings : C → Option Readings) → (IsErrOf result Failed → ⊥) → (h : History) → StandsFor d readings old h → StandsFor d readings new h
-  pub minds : (readings : C → Option Readings) → (IsErrOf result Failed → ⊥) → (h : History) → StandsFor d readings old h → Minds d old h → Minds d new h
-  pub holds : (readings : C → Option Readings) (h : History) → old.fault ≡ None → StandsFor d readings old h → Minds d old h
-      → OnOk result (HoldsBook (d.content (new.parts).disk) old.last (tending h))
+  pub touches : (readings : C → Option Readings) → (IsErrOf result Failed → ⊥) → (h : History) → StandsFor d readings old h → KeepsTouches d old h → KeepsTouches d new h
+  pub holds : (readings : C → Option Readings) (h : History) → old.fault ≡ None → StandsFor d readings old h → KeepsTouches d old h
+      → OnOk result (HoldsBook (d.content (new.parts).disk) old.last (touches_of_history h))
   pub recovers : (readings : C → Option Readings) (start : ℕ) (h : History) → StandsFor d readings old h → Recovers d start old h → Recovers d start new h

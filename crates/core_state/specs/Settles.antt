@@ -8,9 +8,9 @@ use Rattle.disk_trait.specs.declared.disk.DiskError.{DiskError}
 use Rattle.disk_trait.specs.declared.disk.DiskError.TheVariants.{NoMemory, Failed as DiskFailed}
 use Rattle.store_history.specs.declared.act.Answer.{Answer}
 use Rattle.core_state.specs.declared.state.Core.{Core}
-use Rattle.store_history.specs.Tending.{SameTended, dated}
+use Rattle.store_history.specs.LastTouches.{SameTouches, dated}
 use Rattle.core_state.specs.Entering.{Enters}
-use Rattle.core_state.specs.Upkeeps.{tended_of}
+use Rattle.core_state.specs.Upkeeps.{touches_kept}
 
 -- an entry and its answer, where an entry was to be had without memory
 pub record IsEntered {D E C : Type 0} (d : Ghosts D) (old new : Core D E C) (lane moment kind : ℕ) (reply : Option Reply) (answer : Answer) : Type 0 where
@@ -20,7 +20,7 @@ pub record IsEntered {D E C : Type 0} (d : Ghosts D) (old new : Core D E C) (lan
   pub fault : new.fault ≡ old.fault
   pub last : new.last ≡ moment
   -- the entry dates what was undated
-  pub upkeep : SameTended (tended_of new.upkeep) (dated moment (tended_of old.upkeep))
+  pub upkeep : SameTouches (touches_kept new.upkeep) (dated moment (touches_kept old.upkeep))
   pub entries : (new.journal).entries.items ≡ (old.journal).entries.items ++ answer.entry ∷ []
   pub calls : (new.journal).calls.items ≡ (old.journal).calls.items ++ d.calls (old.parts).disk ∷ []
   pub entry : answer.entry ≡ record { lane = lane; moment = moment; kind = kind }

@@ -4,12 +4,12 @@ use Rattle.store_types.specs.declared.names.Digest32.{Digest32}
 use Rattle.store_files.specs.Book.{Book}
 use Rattle.atime_book.specs.Touches.{last_of}
 use Rattle.atime_book.specs.Present.{is_among}
-use Rattle.store_history.specs.Tending.{Tended}
+use Rattle.store_history.specs.LastTouches.{LastTouches}
 use Rattle.core_state.specs.declared.upkeep.Upkeep.{Upkeep}
 
 -- the chunks of the book with their last touches, and which of them are undated
-abbrev pub tended_of : Upkeep → Tended
-tended_of u = record { last = λ d. last_of u.book d; undated = λ d. is_among d u.undated.items }
+abbrev pub touches_kept : Upkeep → LastTouches
+touches_kept u = record { last = λ d. last_of u.book d; undated = λ d. is_among d u.undated.items }
 
 -- a chunk's last touch, once those of these chunks that the book has are touched at this moment
 abbrev pub touched_in : Book → List Digest32 → ℕ → List ℕ → Option ℕ

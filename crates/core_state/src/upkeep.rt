@@ -1,7 +1,7 @@
 //! What the core keeps of the chunks that are there.
 
-ghost use Rattle.store_history.specs.Tending.{SameTended, dated};
-ghost use Rattle.core_state.specs.Upkeeps.{TouchesEach, tended_of};
+ghost use Rattle.store_history.specs.LastTouches.{SameTouches, dated};
+ghost use Rattle.core_state.specs.Upkeeps.{TouchesEach, touches_kept};
 
 use atime_book::Book;
 use store_types::Digest32;
@@ -27,7 +27,7 @@ fn touch_each(book: &mut Book, digests: &[Digest32], moment: u64)
 impl Upkeep {
     /// Touches the undated chunks at the moment of an entry of the order: then none is left. It takes no memory.
     pub fn date(&mut self, moment: u64)
-        ensures { SameTended (tended_of self.new) (dated moment (tended_of self.old)) }
+        ensures { SameTouches (touches_kept self.new) (dated moment (touches_kept self.old)) }
     {
         touch_each(&mut self.book, &self.undated, moment);
         self.undated.clear();

@@ -18,7 +18,7 @@ use Rattle.wire_commands.specs.declared.reply.Reply.{Reply}
 use Rattle.wire_commands.specs.declared.reply.Reply.TheVariants as replies
 use Rattle.store_history.specs.declared.act.Act.{Act}
 use Rattle.store_history.specs.declared.act.Act.TheVariants.{Chunk, Plain}
-use Rattle.store_history.specs.Tending.{SameTended, Tended, is_one, touched_by}
+use Rattle.store_history.specs.LastTouches.{SameTouches, LastTouches, is_one_of, touched_by}
 use Rattle.core_state.specs.declared.entering.Place.{Place}
 use Rattle.core_state.specs.declared.stop.Stop.{Stop}
 use Rattle.core_state.specs.declared.stop.Stop.TheVariants.{Refused, NoMemory, DiskFailed}
@@ -27,7 +27,7 @@ use Rattle.core_state.specs.Commands.{IsNoRefusal}
 use Rattle.core_state.specs.Replies.{may_answer}
 use Rattle.core_state.specs.Settles.{reply_by}
 use Rattle.core_state.specs.Stops.{told}
-use Rattle.core_state.specs.Upkeeps.{tended_of}
+use Rattle.core_state.specs.Upkeeps.{touches_kept}
 use Rattle.core_state.proofs.Touching.{refusal_untouched}
 use Rattle.core_writer.specs.Touching.{ActTouches, EndsEntry, MakesEntry, TouchesNamed, digests_of}
 
@@ -125,7 +125,7 @@ touched_known book new digest when touches d = by_last (last_of book digest) ref
     by_last (Some last) some =
         (touches.known (subst (λ (o : Option ℕ). IsSome o) (sym some) refl)).last d ∙ known_at book digest d when last (bytes_eq digest d) refl some
 
-one-push : (d : List ℕ) (es : List AppendEntry) (e : AppendEntry) → is_one d (digests_of (es ++ e ∷ [])) ≡ (is_one d (digests_of es) || bytes_eq (e.digest).0 d)
+one-push : (d : List ℕ) (es : List AppendEntry) (e : AppendEntry) → is_one_of d (digests_of (es ++ e ∷ [])) ≡ (is_one_of d (digests_of es) || bytes_eq (e.digest).0 d)
 one-push d [] e = by_test (bytes_eq (e.digest).0 d)
   where
     by_test : (b : Bool) → (b || false) ≡ b
@@ -133,14 +133,14 @@ one-push d [] e = by_test (bytes_eq (e.digest).0 d)
     by_test false = refl
 one-push d (x ∷ es) e = ap (λ b. bytes_eq (x.digest).0 d || b) (one-push d es e) ∙ by_test (bytes_eq (x.digest).0 d)
   where
-    by_test : (b : Bool) → (b || (is_one d (digests_of es) || bytes_eq (e.digest).0 d)) ≡ ((b || is_one d (digests_of es)) || bytes_eq (e.digest).0 d)
+    by_test : (b : Bool) → (b || (is_one_of d (digests_of es) || bytes_eq (e.digest).0 d)) ≡ ((b || is_one_of d (digests_of es)) || bytes_eq (e.digest).0 d)
     by_test true = refl
     by_test false = refl
 
 each_more : (old book new : Book) (es : List AppendEntry) (e : AppendEntry) (when : ℕ) → TouchesNamed old book es when → TouchesKnown book new (e.digest).0 when
     → TouchesNamed old new (es ++ e ∷ []) when
 each_more old book new es e when each touches = record {
-  last = λ d. touched_more (is_one d (digests_of es)) (bytes_eq (e.digest).0 d) (last_of old d) (last_of book d) (last_of new d) when (each.last d)
+  last = λ d. touched_more (is_one_of d (digests_of es)) (bytes_eq (e.digest).0 d) (last_of old d) (last_of book d) (last_of new d) when (each.last d)
       (touched_known book new (e.digest).0 when touches d)
       ∙ ap (λ b. cond b (later when (last_of old d)) (last_of old d)) (sym (one-push d es e));
 }
@@ -153,7 +153,7 @@ each_next old book new entries i when none below each touches =
 -- ---- by how the command ended
 
 -- a command that stops touches nothing
-stop_untouched : (act : Act) (stop : Stop) (when : ℕ) (t : Tended) → SameTended t (touched_by act (Some (reply_by (told (Err stop)))) when t)
+stop_untouched : (act : Act) (stop : Stop) (when : ℕ) (t : LastTouches) → SameTouches t (touched_by act (Some (reply_by (told (Err stop)))) when t)
 stop_untouched act (Refused refusal) when t = refusal_untouched act refusal when t
 stop_untouched act NoMemory when t = refusal_untouched act refusals.NoMemory when t
 stop_untouched act DiskFailed when t = refusal_untouched act refusals.DiskFault when t
@@ -161,7 +161,7 @@ stop_untouched act DiskFailed when t = refusal_untouched act refusals.DiskFault 
 left_touches : (old new : Upkeep) (at : Place) (act : Act) (stop : Stop) → new.undated ≡ old.undated → ((d : List ℕ) → last_of new.book d ≡ last_of old.book d)
     → ActTouches old new at act (Err stop)
 left_touches old new at act stop undated left =
-    let same = stop_untouched act stop at.moment (tended_of old) in record {
+    let same = stop_untouched act stop at.moment (touches_kept old) in record {
       last = λ d. left d ∙ same.last d;
       undated = λ d. ap (λ (u : Vec Digest32 Global). is_among d u.items) undated ∙ same.undated d;
     }
@@ -187,7 +187,7 @@ pub chunk_touches : (old new : Upkeep) (mid : Book) (at : Place) (digest : Diges
     → MakesEntry old.book mid digest.0 at.moment made → EndsEntry mid new.book digest.0 at.moment done made
     → ActTouches old new at (Chunk digest checked) result
 chunk_touches old new mid at digest checked (Ok reply) done made answers plain undated is makes ends =
-    subst (λ r. SameTended (tended_of new) (touched_by (Chunk digest checked) (Some r) at.moment (tended_of old))) (sym (chunk_done digest checked reply answers plain))
+    subst (λ r. SameTouches (touches_kept new) (touched_by (Chunk digest checked) (Some r) at.moment (touches_kept old))) (sym (chunk_done digest checked reply answers plain))
     (record {
       last = entry_touched old.book mid new.book digest.0 at.moment made makes (subst (λ b. EndsEntry mid new.book digest.0 at.moment b made) is ends);
       undated = λ d. ap (λ (u : Vec Digest32 Global). is_among d u.items) undated;
@@ -200,7 +200,7 @@ pub append_touches : (old new : Upkeep) (at : Place) (number : ℕ) (entries : L
     → IfOk (told result) (λ reply. IsTrue (may_answer (Plain (Append number entries)) reply)) → IfOk result IsNoRefusal → new.undated ≡ old.undated → is_ok result ≡ true
     → TouchesNamed old.book new.book entries at.moment → ActTouches old new at (Plain (Append number entries)) result
 append_touches old new at number entries (Ok reply) answers plain undated is touches =
-    subst (λ r. SameTended (tended_of new) (touched_by (Plain (Append number entries)) (Some r) at.moment (tended_of old))) (sym (append_done number entries reply answers plain))
+    subst (λ r. SameTouches (touches_kept new) (touched_by (Plain (Append number entries)) (Some r) at.moment (touches_kept old))) (sym (append_done number entries reply answers plain))
     (record { last = touches.last; undated = λ d. ap (λ (u : Vec Digest32 Global). is_among d u.items) undated })
 append_touches old new at number entries (Err stop) answers plain undated is touches = absurd (false_true is)
 

@@ -5,17 +5,17 @@ use Rattle.store_files.specs.Book.{Book}
 use Rattle.atime_book.specs.Touches.{SweptAt, TouchedAt, TouchesKnown, last_of}
 use Rattle.wire_commands.specs.declared.reply.Reply.{Reply}
 use Rattle.store_history.specs.declared.act.Act.{Act}
-use Rattle.store_history.specs.Tending.{SameTended, is_one, touched_by}
+use Rattle.store_history.specs.LastTouches.{SameTouches, is_one_of, touched_by}
 use Rattle.core_state.specs.declared.entering.Place.{Place}
 use Rattle.core_state.specs.declared.stop.Stop.{Stop}
 use Rattle.core_state.specs.declared.upkeep.Upkeep.{Upkeep}
 use Rattle.core_state.specs.Settles.{reply_by}
 use Rattle.core_state.specs.Stops.{told}
-use Rattle.core_state.specs.Upkeeps.{tended_of}
+use Rattle.core_state.specs.Upkeeps.{touches_kept}
 
 -- the last touches are as the act's reply makes them of those before
 abbrev pub ActTouches : Upkeep → Upkeep → Place → Act → Result Reply Stop → Type 0
-ActTouches old new at act result = SameTended (tended_of new) (touched_by act (Some (reply_by (told result))) at.moment (tended_of old))
+ActTouches old new at act result = SameTouches (touches_kept new) (touched_by act (Some (reply_by (told result))) at.moment (touches_kept old))
 
 -- ---- a chunk that is sent
 
@@ -37,4 +37,4 @@ digests_of entries = map (λ e. (e.digest).0) entries
 
 -- those of the entries' chunks that the book has were touched
 pub record TouchesNamed (old new : Book) (entries : List AppendEntry) (when : ℕ) : Type 0 where
-  pub last : (d : List ℕ) → last_of new d ≡ (if is_one d (digests_of entries) then option_map (λ last. max last when) (last_of old d) else last_of old d)
+  pub last : (d : List ℕ) → last_of new d ≡ (if is_one_of d (digests_of entries) then option_map (λ last. max last when) (last_of old d) else last_of old d)

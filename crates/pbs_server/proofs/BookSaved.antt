@@ -107,7 +107,7 @@ not_tried d core failed = record {
   foreign = λ honest calm q own. refl;
   history = record {
     stands = λ readings calm h s. s;
-    minds = λ readings calm h s m. m;
+    touches = λ readings calm h s m. m;
     holds = λ readings h none s m. absurd (some_none core.fault failed none);
     recovers = λ readings start h s r. r;
   };

@@ -19,18 +19,18 @@ use Rattle.store_history.proofs.Alone.{served_alone}
 use Rattle.store_history.proofs.Whole.{served_woven}
 use Rattle.store_history.specs.Legal.{IsTimed, moment_after, readings_left}
 use Rattle.store_history.specs.Saved.{HoldsBook, saved_book}
-use Rattle.store_history.specs.Tending.{Tended, tended_all, tended_at}
+use Rattle.store_history.specs.LastTouches.{LastTouches, touches_after_all, touches_at_opening}
 use Rattle.store_files.specs.Order.{keeps_rules}
 use Rattle.snapshot_files.proofs.Loading.{loaded}
 use Rattle.core_state.specs.declared.state.Core.{Core}
 use Rattle.core_state.specs.History.{History, StandsFor, began, world}
-use Rattle.core_state.specs.Minds.{Minds, tending}
+use Rattle.core_state.specs.KeepsTouches.{KeepsTouches, touches_of_history}
 use Rattle.core_state.specs.Chunks.{HoldsOnly}
 use Rattle.core_state.specs.Foreign.{IsForeign}
 use Rattle.core_state.specs.Records.{Records, Reaches}
 use Rattle.core_state.specs.Recovers.{Recovers, TellsMoments}
 use Rattle.opening_files.specs.Leaving.{IsFileOf, IsLeaving, Cleans}
-use Rattle.core_opening.specs.Opening.{MindsOpened, RecoversOpened, StandsOpened, opening_of}
+use Rattle.core_opening.specs.Opening.{TouchesOpened, RecoversOpened, StandsOpened, opening_of}
 use Rattle.lane.specs.declared.port.LaneReport.{LaneReport}
 use Rattle.lane.specs.Entries.{has_kind}
 use Rattle.lane.specs.Ran.{RanAlone, with_events}
@@ -139,14 +139,14 @@ pub record HasBoth {D : Type 0} (d : Ghosts D) (clock : Option Readings) (start 
 
 pub has_both : {D E C : Type 0} (d : Ghosts D) (readings : C → Option Readings) (clock : C) (disk : D) (first core saved : Core D E C)
     (left left' taken taken' : Option (List ℕ)) (order : List Entry) (calls : List ℕ) (not_saved : Option DiskError) (report : LaneReport) (last : D)
-    → TellsMoments d → StandsOpened d readings disk clock first → MindsOpened d readings disk clock first → (recovers : RecoversOpened d readings disk clock first)
+    → TellsMoments d → StandsOpened d readings disk clock first → TouchesOpened d readings disk clock first → (recovers : RecoversOpened d readings disk clock first)
     → (d.honest disk → Cleans (d.content disk) (d.content (first.parts).disk))
     → RanAlone (Reaches d readings first (began (opening_at d disk first []) None (readings clock)) core)
     (began (opening_at d disk first []) None (readings clock)) 0 left left' taken taken' report
     → EndsSaved d core saved not_saved
     → order ≡ (saved.journal).entries.items → calls ≡ (saved.journal).calls.items → last ≡ (saved.parts).disk
     → HasBoth d (readings clock) (recovers.opens).start disk (first.parts).disk last left left' taken taken' order calls not_saved report
-has_both d readings clock disk first core saved left left' taken taken' order calls not_saved report last moments opens minds recovers cleaned ran ends order_as calls_as disk_as = record {
+has_both d readings clock disk first core saved left left' taken taken' order calls not_saved report last moments opens touches recovers cleaned ran ends order_as calls_as disk_as = record {
   told = record {
     input = ran.input;
     events = ran.events;
@@ -170,9 +170,9 @@ has_both d readings clock disk first core saved left left' taken taken' order ca
   plain = λ L R honest stands clear.
       let at = last_at L R honest stands in
       let stood = subst (λ o. StandsFor d readings first (began o R (readings clock))) (is_opening L at) (opens L R honest stands) in
-      let minded = subst (λ o. Minds d first (began o R (readings clock))) (is_opening L at) (minds L R honest stands) in
+      let minded = subst (λ o. KeepsTouches d first (began o R (readings clock))) (is_opening L at) (touches L R honest stands) in
       subst (λ o. IsPlain o R first.last (d.calls last) (d.honest last) ran.input ran.events (text ran.told) order not_saved report (d.content disk) (d.content last)) (sym (is_opening L at))
-      (plain L R at (loaded (d.content disk) L stands) ((ran.stands_for).stands L R stood clear) ((ran.stands_for).minds L R stood minded clear)
+      (plain L R at (loaded (d.content disk) L stands) ((ran.stands_for).stands L R stood clear) ((ran.stands_for).touches L R stood minded clear)
       (λ none q own. (ran.stands_for).foreign L R stood clear none q own ∙ foreign_cleaned _ _ (cleaned honest) q own));
   stops = λ L R honest stands clear.
       let at = last_at L R honest stands in
@@ -214,7 +214,7 @@ has_both d readings clock disk first core saved left left' taken taken' order ca
     later L R s unfailed = (ends.history).stands readings (λ is. unfailed.saving (saving_failed not_saved is)) (history L R) s
 
     plain : (L : List Snapshot) (R : Option (List Snapshot)) → first.last ≡ (saved_book (d.content disk)).moment → load (d.content disk) ≡ L
-        → StandsFor d readings core (history L R) → Minds d core (history L R)
+        → StandsFor d readings core (history L R) → KeepsTouches d core (history L R)
         → (core.fault ≡ None → (q : List ℕ) → IsForeign q → get (d.content (core.parts).disk) q ≡ get (d.content disk) q)
         → IsPlain (opening L) R first.last (d.calls last) (d.honest last) ran.input ran.events (text ran.told) order not_saved report (d.content disk) (d.content last)
     plain L R at loads s m foreign =
@@ -232,10 +232,10 @@ has_both d readings clock disk first core saved left left' taken taken' order ca
           stands = λ unfailed. subst (λ x. Stands (d.content x) (world h).store.snapshots) (sym disk_as) ((later L R s unfailed).files (calm L R unfailed.acts)).snapshots;
           chunks = λ unfailed. subst (λ x. HoldsOnly (d.content x) (chunk_pieces (d.content disk) ++ sent ran.events)) (sym disk_as) ((later L R s unfailed).chunks (calm L R unfailed.acts));
           book = λ is saved_is.
-              let held : OnOk (saving_of not_saved) (HoldsBook (d.content (saved.parts).disk) core.last (tending h)) = (ends.history).holds readings h (s.fault ∙ calm L R is) s m in
-              let kept : HoldsBook (d.content (saved.parts).disk) core.last (tending h) = subst (λ o. OnOk (saving_of o) (HoldsBook (d.content (saved.parts).disk) core.last (tending h))) saved_is held in
-              subst (λ x. HoldsBook (d.content x) (moment_after first.last ran.events) (tended_all (tended_at (opening L)) ran.events)) (sym disk_as)
-              (subst (λ n. HoldsBook (d.content (saved.parts).disk) n (tended_all (tended_at (opening L)) ran.events)) r.last kept);
+              let held : OnOk (saving_of not_saved) (HoldsBook (d.content (saved.parts).disk) core.last (touches_of_history h)) = (ends.history).holds readings h (s.fault ∙ calm L R is) s m in
+              let kept : HoldsBook (d.content (saved.parts).disk) core.last (touches_of_history h) = subst (λ o. OnOk (saving_of o) (HoldsBook (d.content (saved.parts).disk) core.last (touches_of_history h))) saved_is held in
+              subst (λ x. HoldsBook (d.content x) (moment_after first.last ran.events) (touches_after_all (touches_at_opening (opening L)) ran.events)) (sym disk_as)
+              (subst (λ n. HoldsBook (d.content (saved.parts).disk) n (touches_after_all (touches_at_opening (opening L)) ran.events)) r.last kept);
           foreign = λ unfailed q own.
               ap (λ x. get (d.content x) q) disk_as ∙ ends.foreign s.honest unfailed.saving q own ∙ foreign (s.fault ∙ calm L R unfailed.acts) q own;
         }

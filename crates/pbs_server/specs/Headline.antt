@@ -23,7 +23,7 @@ use Rattle.store_history.specs.History.{Opening, opened, after_all, entries, sen
 use Rattle.store_history.specs.LaneRun.{text, LaneRan}
 use Rattle.store_history.specs.Legal.{IsLegal, IsTimed, moment_after}
 use Rattle.store_history.specs.Saved.{HoldsBook, saved_book}
-use Rattle.store_history.specs.Tending.{tended_all, tended_at}
+use Rattle.store_history.specs.LastTouches.{touches_after_all, touches_at_opening}
 use Rattle.core_state.specs.Chunks.{HoldsOnly}
 use Rattle.core_state.specs.Foreign.{IsForeign}
 use Rattle.core_state.specs.Records.{AreKept}
@@ -92,7 +92,7 @@ pub record IsPlain (opening : Opening) (remote : Option (List Snapshot)) (since 
   pub honest : is_honest
   pub stands : NoDiskFault order not_saved → StandsFor files store.snapshots
   pub chunks : NoDiskFault order not_saved → HoldsOnly files (chunk_pieces before ++ sent events)
-  pub book : has_kind 5 order ≡ false → not_saved ≡ None → HoldsBook files (moment_after since events) (tended_all (tended_at opening) events)
+  pub book : has_kind 5 order ≡ false → not_saved ≡ None → HoldsBook files (moment_after since events) (touches_after_all (touches_at_opening opening) events)
   pub foreign : NoDiskFault order not_saved → (q : List ℕ) → IsForeign q → get files q ≡ get before q
 
 -- What a crash leaves of a moment since this one stands for the plain store's snapshots after the events that were answered by then, or after

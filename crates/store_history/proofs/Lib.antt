@@ -16,6 +16,6 @@ pub mod Collecting
 pub mod Prefixes
 pub mod Alone
 pub mod Lasting
-pub mod Tending
+pub mod LastTouches
 pub mod Naming
 mod Examples

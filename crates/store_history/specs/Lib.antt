@@ -6,6 +6,6 @@ pub mod SoFar
 pub mod Woven
 pub mod CrashPoints
 pub mod Seats
-pub mod Tending
+pub mod LastTouches
 pub mod Saved
 pub mod Touches

@@ -4,7 +4,7 @@ use Rattle.std.specs.FinMap.{get}
 use Rattle.store_files.specs.Book.{Book, FitsBook, book_of, book_text}
 use Rattle.store_files.specs.Folder.{Files, IsDigest, chunk_name}
 use Rattle.atime_book.specs.Touches.{empty, last_of}
-use Rattle.store_history.specs.Tending.{Tended}
+use Rattle.store_history.specs.LastTouches.{LastTouches}
 
 abbrev pub book_name : List ℕ
 book_name = codes ".chunks/book"
@@ -19,7 +19,7 @@ abbrev pub saved_book : Files → Book
 saved_book m = book_in (get m book_name)
 
 -- The folder has the book of this moment. It has the last touch of each chunk that is there, and of no other.
-pub record HoldsBook (m : Files) (moment : ℕ) (t : Tended) : Type 0 where
+pub record HoldsBook (m : Files) (moment : ℕ) (t : LastTouches) : Type 0 where
   pub book : Book
   pub file : get m book_name ≡ Some (book_text book)
   pub fits : FitsBook book

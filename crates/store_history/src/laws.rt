@@ -25,19 +25,19 @@ pub fn seats_know_their_own()
 {}
 
 /// No chunk's last touch is after the last moment.
-#[tactic(auto, using(crate::proofs::Tending::none_later))]
+#[tactic(auto, using(crate::proofs::LastTouches::none_later))]
 pub fn no_touch_is_later()
     ensures { NoneLater }
 {}
 
 /// A chunk that was sent was touched at the moment of that act.
-#[tactic(auto, using(crate::proofs::Tending::sent_touched))]
+#[tactic(auto, using(crate::proofs::LastTouches::sent_touched))]
 pub fn what_is_sent_is_touched()
     ensures { SentIsTouched }
 {}
 
 /// Once an act was entered, no chunk is undated.
-#[tactic(auto, using(crate::proofs::Tending::first_dates))]
+#[tactic(auto, using(crate::proofs::LastTouches::first_dates))]
 pub fn first_entries_date()
     ensures { FirstEntryDates }
 {}

@@ -1,7 +1,7 @@
 use Rattle.std.proofs.Common.{Some, refl}
 use Rattle.core_state.specs.Settles.{reply_by}
 use Rattle.core_state.specs.Stops.{told}
-use Rattle.core_state.specs.Upkeeps.{tended_of}
+use Rattle.core_state.specs.Upkeeps.{touches_kept}
 use Rattle.core_state.proofs.Applying.{done_applies, done_keeps_all, refused_applies, refused_keeps_all}
 use Rattle.core_state.proofs.Touching.{untouched}
 use Rattle.core_state.proofs.Unreadables.{tells_refused}
@@ -29,7 +29,7 @@ returns-in-At-clause-applies g c =
       clock = refl;
       fault = refl;
       remote = refl;
-      upkeep = untouched c.args.act (Some (reply_by (told c.perform-ended.result))) c.in-At.at.moment (tended_of c.begin.new.core.upkeep) (admins_untouching c.args.act c.requires.kind);
+      upkeep = untouched c.args.act (Some (reply_by (told c.perform-ended.result))) c.in-At.at.moment (touches_kept c.begin.new.core.upkeep) (admins_untouching c.args.act c.requires.kind);
     })
     c.perform-ended.ensures.does c.perform-ended.ensures.leaves c.settle.ensures
 
@@ -42,6 +42,6 @@ returns-in-At-clause-keeps g c =
       clock = refl;
       fault = refl;
       remote = refl;
-      upkeep = untouched c.args.act (Some (reply_by (told c.perform-ended.result))) c.in-At.at.moment (tended_of c.begin.new.core.upkeep) (admins_untouching c.args.act c.requires.kind);
+      upkeep = untouched c.args.act (Some (reply_by (told c.perform-ended.result))) c.in-At.at.moment (touches_kept c.begin.new.core.upkeep) (admins_untouching c.args.act c.requires.kind);
     })
     c.perform-ended.ensures.does c.perform-ended.ensures.leaves c.settle.ensures

@@ -5,7 +5,7 @@ use Rattle.store_types.specs.Times.{last_moment}
 use Rattle.opening_files.specs.Leaving.{Cleans, MayClean}
 use Rattle.opening_files.proofs.Openings.{opens}
 use Rattle.core_opening.specs.declared.opening.Opened.{Opened}
-use Rattle.core_opening.proofs.Booked.{opened_minds}
+use Rattle.core_opening.proofs.Booked.{opened_touches}
 use Rattle.core_opening.proofs.Opened.{opened_records, opened_stands}
 use Rattle.core_opening.proofs.Recovering.{recovers_opened}
 use Rattle.core_opening.proofs.Synced.{of_disk, of_memory, stops_opening}
@@ -36,7 +36,7 @@ returns-in-Ok-opened_of-clause-minds g c =
     λ L R honest stands.
     let x = c.in-Ok-opened_of.ensures in
     let synced = c.sync.ensures.serves.kept.0 honest in
-    opened_minds d (g.C.Clock.readings c.args.clock) c.args.disk _ L R stands
+    opened_touches d (g.C.Clock.readings c.args.clock) c.args.disk _ L R stands
     (subst (λ (m : Files). MayClean m m now) (c.in-Ok.ensures.same honest) (x.cleaned synced).only) (x.book synced)
 
 pub returns-in-Ok-opened_of-clause-catalogue : goal.returns-in-Ok-opened_of-clause-catalogue

@@ -3,7 +3,7 @@ use Rattle.core_state.specs.Begins.{IsReady}
 use Rattle.core_state.specs.Settles.{reply_by}
 use Rattle.core_state.specs.Stops.{told}
 use Rattle.core_state.specs.Unreadables.{TellsUnreadable}
-use Rattle.core_state.specs.Upkeeps.{tended_of}
+use Rattle.core_state.specs.Upkeeps.{touches_kept}
 use Rattle.core_state.specs.Wanted.{session_at}
 use Rattle.core_state.proofs.Applying.{refused_applies, refused_keeps_all, done_applies, done_keeps_all}
 use Rattle.core_state.proofs.Touching.{untouched}
@@ -41,7 +41,7 @@ returns-in-At-clause-applies g c =
       clock = refl;
       fault = refl;
       remote = refl;
-      upkeep = untouched c.args.act (Some (reply_by (told c.perform-ended.result))) c.in-At.at.moment (tended_of c.begin.new.core.upkeep) (readers_untouching c.args.act c.requires.kind);
+      upkeep = untouched c.args.act (Some (reply_by (told c.perform-ended.result))) c.in-At.at.moment (touches_kept c.begin.new.core.upkeep) (readers_untouching c.args.act c.requires.kind);
     })
     c.perform-ended.ensures.does c.perform-ended.ensures.leaves c.settle.ensures
 
@@ -54,7 +54,7 @@ returns-in-At-clause-keeps g c =
       clock = refl;
       fault = refl;
       remote = refl;
-      upkeep = untouched c.args.act (Some (reply_by (told c.perform-ended.result))) c.in-At.at.moment (tended_of c.begin.new.core.upkeep) (readers_untouching c.args.act c.requires.kind);
+      upkeep = untouched c.args.act (Some (reply_by (told c.perform-ended.result))) c.in-At.at.moment (touches_kept c.begin.new.core.upkeep) (readers_untouching c.args.act c.requires.kind);
     })
     c.perform-ended.ensures.does c.perform-ended.ensures.leaves c.settle.ensures
 

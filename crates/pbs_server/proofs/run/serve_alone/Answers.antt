@@ -38,7 +38,7 @@ returns-in-Ok-open_on-clause-leaves g c = let d = g.D.Disk in let s = g.S.Source
     let both = has_both d readings c.args.clock disk first core saved
     (s.left c.args.port.now.source) (s.left c.run_alone-report.new.port.source) (k.taken c.args.port.now.sink) (k.taken c.run_alone-report.new.port.sink)
     (left.order).items ((left.report).calls).items not_saved report left.disk
-    g.met.D.Disk.told opened.opened opened.minds opened.recovers opened.cleaned
+    g.met.D.Disk.told opened.opened opened.touches opened.recovers opened.cleaned
     (c.run_alone-report.ensures.ran (began (opening_at d disk first []) None (readings c.args.clock)) (opened.records (opening_at d disk first []) None refl) refl)
     ends order_as calls_as back.disk in
     let count_before : d.faults disk ≤ d.faults (core.parts).disk = let a = (opened.serves).count in omega (arith, a, entered.count) in

@@ -16,22 +16,22 @@ use Rattle.store_history.specs.declared.act.Act.TheVariants.{Plain, Chunk}
 use Rattle.store_history.specs.declared.act.Event.{Event}
 use Rattle.store_history.specs.History.{World, Opening, opened, after, after_all, moment, reply}
 use Rattle.store_history.specs.Legal.{IsLegal, IsRight}
-use Rattle.store_history.specs.Tending.{Tended, is_one, tended_at, arrived, dated, touched_by, tended_after, tended_all}
+use Rattle.store_history.specs.LastTouches.{LastTouches, is_one_of, touches_at_opening, sent_at, dated, touched_by, touches_after, touches_after_all}
 use Rattle.store_history.specs.Touches.{IsEarly}
 
 -- ---- a longer history
 
-pub tended_more : (t : Tended) (es : List Event) (e : Event) → tended_all t (es ++ e ∷ []) ≡ tended_after (tended_all t es) e
-unfolding tended_all
-tended_more t [] e = refl
-tended_more t (v ∷ es) e = tended_more (tended_after t v) es e
+pub touches_longer : (t : LastTouches) (es : List Event) (e : Event) → touches_after_all t (es ++ e ∷ []) ≡ touches_after (touches_after_all t es) e
+unfolding touches_after_all
+touches_longer t [] e = refl
+touches_longer t (v ∷ es) e = touches_longer (touches_after t v) es e
 
 -- ---- no later touch
 
 abbrev IsWithin : ℕ → Option ℕ → Type 0
 IsWithin m last = IfSome last (λ when. when ≤ m)
 
-abbrev NoneBehind : ℕ → Tended → Type 0
+abbrev NoneBehind : ℕ → LastTouches → Type 0
 NoneBehind m t = (d : List ℕ) → IsWithin m (t.last d)
 
 later : (m n : ℕ) → m ≤ n → (last : Option ℕ) → IsWithin m last → IsWithin n last
@@ -48,25 +48,25 @@ arrived_one m true None within = omega arith
 arrived_one m true (Some when) within = omega arith
 arrived_one m false last within = within
 
-touched_within : (act : Act) (r : Option Reply) (m : ℕ) (t : Tended) → NoneBehind m t → NoneBehind m (touched_by act r m t)
+touched_within : (act : Act) (r : Option Reply) (m : ℕ) (t : LastTouches) → NoneBehind m t → NoneBehind m (touched_by act r m t)
 touched_within (Chunk digest checked) (Some Done) m t within = λ d. arrived_one m (bytes_eq digest.0 d) (t.last d) (within d)
-touched_within (Plain (Append number entries)) (Some Done) m t within = λ d. touched_one m (is_one d (map (λ e. (e.digest).0) entries)) (t.last d) (within d)
+touched_within (Plain (Append number entries)) (Some Done) m t within = λ d. touched_one m (is_one_of d (map (λ e. (e.digest).0) entries)) (t.last d) (within d)
 touched_within act r m t within = within
 
-dated_within : (m : ℕ) (t : Tended) → NoneBehind m t → NoneBehind m (dated m t)
+dated_within : (m : ℕ) (t : LastTouches) → NoneBehind m t → NoneBehind m (dated m t)
 dated_within m t within d = touched_one m (t.undated d) (t.last d) (within d)
 
-after_within : (e : Event) (m : ℕ) (t : Tended) → m ≤ moment e → NoneBehind m t → NoneBehind (moment e) (tended_after t e)
+after_within : (e : Event) (m : ℕ) (t : LastTouches) → m ≤ moment e → NoneBehind m t → NoneBehind (moment e) (touches_after t e)
 after_within e m t risen within =
     dated_within (moment e) (touched_by e.act (reply e) (moment e) t) (touched_within e.act (reply e) (moment e) t (λ d. later m (moment e) risen (t.last d) (within d)))
 
-all_within : (R : Option (List Snapshot)) (w : World) (t : Tended) (es : List Event) → IsLegal R w es → NoneBehind w.moment t → NoneBehind (after_all R w es).moment (tended_all t es)
-unfolding tended_all after_all after
+all_within : (R : Option (List Snapshot)) (w : World) (t : LastTouches) (es : List Event) → IsLegal R w es → NoneBehind w.moment t → NoneBehind (after_all R w es).moment (touches_after_all t es)
+unfolding touches_after_all after_all after
 all_within R w t [] legal within = within
-all_within R w t (e ∷ es) legal within = all_within R (after R w e) (tended_after t e) es legal.1 (after_within e w.moment t (legal.0).risen within)
+all_within R w t (e ∷ es) legal within = all_within R (after R w e) (touches_after t e) es legal.1 (after_within e w.moment t (legal.0).risen within)
 
-opened_within : (o : Opening) → IsEarly o → NoneBehind o.moment (tended_at o)
-opened_within o early d = by_test (is_one d (map sha256 o.chunks)) (last_in o.touches d) (early d)
+opened_within : (o : Opening) → IsEarly o → NoneBehind o.moment (touches_at_opening o)
+opened_within o early d = by_test (is_one_of d (map sha256 o.chunks)) (last_in o.touches d) (early d)
   where
     by_test : (here : Bool) (last : Option ℕ) → IsWithin o.moment last → IsWithin o.moment (cond here (Some (unwrap_or last o.moment)) None)
     by_test true None within = omega arith
@@ -74,8 +74,8 @@ opened_within o early d = by_test (is_one d (map sha256 o.chunks)) (last_in o.to
     by_test false last within = tt
 
 pub none_later : (R : Option (List Snapshot)) (o : Opening) (es : List Event) (d : List ℕ) → IsLegal R (opened o) es → IsEarly o
-    → IfSome ((tended_all (tended_at o) es).last d) (λ when. when ≤ (after_all R (opened o) es).moment)
-none_later R o es d legal early = all_within R (opened o) (tended_at o) es legal (opened_within o early) d
+    → IfSome ((touches_after_all (touches_at_opening o) es).last d) (λ when. when ≤ (after_all R (opened o) es).moment)
+none_later R o es d legal early = all_within R (opened o) (touches_at_opening o) es legal (opened_within o early) d
 
 -- ---- a chunk that is sent
 
@@ -96,20 +96,20 @@ dated_same : (m : ℕ) (here : Bool) → cond here (Some (max m m)) (Some m) ≡
 dated_same m true = let same : max m m ≡ m = omega arith in ap Some same
 dated_same m false = refl
 
-arrived_at : (digest : List ℕ) (m : ℕ) (t : Tended) → IsWithin m (t.last digest) → (arrived digest m t).last digest ≡ Some m
+arrived_at : (digest : List ℕ) (m : ℕ) (t : LastTouches) → IsWithin m (t.last digest) → (sent_at digest m t).last digest ≡ Some m
 arrived_at digest m t within =
     ap (λ b. cond b (Some (greatest (t.last digest) m)) (t.last digest)) ((bytes_eq-Decides digest digest).1 refl) ∙ ap Some (greatest_is m (t.last digest) within)
 
-sent_at : (digest : Digest32) (checked : Result (List ℕ) Refusal) (m : ℕ) (t : Tended) → IsWithin m (t.last digest.0)
+sent_at : (digest : Digest32) (checked : Result (List ℕ) Refusal) (m : ℕ) (t : LastTouches) → IsWithin m (t.last digest.0)
     → (dated m (touched_by (Chunk digest checked) (Some Done) m t)).last digest.0 ≡ Some m
 sent_at digest checked m t within =
     ap (λ last. cond (t.undated digest.0) (option_map (λ when. max when m) last) last) (arrived_at digest.0 m t within) ∙ dated_same m (t.undated digest.0)
 
 pub sent_touched : (R : Option (List Snapshot)) (o : Opening) (es : List Event) (e : Event) (digest : Digest32) (checked : Result (List ℕ) Refusal)
     → IsLegal R (opened o) (es ++ e ∷ []) → IsEarly o → e.act ≡ Chunk digest checked → reply e ≡ Some Done
-    → (tended_after (tended_all (tended_at o) es) e).last digest.0 ≡ Some (moment e)
+    → (touches_after (touches_after_all (touches_at_opening o) es) e).last digest.0 ≡ Some (moment e)
 sent_touched R o es e digest checked legal early act_is done =
-    let t = tended_all (tended_at o) es in
+    let t = touches_after_all (touches_at_opening o) es in
     let risen = (legal_last R (opened o) es e legal).risen in
     let within = later (after_all R (opened o) es).moment (moment e) risen (t.last digest.0) (none_later R o es digest.0 (legal_front R (opened o) es e legal) early) in
     ap (λ act. (dated (moment e) (touched_by act (reply e) (moment e) t)).last digest.0) act_is
@@ -118,5 +118,5 @@ sent_touched R o es e digest checked legal early act_is done =
 
 -- ---- the first entry
 
-pub first_dates : (t : Tended) (e : Event) (d : List ℕ) → (tended_after t e).undated d ≡ false
+pub first_dates : (t : LastTouches) (e : Event) (d : List ℕ) → (touches_after t e).undated d ≡ false
 first_dates t e d = refl

@@ -40,9 +40,9 @@ use Rattle.store_history.specs.declared.act.Event.{Event}
 use Rattle.store_history.specs.Acts.{IsCheckedChunk, IsWellFormed, stepping}
 use Rattle.store_history.specs.History.{World, act_outcome, after as world_after, data_in, kind, kind_of, lane as lane_of, moment, moved, opened}
 use Rattle.store_history.specs.Legal.{Right}
-use Rattle.store_history.specs.Tending.{Tended, SameTended, dated, is_one, tended_at, tended_by, touched_by}
+use Rattle.store_history.specs.LastTouches.{LastTouches, SameTouches, dated, is_one_of, touches_at_opening, touches_by_entry, touched_by}
 use Rattle.store_history.proofs.Checking.{checked_digest}
-use Rattle.store_history.proofs.Tending.{tended_more}
+use Rattle.store_history.proofs.LastTouches.{touches_longer}
 use Rattle.core_state.specs.declared.state.Core.{Core}
 use Rattle.core_state.specs.Answers.{HasCause, IsAnswered, IsCaused, done, short, failed, halted, fault_after}
 use Rattle.core_state.specs.Applies.{ActKeeps, IsClearFor}
@@ -50,15 +50,15 @@ use Rattle.core_state.specs.Changes.{Change, after, by_reply}
 use Rattle.core_state.specs.Commands.{change_at}
 use Rattle.core_state.specs.History.{History, StandsFor, event_of, then_event, world}
 use Rattle.core_state.specs.Holds.{IsOnDisk}
-use Rattle.core_state.specs.Minds.{Minds, tending}
+use Rattle.core_state.specs.KeepsTouches.{KeepsTouches, touches_of_history}
 use Rattle.core_state.specs.Replies.{may_answer}
-use Rattle.core_state.specs.Upkeeps.{tended_of}
+use Rattle.core_state.specs.Upkeeps.{touches_kept}
 use Rattle.core_state.proofs.Chunks.{is_digest}
 use Rattle.core_state.proofs.Entered.{world_more}
 use Rattle.core_state.proofs.ForeignLemmas.{MissesChunk, no_fault_before, not_faulted, others_kept}
 use Rattle.core_state.proofs.Recovering.{StandsMore, last_right}
 use Rattle.core_state.proofs.Sessions.{session_same}
-use Rattle.core_state.proofs.Touching.{refusal_untouched, same_then, tended_same}
+use Rattle.core_state.proofs.Touching.{refusal_untouched, same_then, touches_by_same_all}
 
 -- ---- which chunks are there after an act
 
@@ -67,7 +67,7 @@ dated_one true when None = refl
 dated_one true when (Some m) = refl
 dated_one false when last = refl
 
-dated_there : (x : List ℕ) (when : ℕ) (t : Tended) → is_some ((dated when t).last x) ≡ is_some (t.last x)
+dated_there : (x : List ℕ) (when : ℕ) (t : LastTouches) → is_some ((dated when t).last x) ≡ is_some (t.last x)
 dated_there x when t = dated_one (t.undated x) when (t.last x)
 
 -- it is no CHUNK of this digest
@@ -75,19 +75,19 @@ abbrev IsOther : List ℕ → Act → Type 0
 IsOther x (Chunk digest checked) = digest.0 ≢ x
 IsOther x act = Unit {0}
 
-touched_there : (x : List ℕ) (act : Act) (reply : Option Reply) (when : ℕ) (t : Tended) → IsOther x act → is_some ((touched_by act reply when t).last x) ≡ is_some (t.last x)
+touched_there : (x : List ℕ) (act : Act) (reply : Option Reply) (when : ℕ) (t : LastTouches) → IsOther x act → is_some ((touched_by act reply when t).last x) ≡ is_some (t.last x)
 touched_there x (Chunk digest checked) (Some replies.Done) when t other = ap (λ b. is_some (if b then Some (greatest (t.last x) when) else t.last x)) (other_name digest.0 x other)
-touched_there x (Plain (Append number entries)) (Some replies.Done) when t other = dated_one (is_one x (map (λ e. (e.digest).0) entries)) when (t.last x)
+touched_there x (Plain (Append number entries)) (Some replies.Done) when t other = dated_one (is_one_of x (map (λ e. (e.digest).0) entries)) when (t.last x)
 touched_there x act reply when t other = refl
 
-tended_there : (x : List ℕ) (act : Act) (reply : Option Reply) (when : ℕ) (t : Tended) → IsOther x act → is_some ((tended_by act reply when t).last x) ≡ is_some (t.last x)
-tended_there x act reply when t other = dated_there x when (touched_by act reply when t) ∙ touched_there x act reply when t other
+touches_there : (x : List ℕ) (act : Act) (reply : Option Reply) (when : ℕ) (t : LastTouches) → IsOther x act → is_some ((touches_by_entry act reply when t).last x) ≡ is_some (t.last x)
+touches_there x act reply when t other = dated_there x when (touched_by act reply when t) ∙ touched_there x act reply when t other
 
-refused_there : (x : List ℕ) (act : Act) (refusal : Refusal) (when : ℕ) (t : Tended) → is_some ((tended_by act (Some (replies.Refused refusal)) when t).last x) ≡ is_some (t.last x)
+refused_there : (x : List ℕ) (act : Act) (refusal : Refusal) (when : ℕ) (t : LastTouches) → is_some ((touches_by_entry act (Some (replies.Refused refusal)) when t).last x) ≡ is_some (t.last x)
 refused_there x act refusal when t =
     dated_there x when (touched_by act (Some (replies.Refused refusal)) when t) ∙ sym (ap is_some ((refusal_untouched act refusal when t).last x))
 
-sent_there : (digest : Digest32) (checked : Result (List ℕ) Refusal) (when : ℕ) (t : Tended) → is_some ((tended_by (Chunk digest checked) (Some replies.Done) when t).last digest.0) ≡ true
+sent_there : (digest : Digest32) (checked : Result (List ℕ) Refusal) (when : ℕ) (t : LastTouches) → is_some ((touches_by_entry (Chunk digest checked) (Some replies.Done) when t).last digest.0) ≡ true
 sent_there digest checked when t =
     dated_there digest.0 when (touched_by (Chunk digest checked) (Some replies.Done) when t)
     ∙ ap (λ b. is_some (if b then Some (greatest (t.last digest.0) when) else t.last digest.0)) ((bytes_eq-Decides digest.0 digest.0).1 refl)
@@ -186,7 +186,7 @@ record IsCalm {D E C : Type 0} (d : Ghosts D) (clock : clocks.Ghosts C) (old new
   pub cause : IsCaused d old new act answer
   pub s : StandsFor d clock.readings old h
   pub so : StandsFor d clock.readings new (then_event h (event_of act answer (d.calls (new.parts).disk)))
-  pub was : (x : List ℕ) → IsDigest x → IsSome (get (d.content (old.parts).disk) (chunk_name x)) ↔ IsSome ((tending h).last x)
+  pub was : (x : List ℕ) → IsDigest x → IsSome (get (d.content (old.parts).disk) (chunk_name x)) ↔ IsSome ((touches_of_history h).last x)
 
 module _ {D E C : Type 0} (d : Ghosts D) (clock : clocks.Ghosts C) (old new : Core D E C) (answer : Answer) (h : History) where
   abbrev k : ℕ
@@ -204,8 +204,8 @@ module _ {D E C : Type 0} (d : Ghosts D) (clock : clocks.Ghosts C) (old new : Co
   abbrev e : Act → Event
   e act = event_of act answer (d.calls (new.parts).disk)
 
-  abbrev t : Act → Tended
-  t act = tended_by act answer.reply (answer.entry).moment (tending h)
+  abbrev t : Act → LastTouches
+  t act = touches_by_entry act answer.reply (answer.entry).moment (touches_of_history h)
 
   -- the chunk file is there where the chunk was touched
   abbrev Present : Act → List ℕ → Type 0
@@ -217,7 +217,7 @@ module _ {D E C : Type 0} (d : Ghosts D) (clock : clocks.Ghosts C) (old new : Co
   others : (act : Act) → Calm act → (x : List ℕ) → IsDigest x → MissesChunk (chunk_name x) act → IsOther x act → Present act x
   others act f x is misses other =
       let same = others_kept d old new w.store k (length (old.journal).entries.items) act answer f.inside (f.s).shows (f.s).honest f.fault f.cause f.keeps f.none (chunk_name x) (chunk_apart x) misses in
-      both (get read (chunk_name x)) (get reads (chunk_name x)) ((tending h).last x) ((t act).last x) (ap is_some same) (tended_there x act answer.reply (answer.entry).moment (tending h) other) (f.was x is)
+      both (get read (chunk_name x)) (get reads (chunk_name x)) ((touches_of_history h).last x) ((t act).last x) (ap is_some same) (touches_there x act answer.reply (answer.entry).moment (touches_of_history h) other) (f.was x is)
 
   before : (act : Act) → Calm act → old.fault ≡ None
   before act f = no_fault_before (length (old.journal).entries.items) (answer.entry).kind old.fault (sym f.fault ∙ f.none)
@@ -227,8 +227,8 @@ module _ {D E C : Type 0} (d : Ghosts D) (clock : clocks.Ghosts C) (old new : Co
       let same : reads ≡ read =
       (f.keeps).content (before act f) (not_faulted d old new act answer f.cause f.none) (f.s).honest
       ∙ ap (λ o. after (by_reply (change_at old.parts k act) o) read) told ∙ after_refused (change_at old.parts k act) r read other in
-      both (get read (chunk_name x)) (get reads (chunk_name x)) ((tending h).last x) ((t act).last x) (ap (λ (m : Files). is_some (get m (chunk_name x))) same)
-      (ap (λ o. is_some ((tended_by act o (answer.entry).moment (tending h)).last x)) told ∙ refused_there x act r (answer.entry).moment (tending h)) (f.was x is)
+      both (get read (chunk_name x)) (get reads (chunk_name x)) ((touches_of_history h).last x) ((t act).last x) (ap (λ (m : Files). is_some (get m (chunk_name x))) same)
+      (ap (λ o. is_some ((touches_by_entry act o (answer.entry).moment (touches_of_history h)).last x)) told ∙ refused_there x act r (answer.entry).moment (touches_of_history h)) (f.was x is)
 
   -- ---- a CHUNK
 
@@ -264,7 +264,7 @@ module _ {D E C : Type 0} (d : Ghosts D) (clock : clocks.Ghosts C) (old new : Co
 
       here : Present sends digest.0
       here = (
-        λ _. ap (λ o. is_some ((tended_by sends o (answer.entry).moment (tending h)).last digest.0)) told ∙ sent_there digest checked (answer.entry).moment (tending h),
+        λ _. ap (λ o. is_some ((touches_by_entry sends o (answer.entry).moment (touches_of_history h)).last digest.0)) told ∙ sent_there digest checked (answer.entry).moment (touches_of_history h),
         λ _. put,
       )
 
@@ -290,18 +290,18 @@ module _ {D E C : Type 0} (d : Ghosts D) (clock : clocks.Ghosts C) (old new : Co
   present (Chunk digest checked) f x is = by_cause digest checked f f.cause x is
   present act f x is = others act f x is tt tt
 
-pub minds_more : {D E C : Type 0} (d : Ghosts D) (clock : clocks.Ghosts C) (old new : Core D E C) (lane : ℕ) (act : Act) (answer : Answer) → lane < 64 → IsWellFormed act
+pub touches_more : {D E C : Type 0} (d : Ghosts D) (clock : clocks.Ghosts C) (old new : Core D E C) (lane : ℕ) (act : Act) (answer : Answer) → lane < 64 → IsWellFormed act
     → StandsMore d clock old new act answer → IsAnswered d old new lane answer → IsCaused d old new act answer → ActKeeps d old new lane act answer
-    → (h : History) → StandsFor d clock.readings old h → Minds d old h → IsClearFor act (then_event h (event_of act answer (d.calls (new.parts).disk)))
-    → Minds d new (then_event h (event_of act answer (d.calls (new.parts).disk)))
-minds_more d clock old new lane act answer lt formed more answers cause keeps h s minds clear =
+    → (h : History) → StandsFor d clock.readings old h → KeepsTouches d old h → IsClearFor act (then_event h (event_of act answer (d.calls (new.parts).disk)))
+    → KeepsTouches d new (then_event h (event_of act answer (d.calls (new.parts).disk)))
+touches_more d clock old new lane act answer lt formed more answers cause keeps h s touches clear =
     let is = answers.lane_is in
-    let longer = tended_more (tended_at h.opening) h.events (event_of act answer (d.calls (new.parts).disk)) in record {
-      touches = subst (λ (t : Tended). SameTended (tended_of new.upkeep) t) (sym longer)
-          (same_then (tended_of new.upkeep) (tended_by act answer.reply (answer.entry).moment (tended_of old.upkeep)) (tended_by act answer.reply (answer.entry).moment (tending h)) keeps.upkeep
-          (tended_same act answer.reply (answer.entry).moment (tended_of old.upkeep) (tending h) minds.touches));
+    let longer = touches_longer (touches_at_opening h.opening) h.events (event_of act answer (d.calls (new.parts).disk)) in record {
+      touches = subst (λ (t : LastTouches). SameTouches (touches_kept new.upkeep) t) (sym longer)
+          (same_then (touches_kept new.upkeep) (touches_by_entry act answer.reply (answer.entry).moment (touches_kept old.upkeep)) (touches_by_entry act answer.reply (answer.entry).moment (touches_of_history h)) keeps.upkeep
+          (touches_by_same_all act answer.reply (answer.entry).moment (touches_kept old.upkeep) (touches_of_history h) touches.touches));
       present = λ none x digest.
-          subst (λ (t : Tended). IsSome (get (d.content (new.parts).disk) (chunk_name x)) ↔ IsSome (t.last x)) (sym longer)
+          subst (λ (t : LastTouches). IsSome (get (d.content (new.parts).disk) (chunk_name x)) ↔ IsSome (t.last x)) (sym longer)
           (present d clock old new answer h act
           (record {
             none = none;
@@ -312,6 +312,6 @@ minds_more d clock old new lane act answer lt formed more answers cause keeps h 
             cause = cause;
             s = s;
             so = more h s clear;
-            was = minds.present (no_fault_before (length (old.journal).entries.items) (answer.entry).kind old.fault (sym answers.fault ∙ none));
+            was = touches.present (no_fault_before (length (old.journal).entries.items) (answer.entry).kind old.fault (sym answers.fault ∙ none));
           }) x digest);
     }
