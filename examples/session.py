@@ -23,7 +23,7 @@ BOOK_MAGIC = b"PBSBOOK1"
 
 OPEN_WRITER, PREVIOUS, NEW_FIXED, NEW_DYNAMIC, CHUNK, APPEND, CLOSE_INDEX, BLOB, FINISH, ABORT = range(10, 20)
 OPEN_READER, DOWNLOAD, GET_CHUNK, RANGE, CLOSE_READER = range(20, 25)
-LIST, FILES, FORGET, PRUNE = range(30, 34)
+LIST, FILES, FORGET, PRUNE, VERIFY, SYNC, GC = range(30, 37)
 GROUP, BYE = 40, 63
 
 # The refusals by their numbers.
@@ -285,6 +285,18 @@ def prune(group, last=0, hourly=0, daily=0, weekly=0, monthly=0, yearly=0, dry=0
     return bytes([PRUNE]) + text(group) + b"".join(map(u16, counts)) + bytes([dry])
 
 
+def verify(snapshot):
+    return bytes([VERIFY]) + text(snapshot)
+
+
+def sync(group):
+    return bytes([SYNC]) + text(group)
+
+
+def gc():
+    return bytes([GC])
+
+
 def group(name):
     return bytes([GROUP]) + text(name)
 
@@ -326,7 +338,7 @@ def rows(*snapshots):
 
 
 def keys(*snapshots):
-    """Snapshots as GROUP tells them."""
+    """Snapshots as GROUP and SYNC tell them."""
     return b"\0" + u16(len(snapshots)) + b"".join(map(text, snapshots))
 
 
@@ -338,6 +350,21 @@ def file_rows(*files):
 def marks(*snapshots):
     """Snapshots as PRUNE tells them: 0 removed, 1 kept, 2 held, 3 gone."""
     return b"\0" + u16(len(snapshots)) + b"".join(text(it) + bytes([mark]) for it, mark in snapshots)
+
+
+def file_fault(name, code, digest=bytes(32)):
+    """A file's first fault: 19 it differs, 23 the chunk of this digest is damaged, 24 it is missing or doesn't decode."""
+    return text(name) + bytes([code]) + digest
+
+
+def verified(files, entries, size, *faults):
+    """How many files a VERIFY read, how many entries of indexes, and how many bytes these are; and the faults."""
+    return b"\0" + bytes([files]) + u64(entries) + u64(size) + bytes([len(faults)]) + b"".join(faults)
+
+
+def collected(start, cutoff, used, pending, removed):
+    """A collection's start and cutoff, and how many chunks are used, pending and removed."""
+    return b"\0" + b"".join(map(u64, (start, cutoff, used, pending, removed)))
 
 
 def refused(number, *fields):

@@ -16,72 +16,118 @@ use Rattle.store_model.specs.declared.ending.Ending.{Ending}
 use Rattle.store_model.specs.declared.ending.Ending.TheVariants as endings
 use Rattle.store_model.specs.Job.{Asking}
 use Rattle.store_model.specs.Jobs.{job_of}
-use Rattle.store_model.specs.Lanes.{Next, job_step, plain, bye, broken, end, lane_next, front_next, command_next}
+use Rattle.store_model.specs.Lanes.{Next, job_step, plain, sync, collect, collecting, bye, broken, end, lane_next, front_next, command_next}
 use Rattle.store_history.specs.declared.act.Act.TheVariants as acts
 use Rattle.store_history.specs.declared.act.Answer.{Answer}
 use Rattle.store_history.specs.declared.act.Event.{Event}
 use Rattle.store_history.specs.Acts.{IsPlain, IsChecked, IsWellFormed, check_blob, act_of_command, class_of}
 use Rattle.store_history.specs.History.{kind, reply}
-use Rattle.store_history.specs.LaneRun.{Position, next_at, heard_at, heard, heard_as, last_words, end_faulted, end_heard, position_after, Asks, may_want, EndsSo, Does, Runs}
+use Rattle.store_history.specs.LaneRun.{Position, lane_of, next_at, wants, heard_at, heard, heard_as, last_words, end_faulted, end_heard, position_after, Asks, may_want, EndsSo, Does, Runs}
 use Rattle.store_history.specs.SoFar.{goes_further, Follows, Leads}
 use Rattle.store_history.proofs.Checking.{is_checked_chunk}
 use Rattle.store_history.proofs.Events.{command_class}
 use Rattle.store_history.proofs.Growing.{leads_more, heard_at_over}
+use Rattle.store_history.proofs.Keeping.{fault_shut}
+use Rattle.store_history.proofs.Placed.{open_at, open_is}
 use Rattle.store_history.proofs.Wanting.{wants_frame}
 
 -- ---- what is next
 
--- where no job is open
-pub next_is : (p : Position) (f : InputFront) → p.job ≡ None → front p.left ≡ f → next_at p ≡ front_next (p.size - length p.left) f
+-- where what is next is no act of a collector, the lane's is not open
+pub next_shut : (p : Position) (x : Next) → next_at p ≡ x → open_at x ≡ None → p.collecting ≡ None
+next_shut p x is shut = sym (open_is p) ∙ ap open_at is ∙ shut
+
+-- where neither a collector nor a job is open
+pub next_is : (p : Position) (f : InputFront) → p.collecting ≡ None → p.job ≡ None → front p.left ≡ f → next_at p ≡ front_next (p.size - length p.left) f
 unfolding next_at lane_next
-next_is p f off is =
-    ap (λ (o : Option Asking). elim o [ None ↦ front_next (p.size - length p.left) (front p.left) | Some j ↦ job_step j p.left ]) off
+next_is p f shut off is =
+    ap (λ (o : Option Bool). elim o [ None ↦ lane_next (lane_of p) | Some is_short ↦ collecting is_short ]) shut
+    ∙ ap (λ (o : Option Asking). elim o [ None ↦ front_next (p.size - length p.left) (front p.left) | Some j ↦ job_step j p.left ]) off
     ∙ ap (λ x. front_next (p.size - length p.left) x) is
 
--- a command that is no job's, other than BYE
-pub next_command : (p : Position) (c : Command) (left : List ℕ) → p.job ≡ None → front p.left ≡ next c left → job_of c ≡ None → c ≢ commands.Bye → next_at p ≡ plain c left
-unfolding front_next command_next
-next_command p commands.Bye left off is none ne = absurd (ne refl)
-next_command p (commands.Prune group keep dry) left off is none ne = cc
-next_command p c left off is none ne = next_is p (next c left) off is
+-- a command that is neither a job's nor the collector's, other than BYE
+abbrev pub IsCommand : Command → Type 0
+IsCommand (commands.Prune group keep dry) = ⊥
+IsCommand (commands.Verify snapshot) = ⊥
+IsCommand (commands.Sync group) = ⊥
+IsCommand commands.Gc = ⊥
+IsCommand commands.Bye = ⊥
+IsCommand c = Unit {0}
+
+pub command_is : (c : Command) (left : List ℕ) → IsCommand c → command_next c left ≡ plain c left
+unfolding command_next
+command_is (commands.Prune group keep dry) left h = absurd h
+command_is (commands.Verify snapshot) left h = absurd h
+command_is (commands.Sync group) left h = absurd h
+command_is commands.Gc left h = absurd h
+command_is commands.Bye left h = absurd h
+command_is c left h = refl
+
+pub next_command : (p : Position) (c : Command) (left : List ℕ) → p.collecting ≡ None → p.job ≡ None → front p.left ≡ next c left → IsCommand c → next_at p ≡ plain c left
+unfolding front_next
+next_command p c left shut off is h = next_is p (next c left) shut off is ∙ command_is c left h
 
 -- a job's command
-pub next_job : (p : Position) (c : Command) (j : Asking) (left : List ℕ) → p.job ≡ None → front p.left ≡ next c left → job_of c ≡ Some j → next_at p ≡ job_step j left
-unfolding front_next command_next
-next_job p (commands.Prune group keep dry) j left off is some =
-    next_is p (next (commands.Prune group keep dry) left) off is ∙ ap (λ (o : Option Asking). elim o [ None ↦ plain (commands.Prune group keep dry) left | Some i ↦ job_step i left ]) some
-next_job p c j left off is some = cc
+job_is : (c : Command) (j : Asking) (left : List ℕ) → job_of c ≡ Some j → command_next c left ≡ job_step j left
+unfolding command_next
+job_is (commands.Prune group keep dry) j left some = ap (λ (o : Option Asking). elim o [ None ↦ plain (commands.Prune group keep dry) left | Some i ↦ job_step i left ]) some
+job_is (commands.Verify snapshot) j left some = ap (λ (o : Option Asking). elim o [ None ↦ plain (commands.Verify snapshot) left | Some i ↦ job_step i left ]) some
+job_is c j left some = cc
+
+pub next_job : (p : Position) (c : Command) (j : Asking) (left : List ℕ) → p.collecting ≡ None → p.job ≡ None → front p.left ≡ next c left → job_of c ≡ Some j
+    → next_at p ≡ job_step j left
+unfolding front_next
+next_job p c j left shut off is some = next_is p (next c left) shut off is ∙ job_is c j left some
 
 -- an open job's step
-pub next_open : (p : Position) (j : Asking) → p.job ≡ Some j → next_at p ≡ job_step j p.left
+pub next_open : (p : Position) (j : Asking) → p.collecting ≡ None → p.job ≡ Some j → next_at p ≡ job_step j p.left
 unfolding next_at lane_next
-next_open p j is = ap (λ (o : Option Asking). elim o [ None ↦ front_next (p.size - length p.left) (front p.left) | Some i ↦ job_step i p.left ]) is
+next_open p j shut is =
+    ap (λ (o : Option Bool). elim o [ None ↦ lane_next (lane_of p) | Some is_short ↦ collecting is_short ]) shut
+    ∙ ap (λ (o : Option Asking). elim o [ None ↦ front_next (p.size - length p.left) (front p.left) | Some i ↦ job_step i p.left ]) is
 
-pub next_plain : (p : Position) (c : Command) (left : List ℕ) → p.job ≡ None → front p.left ≡ next c left → IsPlain c → next_at p ≡ plain c left
-next_plain p commands.Bye left off is h = absurd h
-next_plain p (commands.Prune group keep dry) left off is h = absurd h
-next_plain p c left off is h = next_command p c left off is refl (λ e. subst IsPlain e h)
+-- an open collector's act
+pub next_collecting : (p : Position) (b : Bool) → p.collecting ≡ Some b → next_at p ≡ collecting b
+unfolding next_at
+next_collecting p b is = ap (λ (o : Option Bool). elim o [ None ↦ lane_next (lane_of p) | Some is_short ↦ collecting is_short ]) is
 
-pub next_bye : (p : Position) (left : List ℕ) → p.job ≡ None → front p.left ≡ next commands.Bye left → next_at p ≡ bye
+pub plain_command : (c : Command) → IsPlain c → IsCommand c
+plain_command (commands.Chunk digest blob) h = absurd h
+plain_command (commands.Blob file blob) h = absurd h
+plain_command (commands.Prune group keep dry) h = absurd h
+plain_command (commands.Verify snapshot) h = absurd h
+plain_command (commands.Sync group) h = absurd h
+plain_command commands.Gc h = absurd h
+plain_command commands.Bye h = absurd h
+plain_command c h = tt
+
+pub next_plain : (p : Position) (c : Command) (left : List ℕ) → p.collecting ≡ None → p.job ≡ None → front p.left ≡ next c left → IsPlain c → next_at p ≡ plain c left
+next_plain p c left shut off is h = next_command p c left shut off is (plain_command c h)
+
+pub next_gc : (p : Position) (left : List ℕ) → p.collecting ≡ None → p.job ≡ None → front p.left ≡ next commands.Gc left → next_at p ≡ collect left
 unfolding front_next command_next
-next_bye p left off is = next_is p (next commands.Bye left) off is
+next_gc p left shut off is = next_is p (next commands.Gc left) shut off is
 
-pub next_end : (p : Position) → p.job ≡ None → p.left ≡ [] → next_at p ≡ end
+pub next_bye : (p : Position) (left : List ℕ) → p.collecting ≡ None → p.job ≡ None → front p.left ≡ next commands.Bye left → next_at p ≡ bye
+unfolding front_next command_next
+next_bye p left shut off is = next_is p (next commands.Bye left) shut off is
+
+pub next_end : (p : Position) → p.collecting ≡ None → p.job ≡ None → p.left ≡ [] → next_at p ≡ end
 unfolding front_next front
-next_end p off is = next_is p nothing off (ap front is)
+next_end p shut off is = next_is p nothing shut off (ap front is)
 
-pub next_no_command : (p : Position) → p.job ≡ None → front p.left ≡ no_command → next_at p ≡ broken (BadFrame (p.size - length p.left))
+pub next_no_command : (p : Position) → p.collecting ≡ None → p.job ≡ None → front p.left ≡ no_command → next_at p ≡ broken (BadFrame (p.size - length p.left))
 unfolding front_next
-next_no_command p off is = next_is p no_command off is
+next_no_command p shut off is = next_is p no_command shut off is
 
-pub next_too_long : (p : Position) (n : ℕ) → p.job ≡ None → front p.left ≡ over_limit n → next_at p ≡ broken (TooLong n)
+pub next_too_long : (p : Position) (n : ℕ) → p.collecting ≡ None → p.job ≡ None → front p.left ≡ over_limit n → next_at p ≡ broken (TooLong n)
 unfolding front_next
-next_too_long p n off is = next_is p (over_limit n) off is
+next_too_long p n shut off is = next_is p (over_limit n) shut off is
 
 -- where no job is open and a part of a frame is left, or nothing, no command is next
-pub part_next : (p : Position) → p.job ≡ None → cut p.left ≡ short → goes_further (next_at p) ≡ false
+pub part_next : (p : Position) → p.collecting ≡ None → p.job ≡ None → cut p.left ≡ short → goes_further (next_at p) ≡ false
 unfolding front front_next
-part_next p off is = ap goes_further (next_is p (front p.left) off refl) ∙ by_left p.left is
+part_next p shut off is = ap goes_further (next_is p (front p.left) shut off refl) ∙ by_left p.left is
   where
     by_left : (left : List ℕ) → cut left ≡ short → goes_further (front_next (p.size - length p.left) (front left)) ≡ false
     by_left [] h = refl
@@ -93,6 +139,9 @@ pub plain_act : (c : Command) → IsPlain c → act_of_command c ≡ acts.Plain 
 plain_act (commands.Chunk digest blob) h = absurd h
 plain_act (commands.Blob file blob) h = absurd h
 plain_act (commands.Prune group keep dry) h = absurd h
+plain_act (commands.Verify snapshot) h = absurd h
+plain_act (commands.Sync group) h = absurd h
+plain_act commands.Gc h = absurd h
 plain_act c h = refl
 
 -- what the check of an upload gives is well-formed
@@ -104,28 +153,31 @@ is_checked bytes = by_result (data_of bytes) refl
     by_result (Ok piece) e = ap is_ok e
     by_result (Err fault) e = tt
 
-pub is_formed : (c : Command) → c ≢ commands.Bye → IsWellFormed (act_of_command c)
-is_formed (commands.Chunk digest blob) ne = is_checked_chunk digest blob
-is_formed (commands.Blob file blob) ne = is_checked blob
-is_formed (commands.Previous file offset) ne = tt
-is_formed (commands.NewFixed file size chunk_size) ne = tt
-is_formed (commands.NewDynamic file) ne = tt
-is_formed (commands.Append number entries) ne = tt
-is_formed (commands.CloseIndex number count size csum) ne = tt
-is_formed commands.Bye ne = absurd (ne refl)
-is_formed (commands.OpenWriter snapshot) ne = tt
-is_formed commands.Finish ne = tt
-is_formed commands.Abort ne = tt
-is_formed (commands.OpenReader snapshot) ne = tt
-is_formed (commands.Download file offset) ne = tt
-is_formed (commands.GetChunk digest) ne = tt
-is_formed (commands.Range file offset len) ne = tt
-is_formed commands.CloseReader ne = tt
-is_formed (commands.List after) ne = tt
-is_formed (commands.Files snapshot) ne = tt
-is_formed (commands.Forget snapshot) ne = tt
-is_formed (commands.Prune group keep dry) ne = tt
-is_formed (commands.Group group) ne = tt
+pub is_formed : (c : Command) → IsCommand c → IsWellFormed (act_of_command c)
+is_formed (commands.Chunk digest blob) h = is_checked_chunk digest blob
+is_formed (commands.Blob file blob) h = is_checked blob
+is_formed (commands.Previous file offset) h = tt
+is_formed (commands.NewFixed file size chunk_size) h = tt
+is_formed (commands.NewDynamic file) h = tt
+is_formed (commands.Append number entries) h = tt
+is_formed (commands.CloseIndex number count size csum) h = tt
+is_formed commands.Bye h = absurd h
+is_formed (commands.OpenWriter snapshot) h = tt
+is_formed commands.Finish h = tt
+is_formed commands.Abort h = tt
+is_formed (commands.OpenReader snapshot) h = tt
+is_formed (commands.Download file offset) h = tt
+is_formed (commands.GetChunk digest) h = tt
+is_formed (commands.Range file offset len) h = tt
+is_formed commands.CloseReader h = tt
+is_formed (commands.List after) h = tt
+is_formed (commands.Files snapshot) h = tt
+is_formed (commands.Forget snapshot) h = tt
+is_formed (commands.Prune group keep dry) h = absurd h
+is_formed (commands.Verify snapshot) h = absurd h
+is_formed (commands.Sync group) h = absurd h
+is_formed commands.Gc h = absurd h
+is_formed (commands.Group group) h = tt
 
 -- ---- one more command
 
@@ -133,18 +185,21 @@ pub heard_plain : (p : Position) (c : Command) (left : List ℕ) (a : Answer) (r
     → heard p a ≡ record p { left = left; job = None; is_short = (a.entry).kind == 2; is_spent = a.last || p.is_spent; told = p.told ++ r ∷ [] }
 unfolding heard heard_at
 heard_plain p c left a r is says =
-    let flag : Position → Position = λ q. record q { is_short = (a.entry).kind == 2; is_spent = a.last || q.is_spent } in
-    ap (λ x. flag (heard_at p (a.entry).kind a.reply x)) is ∙ ap (λ (x : Option Reply). flag (heard_at p (a.entry).kind x (plain c left))) says
+    let flag : Option Bool → Position → Position = λ o q. record q { is_short = wants (a.entry).kind o; is_spent = a.last || q.is_spent } in
+    ap (λ x. flag p.collecting (heard_at p (a.entry).kind a.reply x)) is
+    ∙ ap (λ (x : Option Reply). flag p.collecting (heard_at p (a.entry).kind x (plain c left))) says
+    ∙ ap (λ (o : Option Bool). flag o (heard_at p (a.entry).kind (Some r) (plain c left))) (next_shut p (plain c left) is refl)
 
 -- what is no command is used up
 pub heard_broken : (p : Position) (refusal : Refusal) (a : Answer) (r : Reply) → next_at p ≡ broken refusal → a.reply ≡ Some r → (a.entry).kind ≡ 2
     → heard p a ≡ record p { left = []; job = None; is_short = true; is_spent = true; told = p.told ++ r ∷ [] }
 unfolding heard heard_at
 heard_broken p refusal a r is says two =
-    let flag : ℕ → Position → Position = λ n q. record q { is_short = n == 2; is_spent = a.last || q.is_spent } in
-    ap (λ x. flag (a.entry).kind (heard_at p (a.entry).kind a.reply x)) is
-    ∙ ap (λ (x : Option Reply). flag (a.entry).kind (heard_at p (a.entry).kind x (broken refusal))) says
-    ∙ ap (λ n. flag n (heard_at p n (Some r) (broken refusal))) two
+    let flag : Option Bool → ℕ → Position → Position = λ o n q. record q { is_short = wants n o; is_spent = a.last || q.is_spent } in
+    ap (λ x. flag p.collecting (a.entry).kind (heard_at p (a.entry).kind a.reply x)) is
+    ∙ ap (λ (x : Option Reply). flag p.collecting (a.entry).kind (heard_at p (a.entry).kind x (broken refusal))) says
+    ∙ ap (λ (o : Option Bool). flag o (a.entry).kind (heard_at p (a.entry).kind (Some r) (broken refusal))) (next_shut p (broken refusal) is refl)
+    ∙ ap (λ n. flag None n (heard_at p n (Some r) (broken refusal))) two
     ∙ ap (λ b. record p { left = []; job = None; is_short = true; is_spent = b; told = p.told ++ r ∷ [] }) (or_true a.last)
   where
     or_true : (b : Bool) → (b || true) ≡ true
@@ -158,7 +213,7 @@ follows_command p c left v on is asks =
 
 pub follows_short : (p : Position) (c : Command) (left : List ℕ) (v : Event) → p.is_spent ≡ false → next_at p ≡ plain c left → may_want p.left ≡ true → v.act ≡ acts.Short
     → Follows (class_of v.act) p v
-follows_short p c left v on is may asks = subst (λ x. Follows x p v) (sym (ap class_of asks)) (on, wants_frame p may, ap goes_further is)
+follows_short p c left v on is may asks = subst (λ x. Follows x p v) (sym (ap class_of asks)) (on, wants_frame p (next_shut p (plain c left) is refl) may, ap goes_further is)
 
 -- the lane went on by a command, which was answered
 pub leads_command : (vs : List Event) (p q : Position) (c : Command) (left : List ℕ) (v : Event) (r : Reply) → Leads p vs q → q.is_spent ≡ false
@@ -177,19 +232,19 @@ leads_short vs p q c left v r led on is may asks says =
 -- ---- the last of a lane
 
 -- memory was wanting, for a frame that is no command or not yet known
-pub short_runs : (e : Ending) (q : Position) (v : Event) (vs : List Event) (told : List Reply) → q.is_over ≡ false → q.is_spent ≡ false → may_want q.left ≡ true
+pub short_runs : (e : Ending) (q : Position) (v : Event) (vs : List Event) (told : List Reply) → q.is_over ≡ false → q.is_spent ≡ false → q.collecting ≡ None → may_want q.left ≡ true
     → v.act ≡ acts.Short → Runs e (heard q v.answer) vs told → Runs e q (v ∷ vs) told
 unfolding position_after
-short_runs e q v vs told off on may asks runs =
-    subst (λ c. (q.is_over ≡ false) × Does c e q v vs × Runs e (heard_as c e q v.answer) vs told) (sym (ap class_of asks)) (off, (on, wants_frame q may), runs)
+short_runs e q v vs told off on shut may asks runs =
+    subst (λ c. (q.is_over ≡ false) × Does c e q v vs × Runs e (heard_as c e q v.answer) vs told) (sym (ap class_of asks)) (off, (on, wants_frame q shut may), runs)
 
 -- the lane's end
-pub end_runs : (e : Ending) (q : Position) (v : Event) → q.is_over ≡ false → v.act ≡ acts.End → kind v ≡ 6 → EndsSo e q (next_at q)
+pub end_runs : (e : Ending) (q : Position) (v : Event) → q.is_over ≡ false → q.collecting ≡ None → v.act ≡ acts.End → kind v ≡ 6 → EndsSo e q (next_at q)
     → Runs e q (v ∷ []) (last_words e q (next_at q)).told
 unfolding position_after
-end_runs e q v off asks six so =
+end_runs e q v off shut asks six so =
     subst (λ c. (q.is_over ≡ false) × Does c e q v [] × Runs e (heard_as c e q v.answer) [] (last_words e q (next_at q)).told) (sym (ap class_of asks))
-    (off, (so, λ five. let no : ⊥ = omega arith in absurd no), subst (λ n. Runs e (end_heard e q n (reply v)) [] (last_words e q (next_at q)).told) (sym six) (refl, refl))
+    (off, (so, (λ five. let no : ⊥ = omega arith in absurd no), shut), subst (λ n. Runs e (end_heard e q n (reply v)) [] (last_words e q (next_at q)).told) (sym six) (refl, refl))
 
 faulted_over : (e : Ending) (q : Position) (r : Option Reply) → (end_faulted e q r).is_over ≡ q.is_over
 faulted_over endings.NoMemory q r = by_test (is_none q.job)
@@ -203,6 +258,9 @@ heard_at_same : (q : Position) (r : Option Reply) (x : Next) → goes_further x 
 unfolding heard_at
 heard_at_same q r (job_step j left) h = cc
 heard_at_same q r (plain c left) h = cc
+heard_at_same q r (sync group left) h = cc
+heard_at_same q r (collect left) h = cc
+heard_at_same q r (collecting is_short) h = cc
 heard_at_same q (Some r) (broken refusal) h = refl
 heard_at_same q (Some r) bye h = refl
 heard_at_same q (Some r) end h = refl
@@ -213,6 +271,9 @@ heard_at_same q None end h = refl
 clean_further : (q : Position) (x : Next) → EndsSo endings.Clean q x → goes_further x ≡ false
 clean_further q (job_step j left) h = absurd h
 clean_further q (plain c left) h = absurd h
+clean_further q (sync group left) h = absurd h
+clean_further q (collect left) h = absurd h
+clean_further q (collecting is_short) h = absurd h
 clean_further q bye h = refl
 clean_further q (broken refusal) h = refl
 clean_further q end h = refl
@@ -220,33 +281,45 @@ clean_further q end h = refl
 broken_further : (place : ℕ) (q : Position) (x : Next) → EndsSo (endings.Broken place) q x → goes_further x ≡ false
 broken_further place q (job_step j left) h = absurd h
 broken_further place q (plain c left) h = absurd h
+broken_further place q (sync group left) h = absurd h
+broken_further place q (collect left) h = absurd h
+broken_further place q (collecting is_short) h = absurd h
 broken_further place q bye h = refl
 broken_further place q (broken refusal) h = refl
 broken_further place q end h = refl
 
 -- with no job open, an end that met a fault left the lane as it was, but where the sink failed
-pub faulted_same : (e : Ending) (q : Position) (r : Option Reply) → q.job ≡ None → e ≢ endings.SinkFault → EndsSo e q (next_at q) → end_faulted e q r ≡ q
-faulted_same endings.NoMemory q r off ne so = ap (λ (o : Option Asking). if is_none o then q else heard_at q 5 r (next_at q)) off
-faulted_same endings.Clean q r off ne so = heard_at_same q r (next_at q) (clean_further q (next_at q) so)
-faulted_same (endings.Broken place) q r off ne so = heard_at_same q r (next_at q) (broken_further place q (next_at q) so)
-faulted_same endings.SourceFault q r off ne so = heard_at_same q r (next_at q) (part_next q off so.2)
-faulted_same endings.SinkFault q r off ne so = absurd (ne refl)
-faulted_same endings.SourceTooLong q r off ne so = heard_at_same q r (next_at q) (part_next q off so.2)
+pub faulted_same : (e : Ending) (q : Position) (r : Option Reply) → q.collecting ≡ None → q.job ≡ None → e ≢ endings.SinkFault → EndsSo e q (next_at q) → end_faulted e q r ≡ q
+faulted_same endings.NoMemory q r shut off ne so = ap (λ (o : Option Asking). if is_none o then q else heard_at q 5 r (next_at q)) off
+faulted_same endings.Clean q r shut off ne so = heard_at_same q r (next_at q) (clean_further q (next_at q) so)
+faulted_same (endings.Broken place) q r shut off ne so = heard_at_same q r (next_at q) (broken_further place q (next_at q) so)
+faulted_same endings.SourceFault q r shut off ne so = heard_at_same q r (next_at q) (part_next q shut off so.2)
+faulted_same endings.SinkFault q r shut off ne so = absurd (ne refl)
+faulted_same endings.SourceTooLong q r shut off ne so = heard_at_same q r (next_at q) (part_next q shut off so.2)
 
-faulted_ends : (e : Ending) (q : Position) (r : Option Reply) → q.job ≡ None → EndsSo e q (next_at q) → EndsSo e (end_faulted e q r) (next_at (end_faulted e q r))
-faulted_ends endings.SinkFault q r off so = tt
-faulted_ends endings.NoMemory q r off so = subst (λ x. EndsSo endings.NoMemory x (next_at x)) (sym (faulted_same endings.NoMemory q r off (λ h. cc) so)) so
-faulted_ends endings.Clean q r off so = subst (λ x. EndsSo endings.Clean x (next_at x)) (sym (faulted_same endings.Clean q r off (λ h. cc) so)) so
-faulted_ends (endings.Broken place) q r off so = subst (λ x. EndsSo (endings.Broken place) x (next_at x)) (sym (faulted_same (endings.Broken place) q r off (λ h. cc) so)) so
-faulted_ends endings.SourceFault q r off so = subst (λ x. EndsSo endings.SourceFault x (next_at x)) (sym (faulted_same endings.SourceFault q r off (λ h. cc) so)) so
-faulted_ends endings.SourceTooLong q r off so = subst (λ x. EndsSo endings.SourceTooLong x (next_at x)) (sym (faulted_same endings.SourceTooLong q r off (λ h. cc) so)) so
+-- and it may end as before
+abbrev RestsAlike : Ending → Position → Type 0
+RestsAlike e q = EndsSo e q (next_at q) × (q.collecting ≡ None)
+
+same_ends : (e : Ending) (q : Position) (r : Option Reply) → q.collecting ≡ None → q.job ≡ None → e ≢ endings.SinkFault → EndsSo e q (next_at q) → RestsAlike e (end_faulted e q r)
+same_ends e q r shut off ne so =
+    subst (λ x. EndsSo e x (next_at x) × (x.collecting ≡ None)) (sym (faulted_same e q r shut off ne so)) (so, shut)
+
+faulted_ends : (e : Ending) (q : Position) (r : Option Reply) → q.collecting ≡ None → q.job ≡ None → EndsSo e q (next_at q) → RestsAlike e (end_faulted e q r)
+faulted_ends endings.SinkFault q r shut off so = (tt, fault_shut endings.SinkFault q r (open_is q ∙ shut) ∙ shut)
+faulted_ends endings.NoMemory q r shut off so = same_ends endings.NoMemory q r shut off (λ h. cc) so
+faulted_ends endings.Clean q r shut off so = same_ends endings.Clean q r shut off (λ h. cc) so
+faulted_ends (endings.Broken place) q r shut off so = same_ends (endings.Broken place) q r shut off (λ h. cc) so
+faulted_ends endings.SourceFault q r shut off so = same_ends endings.SourceFault q r shut off (λ h. cc) so
+faulted_ends endings.SourceTooLong q r shut off so = same_ends endings.SourceTooLong q r shut off (λ h. cc) so
 
 -- the end met a fault, and came again
-pub end_again_runs : (e : Ending) (q : Position) (v u : Event) → q.job ≡ None → q.is_over ≡ false → v.act ≡ acts.End → kind v ≡ 5 → u.act ≡ acts.End → kind u ≡ 6 → EndsSo e q (next_at q)
+pub end_again_runs : (e : Ending) (q : Position) (v u : Event) → q.collecting ≡ None → q.job ≡ None → q.is_over ≡ false → v.act ≡ acts.End → kind v ≡ 5 → u.act ≡ acts.End → kind u ≡ 6 → EndsSo e q (next_at q)
     → Runs e q (v ∷ u ∷ []) (last_words e (end_faulted e q (reply v)) (next_at (end_faulted e q (reply v)))).told
 unfolding position_after
-end_again_runs e q v u closed off asks five again six so =
+end_again_runs e q v u shut closed off asks five again six so =
     let q' = end_faulted e q (reply v) in
-    let rest = end_runs e q' u (faulted_over e q (reply v) ∙ off) again six (faulted_ends e q (reply v) closed so) in
+    let rests = faulted_ends e q (reply v) shut closed so in
+    let rest = end_runs e q' u (faulted_over e q (reply v) ∙ off) rests.1 again six rests.0 in
     subst (λ c. (q.is_over ≡ false) × Does c e q v (u ∷ []) × Runs e (heard_as c e q v.answer) (u ∷ []) (last_words e q' (next_at q')).told) (sym (ap class_of asks))
-    (off, (so, λ h. (ap class_of again, six)), subst (λ n. Runs e (end_heard e q n (reply v)) (u ∷ []) (last_words e q' (next_at q')).told) (sym five) rest)
+    (off, (so, (λ h. (ap class_of again, six)), shut), subst (λ n. Runs e (end_heard e q n (reply v)) (u ∷ []) (last_words e q' (next_at q')).told) (sym five) rest)

@@ -1,5 +1,5 @@
 -- An event of a lane moves the run as the definitions say, and leaves the other lanes as they are.
-use Rattle.std.proofs.Common.{◌≡◌, ℕ, zero, suc, Bool, true, false, List, [], Option, Some, None, Ok, Err, refl, sym, ap, subst, ◌∙◌, slice_index_or, slice_set, if◌then◌else◌, is_none}
+use Rattle.std.proofs.Common.{◌≡◌, ℕ, zero, suc, ◌-◌, Bool, true, false, List, [], length, Option, Some, None, Result, Ok, Err, refl, sym, ap, subst, ◌∙◌, slice_index_or, slice_set, if◌then◌else◌, is_none}
 use Rattle.store_types.specs.declared.order.Entry.{Entry}
 use Rattle.store_types.specs.declared.refusal.Refusal.{Refusal}
 use Rattle.store_types.specs.declared.refusal.Refusal.TheVariants.{NoMemory}
@@ -7,7 +7,8 @@ use Rattle.store_files.specs.Archive.{Snapshot}
 use Rattle.wire_commands.specs.declared.command.Command.{Command}
 use Rattle.wire_commands.specs.declared.command.Command.TheVariants as commands
 use Rattle.wire_commands.specs.declared.reply.Reply.{Reply}
-use Rattle.wire_commands.specs.declared.reply.Reply.TheVariants.{Done, Refused}
+use Rattle.wire_commands.specs.declared.reply.Reply.TheVariants.{Done, Collected, Refused}
+use Rattle.wire_commands.specs.Inputs.{InputFront, nothing, next, over_limit, no_command, front}
 use Rattle.store_model.specs.declared.ending.Ending.{Ending}
 use Rattle.store_model.specs.declared.ending.Ending.TheVariants as endings
 use Rattle.store_model.specs.WriterSteps.{put_blob, checked_blob, want_data}
@@ -17,22 +18,24 @@ use Rattle.store_model.specs.Steps.{outcome, answered, step}
 use Rattle.store_model.specs.declared.step.Step.{Step}
 use Rattle.store_model.specs.declared.step.Step.TheVariants as steps
 use Rattle.store_model.specs.Job.{Asking, step_of, Job}
-use Rattle.store_model.specs.Jobs.{take as job_take}
+use Rattle.store_model.specs.Jobs.{job_of, take as job_take}
 use Rattle.store_model.specs.JobSteps.{step_outcome}
-use Rattle.store_model.specs.Lanes.{Run, Next, job_step, plain, bye, broken, end, next_of}
-use Rattle.store_model.specs.Weave.{with_store, tell, go_on, answer_job, answer, stepped, short, told_fault, fault_refusal, first_fault, faulted, is_cut_off, ends, ended_with, end_session, unread, is_replied, may_leave_unread, entered, known}
+use Rattle.store_model.specs.Lanes.{Collecting, Lane, Run, Next, job_step, plain, sync, collect, collecting, bye, broken, end, lane_at, with_lane, lane_next, front_next, command_next, next_of}
+use Rattle.store_model.specs.Weave.{with_store, tell, go_on, answer_job, answer, want_collector, open_collector, close_collector, collected, stepped, passed, short, opens, closes, told_fault, fault_refusal, first_fault, faulted, is_cut_off, ends, ended_with, end_session, unread, is_replied, may_leave_unread, entered, known}
 use Rattle.store_history.specs.declared.act.Act.{Act}
 use Rattle.store_history.specs.declared.act.Act.TheVariants as acts
 use Rattle.store_history.specs.declared.act.Answer.{Answer}
 use Rattle.store_history.specs.declared.act.Event.{Event}
 use Rattle.blob_codec.specs.Blob.{data_of}
 use Rattle.store_types.specs.declared.refusal.Refusal.TheVariants.{BadBlob}
-use Rattle.store_history.specs.Acts.{act_of_command, act_of_step, check_blob, Class, stepping, wanting, ending, class_of}
-use Rattle.store_history.specs.History.{World, data_in, act_outcome, moved, EntryKind, kind_of, step_kind, short_kind, fault_kind, end_kind, no_kind, lane, moment, kind, reply}
-use Rattle.store_history.specs.Legal.{Right, Says}
-use Rattle.store_history.specs.LaneRun.{Position, lane_of, next_at, tells, goes_on, used_up, heard_at, heard, heard_as, last_words, end_faulted, end_heard, position_after, Asks, may_want_at, EndsSo, Does}
+use Rattle.store_history.specs.Acts.{act_of_command, act_of_step, check_blob, Class, stepping, starting, sweeping, wanting, ending, class_of}
+use Rattle.store_history.specs.History.{World, open_on, new_collecting, cut_on, closed_on, halted_on, data_in, act_outcome, moved, EntryKind, kind_of, step_kind, pass_kind, short_kind, start_kind, close_kind, fault_kind, end_kind, remote_kind, no_kind, lane, moment, kind, reply}
+use Rattle.store_history.specs.Legal.{Right, Says, Refuses, Reports, may_open, collecting_on}
+use Rattle.store_history.specs.LaneRun.{blank, Position, lane_of, next_at, tells, goes_on, used_up, heard_at, heard, heard_as, last_words, end_faulted, end_heard, position_after, Asks, may_want_at, EndsSo, Does}
 use Rattle.store_history.proofs.Checking.{chunk_checked}
-use Rattle.store_history.proofs.Placed.{run_of, at, keep_is, same_lane, tell_is, go_is, next_is}
+use Rattle.store_history.proofs.Collectors.{some_none, cut_none, cut_some, closed_none, closed_some}
+use Rattle.store_history.proofs.Placed.{run_of, at, lane_is, put_is, keep_is, same_lane, blank_is, tell_is, go_is, next_is, open_at, open_is}
+use Rattle.store_history.proofs.Plainly.{IsPlainReply, IsPlainJob, KeepsPlain, ArePlain, says_plainly, begun_plainly, take_plainly}
 use Rattle.store_history.proofs.Wanting.{Goes, want_goes}
 
 -- ---- the act of a command
@@ -56,11 +59,23 @@ command_outcome R w k m (commands.Blob file blob) = ap (checked_blob w.store k f
 command_outcome R w k m c = refl
 
 -- and of a step
-pub step_class : (s : Step) → class_of (act_of_step s) ≡ stepping
-step_class (steps.Command c) = command_class c
+abbrev pub IsStepping : Class → Type 0
+IsStepping stepping = Unit {0}
+IsStepping wanting = Unit {0}
+IsStepping _ = ⊥
 
-step_outcome_is : (R : Option (List Snapshot)) (w : World) (k m : ℕ) (s : Step) → act_outcome R w k m (act_of_step s) ≡ step_outcome w.store k m s
-step_outcome_is R w k m (steps.Command c) = command_outcome R w k m c
+pub step_class : (s : Step) → IsStepping (class_of (act_of_step s))
+step_class (steps.Command c) = subst IsStepping (sym (command_class c)) tt
+step_class (steps.ReadFile name offset) = tt
+step_class (steps.ReadChunk name entry) = tt
+
+abbrev pub IsStarting : Class → Type 0
+IsStarting starting = Unit {0}
+IsStarting _ = ⊥
+
+abbrev pub IsSweeping : Class → Type 0
+IsSweeping sweeping = Unit {0}
+IsSweeping _ = ⊥
 
 abbrev pub IsEnding : Class → Type 0
 IsEnding ending = Unit {0}
@@ -68,13 +83,93 @@ IsEnding _ = ⊥
 
 pub ending_is : (c : Class) → IsEnding c → c ≡ ending
 ending_is ending h = refl
-ending_is stepping h = absurd h
-ending_is wanting h = absurd h
+ending_is c h = absurd h
+
+-- the acts that are asked where this is next
+abbrev pub FitsNext : Next → Class → Type 0
+FitsNext (job_step j left) c = IsStepping c
+FitsNext (plain d left) c = IsStepping c
+FitsNext (collect left) c = IsStarting c
+FitsNext (collecting is_short) c = IsSweeping c
+FitsNext _ c = ⊥
+
+pub asks_class : (n : Next) (a : Act) → Asks n a → FitsNext n (class_of a)
+asks_class (job_step j left) a asks = subst (λ x. IsStepping (class_of x)) (sym asks) (step_class (step_of j))
+asks_class (plain c left) a asks = subst (λ x. IsStepping (class_of x)) (sym asks) (subst IsStepping (sym (command_class c)) tt)
+asks_class (collect left) a asks = subst (λ x. IsStarting (class_of x)) (sym asks) tt
+asks_class (collecting is_short) a asks = subst (λ x. IsSweeping (class_of x)) (sym asks) tt
+asks_class (sync group left) a asks = absurd asks
+asks_class bye a asks = absurd asks
+asks_class (broken refusal) a asks = absurd asks
+asks_class end a asks = absurd asks
+
+fits_end : (n : Next) → FitsNext n ending → ⊥
+fits_end (job_step j left) h = h
+fits_end (plain c left) h = h
+fits_end (collect left) h = h
+fits_end (collecting is_short) h = h
+fits_end (sync group left) h = h
+fits_end bye h = h
+fits_end (broken refusal) h = h
+fits_end end h = h
+
+pub asks_ends : (n : Next) (a : Act) → Asks n a → IsEnding (class_of a) → ⊥
+asks_ends n a asks h = fits_end n (subst (FitsNext n) (ending_is (class_of a) h) (asks_class n a asks))
+
+pub asks_goes : (n : Next) (a : Act) → Asks n a → Goes n
+asks_goes (job_step j left) a asks = tt
+asks_goes (plain c left) a asks = tt
+asks_goes (collect left) a asks = tt
+asks_goes (collecting is_short) a asks = tt
+asks_goes (sync group left) a asks = tt
+asks_goes bye a asks = asks
+asks_goes (broken refusal) a asks = tt
+asks_goes end a asks = asks
 
 -- an end by want of memory, with no job open, is the one that a fault leaves untold
 abbrev pub cuts : Class → Ending → Position → Bool
 cuts ending endings.NoMemory p = is_none p.job
 cuts _ _ p = false
+
+-- ---- the job whose step is next
+
+abbrev pub IsPlainNext : Next → Type 0
+IsPlainNext (job_step j left) = KeepsPlain j
+IsPlainNext _ = Unit {0}
+
+job_plain : (c : Command) (left : List ℕ) (o : Option Asking) → ArePlain o → IsPlainNext (elim o [ None ↦ plain c left | Some j ↦ job_step j left ])
+job_plain c left None h = tt
+job_plain c left (Some j) h = h
+
+command_plain : (c : Command) (left : List ℕ) → IsPlainNext (command_next c left)
+unfolding command_next
+command_plain (commands.Sync group) left = tt
+command_plain commands.Gc left = tt
+command_plain commands.Bye left = tt
+command_plain c left = job_plain c left (job_of c) (begun_plainly c)
+
+front_plain : (offset : ℕ) (f : InputFront) → IsPlainNext (front_next offset f)
+unfolding front_next
+front_plain offset nothing = tt
+front_plain offset (next c left) = command_plain c left
+front_plain offset (over_limit n) = tt
+front_plain offset no_command = tt
+
+lane_plain : (l : Lane) → ArePlain l.job → IsPlainNext (lane_next l)
+unfolding lane_next
+lane_plain l h = by_job l.job h
+  where
+    by_job : (o : Option Asking) → ArePlain o → IsPlainNext (elim o [ None ↦ front_next (l.size - length l.left) (front l.left) | Some j ↦ job_step j l.left ])
+    by_job None h = front_plain (l.size - length l.left) (front l.left)
+    by_job (Some j) h = h
+
+pub next_plain : (p : Position) → ArePlain p.job → IsPlainNext (next_at p)
+unfolding next_at
+next_plain p h = by_collecting p.collecting
+  where
+    by_collecting : (o : Option Bool) → IsPlainNext (elim o [ None ↦ lane_next (lane_of p) | Some is_short ↦ collecting is_short ])
+    by_collecting None = lane_plain (lane_of p) h
+    by_collecting (Some is_short) = tt
 
 -- ---- by the kind of the entry
 
@@ -86,46 +181,97 @@ module _ (R : Option (List Snapshot)) (w : World) (ps : List Position) (k m : �
   p = at ps k
 
   -- the answers of a kind
-  right_short : (a : Act) (r : Option Reply) (c : Class) → Right R w k m a r c short_kind → r ≡ Some (Refused NoMemory)
+  pub right_short : (a : Act) (r : Option Reply) (c : Class) → Right R w k m a r c short_kind → r ≡ Some (Refused NoMemory)
   right_short a r stepping h = h.0
+  right_short a r starting h = h
+  right_short a r sweeping h = h.0
   right_short a r wanting h = h
   right_short a r ending h = absurd h
 
-  right_fault : (a : Act) (r : Option Reply) (c : Class) → Right R w k m a r c fault_kind → r ≡ Some (Refused (fault_refusal w.fault))
+  pub right_fault : (a : Act) (r : Option Reply) (c : Class) → Right R w k m a r c fault_kind → r ≡ Some (Refused (fault_refusal w.fault))
   right_fault a r stepping h = h
+  right_fault a r starting h = h
+  right_fault a r sweeping h = h
   right_fault a r wanting h = absurd h
   right_fault a r ending h = h.1
 
+  pub right_pass : (a : Act) (r : Option Reply) (c : Class) → Right R w k m a r c pass_kind → (c ≡ sweeping) × (r ≡ None)
+  right_pass a r stepping h = absurd h
+  right_pass a r starting h = absurd h
+  right_pass a r sweeping h = (refl, h.2)
+  right_pass a r wanting h = absurd h
+  right_pass a r ending h = absurd h
+
+  pub right_start : (a : Act) (r : Option Reply) (c : Class) → Right R w k m a r c start_kind → (c ≡ starting) × (may_open w k ≡ Ok tt) × (r ≡ None)
+  right_start a r stepping h = absurd h
+  right_start a r starting h = (refl, h.1, h.2)
+  right_start a r sweeping h = absurd h
+  right_start a r wanting h = absurd h
+  right_start a r ending h = absurd h
+
+  pub right_close : (a : Act) (r : Option Reply) (c : Class) → Right R w k m a r c close_kind → (c ≡ sweeping) × Reports (collecting_on w k) r
+  right_close a r stepping h = absurd h
+  right_close a r starting h = absurd h
+  right_close a r sweeping h = (refl, h.1)
+  right_close a r wanting h = absurd h
+  right_close a r ending h = absurd h
+
   pub right_end : (a : Act) (r : Option Reply) (c : Class) → Right R w k m a r c end_kind → IsEnding c
   right_end a r stepping h = absurd h
+  right_end a r starting h = absurd h
+  right_end a r sweeping h = absurd h
   right_end a r wanting h = absurd h
   right_end a r ending h = tt
 
+  pub right_remote : (a : Act) (r : Option Reply) (c : Class) → Right R w k m a r c remote_kind → ⊥
+  right_remote a r stepping h = h
+  right_remote a r starting h = h
+  right_remote a r sweeping h = h
+  right_remote a r wanting h = h
+  right_remote a r ending h = h
+
   pub right_none : (a : Act) (r : Option Reply) (c : Class) → Right R w k m a r c no_kind → ⊥
   right_none a r stepping h = h
+  right_none a r starting h = h
+  right_none a r sweeping h = h
   right_none a r wanting h = h
   right_none a r ending h = h
 
   -- what the run is to be after an act
   abbrev pub Becomes : Act → EntryKind → ℕ → Option Reply → Next → Option Run → Type 0
-  Becomes a kind n r next o = o ≡ Some (run_of R (moved R w k m a kind) (slice_set ps k (heard_at p n r next)))
+  Becomes a kind n r x o = o ≡ Some (run_of R (moved R w k m a kind) (slice_set ps k (heard_at p n r x)))
 
   -- a reply, where this position is the one after it
-  told_as : (w' : World) (left : List ℕ) (r : Reply) (q : Position) → q ≡ tells p left r → tell (run_of R w' ps) k left r ≡ run_of R w' (slice_set ps k q)
-  told_as w' left r q h = tell_is R w' ps k left r ∙ ap (λ x. run_of R w' (slice_set ps k x)) (sym h)
+  told_as : (w' : World) (left : List ℕ) (r : Reply) (q : Position) → IsPlainReply r → q ≡ tells p left r → tell (run_of R w' ps) k left r ≡ run_of R w' (slice_set ps k q)
+  told_as w' left r q plainly h = tell_is R w' ps k left r plainly ∙ ap (λ x. run_of R w' (slice_set ps k x)) (sym h)
 
   -- a job that goes on, where this position is the one after it
-  went_as : (w' : World) (left : List ℕ) (j : Job) (q : Position) → q ≡ goes_on p left j → go_on (run_of R w' ps) k left j ≡ run_of R w' (slice_set ps k q)
-  went_as w' left j q h = go_is R w' ps k left j ∙ ap (λ x. run_of R w' (slice_set ps k x)) (sym h)
+  went_as : (w' : World) (left : List ℕ) (j : Job) (q : Position) → IsPlainJob j → q ≡ goes_on p left j → go_on (run_of R w' ps) k left j ≡ run_of R w' (slice_set ps k q)
+  went_as w' left j q plainly h = go_is R w' ps k left j plainly ∙ ap (λ x. run_of R w' (slice_set ps k x)) (sym h)
 
-  step_stepped : (j : Asking) (left : List ℕ) (r : Option Reply) → Says R w k m (act_of_step (step_of j)) r
+  -- the collector is as before
+  same_open : (c : Option Collecting) (qs : List Position) → c ≡ w.collecting → run_of R w qs ≡ run_of R (record w { collecting = c }) qs
+  same_open c qs h = ap (λ x. run_of R (record w { collecting = x }) qs) (sym h)
+
+  -- ---- kind 0
+
+  step_says : (s : Step) (r : Option Reply) → Right R w k m (act_of_step s) r (class_of (act_of_step s)) step_kind
+      → Says R w k m (act_of_step s) r × (act_outcome R w k m (act_of_step s) ≡ step_outcome w.store k m s)
+  step_says (steps.Command c) r right =
+      ((subst (λ x. Right R w k m (act_of_command c) r x step_kind) (command_class c) right).1, command_outcome R w k m c)
+  step_says (steps.ReadFile name offset) r right = absurd right
+  step_says (steps.ReadChunk name entry) r right = absurd right
+
+  step_stepped : (j : Asking) (left : List ℕ) (r : Option Reply) → KeepsPlain j → Says R w k m (act_of_step (step_of j)) r
+      → act_outcome R w k m (act_of_step (step_of j)) ≡ step_outcome w.store k m (step_of j)
       → Becomes (act_of_step (step_of j)) step_kind 0 r (job_step j left) (stepped run k m (job_step j left))
   unfolding stepped moved answer_job with_store heard_at
-  step_stepped j left r says =
+  step_stepped j left r kept says does =
       let o = act_outcome R w k m (act_of_step (step_of j)) in
       let w' : World = record w { store = (answered w.store o).0 } in
-      ap (λ x. Some (answer_job run k j left (answered w.store x))) (sym (step_outcome_is R w k m (step_of j)))
-      ∙ ap Some (went_as w' left (job_take j (answered w.store o).1) (heard_at p 0 r (job_step j left)) (ap (λ x. heard_at p 0 x (job_step j left)) says))
+      ap (λ x. Some (answer_job run k j left (answered w.store x))) (sym does)
+      ∙ ap Some (went_as w' left (job_take j (answered w.store o).1) (heard_at p 0 r (job_step j left))
+      (take_plainly j (answered w.store o).1 kept (says_plainly R w k m (act_of_step (step_of j)))) (ap (λ x. heard_at p 0 x (job_step j left)) says))
 
   command_stepped : (c : Command) (left : List ℕ) (r : Option Reply) → Says R w k m (act_of_command c) r
       → Becomes (act_of_command c) step_kind 0 r (plain c left) (stepped run k m (plain c left))
@@ -134,51 +280,207 @@ module _ (R : Option (List Snapshot)) (w : World) (ps : List Position) (k m : �
       let o = act_outcome R w k m (act_of_command c) in
       let w' : World = record w { store = (answered w.store o).0 } in
       ap (λ x. Some (answer run k left (answered w.store x))) (sym (command_outcome R w k m c))
-      ∙ ap Some (told_as w' left (answered w.store o).1 (heard_at p 0 r (plain c left)) (ap (λ x. heard_at p 0 x (plain c left)) says))
+      ∙ ap Some (told_as w' left (answered w.store o).1 (heard_at p 0 r (plain c left)) (says_plainly R w k m (act_of_command c)) (ap (λ x. heard_at p 0 x (plain c left)) says))
 
-  all_stepped : (a : Act) (n : Next) (r : Option Reply) → Asks n a → Right R w k m a r (class_of a) step_kind → Becomes a step_kind 0 r n (stepped run k m n)
-  all_stepped a (job_step j left) r asks =
+  start_refused : (left : List ℕ) (r : Option Reply) (o : Result (Unit {0}) Refusal) → may_open w k ≡ o → Refuses o r
+      → Becomes acts.Start step_kind 0 r (collect left) (stepped run k m (collect left))
+  unfolding stepped moved act_outcome want_collector heard_at
+  start_refused left r (Ok may) is h = absurd h
+  start_refused left r (Err refusal) is h =
+      ap (λ (o : Result (Unit {0}) Refusal). elim o [ Ok may ↦ None | Err x ↦ Some (tell run k left (Refused x)) ]) is
+      ∙ ap Some (told_as w left (Refused refusal) (heard_at p 0 r (collect left)) refl (ap (λ x. heard_at p 0 x (collect left)) h))
+
+  all_stepped : (a : Act) (n : Next) (r : Option Reply) → Asks n a → open_at n ≡ collecting_on w k → IsPlainNext n
+      → Right R w k m a r (class_of a) step_kind → Becomes a step_kind 0 r n (stepped run k m n)
+  all_stepped a (job_step j left) r asks knows kept =
       subst (λ x. Right R w k m x r (class_of x) step_kind → Becomes x step_kind 0 r (job_step j left) (stepped run k m (job_step j left))) (sym asks)
-      (λ right. step_stepped j left r (subst (λ x. Right R w k m (act_of_step (step_of j)) r x step_kind) (step_class (step_of j)) right).1)
-  all_stepped a (plain c left) r asks =
+      (λ right. step_stepped j left r kept (step_says (step_of j) r right).0 (step_says (step_of j) r right).1)
+  all_stepped a (plain c left) r asks knows kept =
       subst (λ x. Right R w k m x r (class_of x) step_kind → Becomes x step_kind 0 r (plain c left) (stepped run k m (plain c left))) (sym asks)
       (λ right. command_stepped c left r (subst (λ x. Right R w k m (act_of_command c) r x step_kind) (command_class c) right).1)
-  all_stepped a bye r asks = absurd asks
-  all_stepped a (broken refusal) r asks = absurd asks
-  all_stepped a end r asks = absurd asks
+  all_stepped a (collect left) r asks knows kept =
+      subst (λ x. Right R w k m x r (class_of x) step_kind → Becomes x step_kind 0 r (collect left) (stepped run k m (collect left))) (sym asks)
+      (λ right. start_refused left r (may_open w k) refl right.1)
+  all_stepped a (collecting is_short) r asks knows kept =
+      subst (λ x. Right R w k m x r (class_of x) step_kind → Becomes x step_kind 0 r (collecting is_short) (stepped run k m (collecting is_short))) (sym asks)
+      (λ right. absurd (some_none is_short (knows ∙ right.1)))
+  all_stepped a (sync group left) r asks knows kept = absurd asks
+  all_stepped a bye r asks knows kept = absurd asks
+  all_stepped a (broken refusal) r asks knows kept = absurd asks
+  all_stepped a end r asks knows kept = absurd asks
 
-  all_short : (a : Act) (n : Next) (r : Option Reply) → Goes n → r ≡ Some (Refused NoMemory) → Becomes a short_kind 2 r n (short run k n)
+  -- ---- kind 1
+
+  all_passed : (a : Act) (n : Next) (r : Option Reply) → FitsNext n sweeping → r ≡ None → Becomes a pass_kind 1 r n (passed run n)
+  unfolding passed moved heard_at
+  all_passed a (collecting is_short) r fits h =
+      ap Some (sym (keep_is R w ps k (heard_at p 1 r (collecting is_short)) (ap (λ (y : Option Reply). lane_of (heard_at p 1 y (collecting is_short))) h)))
+  all_passed a (job_step j left) r fits h = absurd fits
+  all_passed a (plain c left) r fits h = absurd fits
+  all_passed a (collect left) r fits h = absurd fits
+  all_passed a (sync group left) r fits h = absurd fits
+  all_passed a bye r fits h = absurd fits
+  all_passed a (broken refusal) r fits h = absurd fits
+  all_passed a end r fits h = absurd fits
+
+  -- ---- kind 2
+
+  not_cut : (n : Next) → open_at n ≡ collecting_on w k → open_at n ≡ None → cut_on k w.collecting ≡ w.collecting
+  not_cut n knows shut = cut_none k w.collecting (sym knows ∙ shut)
+
+  all_short : (a : Act) (n : Next) (r : Option Reply) → Goes n → open_at n ≡ collecting_on w k → IsPlainNext n → r ≡ Some (Refused NoMemory)
+      → Becomes a short_kind 2 r n (short run k n)
   unfolding short moved heard_at
-  all_short a (job_step j left) r goes h =
-      ap Some (went_as w left (job_take j (Refused NoMemory)) (heard_at p 2 r (job_step j left)) (ap (λ x. heard_at p 2 x (job_step j left)) h))
-  all_short a (plain c left) r goes h = ap Some (told_as w left (Refused NoMemory) (heard_at p 2 r (plain c left)) (ap (λ x. heard_at p 2 x (plain c left)) h))
-  all_short a (broken refusal) r goes h =
+  all_short a (job_step j left) r goes knows kept h =
+      ap Some (went_as w left (job_take j (Refused NoMemory)) (heard_at p 2 r (job_step j left)) (take_plainly j (Refused NoMemory) kept refl)
+      (ap (λ x. heard_at p 2 x (job_step j left)) h)
+      ∙ same_open (cut_on k w.collecting) (slice_set ps k (heard_at p 2 r (job_step j left))) (not_cut (job_step j left) knows refl))
+  all_short a (plain c left) r goes knows kept h =
+      ap Some (told_as w left (Refused NoMemory) (heard_at p 2 r (plain c left)) refl (ap (λ x. heard_at p 2 x (plain c left)) h)
+      ∙ same_open (cut_on k w.collecting) (slice_set ps k (heard_at p 2 r (plain c left))) (not_cut (plain c left) knows refl))
+  all_short a (sync group left) r goes knows kept h =
+      ap Some (told_as w left (Refused NoMemory) (heard_at p 2 r (sync group left)) refl (ap (λ x. heard_at p 2 x (sync group left)) h)
+      ∙ same_open (cut_on k w.collecting) (slice_set ps k (heard_at p 2 r (sync group left))) (not_cut (sync group left) knows refl))
+  all_short a (collect left) r goes knows kept h =
+      ap Some (told_as w left (Refused NoMemory) (heard_at p 2 r (collect left)) refl (ap (λ x. heard_at p 2 x (collect left)) h)
+      ∙ same_open (cut_on k w.collecting) (slice_set ps k (heard_at p 2 r (collect left))) (not_cut (collect left) knows refl))
+  all_short a (collecting is_short) r goes knows kept h =
       ap Some (
-      told_as w [] (Refused NoMemory) (tells p [] (Refused NoMemory)) refl
+      ap (λ x. record run { collecting = x }) (sym (cut_some k w.collecting is_short (sym knows)))
+      ∙ sym (keep_is R (record w { collecting = cut_on k w.collecting }) ps k (heard_at p 2 r (collecting is_short))
+      (ap (λ (y : Option Reply). lane_of (heard_at p 2 y (collecting is_short))) h))
+      )
+  all_short a (broken refusal) r goes knows kept h =
+      ap Some (
+      told_as w [] (Refused NoMemory) (tells p [] (Refused NoMemory)) refl refl
       ∙ same_lane R w ps k (tells p [] (Refused NoMemory)) (used_up p (Refused NoMemory)) refl
       ∙ ap (λ x. run_of R w (slice_set ps k (heard_at p 2 x (broken refusal)))) (sym h)
+      ∙ same_open (cut_on k w.collecting) (slice_set ps k (heard_at p 2 r (broken refusal))) (not_cut (broken refusal) knows refl)
       )
-  all_short a bye r goes h = absurd goes
-  all_short a end r goes h = absurd goes
+  all_short a bye r goes knows kept h = absurd goes
+  all_short a end r goes knows kept h = absurd goes
 
-  fault_told : (n : Next) (r : Option Reply) (x : Refusal) (f : Option ℕ) → r ≡ Some (Refused x)
-      → record (told_fault run k x n) { fault = f } ≡ run_of R (record w { fault = f }) (slice_set ps k (heard_at p 5 r n))
-  unfolding told_fault heard_at
-  fault_told (job_step j left) r x f h =
-      ap (λ (y : Run). record y { fault = f }) (went_as w left (job_take j (Refused x)) (heard_at p 5 r (job_step j left)) (ap (λ y. heard_at p 5 y (job_step j left)) h))
-  fault_told (plain c left) r x f h =
-      ap (λ (y : Run). record y { fault = f }) (told_as w left (Refused x) (heard_at p 5 r (plain c left)) (ap (λ y. heard_at p 5 y (plain c left)) h))
-  fault_told bye r x f h = sym (keep_is R (record w { fault = f }) ps k (heard_at p 5 r bye) (ap (λ y. lane_of (heard_at p 5 y bye)) h))
-  fault_told (broken refusal) r x f h =
+  -- ---- kind 3
+
+  start_opens : (a : Act) (left : List ℕ) (r : Option Reply) → may_open w k ≡ Ok tt → r ≡ None → Becomes a start_kind 3 r (collect left) (opens run k (collect left))
+  unfolding opens open_collector moved want_collector heard_at
+  start_opens a left r can h =
+      let w' : World = record w { collecting = new_collecting k false } in
+      let q : Position = record p { left = left; collecting = Some false } in
+      ap (λ (o : Result (Unit {0}) Refusal). elim o [ Ok may ↦ Some (open_collector run k left) | Err x ↦ None ]) can
+      ∙ ap (λ l. Some (with_lane (run_of R w' ps) k (record l { left = left }))) (lane_is R w ps k)
+      ∙ ap Some (put_is R w' ps k q)
+      ∙ ap (λ (x : Option Reply). Some (run_of R w' (slice_set ps k (heard_at p 3 x (collect left))))) (sym h)
+
+  all_started : (a : Act) (n : Next) (r : Option Reply) → FitsNext n starting → may_open w k ≡ Ok tt → r ≡ None → Becomes a start_kind 3 r n (opens run k n)
+  all_started a (collect left) r fits can h = start_opens a left r can h
+  all_started a (job_step j left) r fits can h = absurd fits
+  all_started a (plain c left) r fits can h = absurd fits
+  all_started a (collecting is_short) r fits can h = absurd fits
+  all_started a (sync group left) r fits can h = absurd fits
+  all_started a bye r fits can h = absurd fits
+  all_started a (broken refusal) r fits can h = absurd fits
+  all_started a end r fits can h = absurd fits
+
+  -- ---- kind 4
+
+  -- what the collector replies, but for its numbers
+  pub report_is : (b : Bool) (r : Option Reply) → Reports (Some b) r → (x : Reply) × (r ≡ Some x) × (blank x ≡ collected b)
+  report_is true r h = (Refused NoMemory, h, refl)
+  report_is false (Some (Collected start cutoff used pending removed)) h = (Collected start cutoff used pending removed, refl, refl)
+  report_is false (Some x) h = absurd h
+  report_is false None h = absurd h
+
+  step_closes : (a : Act) (b : Bool) (r : Option Reply) → Reports (Some b) r → Becomes a close_kind 4 r (collecting b) (closes run k (collecting b))
+  unfolding closes close_collector moved heard_at
+  step_closes a b r h =
+      let rep = report_is b r h in
+      let w' : World = record w { collecting = None } in
+      ap (λ l. Some (tell (run_of R w' ps) k l.left (collected b))) (lane_is R w ps k)
+      ∙ ap (λ x. Some (tell (run_of R w' ps) k p.left x)) (sym rep.2)
+      ∙ ap Some (blank_is R w' ps k p.left rep.0)
+      ∙ ap Some (same_lane R w' ps k (tells p p.left rep.0) (tells (record p { collecting = None }) p.left rep.0) refl)
+      ∙ ap (λ (x : Option Reply). Some (run_of R w' (slice_set ps k (heard_at p 4 x (collecting b))))) (sym rep.1)
+
+  all_closed : (a : Act) (n : Next) (r : Option Reply) → FitsNext n sweeping → open_at n ≡ collecting_on w k → Reports (collecting_on w k) r
+      → Becomes a close_kind 4 r n (closes run k n)
+  all_closed a (collecting is_short) r fits knows h = step_closes a is_short r (subst (λ o. Reports o r) (sym knows) h)
+  all_closed a (job_step j left) r fits knows h = absurd fits
+  all_closed a (plain c left) r fits knows h = absurd fits
+  all_closed a (collect left) r fits knows h = absurd fits
+  all_closed a (sync group left) r fits knows h = absurd fits
+  all_closed a bye r fits knows h = absurd fits
+  all_closed a (broken refusal) r fits knows h = absurd fits
+  all_closed a end r fits knows h = absurd fits
+
+  -- ---- kind 5
+
+  -- the collector that met the fault is no longer open
+  abbrev halted_at : Next → Option Collecting
+  halted_at n = elim (open_at n) [ None ↦ w.collecting | Some is_short ↦ None ]
+
+  asks_halted : (n : Next) (c : Class) → FitsNext n c → open_at n ≡ collecting_on w k → halted_on k c w.collecting ≡ halted_at n
+  asks_halted (job_step j left) stepping fits knows = refl
+  asks_halted (job_step j left) wanting fits knows = refl
+  asks_halted (job_step j left) c fits knows = absurd fits
+  asks_halted (plain d left) stepping fits knows = refl
+  asks_halted (plain d left) wanting fits knows = refl
+  asks_halted (plain d left) c fits knows = absurd fits
+  asks_halted (collect left) starting fits knows = refl
+  asks_halted (collect left) c fits knows = absurd fits
+  asks_halted (collecting is_short) sweeping fits knows = closed_some k w.collecting is_short (sym knows)
+  asks_halted (collecting is_short) c fits knows = absurd fits
+  asks_halted (sync group left) c fits knows = absurd fits
+  asks_halted bye c fits knows = absurd fits
+  asks_halted (broken refusal) c fits knows = absurd fits
+  asks_halted end c fits knows = absurd fits
+
+  end_halted : (n : Next) → open_at n ≡ None → w.collecting ≡ halted_at n
+  end_halted n shut = ap (λ (o : Option Bool). elim o [ None ↦ w.collecting | Some is_short ↦ None ]) (sym shut)
+
+  -- where it is told this
+  abbrev hurt : Option ℕ → Option Collecting → Position → Run
+  hurt f c q = run_of R (record w { collecting = c; fault = f }) (slice_set ps k q)
+
+  fault_told : (n : Next) (r : Option Reply) (x : Refusal) (f : Option ℕ) (c : Option Collecting) → r ≡ Some (Refused x) → IsPlainNext n → c ≡ halted_at n
+      → record (told_fault run k x n) { fault = f } ≡ hurt f c (heard_at p 5 r n)
+  unfolding told_fault close_collector heard_at
+  fault_told (job_step j left) r x f c h kept is =
+      ap (λ (y : Run). record y { fault = f })
+      (went_as w left (job_take j (Refused x)) (heard_at p 5 r (job_step j left)) (take_plainly j (Refused x) kept refl) (ap (λ y. heard_at p 5 y (job_step j left)) h))
+      ∙ ap (λ y. hurt f y (heard_at p 5 r (job_step j left))) (sym is)
+  fault_told (plain d left) r x f c h kept is =
+      ap (λ (y : Run). record y { fault = f }) (told_as w left (Refused x) (heard_at p 5 r (plain d left)) refl (ap (λ y. heard_at p 5 y (plain d left)) h))
+      ∙ ap (λ y. hurt f y (heard_at p 5 r (plain d left))) (sym is)
+  fault_told (sync group left) r x f c h kept is =
+      ap (λ (y : Run). record y { fault = f }) (told_as w left (Refused x) (heard_at p 5 r (sync group left)) refl (ap (λ y. heard_at p 5 y (sync group left)) h))
+      ∙ ap (λ y. hurt f y (heard_at p 5 r (sync group left))) (sym is)
+  fault_told (collect left) r x f c h kept is =
+      ap (λ (y : Run). record y { fault = f }) (told_as w left (Refused x) (heard_at p 5 r (collect left)) refl (ap (λ y. heard_at p 5 y (collect left)) h))
+      ∙ ap (λ y. hurt f y (heard_at p 5 r (collect left))) (sym is)
+  fault_told (collecting is_short) r x f c h kept is =
+      let w' : World = record w { collecting = None } in
+      ap (λ l. record (tell (run_of R w' ps) k l.left (Refused x)) { fault = f }) (lane_is R w ps k)
+      ∙ ap (λ (y : Run). record y { fault = f }) (tell_is R w' ps k p.left (Refused x) refl)
+      ∙ same_lane R (record w { collecting = None; fault = f }) ps k (tells p p.left (Refused x)) (tells (record p { collecting = None }) p.left (Refused x)) refl
+      ∙ ap (λ (y : Option Reply). hurt f None (heard_at p 5 y (collecting is_short))) (sym h)
+      ∙ ap (λ y. hurt f y (heard_at p 5 r (collecting is_short))) (sym is)
+  fault_told bye r x f c h kept is =
+      sym (keep_is R (record w { fault = f }) ps k (heard_at p 5 r bye) (ap (λ y. lane_of (heard_at p 5 y bye)) h))
+      ∙ ap (λ y. hurt f y (heard_at p 5 r bye)) (sym is)
+  fault_told (broken refusal) r x f c h kept is =
       sym (keep_is R (record w { fault = f }) ps k (heard_at p 5 r (broken refusal)) (ap (λ y. lane_of (heard_at p 5 y (broken refusal))) h))
-  fault_told end r x f h = sym (keep_is R (record w { fault = f }) ps k (heard_at p 5 r end) (ap (λ y. lane_of (heard_at p 5 y end)) h))
+      ∙ ap (λ y. hurt f y (heard_at p 5 r (broken refusal))) (sym is)
+  fault_told end r x f c h kept is =
+      sym (keep_is R (record w { fault = f }) ps k (heard_at p 5 r end) (ap (λ y. lane_of (heard_at p 5 y end)) h))
+      ∙ ap (λ y. hurt f y (heard_at p 5 r end)) (sym is)
 
-  all_faulted : (e : Ending) (later : List Entry) (a : Act) (n : Next) (r : Option Reply) → is_cut_off run k e later ≡ false → r ≡ Some (Refused (fault_refusal w.fault))
-      → Becomes a fault_kind 5 r n (Some (faulted run k w.events e later n))
+  all_faulted : (e : Ending) (later : List Entry) (a : Act) (n : Next) (r : Option Reply) → halted_on k (class_of a) w.collecting ≡ halted_at n → IsPlainNext n
+      → is_cut_off run k e later ≡ false → r ≡ Some (Refused (fault_refusal w.fault)) → Becomes a fault_kind 5 r n (Some (faulted run k w.events e later n))
   unfolding faulted moved
-  all_faulted e later a n r cut h =
+  all_faulted e later a n r halts kept cut h =
       ap (λ b. Some (record (if b then run else told_fault run k (fault_refusal w.fault) n) { fault = first_fault w.events w.fault })) cut
-      ∙ ap Some (fault_told n r (fault_refusal w.fault) (first_fault w.events w.fault) h)
+      ∙ ap Some (fault_told n r (fault_refusal w.fault) (first_fault w.events w.fault) (halted_on k (class_of a) w.collecting) h kept halts)
 
   -- an end that met a fault, where want of memory ended the lane
   cut_off : (later : List Entry) (n : Next) → is_cut_off run k endings.NoMemory later ≡ true
@@ -188,13 +490,15 @@ module _ (R : Option (List Snapshot)) (w : World) (ps : List Position) (k m : �
       ap (λ b. Some (record (if b then run else told_fault run k (fault_refusal w.fault) n) { fault = first_fault w.events w.fault })) cut
       ∙ ap Some (sym (keep_is R (record w { fault = first_fault w.events w.fault }) ps k p refl))
 
+  -- ---- kind 6
+
   abbrev closed : World
   closed = record w { store = ended w.store k }
 
-  words_by : (b : Bool) (t : Reply) → (if b then tell (run_of R closed ps) k [] t else run_of R closed ps)
+  words_by : (b : Bool) (t : Reply) → IsPlainReply t → (if b then tell (run_of R closed ps) k [] t else run_of R closed ps)
       ≡ run_of R closed (slice_set ps k (if b then tells p [] t else p))
-  words_by true t = tell_is R closed ps k [] t
-  words_by false t = sym (keep_is R closed ps k p refl)
+  words_by true t plainly = tell_is R closed ps k [] t plainly
+  words_by false t plainly = sym (keep_is R closed ps k p refl)
 
   job_unread : (e : Ending) (j : Asking) (left : List ℕ) → EndsSo e p (job_step j left) → may_leave_unread e ≡ true
   job_unread endings.Clean j left h = absurd h
@@ -206,15 +510,36 @@ module _ (R : Option (List Snapshot)) (w : World) (ps : List Position) (k m : �
   plain_unread (endings.Broken place) c left h = absurd h
   plain_unread e c left h = refl
 
-  all_ended : (e : Ending) (n : Next) → EndsSo e p n → ends run k e n ≡ Some (run_of R (moved R w k m acts.End end_kind) (slice_set ps k (last_words e p n)))
-  unfolding ends moved last_words ended_with end_session with_store unread
-  all_ended e (job_step j left) so =
-      ap (λ b. if b then Some (run_of R closed ps) else None) (job_unread e j left so) ∙ ap Some (sym (keep_is R closed ps k p refl))
-  all_ended e (plain c left) so =
-      ap (λ b. if b then Some (run_of R closed ps) else None) (plain_unread e c left so) ∙ ap Some (sym (keep_is R closed ps k p refl))
-  all_ended e bye so = ap Some (words_by (is_replied e) Done)
-  all_ended e (broken refusal) so = ap Some (words_by (is_replied e) (Refused refusal))
-  all_ended e end so = ap Some (sym (keep_is R closed ps k p refl))
+  sync_unread : (e : Ending) (group left : List ℕ) → EndsSo e p (sync group left) → may_leave_unread e ≡ true
+  sync_unread endings.Clean group left h = absurd h
+  sync_unread (endings.Broken place) group left h = absurd h
+  sync_unread e group left h = refl
+
+  gc_unread : (e : Ending) (left : List ℕ) → EndsSo e p (collect left) → may_leave_unread e ≡ true
+  gc_unread endings.Clean left h = absurd h
+  gc_unread (endings.Broken place) left h = absurd h
+  gc_unread e left h = refl
+
+  left_unread : (e : Ending) → may_leave_unread e ≡ true → unread run k e ≡ Some (run_of R closed (slice_set ps k p))
+  unfolding unread end_session with_store
+  left_unread e may = ap (λ b. if b then Some (run_of R closed ps) else None) may ∙ ap Some (sym (keep_is R closed ps k p refl))
+
+  ended_is : (e : Ending) (n : Next) → EndsSo e p n → open_at n ≡ None → ends run k e n ≡ Some (run_of R closed (slice_set ps k (last_words e p n)))
+  unfolding ends last_words ended_with end_session with_store
+  ended_is e (job_step j left) so shut = left_unread e (job_unread e j left so)
+  ended_is e (plain c left) so shut = left_unread e (plain_unread e c left so)
+  ended_is e (sync group left) so shut = left_unread e (sync_unread e group left so)
+  ended_is e (collect left) so shut = left_unread e (gc_unread e left so)
+  ended_is e (collecting is_short) so shut = absurd (some_none is_short shut)
+  ended_is e bye so shut = ap Some (words_by (is_replied e) Done refl)
+  ended_is e (broken refusal) so shut = ap Some (words_by (is_replied e) (Refused refusal) refl)
+  ended_is e end so shut = ap Some (sym (keep_is R closed ps k p refl))
+
+  all_ended : (e : Ending) (n : Next) → EndsSo e p n → open_at n ≡ None → collecting_on w k ≡ None
+      → ends run k e n ≡ Some (run_of R (moved R w k m acts.End end_kind) (slice_set ps k (last_words e p n)))
+  unfolding moved
+  all_ended e n so shut none =
+      ended_is e n so shut ∙ ap (λ c. Some (run_of R (record closed { collecting = c }) (slice_set ps k (last_words e p n)))) (sym (closed_none k w.collecting none))
 
   -- ---- by the act
 
@@ -222,7 +547,7 @@ module _ (R : Option (List Snapshot)) (w : World) (ps : List Position) (k m : �
   abbrev pub noted : ℕ → Entry
   noted n = record { lane = k; moment = m; kind = n }
 
-  module _ (es : List Ending) (later : List Entry) where
+  module _ (es : List Ending) (later : List Entry) (knows : (at ps k).collecting ≡ open_on k w.collecting) (kept : ArePlain (at ps k).job) where
     abbrev pub enter : ℕ → Option Run
     enter n = entered (known es) run w.events (noted n) later
 
@@ -230,21 +555,14 @@ module _ (R : Option (List Snapshot)) (w : World) (ps : List Position) (k m : �
     e = slice_index_or es k endings.Clean
 
     nx : next_of run k ≡ next_at p
-    nx = next_is R w ps k
+    nx = next_is R w ps k knows
 
-    asks_goes : (n : Next) (a : Act) → Asks n a → Goes n
-    asks_goes (job_step j left) a asks = tt
-    asks_goes (plain c left) a asks = tt
-    asks_goes bye a asks = asks
-    asks_goes (broken refusal) a asks = tt
-    asks_goes end a asks = asks
+    -- of what is next
+    at_next : open_at (next_at p) ≡ collecting_on w k
+    at_next = open_is p ∙ knows
 
-    asks_ends : (n : Next) (a : Act) → Asks n a → IsEnding (class_of a) → ⊥
-    asks_ends (job_step j left) a asks h = subst IsEnding (step_class (step_of j)) (subst (λ x. IsEnding (class_of x)) asks h)
-    asks_ends (plain c left) a asks h = subst IsEnding (command_class c) (subst (λ x. IsEnding (class_of x)) asks h)
-    asks_ends bye a asks h = asks
-    asks_ends (broken refusal) a asks h = asks
-    asks_ends end a asks h = asks
+    plainly : IsPlainNext (next_at p)
+    plainly = next_plain p kept
 
     -- the position of the program stands for the one that `weave` has
     heard_is : (w' : World) (x : Answer) → run_of R w' (slice_set ps k (heard_at p (x.entry).kind x.reply (next_at p))) ≡ run_of R w' (slice_set ps k (heard p x))
@@ -254,65 +572,88 @@ module _ (R : Option (List Snapshot)) (w : World) (ps : List Position) (k m : �
     asked : (n : ℕ) (a : Act) (r : Option Reply) → Asks (next_at p) a → (n ≡ 5 → is_cut_off run k e later ≡ false)
         → Right R w k m a r (class_of a) (kind_of n) → Becomes a (kind_of n) n r (next_at p) (enter n)
     unfolding entered
-    asked zero a r asks cut right = ap (λ x. stepped run k m x) nx ∙ all_stepped a (next_at p) r asks right
-    asked (suc zero) a r asks cut right = absurd (right_none a r (class_of a) right)
-    asked (suc (suc zero)) a r asks cut right = ap (λ x. short run k x) nx ∙ all_short a (next_at p) r (asks_goes (next_at p) a asks) (right_short a r (class_of a) right)
-    asked (suc (suc (suc zero))) a r asks cut right = absurd (right_none a r (class_of a) right)
-    asked (suc (suc (suc (suc zero)))) a r asks cut right = absurd (right_none a r (class_of a) right)
+    asked zero a r asks cut right = ap (λ x. stepped run k m x) nx ∙ all_stepped a (next_at p) r asks at_next plainly right
+    asked (suc zero) a r asks cut right =
+        let h = right_pass a r (class_of a) right in
+        ap (λ x. passed run x) nx ∙ all_passed a (next_at p) r (subst (FitsNext (next_at p)) h.0 (asks_class (next_at p) a asks)) h.1
+    asked (suc (suc zero)) a r asks cut right =
+        ap (λ x. short run k x) nx ∙ all_short a (next_at p) r (asks_goes (next_at p) a asks) at_next plainly (right_short a r (class_of a) right)
+    asked (suc (suc (suc zero))) a r asks cut right =
+        let h = right_start a r (class_of a) right in
+        ap (λ x. opens run k x) nx ∙ all_started a (next_at p) r (subst (FitsNext (next_at p)) h.0 (asks_class (next_at p) a asks)) h.1 h.2
+    asked (suc (suc (suc (suc zero)))) a r asks cut right =
+        let h = right_close a r (class_of a) right in
+        ap (λ x. closes run k x) nx ∙ all_closed a (next_at p) r (subst (FitsNext (next_at p)) h.0 (asks_class (next_at p) a asks)) at_next h.1
     asked (suc (suc (suc (suc (suc zero))))) a r asks cut right =
-        ap (λ x. Some (faulted run k w.events e later x)) nx ∙ all_faulted e later a (next_at p) r (cut refl) (right_fault a r (class_of a) right)
+        ap (λ x. Some (faulted run k w.events e later x)) nx
+        ∙ all_faulted e later a (next_at p) r (asks_halted (next_at p) (class_of a) (asks_class (next_at p) a asks) at_next) plainly (cut refl) (right_fault a r (class_of a) right)
     asked (suc (suc (suc (suc (suc (suc zero)))))) a r asks cut right = absurd (asks_ends (next_at p) a asks (right_end a r (class_of a) right))
-    asked (suc (suc (suc (suc (suc (suc (suc n))))))) a r asks cut right = absurd (right_none a r (class_of a) right)
+    asked (suc (suc (suc (suc (suc (suc (suc zero))))))) a r asks cut right = absurd (right_remote a r (class_of a) right)
+    asked (suc (suc (suc (suc (suc (suc (suc (suc n)))))))) a r asks cut right = absurd (right_none a r (class_of a) right)
 
     wanted : (n : ℕ) (r : Option Reply) → may_want_at p ≡ true → Right R w k m acts.Short r wanting (kind_of n) → Becomes acts.Short (kind_of n) n r (next_at p) (enter n)
     unfolding entered
-    wanted (suc (suc zero)) r may right = ap (λ x. short run k x) nx ∙ all_short acts.Short (next_at p) r (want_goes p may) (right_short acts.Short r wanting right)
+    wanted (suc (suc zero)) r may right =
+        ap (λ x. short run k x) nx ∙ all_short acts.Short (next_at p) r (want_goes p may) at_next plainly (right_short acts.Short r wanting right)
     wanted zero r may right = absurd right
     wanted (suc zero) r may right = absurd right
     wanted (suc (suc (suc zero))) r may right = absurd right
     wanted (suc (suc (suc (suc zero)))) r may right = absurd right
     wanted (suc (suc (suc (suc (suc zero))))) r may right = absurd right
     wanted (suc (suc (suc (suc (suc (suc zero)))))) r may right = absurd right
-    wanted (suc (suc (suc (suc (suc (suc (suc n))))))) r may right = absurd right
+    wanted (suc (suc (suc (suc (suc (suc (suc zero))))))) r may right = absurd right
+    wanted (suc (suc (suc (suc (suc (suc (suc (suc n)))))))) r may right = absurd right
+
+    -- a lane's end that met a fault, where no collector of the lane is open
+    end_faulted_at : (x : Ending) (r : Option Reply) → p.collecting ≡ None → is_cut_off run k x later ≡ false → r ≡ Some (Refused (fault_refusal w.fault))
+        → Some (faulted run k w.events x later (next_at p)) ≡ Some (run_of R (moved R w k m acts.End fault_kind) (slice_set ps k (heard_at p 5 r (next_at p))))
+    end_faulted_at x r shut cut h = all_faulted x later acts.End (next_at p) r (end_halted (next_at p) (open_is p ∙ shut)) plainly cut h
 
     -- where want of memory ended the lane
-    hurt_by : (b : Bool) (r : Option Reply) → is_cut_off run k endings.NoMemory later ≡ b → r ≡ Some (Refused (fault_refusal w.fault))
+    hurt_by : (b : Bool) (r : Option Reply) → p.collecting ≡ None → is_cut_off run k endings.NoMemory later ≡ b → r ≡ Some (Refused (fault_refusal w.fault))
         → Some (faulted run k w.events endings.NoMemory later (next_at p)) ≡ Some (run_of R (moved R w k m acts.End fault_kind) (slice_set ps k (if b then p else heard_at p 5 r (next_at p))))
-    hurt_by true r cut h = cut_off later (next_at p) cut
-    hurt_by false r cut h = all_faulted endings.NoMemory later acts.End (next_at p) r cut h
+    hurt_by true r shut cut h = cut_off later (next_at p) cut
+    hurt_by false r shut cut h = end_faulted_at endings.NoMemory r shut cut h
 
-    end_hurt : (x : Ending) (r : Option Reply) → is_cut_off run k x later ≡ cuts ending x p → r ≡ Some (Refused (fault_refusal w.fault))
+    end_hurt : (x : Ending) (r : Option Reply) → p.collecting ≡ None → is_cut_off run k x later ≡ cuts ending x p → r ≡ Some (Refused (fault_refusal w.fault))
         → Some (faulted run k w.events x later (next_at p)) ≡ Some (run_of R (moved R w k m acts.End fault_kind) (slice_set ps k (end_faulted x p r)))
-    end_hurt endings.NoMemory r cut h = hurt_by (is_none p.job) r cut h
-    end_hurt endings.Clean r cut h = all_faulted endings.Clean later acts.End (next_at p) r cut h
-    end_hurt (endings.Broken place) r cut h = all_faulted (endings.Broken place) later acts.End (next_at p) r cut h
-    end_hurt endings.SourceFault r cut h = all_faulted endings.SourceFault later acts.End (next_at p) r cut h
-    end_hurt endings.SinkFault r cut h = all_faulted endings.SinkFault later acts.End (next_at p) r cut h
-    end_hurt endings.SourceTooLong r cut h = all_faulted endings.SourceTooLong later acts.End (next_at p) r cut h
+    end_hurt endings.NoMemory r shut cut h = hurt_by (is_none p.job) r shut cut h
+    end_hurt endings.Clean r shut cut h = end_faulted_at endings.Clean r shut cut h
+    end_hurt (endings.Broken place) r shut cut h = end_faulted_at (endings.Broken place) r shut cut h
+    end_hurt endings.SourceFault r shut cut h = end_faulted_at endings.SourceFault r shut cut h
+    end_hurt endings.SinkFault r shut cut h = end_faulted_at endings.SinkFault r shut cut h
+    end_hurt endings.SourceTooLong r shut cut h = end_faulted_at endings.SourceTooLong r shut cut h
 
-    over : (n : ℕ) (r : Option Reply) → EndsSo e p (next_at p) → (n ≡ 5 → is_cut_off run k e later ≡ cuts ending e p) → Right R w k m acts.End r ending (kind_of n)
+    over : (n : ℕ) (r : Option Reply) → p.collecting ≡ None → EndsSo e p (next_at p) → (n ≡ 5 → is_cut_off run k e later ≡ cuts ending e p) → Right R w k m acts.End r ending (kind_of n)
         → enter n ≡ Some (run_of R (moved R w k m acts.End (kind_of n)) (slice_set ps k (end_heard e p n r)))
     unfolding entered
-    over zero r so cut right = absurd right
-    over (suc zero) r so cut right = absurd right
-    over (suc (suc zero)) r so cut right = absurd right
-    over (suc (suc (suc zero))) r so cut right = absurd right
-    over (suc (suc (suc (suc zero)))) r so cut right = absurd right
-    over (suc (suc (suc (suc (suc zero))))) r so cut right =
-        ap (λ x. Some (faulted run k w.events e later x)) nx ∙ end_hurt e r (cut refl) right.1
-    over (suc (suc (suc (suc (suc (suc zero)))))) r so cut right =
-        ap (λ x. ends run k e x) nx ∙ all_ended e (next_at p) so
+    over zero r shut so cut right = absurd right
+    over (suc zero) r shut so cut right = absurd right
+    over (suc (suc zero)) r shut so cut right = absurd right
+    over (suc (suc (suc zero))) r shut so cut right = absurd right
+    over (suc (suc (suc (suc zero)))) r shut so cut right = absurd right
+    over (suc (suc (suc (suc (suc zero))))) r shut so cut right =
+        ap (λ x. Some (faulted run k w.events e later x)) nx ∙ end_hurt e r shut (cut refl) right.1
+    over (suc (suc (suc (suc (suc (suc zero)))))) r shut so cut right =
+        ap (λ x. ends run k e x) nx ∙ all_ended e (next_at p) so (open_is p ∙ shut) (sym knows ∙ shut)
         ∙ ap Some (same_lane R (moved R w k m acts.End end_kind) ps k (last_words e p (next_at p)) (end_heard e p 6 r) refl)
-    over (suc (suc (suc (suc (suc (suc (suc n))))))) r so cut right = absurd right
+    over (suc (suc (suc (suc (suc (suc (suc zero))))))) r shut so cut right = absurd right
+    over (suc (suc (suc (suc (suc (suc (suc (suc n)))))))) r shut so cut right = absurd right
 
     -- an event of the lane moves the run as the definitions say
     acted : (a : Act) (x : Answer) (v : Event) (vs : List Event) → v.act ≡ a → Does (class_of a) e p v vs
         → ((x.entry).kind ≡ 5 → is_cut_off run k e later ≡ cuts (class_of a) e p)
         → Right R w k m a x.reply (class_of a) (kind_of (x.entry).kind)
         → enter (x.entry).kind ≡ Some (run_of R (moved R w k m a (kind_of (x.entry).kind)) (slice_set ps k (heard_as (class_of a) e p x)))
-    acted acts.End x v vs is does cut right = over (x.entry).kind x.reply does.0 cut right
+    acted acts.End x v vs is does cut right = over (x.entry).kind x.reply does.2 does.0 cut right
     acted acts.Short x v vs is does cut right =
         wanted (x.entry).kind x.reply does.1 right ∙ ap Some (heard_is (moved R w k m acts.Short (kind_of (x.entry).kind)) x)
+    acted acts.Start x v vs is does cut right =
+        asked (x.entry).kind acts.Start x.reply (subst (λ y. Asks (next_at p) y) is does.1) cut right
+        ∙ ap Some (heard_is (moved R w k m acts.Start (kind_of (x.entry).kind)) x)
+    acted acts.Step x v vs is does cut right =
+        asked (x.entry).kind acts.Step x.reply (subst (λ y. Asks (next_at p) y) is does) cut right
+        ∙ ap Some (heard_is (moved R w k m acts.Step (kind_of (x.entry).kind)) x)
     acted (acts.Plain c) x v vs is does cut right =
         asked (x.entry).kind (acts.Plain c) x.reply (subst (λ y. Asks (next_at p) y) is does.1) cut right
         ∙ ap Some (heard_is (moved R w k m (acts.Plain c) (kind_of (x.entry).kind)) x)

@@ -1,14 +1,15 @@
 -- Lanes that run, and histories that are legal.
-use Rattle.std.specs.Prelude.{◌≡◌, ℕ, Bool, List, [], ◌∷◌, ◌++◌, codes, refl, Option, Some, None, true, false, ⊤}
+use Rattle.std.specs.Prelude.{◌≡◌, ℕ, Bool, List, [], ◌∷◌, ◌++◌, codes, refl, Option, Some, None, Result, Ok, Err, true, false, ⊤}
 use Rattle.std.specs.List.{flat_map}
 use Rattle.std.proofs.Common.{arith, ap}
-use Rattle.store_types.specs.declared.refusal.Refusal.TheVariants.{BadFrame, DiskFault, Halted, NoMemory, SnapshotBusy, WrongState}
+use Rattle.store_types.specs.declared.refusal.Refusal.{Refusal}
+use Rattle.store_types.specs.declared.refusal.Refusal.TheVariants.{BadFrame, CollectorBusy, DiskFault, Halted, NoMemory, SnapshotBusy, WrongState}
 use Rattle.store_types.specs.declared.refusal.SessionState.TheVariants.{Idle}
 use Rattle.wire_frames.specs.Frames.{frame}
 use Rattle.wire_commands.specs.declared.command.Command.{Command}
-use Rattle.wire_commands.specs.declared.command.Command.TheVariants.{Abort, CloseReader, Finish, Forget, Prune, Bye}
+use Rattle.wire_commands.specs.declared.command.Command.TheVariants.{Abort, CloseReader, Finish, Forget, Prune, Gc, Bye}
 use Rattle.wire_commands.specs.declared.reply.Reply.{Reply}
-use Rattle.wire_commands.specs.declared.reply.Reply.TheVariants.{Done, Keys, Marks, Refused}
+use Rattle.wire_commands.specs.declared.reply.Reply.TheVariants.{Done, Keys, Marks, Collected, Refused}
 use Rattle.wire_commands.specs.declared.rows.PruneMark.TheVariants.{Kept, Held}
 use Rattle.wire_commands.specs.CommandText.{command_text}
 use Rattle.store_model.specs.declared.ending.Ending.TheVariants as endings
@@ -52,7 +53,7 @@ told = no_session ∷ Refused NoMemory ∷ Refused DiskFault ∷ Refused (Halted
 
 ran : LaneRan (sent (Finish ∷ Finish ∷ Finish ∷ Finish ∷ Bye ∷ [])) endings.Clean h told
 unfolding on_histories
-ran = (refl, (refl, refl), (refl, (refl, refl), (refl, (refl, refl), (refl, (refl, refl), (refl, (refl, λ five. cc), (refl, refl))))))
+ran = (refl, (refl, refl), (refl, (refl, refl), (refl, (refl, refl), (refl, (refl, refl), (refl, (refl, (λ five. cc), refl), (refl, refl))))))
 
 abbrev start : Opening
 start = record { snapshots = []; moment = 4; touches = []; calls = 3; chunks = [] }
@@ -89,11 +90,11 @@ one = event (acts.Plain Finish) 0 (Some no_session) 0 false
 
 cut_frame : LaneRan cut_input (endings.Broken 5) (one ∷ end 1 ∷ []) (no_session ∷ Refused (BadFrame 5) ∷ [])
 unfolding on_histories
-cut_frame = (refl, (refl, refl), (refl, ((refl, refl), λ five. cc), (refl, refl)))
+cut_frame = (refl, (refl, refl), (refl, ((refl, refl), (λ five. cc), refl), (refl, refl)))
 
 source_failed : LaneRan cut_input endings.SourceFault (one ∷ end 1 ∷ []) (no_session ∷ [])
 unfolding on_histories
-source_failed = (refl, (refl, refl), (refl, ((refl, refl, refl), λ five. cc), (refl, refl)))
+source_failed = (refl, (refl, refl), (refl, ((refl, refl, refl), (λ five. cc), refl), (refl, refl)))
 
 -- no lane leaves a whole frame without a reply because its source failed
 no_command_left : LaneRan (1 ∷ 0 ∷ 0 ∷ 0 ∷ 99 ∷ []) endings.SourceFault (end 0 ∷ []) [] → ⊥
@@ -104,7 +105,7 @@ no_command_left ran = let is : Rattle.wire_frames.specs.Frames.whole (99 ∷ [])
 not_held : LaneRan (2 ∷ 0 ∷ 0 ∷ 0 ∷ []) endings.NoMemory
     (event acts.Short 2 short 0 true ∷ event acts.End 5 (Some (Refused DiskFault)) 1 false ∷ end 2 ∷ []) (Refused NoMemory ∷ [])
 unfolding on_histories
-not_held = (refl, (refl, refl), (refl, (refl, λ five. (refl, refl)), (refl, (refl, λ five. cc), (refl, refl))))
+not_held = (refl, (refl, refl), (refl, (refl, (λ five. (refl, refl)), refl), (refl, (refl, (λ five. cc), refl), (refl, refl))))
 
 -- and no lane ends as if its input had ended, where it was used up
 not_clean : LaneRan (2 ∷ 0 ∷ 0 ∷ 0 ∷ []) endings.Clean (event acts.Short 2 short 0 false ∷ end 1 ∷ []) (Refused NoMemory ∷ []) → ⊥
@@ -120,7 +121,7 @@ no_short_bye ran = let is : false ≡ true = (ran.1).1 in cc
 sink_failed : LaneRan (sent (Finish ∷ Finish ∷ [])) endings.SinkFault
     (one ∷ event acts.End 5 (Some (Refused DiskFault)) 1 false ∷ end 2 ∷ []) (no_session ∷ Refused DiskFault ∷ [])
 unfolding on_histories
-sink_failed = (refl, (refl, refl), (refl, (tt, λ five. (refl, refl)), (refl, (tt, λ five. cc), (refl, refl))))
+sink_failed = (refl, (refl, refl), (refl, (tt, (λ five. (refl, refl)), refl), (refl, (tt, (λ five. cc), refl), (refl, refl))))
 
 -- ---- a job
 
@@ -143,17 +144,17 @@ forget kind r = event (acts.Plain (Forget older)) kind r 1 false
 held : LaneRan (sent (prune ∷ Bye ∷ [])) endings.Clean (grouped ∷ forget 0 (Some (Refused (SnapshotBusy 3))) ∷ end 2 ∷ [])
     (Marks (row Kept newer ∷ row Held older ∷ []) ∷ Done ∷ [])
 unfolding on_histories
-held = (refl, (refl, refl), (refl, (refl, refl), (refl, (refl, λ five. cc), (refl, refl))))
+held = (refl, (refl, refl), (refl, (refl, refl), (refl, (refl, (λ five. cc), refl), (refl, refl))))
 
 -- a fault of the disk is the job's answer
 faulted : LaneRan (sent (prune ∷ Bye ∷ [])) endings.Clean (grouped ∷ forget 5 (Some (Refused DiskFault)) ∷ end 2 ∷ []) (Refused DiskFault ∷ Done ∷ [])
 unfolding on_histories
-faulted = (refl, (refl, refl), (refl, (refl, refl), (refl, (refl, λ five. cc), (refl, refl))))
+faulted = (refl, (refl, refl), (refl, (refl, refl), (refl, (refl, (λ five. cc), refl), (refl, refl))))
 
 -- and so is want of memory within the job, which ends the lane where its entry was the reserve's
 wanted : LaneRan (sent (prune ∷ Bye ∷ [])) endings.NoMemory (grouped ∷ event acts.Short 2 short 1 true ∷ end 2 ∷ []) (Refused NoMemory ∷ [])
 unfolding on_histories
-wanted = (refl, (refl, refl), (refl, (refl, refl), (refl, (refl, λ five. cc), (refl, refl))))
+wanted = (refl, (refl, refl), (refl, (refl, refl), (refl, (refl, (λ five. cc), refl), (refl, refl))))
 
 -- no lane's input has ended while its job is open
 not_open : LaneRan (sent (prune ∷ [])) endings.Clean (grouped ∷ end 1 ∷ []) [] → ⊥
@@ -167,3 +168,74 @@ legal_job = (
   record { says = (refl, refl); formed = tt; inside = omega arith; place = refl; last = λ is. cc; risen = omega arith; in_time = omega arith; counted = omega arith },
   (record { says = refl; formed = tt; inside = omega arith; place = refl; last = λ is. cc; risen = omega arith; in_time = omega arith; counted = omega arith }, tt),
 )
+
+-- ---- a collector
+
+abbrev opens : Event
+opens = event acts.Start 3 None 0 false
+
+abbrev acted : ℕ → Option Reply → ℕ → Bool → Event
+acted kind r place last = event acts.Step kind r place last
+
+-- its five numbers may be any
+abbrev report : Reply
+report = Collected 1_000_000 913_300 2 0 0
+
+-- it opens, does two acts and reports
+collected : LaneRan (sent (Gc ∷ Bye ∷ [])) endings.Clean (opens ∷ acted 1 None 1 false ∷ acted 1 None 2 false ∷ acted 4 (Some report) 3 false ∷ end 4 ∷ []) (report ∷ Done ∷ [])
+unfolding on_histories
+collected = (refl, (refl, refl), (refl, refl, (refl, refl, (refl, refl, (refl, (refl, (λ five. cc), refl), (refl, refl))))))
+
+legal_collected : IsLegal None (opened start) (opens ∷ acted 1 None 1 false ∷ acted 4 (Some report) 2 false ∷ end 3 ∷ [])
+unfolding on_histories
+legal_collected = (
+  record { says = (refl, refl, refl); formed = tt; inside = omega arith; place = refl; last = λ is. cc; risen = omega arith; in_time = omega arith; counted = omega arith },
+  (
+    record { says = (refl, refl, refl); formed = tt; inside = omega arith; place = refl; last = λ is. cc; risen = omega arith; in_time = omega arith; counted = omega arith },
+    (
+      record { says = (refl, tt); formed = tt; inside = omega arith; place = refl; last = λ is. cc; risen = omega arith; in_time = omega arith; counted = omega arith },
+      (record { says = refl; formed = tt; inside = omega arith; place = refl; last = λ is. cc; risen = omega arith; in_time = omega arith; counted = omega arith }, tt),
+    ),
+  ),
+)
+
+-- Memory was wanting for an act of it, whose entry was the reserve's: it is closed by one act more, which tells this, and then the lane ends.
+cut_short : LaneRan (sent (Gc ∷ Finish ∷ [])) endings.NoMemory (opens ∷ acted 2 short 1 true ∷ acted 4 short 2 false ∷ end 3 ∷ []) (Refused NoMemory ∷ [])
+unfolding on_histories
+cut_short = (refl, (refl, refl), (refl, refl, (refl, refl, (refl, (refl, (λ five. cc), refl), (refl, refl)))))
+
+legal_cut : IsLegal None (opened start) (opens ∷ acted 2 short 1 true ∷ acted 4 short 2 false ∷ end 3 ∷ [])
+unfolding on_histories
+legal_cut = (
+  record { says = (refl, refl, refl); formed = tt; inside = omega arith; place = refl; last = λ is. cc; risen = omega arith; in_time = omega arith; counted = omega arith },
+  (
+    record { says = (refl, λ is. (let e : Some false ≡ Some true = is in cc)); formed = tt; inside = omega arith; place = refl; last = λ is. refl; risen = omega arith; in_time = omega arith; counted = omega arith },
+    (
+      record { says = (refl, refl); formed = tt; inside = omega arith; place = refl; last = λ is. cc; risen = omega arith; in_time = omega arith; counted = omega arith },
+      (record { says = refl; formed = tt; inside = omega arith; place = refl; last = λ is. cc; risen = omega arith; in_time = omega arith; counted = omega arith }, tt),
+    ),
+  ),
+)
+
+-- no lane ends while its collector is open
+not_left_open : LaneRan (sent (Gc ∷ [])) endings.SinkFault (opens ∷ end 1 ∷ []) [] → ⊥
+unfolding on_histories
+not_left_open ran = let is : Some false ≡ None = ((ran.2).1).2 in cc
+
+-- nor does it want memory outside the collector's acts
+not_short_open : LaneRan (sent (Gc ∷ Finish ∷ [])) endings.NoMemory (opens ∷ event acts.Short 2 short 1 true ∷ end 2 ∷ []) [] → ⊥
+unfolding on_histories
+not_short_open ran = let is : false ≡ true = ((ran.2).1).1 in cc
+
+-- once memory was wanting, its next act is its last
+not_marked : IsRight None (record (opened start) { collecting = Some (record { lane = 0; is_short = true }) }) (acted 1 None 0 false) → ⊥
+unfolding on_histories
+not_marked right = let is : Some true ≡ Some false = (right.says).1 in cc
+
+-- and a second one does not open
+not_opened : IsRight None (record (opened start) { collecting = Some (record { lane = 1; is_short = false }) }) opens → ⊥
+unfolding on_histories
+not_opened right = no_two (right.says).1
+  where
+    no_two : ◌≡◌ {A = Result (Unit {0}) Refusal} (Err (CollectorBusy 1)) (Ok tt) → ⊥
+    no_two is = cc

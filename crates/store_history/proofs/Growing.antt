@@ -1,5 +1,5 @@
 -- What a lane did stays as it is while more of its input comes, and goes on to a run of its program.
-use Rattle.std.proofs.Common.{◌≡◌, ℕ, ◌+◌, ◌-◌, ◌≤◌, Bool, true, false, ◌&&◌, ◌||◌, List, [], ◌∷◌, ◌++◌, length, take, Option, Some, None, is_some, refl, sym, ap, subst, ◌∙◌, arith, if◌then◌else◌, ◌==◌, nat_le}
+use Rattle.std.proofs.Common.{◌≡◌, ℕ, ◌+◌, ◌-◌, ◌≤◌, Bool, true, false, ◌&&◌, ◌||◌, List, [], ◌∷◌, ◌++◌, length, take, Option, Some, None, is_some, is_none, refl, sym, ap, subst, ◌∙◌, arith, if◌then◌else◌, ◌==◌, nat_le}
 use Rattle.std.specs.Int.{w32, from_le_bytes}
 use Rattle.std.proofs.lemmas.List.{take-append-le, length-append}
 use Rattle.std.proofs.lemmas.Bool.Decides.{nat_tests}
@@ -13,11 +13,11 @@ use Rattle.wire_commands.specs.Inputs.{InputFront, nothing, next, over_limit, no
 use Rattle.store_model.specs.declared.ending.Ending.{Ending}
 use Rattle.store_model.specs.Job.{Asking, Job, over, asking}
 use Rattle.store_model.specs.Jobs.{take as job_take}
-use Rattle.store_model.specs.Lanes.{Next, job_step, plain, bye, broken, end, lane_next, front_next, command_next}
+use Rattle.store_model.specs.Lanes.{Next, job_step, plain, sync, collect, collecting, bye, broken, end, lane_next, front_next, command_next}
 use Rattle.store_history.specs.declared.act.Answer.{Answer}
 use Rattle.store_history.specs.declared.act.Event.{Event}
-use Rattle.store_history.specs.Acts.{Class, stepping, wanting, ending, class_of}
-use Rattle.store_history.specs.LaneRun.{Position, next_at, heard_at, heard, heard_as, goes_on, used_up, position_after, Asks, may_want, may_want_at, Does, Runs}
+use Rattle.store_history.specs.Acts.{Class, stepping, starting, sweeping, wanting, ending, class_of}
+use Rattle.store_history.specs.LaneRun.{Position, next_at, tells, wants, heard_at, heard, heard_as, goes_on, used_up, position_after, Asks, may_want, may_want_at, Does, Runs}
 use Rattle.store_history.specs.SoFar.{goes_further, Follows, Leads, grown}
 
 -- ---- a command stays at the front
@@ -41,6 +41,8 @@ front_more (b ∷ bytes) more c rest h = by_cut (cut (b ∷ bytes)) refl h
 pub next_grown : List ℕ → Next → Next
 next_grown more (job_step j left) = job_step j (left ++ more)
 next_grown more (plain c left) = plain c (left ++ more)
+next_grown more (sync group left) = sync group (left ++ more)
+next_grown more (collect left) = collect (left ++ more)
 next_grown more n = n
 
 command_grown : (more : List ℕ) (c : Command) (left : List ℕ) → command_next c (left ++ more) ≡ next_grown more (command_next c left)
@@ -61,13 +63,29 @@ front_stays more bytes m n h = by_front (front bytes) refl h
 
 pub next_stays : (more : List ℕ) (p : Position) → goes_further (next_at p) ≡ true → next_at (grown more p) ≡ next_grown more (next_at p)
 unfolding next_at lane_next next_grown
-next_stays more p h = by_job p.job h
+next_stays more p h = by_collecting p.collecting h
   where
     by_job : (o : Option Asking) → goes_further (elim o [ None ↦ front_next (p.size - length p.left) (front p.left) | Some j ↦ job_step j p.left ]) ≡ true
         → elim o [ None ↦ front_next (p.size + length more - length (p.left ++ more)) (front (p.left ++ more)) | Some j ↦ job_step j (p.left ++ more) ]
         ≡ next_grown more (elim o [ None ↦ front_next (p.size - length p.left) (front p.left) | Some j ↦ job_step j p.left ])
     by_job None h = front_stays more p.left (p.size + length more - length (p.left ++ more)) (p.size - length p.left) h
     by_job (Some j) h = refl
+
+    by_collecting : (o : Option Bool)
+        → goes_further (elim o [
+          | None ↦ elim p.job [ None ↦ front_next (p.size - length p.left) (front p.left) | Some j ↦ job_step j p.left ]
+          | Some is_short ↦ collecting is_short
+        ]) ≡ true
+        → elim o [
+          | None ↦ elim p.job [ None ↦ front_next (p.size + length more - length (p.left ++ more)) (front (p.left ++ more)) | Some j ↦ job_step j (p.left ++ more) ]
+          | Some is_short ↦ collecting is_short
+        ]
+        ≡ next_grown more (elim o [
+          | None ↦ elim p.job [ None ↦ front_next (p.size - length p.left) (front p.left) | Some j ↦ job_step j p.left ]
+          | Some is_short ↦ collecting is_short
+        ])
+    by_collecting None h = by_job p.job h
+    by_collecting (Some is_short) h = refl
 
 -- ---- and so does what is heard
 
@@ -83,6 +101,23 @@ heard_at_grown more p n (Some r) (job_step j left) h = job_grown more p left (jo
 heard_at_grown more p n None (job_step j left) h = refl
 heard_at_grown more p n (Some r) (plain c left) h = refl
 heard_at_grown more p n None (plain c left) h = refl
+heard_at_grown more p n (Some r) (sync group left) h = refl
+heard_at_grown more p n None (sync group left) h = refl
+heard_at_grown more p n (Some r) (collect left) h = refl
+heard_at_grown more p n None (collect left) h = by_kind (n == 3)
+  where
+    by_kind : (b : Bool) → (if b then record (grown more p) { left = left ++ more; collecting = Some false } else grown more p)
+        ≡ grown more (if b then record p { left = left; collecting = Some false } else p)
+    by_kind true = refl
+    by_kind false = refl
+heard_at_grown more p n (Some r) (collecting is_short) h = by_kind (n == 2)
+  where
+    by_kind : (b : Bool)
+        → (if b then record (grown more p) { collecting = Some true } else tells (record (grown more p) { collecting = None }) (p.left ++ more) r)
+        ≡ grown more (if b then record p { collecting = Some true } else tells (record p { collecting = None }) p.left r)
+    by_kind true = refl
+    by_kind false = refl
+heard_at_grown more p n None (collecting is_short) h = refl
 heard_at_grown more p n r bye h = cc
 heard_at_grown more p n r (broken refusal) h = cc
 heard_at_grown more p n r end h = cc
@@ -90,7 +125,7 @@ heard_at_grown more p n r end h = cc
 heard_stays : (more : List ℕ) (p : Position) (a : Answer) → goes_further (next_at p) ≡ true → heard (grown more p) a ≡ grown more (heard p a)
 unfolding heard
 heard_stays more p a h =
-    let flag : Position → Position = λ q. record q { is_short = (a.entry).kind == 2; is_spent = a.last || q.is_spent } in
+    let flag : Position → Position = λ q. record q { is_short = wants (a.entry).kind p.collecting; is_spent = a.last || q.is_spent } in
     ap (λ x. flag (heard_at (grown more p) (a.entry).kind a.reply x)) (next_stays more p h)
     ∙ ap flag (heard_at_grown more p (a.entry).kind a.reply (next_at p) h)
 
@@ -98,6 +133,9 @@ asks_grown : (more : List ℕ) (x : Next) (v : Event) → Asks x v.act → Asks 
 unfolding next_grown
 asks_grown more (job_step j left) v h = h
 asks_grown more (plain c left) v h = h
+asks_grown more (sync group left) v h = h
+asks_grown more (collect left) v h = h
+asks_grown more (collecting is_short) v h = h
 asks_grown more bye v h = h
 asks_grown more (broken refusal) v h = h
 asks_grown more end v h = h
@@ -105,6 +143,9 @@ asks_grown more end v h = h
 pub asks_further : (x : Next) (v : Event) → Asks x v.act → goes_further x ≡ true
 asks_further (job_step j left) v h = refl
 asks_further (plain c left) v h = refl
+asks_further (sync group left) v h = refl
+asks_further (collect left) v h = refl
+asks_further (collecting is_short) v h = refl
 asks_further bye v h = absurd h
 asks_further (broken refusal) v h = absurd h
 asks_further end v h = absurd h
@@ -113,12 +154,17 @@ further_grown : (more : List ℕ) (x : Next) → goes_further (next_grown more x
 unfolding next_grown
 further_grown more (job_step j left) = refl
 further_grown more (plain c left) = refl
+further_grown more (sync group left) = refl
+further_grown more (collect left) = refl
+further_grown more (collecting is_short) = refl
 further_grown more bye = refl
 further_grown more (broken refusal) = refl
 further_grown more end = refl
 
 is_further : (c : Class) (p : Position) (v : Event) → Follows c p v → goes_further (next_at p) ≡ true
 is_further stepping p v h = asks_further (next_at p) v h.1
+is_further starting p v h = asks_further (next_at p) v h.1
+is_further sweeping p v h = asks_further (next_at p) v h
 is_further wanting p v h = h.2
 is_further ending p v h = absurd h
 
@@ -137,13 +183,20 @@ want_grown more left h = by_test (nat_le 4 (length left)) refl h
 
 want_at_grown : (more : List ℕ) (p : Position) → may_want_at p ≡ true → may_want_at (grown more p) ≡ true
 unfolding may_want_at
-want_at_grown more p h = by_job p.job h
+want_at_grown more p h = by_collecting p.collecting h
   where
     by_job : (o : Option Asking) → (is_some o || may_want p.left) ≡ true → (is_some o || may_want (p.left ++ more)) ≡ true
     by_job None h = want_grown more p.left h
     by_job (Some j) h = refl
 
+    by_collecting : (o : Option Bool) → (is_none o && (is_some p.job || may_want p.left)) ≡ true → (is_none o && (is_some p.job || may_want (p.left ++ more))) ≡ true
+    by_collecting None h = by_job p.job h
+    by_collecting (Some is_short) h = cc
+
 follows_grown : (c : Class) (more : List ℕ) (p : Position) (v : Event) → Follows c p v → Follows c (grown more p) v
+follows_grown starting more p v h =
+    (h.0, subst (λ x. Asks x v.act) (sym (next_stays more p (asks_further (next_at p) v h.1))) (asks_grown more (next_at p) v h.1))
+follows_grown sweeping more p v h = subst (λ x. Asks x v.act) (sym (next_stays more p (asks_further (next_at p) v h))) (asks_grown more (next_at p) v h)
 follows_grown stepping more p v h =
     (h.0, subst (λ x. Asks x v.act) (sym (next_stays more p (asks_further (next_at p) v h.1))) (asks_grown more (next_at p) v h.1))
 follows_grown wanting more p v h =
@@ -176,6 +229,13 @@ pub heard_at_over : (p : Position) (n : ℕ) (r : Option Reply) (x : Next) → (
 unfolding heard_at
 heard_at_over p n (Some r) (job_step j left) = goes_on_over p left (job_take j r)
 heard_at_over p n (Some r) (plain c left) = refl
+heard_at_over p n (Some r) (sync group left) = refl
+heard_at_over p n (Some r) (collect left) = refl
+heard_at_over p n (Some r) (collecting is_short) = by_kind (n == 2)
+  where
+    by_kind : (b : Bool) → (if b then record p { collecting = Some true } else tells (record p { collecting = None }) p.left r).is_over ≡ p.is_over
+    by_kind true = refl
+    by_kind false = refl
 heard_at_over p n (Some r) (broken refusal) = by_kind (n == 2)
   where
     by_kind : (b : Bool) → (if b then used_up p r else p).is_over ≡ p.is_over
@@ -185,6 +245,13 @@ heard_at_over p n (Some r) bye = refl
 heard_at_over p n (Some r) end = refl
 heard_at_over p n None (job_step j left) = refl
 heard_at_over p n None (plain c left) = refl
+heard_at_over p n None (sync group left) = refl
+heard_at_over p n None (collect left) = by_kind (n == 3)
+  where
+    by_kind : (b : Bool) → (if b then record p { left = left; collecting = Some false } else p).is_over ≡ p.is_over
+    by_kind true = refl
+    by_kind false = refl
+heard_at_over p n None (collecting is_short) = refl
 heard_at_over p n None (broken refusal) = refl
 heard_at_over p n None bye = refl
 heard_at_over p n None end = refl
@@ -195,6 +262,8 @@ heard_over p a = heard_at_over p (a.entry).kind a.reply (next_at p)
 
 follows_does : (c : Class) (e : Ending) (p : Position) (v : Event) (vs : List Event) → Follows c p v → Does c e p v vs
 follows_does stepping e p v vs h = h
+follows_does starting e p v vs h = h
+follows_does sweeping e p v vs h = h
 follows_does wanting e p v vs h = (h.0, h.1)
 follows_does ending e p v vs h = absurd h
 

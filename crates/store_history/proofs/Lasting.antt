@@ -29,7 +29,7 @@ use Rattle.store_history.specs.declared.act.Act.TheVariants as acts
 use Rattle.store_history.specs.declared.act.Event.{Event}
 use Rattle.store_history.specs.Acts.{stepping, class_of}
 use Rattle.store_history.specs.Legal.{Right, IsRight}
-use Rattle.store_history.specs.History.{reply, World, EntryKind, step_kind, short_kind, fault_kind, end_kind, no_kind, kind_of, lane, moment, kind, act_outcome, data_in, moved, after, after_all}
+use Rattle.store_history.specs.History.{reply, World, EntryKind, step_kind, pass_kind, short_kind, start_kind, close_kind, fault_kind, end_kind, remote_kind, no_kind, kind_of, lane, moment, kind, act_outcome, data_in, moved, after, after_all}
 
 -- the snapshot is among these
 abbrev pub IsThere : SnapshotKey → List Snapshot → Type 0
@@ -157,6 +157,9 @@ command_keeps key s k m (commands.Forget text) off = bound key s (want_idle (ses
     by_key (Some x) off = bound key s (want_free s x) _ (λ b. λ h. without_keeps key x s.snapshots off h)
 command_keeps key s k m (commands.Prune name keep dry) off =
     bound key s (want_idle (session s k)) _ (λ a. bound key s (or_else BadName (group_of name)) _ (λ g. bound key s (unless (TooMany 1000) (counts_fit keep)) _ (λ b. λ h. h)))
+command_keeps key s k m (commands.Verify snapshot) off = λ h. h
+command_keeps key s k m (commands.Sync name) off = λ h. h
+command_keeps key s k m commands.Gc off = λ h. h
 command_keeps key s k m (commands.Group name) off = bound key s (or_else BadName (group_of name)) _ (λ g. λ h. h)
 command_keeps key s k m commands.Bye off = λ h. h
 
@@ -166,6 +169,8 @@ act_keeps R key w k m (acts.Plain c) off = command_keeps key w.store k m c off
 act_keeps R key w k m (acts.JobGroup c) off = command_keeps key w.store k m c off
 act_keeps R key w k m (acts.Blob name checked) off = blob_keeps key w.store k name (data_in checked)
 act_keeps R key w k m (acts.Chunk digest checked) off = chunk_keeps key w.store k (data_in checked)
+act_keeps R key w k m acts.Start off = tt
+act_keeps R key w k m acts.Step off = tt
 act_keeps R key w k m acts.Short off = tt
 act_keeps R key w k m acts.End off = λ h. h
 
@@ -177,9 +182,13 @@ answer_keeps key s (Err refusal) keeps h = h
 moved_keeps : (R : Option (List Snapshot)) (key : SnapshotKey) (w : World) (k m : ℕ) (a : Act) (n : EntryKind) → act_forgets key a ≡ false → IsThere key (w.store).snapshots → IsThere key ((moved R w k m a n).store).snapshots
 unfolding moved
 moved_keeps R key w k m a step_kind off h = answer_keeps key w.store (act_outcome R w k m a) (act_keeps R key w k m a off) h
+moved_keeps R key w k m a pass_kind off h = h
 moved_keeps R key w k m a short_kind off h = h
+moved_keeps R key w k m a start_kind off h = h
+moved_keeps R key w k m a close_kind off h = h
 moved_keeps R key w k m a fault_kind off h = h
 moved_keeps R key w k m a end_kind off h = h
+moved_keeps R key w k m a remote_kind off h = h
 moved_keeps R key w k m a no_kind off h = h
 
 -- no FORGET of it is among these
@@ -228,7 +237,8 @@ puts_by R w k m (suc (suc (suc zero))) r x right done is same = absurd right
 puts_by R w k m (suc (suc (suc (suc zero)))) r x right done is same = absurd right
 puts_by R w k m (suc (suc (suc (suc (suc zero))))) r x right done is same = absurd (no_done r (fault_refusal w.fault) done right)
 puts_by R w k m (suc (suc (suc (suc (suc (suc zero)))))) r x right done is same = absurd right
-puts_by R w k m (suc (suc (suc (suc (suc (suc (suc n))))))) r x right done is same = absurd right
+puts_by R w k m (suc (suc (suc (suc (suc (suc (suc zero))))))) r x right done is same = absurd right
+puts_by R w k m (suc (suc (suc (suc (suc (suc (suc (suc n)))))))) r x right done is same = absurd right
 
 pub finish_puts : (R : Option (List Snapshot)) (w : World) (e : Event) (x : Writer) → IsRight R w e → e.act ≡ acts.Plain commands.Finish → reply e ≡ Some Done
     → session w.store (lane e) ≡ writer x → same_key x.key x.key ≡ true → IsThere x.key ((after R w e).store).snapshots

@@ -1,7 +1,10 @@
+pub mod Plainly
+pub mod Collectors
 pub mod Placed
 pub mod Wanting
 pub mod Checking
 pub mod Events
+pub mod Keeping
 pub mod Whole
 pub mod Rules
 pub mod Picking
@@ -9,6 +12,7 @@ pub mod Growing
 pub mod Longer
 pub mod Ending
 pub mod Jobs
+pub mod Collecting
 pub mod Prefixes
 pub mod Alone
 pub mod Lasting

@@ -1,27 +1,32 @@
 -- The lanes of a run, where each is at a position.
-use Rattle.std.proofs.Common.{◌≡◌, ℕ, List, [], ◌∷◌, ◌++◌, map, Option, Some, sym, ap, ◌∙◌, append-nil, slice_index_or, slice_set}
-use Rattle.std.proofs.lemmas.List.{map-set}
+use Rattle.std.proofs.Common.{◌≡◌, ℕ, ◌-◌, Bool, true, false, List, [], ◌∷◌, ◌++◌, map, length, Option, Some, None, refl, sym, ap, ◌∙◌, append-nil, slice_index_or, slice_set, if◌then◌else◌, ◌==◌}
+use Rattle.std.proofs.lemmas.List.{map-set, map-append}
 use Rattle.std.proofs.Math.Seq.{map-set_same}
 use Rattle.std.proofs.Math.ListN.{get_or-map}
 use Rattle.std.proofs.lemmas.Grind.{flat_map-append}
 use Rattle.store_files.specs.Archive.{Snapshot}
 use Rattle.wire_frames.specs.Frames.{frame}
+use Rattle.wire_commands.specs.declared.command.Command.{Command}
+use Rattle.wire_commands.specs.declared.command.Command.TheVariants as commands
 use Rattle.wire_commands.specs.declared.reply.Reply.{Reply}
+use Rattle.wire_commands.specs.Inputs.{InputFront, nothing, next, over_limit, no_command, front}
 use Rattle.wire_commands.specs.ReplyText.{reply_text}
-use Rattle.store_model.specs.Lanes.{Run, lane_at, with_lane, next_of, lane_next}
-use Rattle.store_model.specs.Job.{Job, over, asking}
+use Rattle.store_model.specs.Lanes.{Lane, Collecting, Run, Next, job_step, plain, collecting, lane_at, with_lane, next_beside, next_of, lane_next, front_next, command_next}
+use Rattle.store_model.specs.Job.{Asking, Job, over, asking}
+use Rattle.store_model.specs.Jobs.{job_of}
 use Rattle.store_model.specs.Weave.{tell, go_on}
-use Rattle.store_history.specs.History.{World}
-use Rattle.store_history.specs.LaneRun.{text, Position, begin, lane_of, next_at, tells, goes_on}
+use Rattle.store_history.specs.History.{World, open_on}
+use Rattle.store_history.specs.LaneRun.{text, blank, plain_text, Position, begin, lane_of, next_at, tells, goes_on}
+use Rattle.store_history.proofs.Plainly.{IsPlainJob}
 
 abbrev pub run_of : Option (List Snapshot) → World → List Position → Run
-run_of R w ps = record { store = w.store; remote = R; lanes = map lane_of ps; fault = w.fault }
+run_of R w ps = record { store = w.store; remote = R; lanes = map lane_of ps; collecting = w.collecting; fault = w.fault }
 
 abbrev pub at : List Position → ℕ → Position
 at ps k = slice_index_or ps k (begin [])
 
 pub lane_is : (R : Option (List Snapshot)) (w : World) (ps : List Position) (k : ℕ) → lane_at (run_of R w ps) k ≡ lane_of (at ps k)
-unfolding text
+unfolding text plain_text
 lane_is R w ps k = get_or-map lane_of ps k (begin [])
 
 pub put_is : (R : Option (List Snapshot)) (w : World) (ps : List Position) (k : ℕ) (p : Position)
@@ -42,18 +47,85 @@ pub text_more : (told : List Reply) (r : Reply) → text (told ++ r ∷ []) ≡ 
 unfolding text
 text_more told r = flat_map-append (λ x. frame (reply_text x)) told (r ∷ []) ∙ ap (λ y. text told ++ y) (append-nil (frame (reply_text r)))
 
-pub tell_is : (R : Option (List Snapshot)) (w : World) (ps : List Position) (k : ℕ) (left : List ℕ) (r : Reply)
-    → tell (run_of R w ps) k left r ≡ run_of R w (slice_set ps k (tells (at ps k) left r))
-unfolding tell
-tell_is R w ps k left r =
-    rw (lane_is R w ps k, ← text_more (at ps k).told r) (put_is R w ps k (tells (at ps k) left r))
+pub plain_more : (told : List Reply) (r : Reply) → plain_text (told ++ r ∷ []) ≡ plain_text told ++ frame (reply_text (blank r))
+unfolding plain_text
+plain_more told r = ap text (map-append blank told (r ∷ [])) ∙ text_more (map blank told) (blank r)
 
-pub go_is : (R : Option (List Snapshot)) (w : World) (ps : List Position) (k : ℕ) (left : List ℕ) (j : Job)
+-- a report is told with its numbers
+pub blank_is : (R : Option (List Snapshot)) (w : World) (ps : List Position) (k : ℕ) (left : List ℕ) (r : Reply)
+    → tell (run_of R w ps) k left (blank r) ≡ run_of R w (slice_set ps k (tells (at ps k) left r))
+unfolding tell
+blank_is R w ps k left r =
+    rw (lane_is R w ps k, ← plain_more (at ps k).told r) (put_is R w ps k (tells (at ps k) left r))
+
+pub tell_is : (R : Option (List Snapshot)) (w : World) (ps : List Position) (k : ℕ) (left : List ℕ) (r : Reply) → blank r ≡ r
+    → tell (run_of R w ps) k left r ≡ run_of R w (slice_set ps k (tells (at ps k) left r))
+tell_is R w ps k left r plainly = ap (λ x. tell (run_of R w ps) k left x) (sym plainly) ∙ blank_is R w ps k left r
+
+pub go_is : (R : Option (List Snapshot)) (w : World) (ps : List Position) (k : ℕ) (left : List ℕ) (j : Job) → IsPlainJob j
     → go_on (run_of R w ps) k left j ≡ run_of R w (slice_set ps k (goes_on (at ps k) left j))
 unfolding go_on goes_on
-go_is R w ps k left (over report) = tell_is R w ps k left report
-go_is R w ps k left (asking j) = rw (lane_is R w ps k) (put_is R w ps k (record (at ps k) { left = left; job = Some j }))
+go_is R w ps k left (over report) plainly = tell_is R w ps k left report plainly
+go_is R w ps k left (asking j) plainly = rw (lane_is R w ps k) (put_is R w ps k (record (at ps k) { left = left; job = Some j }))
 
-pub next_is : (R : Option (List Snapshot)) (w : World) (ps : List Position) (k : ℕ) → next_of (run_of R w ps) k ≡ next_at (at ps k)
+-- ---- what is next
+
+abbrev next_by : Option Bool → Lane → Next
+next_by o l = elim o [ None ↦ lane_next l | Some is_short ↦ collecting is_short ]
+
+beside_is : (o : Option Collecting) (k : ℕ) (l : Lane) → next_beside o k l ≡ next_by (open_on k o) l
+unfolding next_beside
+beside_is None k l = refl
+beside_is (Some c) k l = by_test (c.lane == k)
+  where
+    by_test : (b : Bool) → (if b then collecting c.is_short else lane_next l) ≡ next_by (if b then Some c.is_short else None) l
+    by_test true = refl
+    by_test false = refl
+
+-- where the position knows of the lane's collector
+pub next_is : (R : Option (List Snapshot)) (w : World) (ps : List Position) (k : ℕ) → (at ps k).collecting ≡ open_on k w.collecting
+    → next_of (run_of R w ps) k ≡ next_at (at ps k)
 unfolding next_of next_at
-next_is R w ps k = ap lane_next (lane_is R w ps k)
+next_is R w ps k knows =
+    beside_is w.collecting k (lane_at (run_of R w ps) k)
+    ∙ ap (λ o. next_by o (lane_at (run_of R w ps) k)) (sym knows)
+    ∙ ap (λ l. next_by (at ps k).collecting l) (lane_is R w ps k)
+
+-- what the next act says of the lane's collector
+abbrev pub open_at : Next → Option Bool
+open_at (collecting is_short) = Some is_short
+open_at _ = None
+
+job_shut : (c : Command) (left : List ℕ) (o : Option Asking) → open_at (elim o [ None ↦ plain c left | Some j ↦ job_step j left ]) ≡ None
+job_shut c left None = refl
+job_shut c left (Some j) = refl
+
+command_shut : (c : Command) (left : List ℕ) → open_at (command_next c left) ≡ None
+unfolding command_next
+command_shut (commands.Sync group) left = refl
+command_shut commands.Gc left = refl
+command_shut commands.Bye left = refl
+command_shut c left = job_shut c left (job_of c)
+
+front_shut : (offset : ℕ) (f : InputFront) → open_at (front_next offset f) ≡ None
+unfolding front_next
+front_shut offset nothing = refl
+front_shut offset (next c left) = command_shut c left
+front_shut offset (over_limit n) = refl
+front_shut offset no_command = refl
+
+lane_shut : (l : Lane) → open_at (lane_next l) ≡ None
+unfolding lane_next
+lane_shut l = by_job l.job
+  where
+    by_job : (o : Option Asking) → open_at (elim o [ None ↦ front_next (l.size - length l.left) (front l.left) | Some j ↦ job_step j l.left ]) ≡ None
+    by_job None = front_shut (l.size - length l.left) (front l.left)
+    by_job (Some j) = refl
+
+pub open_is : (p : Position) → open_at (next_at p) ≡ p.collecting
+unfolding next_at
+open_is p = by_collecting p.collecting
+  where
+    by_collecting : (o : Option Bool) → open_at (next_by o (lane_of p)) ≡ o
+    by_collecting None = lane_shut (lane_of p)
+    by_collecting (Some is_short) = refl

@@ -6,7 +6,7 @@ use Rattle.store_files.specs.Archive.{Snapshot}
 use Rattle.store_model.specs.Weave.{first_fault}
 use Rattle.store_history.specs.declared.act.Act.{Act}
 use Rattle.store_history.specs.declared.act.Event.{Event}
-use Rattle.store_history.specs.History.{World, EntryKind, step_kind, short_kind, fault_kind, end_kind, no_kind, kind_of, lane, moment, kind, moved, after, after_all}
+use Rattle.store_history.specs.History.{World, EntryKind, step_kind, pass_kind, short_kind, start_kind, close_kind, fault_kind, end_kind, remote_kind, no_kind, kind_of, lane, moment, kind, moved, after, after_all}
 use Rattle.store_history.specs.Legal.{IsLegal}
 use Rattle.store_history.specs.CrashPoints.{answered_by, undisturbed, one_more, is_past, Either, Reopens}
 use Rattle.store_history.proofs.Longer.{calls_risen}
@@ -16,13 +16,17 @@ use Rattle.store_history.proofs.Longer.{calls_risen}
 kept_by : (R : Option (List Snapshot)) (w : World) (k m : ℕ) (a : Act) (n : EntryKind) → is_none w.fault ≡ false → is_none (moved R w k m a n).fault ≡ false
 unfolding moved
 kept_by R w k m a step_kind h = h
+kept_by R w k m a pass_kind h = h
 kept_by R w k m a short_kind h = h
+kept_by R w k m a start_kind h = h
+kept_by R w k m a close_kind h = h
 kept_by R w k m a fault_kind h = by_fault w.fault
   where
     by_fault : (f : Option ℕ) → is_none (first_fault w.events f) ≡ false
     by_fault None = refl
     by_fault (Some first) = refl
 kept_by R w k m a end_kind h = h
+kept_by R w k m a remote_kind h = h
 kept_by R w k m a no_kind h = h
 
 fault_kept : (R : Option (List Snapshot)) (w : World) (e : Event) → is_none w.fault ≡ false → is_none (after R w e).fault ≡ false

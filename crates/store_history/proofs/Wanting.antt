@@ -1,5 +1,5 @@
 -- Where memory may be wanting, a command or something else is next, but neither BYE nor the end of the input.
-use Rattle.std.proofs.Common.{◌≡◌, ℕ, ◌-◌, ◌≤◌, Bool, true, false, ◌&&◌, List, [], ◌∷◌, length, take, drop, Option, Some, None, ◌||◌, is_some, refl, sym, ap, subst, arith, if◌then◌else◌, ◌==◌, nat_lt, nat_le}
+use Rattle.std.proofs.Common.{◌≡◌, ℕ, ◌-◌, ◌≤◌, Bool, true, false, ◌&&◌, List, [], ◌∷◌, length, take, drop, Option, Some, None, ◌||◌, is_some, is_none, refl, sym, ap, subst, ◌∙◌, arith, if◌then◌else◌, ◌==◌, nat_lt, nat_le}
 use Rattle.std.specs.Int.{Width, w32, w64, from_le_bytes}
 use Rattle.std.proofs.lemmas.Bool.{ltb-false, eqb-true}
 use Rattle.std.proofs.lemmas.Bool.Decides.{nat_tests}
@@ -13,7 +13,7 @@ use Rattle.wire_commands.specs.Fields as fields
 use Rattle.wire_commands.specs.CommandText.{nothing_more, one_text, text_and_offset, new_fixed, chunk, entry_at, append, close_index, blob, get_chunk, range, keep_at, prune, fields_of, command_of}
 use Rattle.wire_commands.specs.Inputs.{front, cut_front, body_front}
 use Rattle.store_model.specs.Job.{Asking}
-use Rattle.store_model.specs.Lanes.{Next, job_step, bye, end, front_next, command_next, lane_next}
+use Rattle.store_model.specs.Lanes.{Next, job_step, collecting, bye, end, front_next, command_next, lane_next}
 use Rattle.store_history.specs.LaneRun.{Position, next_at, may_want, may_want_at}
 
 -- ---- a body of at least two bytes is no BYE
@@ -76,8 +76,11 @@ fields_not_bye code bytes more =
     (either (code == 31) (one_text commands.Files bytes) _ (bound (fields.whole (text_at bytes)) (λ t. Some (commands.Files t)) (λ t. tt))
     (either (code == 32) (one_text commands.Forget bytes) _ (bound (fields.whole (text_at bytes)) (λ t. Some (commands.Forget t)) (λ t. tt))
     (either (code == 33) (prune bytes) _ (prune_not_bye bytes)
+    (either (code == 34) (one_text commands.Verify bytes) _ (bound (fields.whole (text_at bytes)) (λ t. Some (commands.Verify t)) (λ t. tt))
+    (either (code == 35) (one_text commands.Sync bytes) _ (bound (fields.whole (text_at bytes)) (λ t. Some (commands.Sync t)) (λ t. tt))
+    (either (code == 36) (nothing_more commands.Gc bytes) _ (either (length bytes == 0) (Some commands.Gc) None tt tt)
     (either (code == 40) (one_text commands.Group bytes) _ (bound (fields.whole (text_at bytes)) (λ t. Some (commands.Group t)) (λ t. tt))
-    (either (code == 63) (nothing_more commands.Bye bytes) None (last (length bytes == 0) refl) tt))))))))))))))))))))
+    (either (code == 63) (nothing_more commands.Bye bytes) None (last (length bytes == 0) refl) tt)))))))))))))))))))))))
   where
     last : (b : Bool) → (length bytes == 0) ≡ b → IsNotBye (if b then Some commands.Bye else None)
     last true is = let none : length bytes ≡ 0 = eqb-true (length bytes) 0 is in absurd (omega arith)

@@ -1,5 +1,5 @@
 -- A legal history whose lanes run their programs is what `weave` gives.
-use Rattle.std.proofs.Common.{◌≡◌, ◌≢◌, ℕ, suc, ◌+◌, ◌<◌, Bool, true, false, List, [], ◌∷◌, map, length, cond, Option, Some, None, Ok, Err, Result, refl, sym, ap, subst, ◌∙◌, arith, ◌==◌, ◌&&◌, is_none, slice_index_or, slice_set}
+use Rattle.std.proofs.Common.{◌≡◌, ◌≢◌, ℕ, suc, ◌+◌, ◌<◌, Bool, true, false, List, [], ◌∷◌, map, length, cond, Option, Some, None, Ok, Err, Result, refl, sym, ap, subst, ◌∙◌, arith, ◌==◌, ◌&&◌, not, is_none, is_some, slice_index_or, slice_set}
 use Rattle.std.specs.List.{find}
 use Rattle.std.proofs.lemmas.Bool.{eq-eqb, eqb-true}
 use Rattle.std.proofs.Math.ListN.{get_or-map}
@@ -9,16 +9,19 @@ use Rattle.store_files.specs.Archive.{Snapshot}
 use Rattle.wire_commands.specs.declared.reply.Reply.{Reply}
 use Rattle.store_model.specs.declared.ending.Ending.{Ending}
 use Rattle.store_model.specs.declared.ending.Ending.TheVariants as endings
-use Rattle.store_model.specs.Lanes.{Run, new_lane, new_run}
+use Rattle.store_model.specs.Lanes.{Run, collects, new_lane, new_run}
 use Rattle.store_model.specs.Weave.{is_cut_off, is_end, run_from, known, misfit, Misfit, entered, weave, woven, woven_of, Woven}
 use Rattle.store_history.specs.declared.act.Event.{Event}
 use Rattle.store_history.specs.Acts.{Class, ending, class_of}
-use Rattle.store_history.specs.History.{Opening, World, opened, kind_of, entry, lane, moment, kind, reply, entries, own, after, after_all}
+use Rattle.store_history.specs.History.{Opening, World, opened, open_on, kind_of, entry, lane, moment, kind, reply, entries, own, after, after_all}
 use Rattle.store_history.specs.Legal.{Right, IsRight, IsLegal}
-use Rattle.store_history.specs.LaneRun.{text, Position, begin, lane_of, heard, heard_as, position_after, Does, EndFollows, Runs}
+use Rattle.store_history.specs.LaneRun.{text, plain_text, Position, begin, lane_of, wants, heard, heard_as, position_after, Does, EndFollows, Runs}
 use Rattle.store_history.specs.Woven.{AreLanes, ending_at, IsServed, IsWoven}
+use Rattle.store_history.proofs.Collectors.{collects_is}
 use Rattle.store_history.proofs.Placed.{run_of, at, lane_is}
+use Rattle.store_history.proofs.Plainly.{ArePlain}
 use Rattle.store_history.proofs.Events.{IsEnding, ending_is, right_end, cuts, turned}
+use Rattle.store_history.proofs.Keeping.{others_keep, own_keeps, own_plain}
 
 clash : true ≡ false → ⊥
 clash h = cc
@@ -81,35 +84,59 @@ end_follows [] h = absurd h
 end_follows (v ∷ []) h = ap (λ n. n == 6) h.1
 end_follows (v ∷ u ∷ vs) h = absurd h
 
-not_short : (p : Position) (v : Event) → kind v ≡ 5 → (heard p v.answer).is_short ≡ false
+not_short : (p : Position) (v : Event) → p.collecting ≡ None → kind v ≡ 5 → (heard p v.answer).is_short ≡ false
 unfolding heard
-not_short p v is = ap (λ n. n == 2) is
+not_short p v shut is = ap (λ (o : Option Bool). wants (kind v) o) shut ∙ ap (λ n. n == 2) is
 
-and_held : (b x : Bool) → x ≡ true → (b && x) ≡ b
-and_held true x h = h
-and_held false x h = refl
+shut_ends : (a b : Bool) → b ≡ true → (a && not false && b) ≡ a
+shut_ends true b h = h
+shut_ends false b h = refl
 
-and_off : (b x : Bool) → x ≡ false → (b && x) ≡ false
-and_off true x h = h
-and_off false x h = refl
+shut_goes : (a b : Bool) → b ≡ false → (a && not false && b) ≡ false
+shut_goes true b h = h
+shut_goes false b h = refl
 
--- which end a fault leaves untold, by the lane as `weave` has it
-cut_at : (R : Option (List Snapshot)) (w : World) (ps : List Position) (k : ℕ) (later : List Entry)
-    → is_cut_off (run_of R w ps) k endings.NoMemory later ≡ (is_none (at ps k).job && is_end (find (λ e. e.lane == k) later))
-cut_at R w ps k later = ap (λ l. is_none l.job && is_end (find (λ e. e.lane == k) later)) (lane_is R w ps k)
+open_goes : (a b : Bool) → (a && not true && b) ≡ false
+open_goes true b = refl
+open_goes false b = refl
 
-cut_is : (R : Option (List Snapshot)) (w : World) (ps : List Position) (k : ℕ) (c : Class) (e : Ending) (v : Event) (vs : List Event) (told : List Reply) → Does c e (at ps k) v (own k vs) → kind v ≡ 5
-    → Runs e (heard_as c e (at ps k) v.answer) (own k vs) told → EndsRight (own k vs) → is_cut_off (run_of R w ps) k e (entries vs) ≡ cuts c e (at ps k)
-cut_is R w ps k ending endings.NoMemory v vs told does is runs right =
-    cut_at R w ps k (entries vs) ∙ and_held (is_none (at ps k).job) _ (ap is_end (find_own k vs) ∙ end_follows (own k vs) (does.1 is))
-cut_is R w ps k c endings.NoMemory v vs told does is runs right =
-    cut_at R w ps k (entries vs) ∙ and_off (is_none (at ps k).job) _ (ap is_end (find_own k vs) ∙ told_first (heard (at ps k) v.answer) (own k vs) told (not_short (at ps k) v is) runs right)
-cut_is R w ps k c e v vs told does is runs right = refl
+-- which end a fault leaves untold, by the lane and its collector as `weave` has them
+module _ (R : Option (List Snapshot)) (w : World) (ps : List Position) (k : ℕ) (knows : (at ps k).collecting ≡ open_on k w.collecting) where
+  cut_at : (vs : List Event) → is_cut_off (run_of R w ps) k endings.NoMemory (entries vs)
+      ≡ (is_none (at ps k).job && not (is_some (at ps k).collecting) && is_end (head_entry (own k vs)))
+  cut_at vs =
+      ap (λ l. is_none l.job && not (collects k w.collecting) && is_end (find (λ e. e.lane == k) (entries vs))) (lane_is R w ps k)
+      ∙ ap (λ b. is_none (at ps k).job && not b && is_end (find (λ e. e.lane == k) (entries vs))) (collects_is k w.collecting ∙ ap is_some (sym knows))
+      ∙ ap (λ o. is_none (at ps k).job && not (is_some (at ps k).collecting) && is_end o) (find_own k vs)
+
+  -- where the collector is open it is told
+  told_first_at : (v : Event) (vs : List Event) (told : List Reply) → kind v ≡ 5 → Runs endings.NoMemory (heard (at ps k) v.answer) (own k vs) told → EndsRight (own k vs)
+      → (is_none (at ps k).job && not (is_some (at ps k).collecting) && is_end (head_entry (own k vs))) ≡ false
+  told_first_at v vs told is runs right = by_collecting (at ps k).collecting refl
+    where
+      by_collecting : (o : Option Bool) → (at ps k).collecting ≡ o → (is_none (at ps k).job && not (is_some o) && is_end (head_entry (own k vs))) ≡ false
+      by_collecting None shut =
+          shut_goes (is_none (at ps k).job) (is_end (head_entry (own k vs)))
+          (told_first (heard (at ps k) v.answer) (own k vs) told (not_short (at ps k) v shut is) runs right)
+      by_collecting (Some b) on = open_goes (is_none (at ps k).job) (is_end (head_entry (own k vs)))
+
+  cut_is : (c : Class) (e : Ending) (v : Event) (vs : List Event) (told : List Reply) → Does c e (at ps k) v (own k vs) → kind v ≡ 5
+      → Runs e (heard_as c e (at ps k) v.answer) (own k vs) told → EndsRight (own k vs) → is_cut_off (run_of R w ps) k e (entries vs) ≡ cuts c e (at ps k)
+  cut_is ending endings.NoMemory v vs told does is runs right =
+      cut_at vs
+      ∙ ap (λ (o : Option Bool). is_none (at ps k).job && not (is_some o) && is_end (head_entry (own k vs))) does.2
+      ∙ shut_ends (is_none (at ps k).job) (is_end (head_entry (own k vs))) (end_follows (own k vs) (does.1 is))
+  cut_is c endings.NoMemory v vs told does is runs right = cut_at vs ∙ told_first_at v vs told is runs right
+  cut_is c e v vs told does is runs right = refl
 
 -- ---- the induction
 
 AllRun : List Ending → List Position → List Event → (ℕ → List Reply) → Type 0
 AllRun es ps h told = (k : ℕ) → k < length ps → Runs (ending_at es k) (at ps k) (own k h) (told k)
+
+-- each position knows of its lane's collector, and no job is to report one
+AllKnow : World → List Position → Type 0
+AllKnow w ps = (k : ℕ) → k < length ps → ((at ps k).collecting ≡ open_on k w.collecting) × ArePlain (at ps k).job
 
 Weaves : Option (List Snapshot) → List Ending → World → List Position → List Event → (ℕ → List Reply) → Type 0
 Weaves R es w ps h told =
@@ -147,24 +174,52 @@ module _ (R : Option (List Snapshot)) (es : List Ending) (told : ℕ → List Re
           (subst (λ xs. Runs (ending_at es j) (at ps j) xs (told j)) (own_other j v vs is)
           (runs j (subst (λ n. j < n) (length-set ps (lane v) (next ps v)) lt)))
 
+  -- and each position knows of its collector again
+  know_next : (w : World) (ps : List Position) (v : Event) (vs : List Event) → lane v < length ps → IsRight R w v → AllKnow w ps
+      → Does (class_of v.act) (ending_at es (lane v)) (at ps (lane v)) v (own (lane v) vs) → AllKnow (after R w v) (slice_set ps (lane v) (next ps v))
+  unfolding AllKnow after position_after
+  know_next w ps v vs inside right knows does j lt = by_test (lane v == j) refl
+    where
+      same : at (slice_set ps (lane v) (next ps v)) (lane v) ≡ next ps v
+      same = get_or-set_same ps (lane v) (next ps v) (begin []) inside
+
+      by_test : (b : Bool) → (lane v == j) ≡ b
+          → ((at (slice_set ps (lane v) (next ps v)) j).collecting ≡ open_on j (after R w v).collecting) × ArePlain (at (slice_set ps (lane v) (next ps v)) j).job
+      by_test true is =
+          subst (λ i. ((at (slice_set ps (lane v) (next ps v)) i).collecting ≡ open_on i (after R w v).collecting) × ArePlain (at (slice_set ps (lane v) (next ps v)) i).job) (eqb-true (lane v) j is) (
+            ap (λ x. x.collecting) same
+                ∙ own_keeps R w (lane v) (moment v) (ending_at es (lane v)) (at ps (lane v)) v.act v.answer v (own (lane v) vs) refl does (knows (lane v) inside).0 right.says,
+            subst (λ x. ArePlain x.job) (sym same)
+                (own_plain R w (lane v) (moment v) (ending_at es (lane v)) (at ps (lane v)) v.act v.answer v (own (lane v) vs) refl does (knows (lane v) inside).1 right.says),
+          )
+      by_test false is =
+          let other = get_or-set_other ps (lane v) j (next ps v) (begin []) (not_same j v is) in
+          let before = knows j (subst (λ n. j < n) (length-set ps (lane v) (next ps v)) lt) in (
+            ap (λ x. x.collecting) other ∙ before.0
+                ∙ sym (others_keep R w (lane v) (moment v) j v.act (reply v) (kind_of (kind v)) (not_same j v is) right.says),
+            subst (λ x. ArePlain x.job) (sym other) before.1,
+          )
+
   entered_is : (w : World) (ps : List Position) (v : Event) (vs : List Event) → IsRight R w v
+      → ((at ps (lane v)).collecting ≡ open_on (lane v) w.collecting) × ArePlain (at ps (lane v)).job
       → Does (class_of v.act) (ending_at es (lane v)) (at ps (lane v)) v (own (lane v) vs)
       → Runs (ending_at es (lane v)) (next ps v) (own (lane v) vs) (told (lane v)) → EndsRight (own (lane v) vs)
       → entered (known es) (run_of R w ps) w.events (entry v) (entries vs) ≡ Some (run_of R (after R w v) (slice_set ps (lane v) (next ps v)))
   unfolding after position_after
-  entered_is w ps v vs right does rest ends =
-      turned R w ps (lane v) (moment v) es (entries vs) v (own (lane v) vs) refl refl does
-      (λ is. cut_is R w ps (lane v) (class_of v.act) (ending_at es (lane v)) v vs (told (lane v)) does is rest ends)
+  entered_is w ps v vs right knows does rest ends =
+      turned R w ps (lane v) (moment v) es (entries vs) knows.0 knows.1 v (own (lane v) vs) refl refl does
+      (λ is. cut_is R w ps (lane v) knows.0 (class_of v.act) (ending_at es (lane v)) v vs (told (lane v)) does is rest ends)
       right.says
 
-  weaves : (h : List Event) (w : World) (ps : List Position) → IsLegal R w h → AreLanes (length ps) h → AllRun es ps h told → Weaves R es w ps h told
-  unfolding AllRun Weaves run_from after_all after
-  weaves [] w ps legal lanes runs = (ps, refl, refl, λ k lt. (runs k lt).1)
-  weaves (v ∷ vs) w ps legal lanes runs =
+  weaves : (h : List Event) (w : World) (ps : List Position) → IsLegal R w h → AreLanes (length ps) h → AllKnow w ps → AllRun es ps h told → Weaves R es w ps h told
+  unfolding AllKnow AllRun Weaves run_from after_all after
+  weaves [] w ps legal lanes knows runs = (ps, refl, refl, λ k lt. (runs k lt).1)
+  weaves (v ∷ vs) w ps legal lanes knows runs =
       let run : Runs (ending_at es (lane v)) (at ps (lane v)) (v ∷ own (lane v) vs) (told (lane v)) = subst (λ xs. Runs (ending_at es (lane v)) (at ps (lane v)) xs (told (lane v))) (own_here v vs) (runs (lane v) lanes.0) in
       let len : length (slice_set ps (lane v) (next ps v)) ≡ length ps = length-set ps (lane v) (next ps v) in
-      let ih = weaves vs (after R w v) (slice_set ps (lane v) (next ps v)) legal.1 (subst (λ n. AreLanes n vs) (sym len) lanes.1) (runs_next ps v vs lanes.0 runs run.2) in
-      let first = entered_is w ps v vs legal.0 run.1 run.2 (legal_own R (after R w v) (lane v) vs legal.1) in (
+      let ih = weaves vs (after R w v) (slice_set ps (lane v) (next ps v)) legal.1 (subst (λ n. AreLanes n vs) (sym len) lanes.1)
+      (know_next w ps v vs lanes.0 legal.0 knows run.1) (runs_next ps v vs lanes.0 runs run.2) in
+      let first = entered_is w ps v vs legal.0 (knows (lane v) lanes.0) run.1 run.2 (legal_own R (after R w v) (lane v) vs legal.1) in (
         ih.0,
         one_more w ps v vs (after R w v) (slice_set ps (lane v) (next ps v)) ih.0 first ih.1,
         ih.2 ∙ len,
@@ -174,7 +229,7 @@ module _ (R : Option (List Snapshot)) (es : List Ending) (told : ℕ → List Re
 -- ---- the theorem
 
 begun : (inputs : List (List ℕ)) → map lane_of (map begin inputs) ≡ map new_lane inputs
-unfolding text
+unfolding text plain_text
 begun [] = refl
 begun (x ∷ xs) = ap (λ ls. new_lane x ∷ ls) (begun xs)
 
@@ -182,13 +237,13 @@ begun_at : (inputs : List (List ℕ)) (k : ℕ) → at (map begin inputs) k ≡ 
 begun_at inputs k = get_or-map begin inputs k []
 
 replies_are : (ps : List Position) (ts : List (List Reply)) → length ps ≡ length ts
-    → ((k : ℕ) → k < length ps → (at ps k).told ≡ slice_index_or ts k []) → map (λ l. l.told) (map lane_of ps) ≡ map text ts
+    → ((k : ℕ) → k < length ps → (at ps k).told ≡ slice_index_or ts k []) → map (λ l. l.told) (map lane_of ps) ≡ map plain_text ts
 replies_are [] [] len each = refl
 replies_are [] (t ∷ ts) len each = cc
 replies_are (p ∷ ps) [] len each = cc
 replies_are (p ∷ ps) (t ∷ ts) len each =
-    ap (λ x. text x ∷ map (λ l. l.told) (map lane_of ps)) (each 0 (omega arith))
-    ∙ ap (λ xs. text t ∷ xs) (replies_are ps ts (suc_inj len) (λ k lt. each (suc k) (omega arith)))
+    ap (λ x. plain_text x ∷ map (λ l. l.told) (map lane_of ps)) (each 0 (omega arith))
+    ∙ ap (λ xs. plain_text t ∷ xs) (replies_are ps ts (suc_inj len) (λ k lt. each (suc k) (omega arith)))
   where
     suc_inj : suc (length ps) ≡ suc (length ts) → length ps ≡ length ts
     suc_inj h = omega arith
@@ -212,12 +267,13 @@ weave_is R snapshots order inputs es = by_result (run_from (known es) (new_run s
 -- a legal history whose lanes run their programs is what `weave` gives
 pub served_woven : (o : Opening) (R : Option (List Snapshot)) (h : List Event) (inputs : List (List ℕ)) (es : List Ending) (told : List (List Reply))
     → IsServed o R h inputs es told → IsWoven o R h inputs es told
-unfolding AllRun Weaves woven_by
+unfolding AllKnow AllRun Weaves woven_by
 served_woven o R h inputs es told s =
     let ps = map begin inputs in
     let len : length ps ≡ length inputs = length-map inputs begin in
     let all = weaves R es (λ k. slice_index_or told k []) h (opened o) ps s.legal
     (subst (λ n. AreLanes n h) (sym len) s.lanes)
+    (λ k lt. (ap (λ x. x.collecting) (begun_at inputs k), subst (λ x. ArePlain x.job) (sym (begun_at inputs k)) tt))
     (λ k lt. subst (λ x. Runs (ending_at es k) x (own k h) (slice_index_or told k [])) (sym (begun_at inputs k)) (s.runs k (subst (λ n. k < n) len lt))) in
     weave_is R o.snapshots (entries h) inputs es
     ∙ ap (λ r. woven_by (run_from (known es) r 0 (entries h))) (run_begun R o inputs)

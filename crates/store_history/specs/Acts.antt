@@ -14,8 +14,8 @@ use Rattle.store_history.specs.declared.act.Act.TheVariants as acts
 
 -- ---- well-formed acts
 
--- Which commands are acts of their own: all but the uploads, whose bytes are checked before the act, the jobs' commands, of which each step is
--- an act, and BYE, which belongs to the lane's end. Each command stands here by its name, so that a new one is none by silence.
+-- Which commands are acts of their own: all but the uploads, whose bytes are checked before the act, the jobs' commands and GC, of which each
+-- step is an act, and BYE, which belongs to the lane's end. Each command stands here by its name, so that a new one is none by silence.
 abbrev pub IsPlain : Command → Type 0
 IsPlain (commands.OpenWriter snapshot) = Unit {0}
 IsPlain (commands.Previous file offset) = Unit {0}
@@ -36,6 +36,9 @@ IsPlain (commands.List after) = Unit {0}
 IsPlain (commands.Files snapshot) = Unit {0}
 IsPlain (commands.Forget snapshot) = Unit {0}
 IsPlain (commands.Prune group keep dry) = ⊥
+IsPlain (commands.Verify snapshot) = ⊥
+IsPlain (commands.Sync group) = ⊥
+IsPlain commands.Gc = ⊥
 IsPlain (commands.Group group) = Unit {0}
 IsPlain commands.Bye = ⊥
 
@@ -64,6 +67,8 @@ IsWellFormed (acts.Plain c) = IsPlain c
 IsWellFormed (acts.JobGroup c) = IsPrune c
 IsWellFormed (acts.Blob name checked) = IsChecked checked
 IsWellFormed (acts.Chunk digest checked) = IsCheckedChunk digest checked
+IsWellFormed acts.Start = Unit {0}
+IsWellFormed acts.Step = Unit {0}
 IsWellFormed acts.Short = Unit {0}
 IsWellFormed acts.End = Unit {0}
 
@@ -82,21 +87,29 @@ act_of_command (commands.Blob file blob) = acts.Blob file (check_blob blob)
 act_of_command (commands.Prune group keep dry) = acts.JobGroup (commands.Prune group keep dry)
 act_of_command c = acts.Plain c
 
--- and a step of a job
+-- And a step of a job. The reads of a VERIFY are no acts: memory is wanting for them.
 abbrev pub act_of_step : Step → Act
 act_of_step (steps.Command c) = act_of_command c
+act_of_step (steps.ReadFile name offset) = acts.Short
+act_of_step (steps.ReadChunk name entry) = acts.Short
 
 -- ---- what an act is
 
 pub data Class : Type 0 where
   -- a command, or a step of a job
   stepping : Class
+  -- the start of a collector
+  starting : Class
+  -- a mark, a visit, or the end of a collector
+  sweeping : Class
   -- want of memory
   wanting : Class
   -- the lane's end
   ending : Class
 
 abbrev pub class_of : Act → Class
+class_of acts.Start = starting
+class_of acts.Step = sweeping
 class_of acts.Short = wanting
 class_of acts.End = ending
 class_of a = stepping

@@ -1,5 +1,5 @@
 -- What acts do to the plain store, and what they answer.
-use Rattle.std.specs.Prelude.{zero, suc, ℕ, ◌+◌, Bool, List, [], ◌∷◌, map, filter, ◌==◌, Option, None, Result, Ok, Err}
+use Rattle.std.specs.Prelude.{zero, suc, ℕ, ◌+◌, Bool, true, false, List, [], ◌∷◌, map, filter, ◌==◌, if◌then◌else◌, Option, Some, None, Result, Ok, Err}
 use Rattle.std.specs.List.{flat_map}
 use Rattle.store_types.specs.declared.order.Entry.{Entry}
 use Rattle.store_types.specs.declared.refusal.Refusal.{Refusal}
@@ -12,10 +12,12 @@ use Rattle.store_model.specs.Store.{Store, store_of, Outcome, ended}
 use Rattle.store_model.specs.WriterSteps.{checked_blob, want_data}
 use Rattle.store_model.specs.ArchiveSteps.{checked_chunk}
 use Rattle.store_model.specs.Steps.{outcome, answered}
+use Rattle.store_model.specs.Lanes.{Collecting, collects}
 use Rattle.store_model.specs.Weave.{first_fault}
 use Rattle.store_history.specs.declared.act.Act.{Act}
 use Rattle.store_history.specs.declared.act.Act.TheVariants as acts
 use Rattle.store_history.specs.declared.act.Event.{Event}
+use Rattle.store_history.specs.Acts.{Class, sweeping, class_of}
 
 -- ---- events
 
@@ -49,19 +51,30 @@ own k h = filter (is_of k) h
 pub data EntryKind : Type 0 where
   -- the next command, or the next step of the lane's job
   step_kind : EntryKind
+  -- a mark or a visit of a collector, or a read of the remote
+  pass_kind : EntryKind
   -- want of memory
   short_kind : EntryKind
+  -- the start of a collector, and its end
+  start_kind : EntryKind
+  close_kind : EntryKind
   -- a fault of the disk, and what comes after it
   fault_kind : EntryKind
   -- a lane's end
   end_kind : EntryKind
+  -- a read of the remote that failed
+  remote_kind : EntryKind
   no_kind : EntryKind
 
 abbrev pub kind_of : ℕ → EntryKind
 kind_of zero = step_kind
+kind_of (suc zero) = pass_kind
 kind_of (suc (suc zero)) = short_kind
+kind_of (suc (suc (suc zero))) = start_kind
+kind_of (suc (suc (suc (suc zero)))) = close_kind
 kind_of (suc (suc (suc (suc (suc zero))))) = fault_kind
 kind_of (suc (suc (suc (suc (suc (suc zero)))))) = end_kind
+kind_of (suc (suc (suc (suc (suc (suc (suc zero))))))) = remote_kind
 kind_of _ = no_kind
 
 -- ---- the plain store in the course of a history
@@ -75,28 +88,31 @@ pub record Opening : Type 0 where
   pub calls : ℕ
   pub chunks : List (List ℕ)
 
--- the store, the place of the first fault, the number of events, the last moment, and the disk's count of calls
+-- the store, the open collector, the place of the first fault, the number of events, the last moment, and the disk's count of calls
 pub record World : Type 0 where
   pub store : Store
+  pub collecting : Option Collecting
   pub fault : Option ℕ
   pub events : ℕ
   pub moment : ℕ
   pub calls : ℕ
 
 abbrev pub opened : Opening → World
-opened o = record { store = store_of o.snapshots; fault = None; events = 0; moment = o.moment; calls = o.calls }
+opened o = record { store = store_of o.snapshots; collecting = None; fault = None; events = 0; moment = o.moment; calls = o.calls }
 
 -- the data of an upload that was checked
 abbrev pub data_in : Result (List ℕ) Refusal → Result (List ℕ) Refusal
 data_in (Ok bytes) = want_data bytes
 data_in (Err refusal) = Err refusal
 
--- what an act of the lane at the moment does, where neither disk nor memory fails
+-- What an act of the lane at the moment does to the plain store, where neither disk nor memory fails. A collector does nothing to it.
 unfoldable pub act_outcome : Option (List Snapshot) → World → ℕ → ℕ → Act → Outcome
 act_outcome remote w k m (acts.Plain c) = outcome w.store k m c
 act_outcome remote w k m (acts.JobGroup c) = outcome w.store k m c
 act_outcome remote w k m (acts.Blob name checked) = checked_blob w.store k name (data_in checked)
 act_outcome remote w k m (acts.Chunk digest checked) = checked_chunk w.store k (data_in checked)
+act_outcome remote w k m acts.Start = Err NoMemory
+act_outcome remote w k m acts.Step = Err NoMemory
 act_outcome remote w k m acts.Short = Err NoMemory
 act_outcome remote w k m acts.End = Ok (ended w.store k, Done)
 
@@ -110,13 +126,39 @@ sent_by _ = []
 abbrev pub sent : List Event → List (List ℕ)
 sent h = flat_map (λ e. sent_by e.act) h
 
+-- ---- the open collector
+
+-- whether memory was wanting since the lane's collector opened, where it is open
+abbrev pub open_on : ℕ → Option Collecting → Option Bool
+open_on k None = None
+open_on k (Some c) = if c.lane == k then Some c.is_short else None
+
+abbrev pub new_collecting : ℕ → Bool → Option Collecting
+new_collecting k is_short = Some (record { lane = k; is_short = is_short })
+
+-- memory was wanting on the lane
+abbrev pub cut_on : ℕ → Option Collecting → Option Collecting
+cut_on k c = if collects k c then new_collecting k true else c
+
+-- the lane's collector closes
+abbrev pub closed_on : ℕ → Option Collecting → Option Collecting
+closed_on k c = if collects k c then None else c
+
+-- a fault of the disk, and what comes after it, ends the collector that meets it
+abbrev pub halted_on : ℕ → Class → Option Collecting → Option Collecting
+halted_on k sweeping c = closed_on k c
+halted_on k _ c = c
+
 -- ---- after an event
 
 -- after an act whose entry is of this kind
 unfoldable pub moved : Option (List Snapshot) → World → ℕ → ℕ → Act → EntryKind → World
 moved remote w k m a step_kind = record w { store = (answered w.store (act_outcome remote w k m a)).0 }
-moved remote w k m a fault_kind = record w { fault = first_fault w.events w.fault }
-moved remote w k m a end_kind = record w { store = ended w.store k }
+moved remote w k m a short_kind = record w { collecting = cut_on k w.collecting }
+moved remote w k m a start_kind = record w { collecting = new_collecting k false }
+moved remote w k m a close_kind = record w { collecting = None }
+moved remote w k m a fault_kind = record w { collecting = halted_on k (class_of a) w.collecting; fault = first_fault w.events w.fault }
+moved remote w k m a end_kind = record w { store = ended w.store k; collecting = closed_on k w.collecting }
 moved remote w k m a _ = w
 
 unfoldable pub after : Option (List Snapshot) → World → Event → World

@@ -1,49 +1,73 @@
 -- The program of a lane: its acts, one after another, and what it tells its sink.
-use Rattle.std.specs.Prelude.{ℕ, ◌≡◌, ◌-◌, Bool, true, false, ◌&&◌, ◌||◌, List, [], ◌∷◌, ◌++◌, length, take, nat_le, ◌==◌, if◌then◌else◌, Option, Some, None, is_none, is_some}
+use Rattle.std.specs.Prelude.{ℕ, ◌≡◌, ◌-◌, Bool, true, false, ◌&&◌, ◌||◌, List, [], ◌∷◌, ◌++◌, map, length, take, nat_le, ◌==◌, if◌then◌else◌, Option, Some, None, is_none, is_some}
 use Rattle.std.specs.Int.{w32, from_le_bytes}
 use Rattle.std.specs.List.{flat_map}
 use Rattle.wire_frames.specs.Frames.{frame, short, cut}
 use Rattle.wire_commands.specs.declared.reply.Reply.{Reply}
-use Rattle.wire_commands.specs.declared.reply.Reply.TheVariants.{Done, Refused}
+use Rattle.wire_commands.specs.declared.reply.Reply.TheVariants.{Done, Collected, Refused}
 use Rattle.wire_commands.specs.ReplyText.{reply_text}
 use Rattle.store_model.specs.declared.ending.Ending.{Ending}
 use Rattle.store_model.specs.declared.ending.Ending.TheVariants as endings
 use Rattle.store_model.specs.Job.{Asking, step_of, Job, over, asking}
 use Rattle.store_model.specs.Jobs.{take as job_take}
-use Rattle.store_model.specs.Lanes.{Lane, Next, job_step, plain, bye, broken, end, lane_next}
+use Rattle.store_model.specs.Lanes.{Lane, Next, job_step, plain, sync, collect, collecting, bye, broken, end, lane_next}
 use Rattle.store_model.specs.Weave.{is_replied}
 use Rattle.store_history.specs.declared.act.Act.{Act}
+use Rattle.store_history.specs.declared.act.Act.TheVariants as acts
 use Rattle.store_history.specs.declared.act.Answer.{Answer}
 use Rattle.store_history.specs.declared.act.Event.{Event}
-use Rattle.store_history.specs.Acts.{Class, stepping, wanting, ending, class_of, act_of_command, act_of_step}
+use Rattle.store_history.specs.Acts.{Class, stepping, starting, sweeping, wanting, ending, class_of, act_of_command, act_of_step}
 use Rattle.store_history.specs.History.{kind}
+
+-- ---- what was told
 
 -- the bytes that the sink is given
 unfoldable pub text : List Reply → List ℕ
 text told = flat_map (λ r. frame (reply_text r)) told
 
+-- a reply, but for the numbers of a collector's report
+abbrev pub blank : Reply → Reply
+blank (Collected start cutoff used pending removed) = Collected 0 0 0 0 0
+blank r = r
+
+-- the bytes as the plain store gives them
+unfoldable pub plain_text : List Reply → List ℕ
+plain_text told = text (map blank told)
+
 -- ---- where a lane is
 
--- The input's size and what is left of it; the job that is open; whether want of memory was the last answer; whether it ended the lane, so
--- that only the lane's end may come; what was told; whether the lane is over.
+-- The input's size and what is left of it; the job that is open; where the lane's collector is open, whether memory was wanting since it
+-- opened; whether want of memory was the last that was told, or is to be; whether it ended the lane, so that only the lane's end may come,
+-- behind that of its collector; what was told; whether the lane is over.
 pub record Position : Type 0 where
   pub size : ℕ
   pub left : List ℕ
   pub job : Option Asking
+  pub collecting : Option Bool
   pub is_short : Bool
   pub is_spent : Bool
   pub told : List Reply
   pub is_over : Bool
 
 abbrev pub begin : List ℕ → Position
-begin input = record { size = length input; left = input; job = None; is_short = false; is_spent = false; told = []; is_over = false }
+begin input = record {
+  size = length input;
+  left = input;
+  job = None;
+  collecting = None;
+  is_short = false;
+  is_spent = false;
+  told = [];
+  is_over = false;
+}
 
 -- the lane as `weave` has it
 abbrev pub lane_of : Position → Lane
-lane_of p = record { size = p.size; left = p.left; job = p.job; told = text p.told }
+lane_of p = record { size = p.size; left = p.left; job = p.job; told = plain_text p.told }
 
+-- the lane's collector goes on before its input does
 unfoldable pub next_at : Position → Next
-next_at p = lane_next (lane_of p)
+next_at p = elim p.collecting [ None ↦ lane_next (lane_of p) | Some is_short ↦ collecting is_short ]
 
 -- ---- after an answer
 
@@ -60,17 +84,30 @@ goes_on p left (asking j) = record p { left = left; job = Some j }
 abbrev pub used_up : Position → Reply → Position
 used_up p r = record (tells p [] r) { is_spent = true }
 
+-- want of memory ends the collector with its next act; any other reply has ended it
+abbrev pub swept : Position → ℕ → Reply → Position
+swept p kind r = if kind == 2 then record p { collecting = Some true } else tells (record p { collecting = None }) p.left r
+
 unfoldable pub heard_at : Position → ℕ → Option Reply → Next → Position
 heard_at p kind (Some r) (job_step j left) = goes_on p left (job_take j r)
 heard_at p kind (Some r) (plain c left) = tells p left r
+heard_at p kind (Some r) (sync group left) = tells p left r
+heard_at p kind (Some r) (collect left) = tells p left r
+heard_at p kind None (collect left) = if kind == 3 then record p { left = left; collecting = Some false } else p
+heard_at p kind (Some r) (collecting is_short) = swept p kind r
 heard_at p kind (Some r) (broken refusal) = if kind == 2 then used_up p r else p
 heard_at p kind _ _ = p
 
--- an answer whose entry was the reserve's is the last but for the lane's end
+-- want of memory was the answer, or ended the collector
+abbrev pub wants : ℕ → Option Bool → Bool
+wants kind (Some true) = true
+wants kind _ = kind == 2
+
+-- an answer whose entry was the reserve's is the last but for the end of the collector and that of the lane
 unfoldable pub heard : Position → Answer → Position
 heard p a =
     let q = heard_at p (a.entry).kind a.reply (next_at p) in
-    record q { is_short = (a.entry).kind == 2; is_spent = a.last || q.is_spent }
+    record q { is_short = wants (a.entry).kind p.collecting; is_spent = a.last || q.is_spent }
 
 -- The lane's end. Its reply is that of BYE, or of what is no command.
 unfoldable pub last_words : Ending → Position → Next → Position
@@ -100,6 +137,8 @@ position_after e p v = heard_as (class_of v.act) e p v.answer
 abbrev pub Asks : Next → Act → Type 0
 Asks (job_step j left) a = a ≡ act_of_step (step_of j)
 Asks (plain c left) a = a ≡ act_of_command c
+Asks (collect left) a = a ≡ acts.Start
+Asks (collecting is_short) a = a ≡ acts.Step
 Asks _ a = ⊥
 
 -- Memory may be wanting for a frame whose length is known and at least 2. A lane holds the first five bytes of a frame
@@ -107,9 +146,9 @@ Asks _ a = ⊥
 unfoldable pub may_want : List ℕ → Bool
 may_want left = nat_le 4 (length left) && nat_le 2 (from_le_bytes w32 (take 4 left))
 
--- While a job is open memory may be wanting at any time.
+-- While a job is open memory may be wanting at any time, and while the lane's collector is open only within its acts.
 unfoldable pub may_want_at : Position → Bool
-may_want_at p = is_some p.job || may_want p.left
+may_want_at p = is_none p.collecting && (is_some p.job || may_want p.left)
 
 -- How a lane may end where this is next. Want of memory ended it where that was the last answer. Where the source
 -- failed or gave too much, no job is open, and only a part of a frame is left without an answer.
@@ -128,11 +167,14 @@ abbrev pub EndFollows : List Event → Type 0
 EndFollows (v ∷ []) = (class_of v.act ≡ ending) × (kind v ≡ 6)
 EndFollows _ = ⊥
 
--- The program makes this act here, before these events of its own. An end that met a fault comes again.
+-- The program makes this act here, before these events of its own. A lane ends its collector before it ends, also where want of memory
+-- ended the lane. An end that met a fault comes again.
 abbrev pub Does : Class → Ending → Position → Event → List Event → Type 0
 Does stepping e p v vs = (p.is_spent ≡ false) × Asks (next_at p) v.act
+Does starting e p v vs = (p.is_spent ≡ false) × Asks (next_at p) v.act
+Does sweeping e p v vs = Asks (next_at p) v.act
 Does wanting e p v vs = (p.is_spent ≡ false) × (may_want_at p ≡ true)
-Does ending e p v vs = EndsSo e p (next_at p) × (kind v ≡ 5 → EndFollows vs)
+Does ending e p v vs = EndsSo e p (next_at p) × (kind v ≡ 5 → EndFollows vs) × (p.collecting ≡ None)
 
 -- The lane's own events from this position on are a run of its program, and this is what it told in the end.
 abbrev pub Runs : Ending → Position → List Event → List Reply → Type 0

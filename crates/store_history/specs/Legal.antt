@@ -1,20 +1,24 @@
 -- Which histories are legal: each answer is the plain store's at that point.
-use Rattle.std.specs.Prelude.{ℕ, ◌≡◌, ◌<◌, ◌≤◌, Bool, true, false, List, [], ◌∷◌, Option, Some, None, min, max}
+use Rattle.std.specs.Prelude.{ℕ, ◌≡◌, ◌<◌, ◌≤◌, Bool, true, false, List, [], ◌∷◌, Option, Some, None, Result, Ok, Err, min, max}
 use Rattle.store_types.specs.Times.{last_moment}
-use Rattle.store_types.specs.declared.refusal.Refusal.TheVariants.{NoMemory}
+use Rattle.store_types.specs.declared.refusal.SessionState.{SessionState}
+use Rattle.store_types.specs.declared.refusal.SessionState.TheVariants as states
+use Rattle.store_types.specs.declared.refusal.Refusal.{Refusal}
+use Rattle.store_types.specs.declared.refusal.Refusal.TheVariants.{NoMemory, WrongState}
 use Rattle.port_traits.specs.Readings.{Readings, reading_at, readings_after}
 use Rattle.store_files.specs.Archive.{Snapshot}
 use Rattle.wire_commands.specs.declared.reply.Reply.{Reply}
-use Rattle.wire_commands.specs.declared.reply.Reply.TheVariants.{Refused}
+use Rattle.wire_commands.specs.declared.reply.Reply.TheVariants.{Collected, Refused}
 use Rattle.wire_commands.specs.declared.command.Command.TheVariants as commands
-use Rattle.store_model.specs.Store.{Session, writer, reader, session, lane_count}
+use Rattle.store_model.specs.Store.{Session, none, writer, reader, session, lane_count}
 use Rattle.store_model.specs.Steps.{answered}
-use Rattle.store_model.specs.Weave.{fault_refusal}
+use Rattle.store_model.specs.Lanes.{Run}
+use Rattle.store_model.specs.Weave.{want_collector, fault_refusal}
 use Rattle.store_history.specs.declared.act.Act.{Act}
 use Rattle.store_history.specs.declared.act.Act.TheVariants as acts
 use Rattle.store_history.specs.declared.act.Event.{Event}
-use Rattle.store_history.specs.Acts.{IsWellFormed, Class, stepping, wanting, ending, class_of}
-use Rattle.store_history.specs.History.{World, act_outcome, after, lane, moment, kind, reply, EntryKind, kind_of, step_kind, short_kind, fault_kind, end_kind}
+use Rattle.store_history.specs.Acts.{IsWellFormed, Class, stepping, starting, sweeping, wanting, ending, class_of}
+use Rattle.store_history.specs.History.{World, open_on, act_outcome, after, lane, moment, kind, reply, EntryKind, kind_of, step_kind, pass_kind, short_kind, start_kind, close_kind, fault_kind, end_kind}
 
 abbrev pub Says : Option (List Snapshot) → World → ℕ → ℕ → Act → Option Reply → Type 0
 Says remote w k m a r = r ≡ Some (answered w.store (act_outcome remote w k m a)).1
@@ -29,12 +33,56 @@ closes _ session = false
 abbrev pub IsClosing : World → ℕ → Act → Type 0
 IsClosing w k a = (w.fault ≡ None) × (closes a (session w.store k) ≡ true)
 
+-- ---- the collector
+
+-- the world as `weave` has it, but for its lanes
+abbrev pub without_lanes : World → Run
+without_lanes w = record { store = w.store; remote = None; lanes = []; collecting = w.collecting; fault = w.fault }
+
+-- a collector may open on the lane, or what refuses it
+abbrev pub may_open : World → ℕ → Result (Unit {0}) Refusal
+may_open w k = want_collector (without_lanes w) k
+
+abbrev pub Refuses : Result (Unit {0}) Refusal → Option Reply → Type 0
+Refuses (Ok may) r = ⊥
+Refuses (Err refusal) r = r ≡ Some (Refused refusal)
+
+-- the lane's collector, as far as it has come
+abbrev pub collecting_on : World → ℕ → Option Bool
+collecting_on w k = open_on k w.collecting
+
+abbrev pub state_of : Session → SessionState
+state_of none = states.Idle
+state_of (writer w) = states.Writer
+state_of (reader r) = states.Reader
+
+-- What a collector replies as it closes: that memory was wanting since it opened, or else its report. What this counts is not said here.
+abbrev pub Reports : Option Bool → Option Reply → Type 0
+Reports (Some true) r = r ≡ Some (Refused NoMemory)
+Reports (Some false) (Some (Collected start cutoff used pending removed)) = Unit {0}
+Reports _ _ = ⊥
+
+-- ---- the answers
+
 -- what an act is answered whose entry is of this kind
 abbrev pub Right : Option (List Snapshot) → World → ℕ → ℕ → Act → Option Reply → Class → EntryKind → Type 0
 -- a command or a step of a job, done: only where no fault was before
 Right remote w k m a r stepping step_kind = (w.fault ≡ None) × Says remote w k m a r
 -- a command or a step that memory was wanting for: none that ends a session
 Right remote w k m a r stepping short_kind = (r ≡ Some (Refused NoMemory)) × (IsClosing w k a → ⊥)
+-- a GC that is refused, that memory was wanting for, or whose collector opens, without a reply
+Right remote w k m a r starting step_kind = (w.fault ≡ None) × Refuses (may_open w k) r
+Right remote w k m a r starting short_kind = r ≡ Some (Refused NoMemory)
+Right remote w k m a r starting start_kind = (w.fault ≡ None) × (may_open w k ≡ Ok tt) × (r ≡ None)
+-- a collector's act where the lane's is not open
+Right remote w k m a r sweeping step_kind =
+    (w.fault ≡ None) × (collecting_on w k ≡ None) × (r ≡ Some (Refused (WrongState (state_of (session w.store k)))))
+-- a mark or a visit, without a reply; none once memory was wanting
+Right remote w k m a r sweeping pass_kind = (w.fault ≡ None) × (collecting_on w k ≡ Some false) × (r ≡ None)
+-- one that memory was wanting for; then the collector's end comes next, which takes none
+Right remote w k m a r sweeping short_kind = (r ≡ Some (Refused NoMemory)) × (collecting_on w k ≡ Some true → ⊥)
+-- the collector's end
+Right remote w k m a r sweeping close_kind = (w.fault ≡ None) × Reports (collecting_on w k) r
 -- want of memory outside the turn, which has no other kind
 Right remote w k m a r wanting short_kind = r ≡ Some (Refused NoMemory)
 Right remote w k m a r wanting fault_kind = ⊥
@@ -42,8 +90,10 @@ Right remote w k m a r wanting fault_kind = ⊥
 Right remote w k m a r ending short_kind = ⊥
 -- a lane's end that met the first fault: it is not refused for an earlier one
 Right remote w k m a r ending fault_kind = (w.fault ≡ None) × (r ≡ Some (Refused (fault_refusal w.fault)))
--- a command or a step that met the first fault, or is refused for it
+-- a command, a step or a collector's act that met the first fault, or is refused for it
 Right remote w k m a r stepping fault_kind = r ≡ Some (Refused (fault_refusal w.fault))
+Right remote w k m a r starting fault_kind = r ≡ Some (Refused (fault_refusal w.fault))
+Right remote w k m a r sweeping fault_kind = r ≡ Some (Refused (fault_refusal w.fault))
 -- a lane's end, after a fault too
 Right remote w k m a r ending end_kind = r ≡ None
 Right remote w k m a r _ _ = ⊥

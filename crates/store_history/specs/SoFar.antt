@@ -1,19 +1,24 @@
 -- What a lane did so far, while more of its input may come.
 use Rattle.std.specs.Prelude.{ℕ, ◌≡◌, ◌+◌, Bool, true, false, List, [], ◌∷◌, ◌++◌, length}
-use Rattle.store_model.specs.Lanes.{Next, job_step, plain}
+use Rattle.store_model.specs.Lanes.{Next, job_step, plain, sync, collect, collecting}
 use Rattle.store_history.specs.declared.act.Event.{Event}
-use Rattle.store_history.specs.Acts.{Class, stepping, wanting, ending, class_of}
+use Rattle.store_history.specs.Acts.{Class, stepping, starting, sweeping, wanting, ending, class_of}
 use Rattle.store_history.specs.LaneRun.{Position, next_at, heard, Asks, may_want_at}
 
--- a command or a job's step is next, and no end
+-- a command, a job's step or a collector's act is next, and no end
 abbrev pub goes_further : Next → Bool
 goes_further (job_step j left) = true
 goes_further (plain c left) = true
+goes_further (sync group left) = true
+goes_further (collect left) = true
+goes_further (collecting is_short) = true
 goes_further _ = false
 
 -- the program makes this act here, whatever of its input comes later
 abbrev pub Follows : Class → Position → Event → Type 0
 Follows stepping p v = (p.is_spent ≡ false) × Asks (next_at p) v.act
+Follows starting p v = (p.is_spent ≡ false) × Asks (next_at p) v.act
+Follows sweeping p v = Asks (next_at p) v.act
 Follows wanting p v = (p.is_spent ≡ false) × (may_want_at p ≡ true) × (goes_further (next_at p) ≡ true)
 Follows ending p v = ⊥
 

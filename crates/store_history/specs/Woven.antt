@@ -9,7 +9,7 @@ use Rattle.store_model.specs.Weave.{weave}
 use Rattle.store_history.specs.declared.act.Event.{Event}
 use Rattle.store_history.specs.History.{Opening, opened, after_all, entries, own, lane}
 use Rattle.store_history.specs.Legal.{IsLegal}
-use Rattle.store_history.specs.LaneRun.{text, LaneRan}
+use Rattle.store_history.specs.LaneRun.{plain_text, LaneRan}
 
 -- every event is of one of so many lanes
 abbrev pub AreLanes : ℕ → List Event → Type 0
@@ -27,10 +27,11 @@ pub record IsServed (o : Opening) (remote : Option (List Snapshot)) (h : List Ev
   pub each : length told ≡ length inputs
   pub runs : (k : ℕ) → k < length inputs → LaneRan (slice_index_or inputs k []) (ending_at es k) (own k h) (slice_index_or told k [])
 
--- The plain store, asked in the history's order, gives what each lane told and the history's last store.
+-- The plain store, asked in the history's order, gives the history's last store, and what each lane told, but for the numbers of a
+-- collector's report.
 abbrev pub IsWoven : Opening → Option (List Snapshot) → List Event → List (List ℕ) → List Ending → List (List Reply) → Type 0
 IsWoven o remote h inputs es told =
-    weave o.snapshots remote (entries h) inputs es ≡ Ok (record { store = (after_all remote (opened o) h).store; replies = map text told })
+    weave o.snapshots remote (entries h) inputs es ≡ Ok (record { store = (after_all remote (opened o) h).store; replies = map plain_text told })
 
 -- the history's order keeps the rules of order files
 abbrev pub FitsRules : List Event → List (List ℕ) → Type 0

@@ -21,6 +21,10 @@ pub enum Act {
         digest: Digest32,
         checked: Result<Bytes, Refusal>,
     },
+    /// The lane's collector opens.
+    Start,
+    /// The next act of the lane's collector: a mark, a visit, or its end.
+    Step,
     /// Want of memory outside the turn.
     Short,
     /// The lane's end.
@@ -30,7 +34,7 @@ pub enum Act {
 /// What an act is answered.
 #[derive(Debug, Drop)]
 pub struct Answer {
-    /// None for a lane's end, where it met no fault.
+    /// None for the start of a collector, a mark, a visit and a lane's end, where they met no fault.
     pub reply: Option<Reply>,
     pub entry: Entry,
     /// The entry's number in the order, from 0.

@@ -5,7 +5,8 @@ ghost use Rattle.store_history.specs.Touches.{FirstEntryDates, NamedIsTouched, N
 ghost use Rattle.store_history.specs.Woven.{ServedFitsRules, ServedIsWoven};
 
 /// Where a history is legal and each lane's own events are a run of its program, the plain store, asked in the
-/// history's order, gives each lane what it told, and leaves the history's last store.
+/// history's order, gives each lane what it told, but for the numbers of a collector's report, and leaves the history's
+/// last store.
 #[tactic(auto, using(crate::proofs::Whole::served_woven))]
 pub fn histories_are_woven()
     ensures { ServedIsWoven }

@@ -72,7 +72,7 @@ not_reached = refl
 
 -- ---- a finished snapshot of two pieces, by what its manifest lists as their size
 
-abbrev listing : List ℕ → List ℕ
+abbrev pub listing : List ℕ → List ℕ
 listing size =
     codes "{\"backup-id\":\"a\",\"backup-time\":1579069803,\"backup-type\":\"host\",\"files\":[{\"csum\":\""
     ++ encode_lower two_pieces_csum ++ codes "\",\"filename\":\"root.didx\",\"size\":" ++ size ++ codes "}]}"

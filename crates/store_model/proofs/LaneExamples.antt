@@ -75,7 +75,7 @@ nothing_next : given (entry 0 0 ∷ entry 0 6 ∷ []) (bye ∷ []) (endings.Clea
 unfolding store_model_on_literals
 nothing_next = refl
 
--- a kind that nothing has
+-- an act of a collector that is not open
 no_kind : given (entry 0 1 ∷ entry 0 6 ∷ []) (finish ∷ []) (endings.Clean ∷ []) ≡ Err (record { entry = 0; lane = 0; replayed = 0 })
 unfolding store_model_on_literals
 no_kind = refl

@@ -3,6 +3,9 @@ mod ExampleBytes
 mod SessionExamples
 mod ArchiveExamples
 mod LaneExamples
+mod CollectorExamples
+mod VerifyExamples
+mod SyncExamples
 mod AdminExamples
 mod LoadExamples
 pub mod Paths

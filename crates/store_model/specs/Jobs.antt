@@ -2,22 +2,33 @@
 use Rattle.std.specs.Prelude.{List, Option, Some, None}
 use Rattle.std.specs.List.{fold}
 use Rattle.wire_commands.specs.declared.command.Command.{Command}
-use Rattle.wire_commands.specs.declared.command.Command.TheVariants.{Prune}
+use Rattle.wire_commands.specs.declared.command.Command.TheVariants.{Prune, Verify}
 use Rattle.wire_commands.specs.declared.reply.Reply.{Reply}
 use Rattle.store_model.specs.declared.step.Step.{Step}
-use Rattle.store_model.specs.Job.{Asking, grouping, forgetting, Job, over, asking}
+use Rattle.store_model.specs.Job.{Asking, grouping, forgetting, opening, listing, reading, checking, closing, beginning, sending, aborting, Job, over, asking, closed}
 use Rattle.store_model.specs.Job as job
 use Rattle.store_model.specs.PruneJob as prune
+use Rattle.store_model.specs.VerifyJob as verify
+use Rattle.store_model.specs.SyncJob as sync
 
--- the job of a command, with nothing done; other commands are no jobs
+-- The job of a command, with nothing done. A SYNC is none before its first step, nor is a GC.
 abbrev pub job_of : Command → Option Asking
 job_of (Prune group keep dry) = Some (grouping (Prune group keep dry) keep dry)
+job_of (Verify snapshot) = Some (opening snapshot)
 job_of _ = None
 
 -- the job after the reply to the step that it asked
 unfoldable pub take : Asking → Reply → Job
 take (grouping c keep dry) reply = prune.grouped keep dry reply
 take (forgetting before snapshot later) reply = prune.forgot before snapshot later reply
+take (opening snapshot) reply = verify.opened snapshot reply
+take (listing snapshot) reply = verify.listed snapshot reply
+take (reading v row bytes) reply = verify.read_part v row bytes reply
+take (checking v row fault place digest later) reply = verify.checked v row fault place digest later reply
+take (closing report) reply = closed closing report reply
+take (beginning p) reply = sync.begun p reply
+take (sending p c later) reply = sync.replied p later reply
+take (aborting report) reply = closed aborting report reply
 
 -- ---- of all replies so far
 

@@ -9,6 +9,8 @@ pub mod AdminSteps
 pub mod Steps
 pub mod Job
 pub mod PruneJob
+pub mod VerifyJob
+pub mod SyncJob
 pub mod Jobs
 pub mod JobSteps
 pub mod JobReplies

@@ -1,5 +1,5 @@
 -- The commands of a reader, with their refusals in order.
-use Rattle.std.specs.Prelude.{if◌then◌else◌, ◌++◌, ◌+◌, [], ◌∷◌, ℕ, Bool, List, length, take, drop, nat_le, Option, Some, None, option_map, Result, Ok}
+use Rattle.std.specs.Prelude.{if◌then◌else◌, ◌++◌, ◌+◌, [], ◌∷◌, ℕ, Bool, List, length, take, drop, nat_le, slice_get, Option, Some, None, option_map, Result, Ok}
 use Rattle.std.specs.Str.{bytes_eq}
 use Rattle.std.specs.List.{list_any, concat, flat_map}
 use Rattle.store_types.specs.declared.refusal.Refusal.{Refusal}
@@ -83,6 +83,23 @@ range s lane name offset len = do
   _ ← or_else NoFile (file_named name (reader_files s r))
   bytes ← range_of (reader_files s r) r name offset len
   Ok (s, Data bytes)
+
+-- ---- a VERIFY's own reads, which note nothing
+
+-- as DOWNLOAD gives it
+unfoldable pub read_file : Store → ℕ → List ℕ → ℕ → Outcome
+read_file s lane name offset = do
+  given ← download s lane name offset
+  Ok (s, given.1)
+
+-- the blob of the piece at an entry of an index
+unfoldable pub read_chunk : Store → ℕ → List ℕ → ℕ → Outcome
+read_chunk s lane name entry = do
+  r ← want_reader (session s lane)
+  _ ← unless NoFile (is_index_name name)
+  file ← or_else NoFile (file_named name (reader_files s r))
+  piece ← or_else (BadRange (length (pieces_of file.content))) (slice_get (pieces_of file.content) entry)
+  Ok (s, Data (blobs.blob piece))
 
 -- ---- CLOSE_READER
 

@@ -1,7 +1,7 @@
 -- What a command does to the plain store, and what is replied.
 use Rattle.std.specs.Prelude.{ℕ, Ok, Err}
 use Rattle.wire_commands.specs.declared.command.Command.{Command}
-use Rattle.wire_commands.specs.declared.command.Command.TheVariants.{OpenWriter, Previous, NewFixed, NewDynamic, Chunk, Append, CloseIndex, Blob, Finish, Abort, OpenReader, Download, GetChunk, Range, CloseReader, List as ListAll, Files, Forget, Prune, Group, Bye}
+use Rattle.wire_commands.specs.declared.command.Command.TheVariants.{OpenWriter, Previous, NewFixed, NewDynamic, Chunk, Append, CloseIndex, Blob, Finish, Abort, OpenReader, Download, GetChunk, Range, CloseReader, List as ListAll, Files, Forget, Prune, Verify, Sync, Gc, Group, Bye}
 use Rattle.wire_commands.specs.declared.reply.Reply.{Reply}
 use Rattle.wire_commands.specs.declared.reply.Reply.TheVariants.{Done, Refused}
 use Rattle.store_model.specs.Store.{Store, Outcome, ended}
@@ -31,6 +31,10 @@ outcome s lane moment (Files snapshot) = files s snapshot
 outcome s lane moment (Forget snapshot) = forget s lane snapshot
 -- a job's first step
 outcome s lane moment (Prune group keep dry) = prune_group s lane group keep
+-- what is done for these jobs is not done by their own commands
+outcome s lane moment (Verify snapshot) = Ok (s, Done)
+outcome s lane moment (Sync name) = Ok (s, Done)
+outcome s lane moment Gc = Ok (s, Done)
 outcome s lane moment (Group name) = group s name
 outcome s lane moment Bye = Ok (ended s lane, Done)
 

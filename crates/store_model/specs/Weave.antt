@@ -1,22 +1,23 @@
 -- The plain store and the replies, where lanes take turns in a given order.
-use Rattle.std.specs.Prelude.{IsTrue, IsOk, ℕ, ◌+◌, Bool, true, false, ◌&&◌, List, [], ◌∷◌, map, length, ◌==◌, if◌then◌else◌, Option, Some, None, is_none, Result, Ok, Err, slice_index_or}
+use Rattle.std.specs.Prelude.{IsTrue, IsOk, ℕ, ◌+◌, Bool, true, false, not, ◌&&◌, List, [], ◌∷◌, map, length, ◌==◌, if◌then◌else◌, Option, Some, None, is_none, Result, Ok, Err, slice_index_or}
 use Rattle.std.specs.List.{find}
 use Rattle.store_types.specs.declared.order.Entry.{Entry}
 use Rattle.store_types.specs.declared.refusal.Refusal.{Refusal}
-use Rattle.store_types.specs.declared.refusal.Refusal.TheVariants.{NoMemory, DiskFault, Halted}
-use Rattle.store_types.specs.Chain.Refusing.{◌>>=◌}
+use Rattle.store_types.specs.declared.refusal.Refusal.TheVariants.{CollectorBusy, NoMemory, RemoteFault, DiskFault, Halted}
+use Rattle.store_types.specs.Chain.Refusing.{◌>>=◌, if_none}
 use Rattle.store_files.specs.Archive.{Snapshot}
 use Rattle.store_files.specs.Order.{keeps_rules}
 use Rattle.wire_commands.specs.declared.reply.Reply.{Reply}
-use Rattle.wire_commands.specs.declared.reply.Reply.TheVariants.{Done, Refused}
+use Rattle.wire_commands.specs.declared.reply.Reply.TheVariants.{Done, Collected, Refused}
 use Rattle.store_model.specs.declared.ending.Ending.{Ending}
 use Rattle.store_model.specs.declared.ending.Ending.TheVariants as endings
-use Rattle.store_model.specs.Store.{Store, ended}
+use Rattle.store_model.specs.Store.{Store, session, want_idle, ended}
 use Rattle.store_model.specs.Steps.{answered, step}
-use Rattle.store_model.specs.Job.{Asking, step_of, Job, over, asking}
+use Rattle.store_model.specs.Job.{Asking, step_of, is_sync, Job, over, asking}
 use Rattle.store_model.specs.Jobs.{take}
+use Rattle.store_model.specs.SyncJob.{to_pull, next_snapshot}
 use Rattle.store_model.specs.JobSteps.{step_outcome}
-use Rattle.store_model.specs.Lanes.{Run, Next, job_step, plain, bye, broken, end, new_run, lane_at, with_lane, say, next_of}
+use Rattle.store_model.specs.Lanes.{Run, Next, job_step, plain, sync, collect, collecting, bye, broken, end, new_run, lane_at, with_lane, say, collects, next_of}
 
 -- ---- what an entry may do
 
@@ -39,21 +40,72 @@ answer_job r k j left after = go_on (with_store r after.0) k left (take j after.
 unfoldable pub answer : Run → ℕ → List ℕ → Store × Reply → Run
 answer r k left after = tell (with_store r after.0) k left after.1
 
+-- a SYNC's first step: which of the remote's snapshots it pulls, or its refusal
+unfoldable pub begin_sync : Run → ℕ → List ℕ → List ℕ → Run
+begin_sync r k group left =
+    elim (to_pull r.remote r.store k group) [
+      | Err refusal ↦ tell r k left (Refused refusal)
+      | Ok snapshots ↦ go_on r k left (next_snapshot [] snapshots)
+    ]
+
+-- ---- the collector
+
+-- a collector may open on a lane without a session, where none is open
+unfoldable pub want_collector : Run → ℕ → Result (Unit {0}) Refusal
+want_collector r k = do
+  _ ← want_idle (session r.store k)
+  if_none (λ c. CollectorBusy c.lane) r.collecting
+
+unfoldable pub open_collector : Run → ℕ → List ℕ → Run
+open_collector r k left =
+    let opened = with_lane r k (record (lane_at r k) { left = left }) in
+    record opened { collecting = Some (record { lane = k; is_short = false }) }
+
+-- the lane's collector closes with this reply
+unfoldable pub close_collector : Run → ℕ → Reply → Run
+close_collector r k reply = tell (record r { collecting = None }) k (lane_at r k).left reply
+
+-- Want of memory since it opened is what it replies. Else five numbers: they are free, and are zeros here.
+abbrev pub collected : Bool → Reply
+collected is_short = if is_short then Refused NoMemory else Collected 0 0 0 0 0
+
 -- ---- the kinds
 
--- 0: the next command, or the next step of the lane's job
+-- 0: the next command, or the next step of the lane's job. Of a GC it is the refusal.
 unfoldable pub stepped : Run → ℕ → ℕ → Next → Option Run
 stepped r k moment (job_step j left) = Some (answer_job r k j left (answered r.store (step_outcome r.store k moment (step_of j))))
 stepped r k moment (plain c left) = Some (answer r k left (step r.store k moment c))
+stepped r k moment (sync group left) = Some (begin_sync r k group left)
+stepped r k moment (collect left) = elim (want_collector r k) [ Ok may ↦ None | Err refusal ↦ Some (tell r k left (Refused refusal)) ]
 stepped r k moment _ = None
+
+-- 1: an act of the lane's collector, or a read of the remote for a SYNC; the store and the replies stay
+unfoldable pub passed : Run → Next → Option Run
+passed r (collecting is_short) = Some r
+passed r (job_step j left) = if is_sync j then Some r else None
+passed r (sync group left) = Some r
+passed r _ = None
 
 -- 2: want of memory. What isn't a command is used up, with the rest of the input.
 unfoldable pub short : Run → ℕ → Next → Option Run
 short r k (job_step j left) = Some (go_on r k left (take j (Refused NoMemory)))
 short r k (plain c left) = Some (tell r k left (Refused NoMemory))
+short r k (sync group left) = Some (tell r k left (Refused NoMemory))
+short r k (collect left) = Some (tell r k left (Refused NoMemory))
+short r k (collecting is_short) = Some (record r { collecting = Some (record { lane = k; is_short = true }) })
 short r k (broken refusal) = Some (tell r k [] (Refused NoMemory))
 short r k bye = None
 short r k end = None
+
+-- 3: the lane's collector opens
+unfoldable pub opens : Run → ℕ → Next → Option Run
+opens r k (collect left) = elim (want_collector r k) [ Ok may ↦ Some (open_collector r k left) | Err refusal ↦ None ]
+opens r k _ = None
+
+-- 4: and closes
+unfoldable pub closes : Run → ℕ → Next → Option Run
+closes r k (collecting is_short) = Some (close_collector r k (collected is_short))
+closes r k _ = None
 
 -- 5: a fault of the disk, and all that come after it; it is told of a command or a step, and not of a lane's end
 abbrev pub fault_refusal : Option ℕ → Refusal
@@ -63,6 +115,9 @@ fault_refusal (Some first) = Halted first
 unfoldable pub told_fault : Run → ℕ → Refusal → Next → Run
 told_fault r k refusal (job_step j left) = go_on r k left (take j (Refused refusal))
 told_fault r k refusal (plain c left) = tell r k left (Refused refusal)
+told_fault r k refusal (sync group left) = tell r k left (Refused refusal)
+told_fault r k refusal (collect left) = tell r k left (Refused refusal)
+told_fault r k refusal (collecting is_short) = close_collector r k (Refused refusal)
 told_fault r k refusal _ = r
 
 abbrev pub first_fault : ℕ → Option ℕ → Option ℕ
@@ -73,9 +128,10 @@ abbrev pub is_end : Option Entry → Bool
 is_end None = false
 is_end (Some e) = e.kind == 6
 
--- want of memory ended the lane, with no job open, and its end comes next
+-- want of memory ended the lane, with no job and no collector of it open, and its end comes next
 abbrev pub is_cut_off : Run → ℕ → Ending → List Entry → Bool
-is_cut_off r k endings.NoMemory later = is_none (lane_at r k).job && is_end (find (λ e. e.lane == k) later)
+is_cut_off r k endings.NoMemory later =
+    is_none (lane_at r k).job && not (collects k r.collecting) && is_end (find (λ e. e.lane == k) later)
 is_cut_off r k _ later = false
 
 unfoldable pub faulted : Run → ℕ → ℕ → Ending → List Entry → Next → Run
@@ -110,6 +166,16 @@ ends r k ending (broken refusal) = Some (ended_with r k ending (Refused refusal)
 ends r k ending end = Some (end_session r k)
 ends r k ending (job_step j left) = unread r k ending
 ends r k ending (plain c left) = unread r k ending
+ends r k ending (sync group left) = unread r k ending
+ends r k ending (collect left) = unread r k ending
+-- its collector closes, and no one is told
+ends r k ending (collecting is_short) = unread (record r { collecting = None }) k ending
+
+-- 7: a read of the remote failed, for this step of a SYNC
+unfoldable pub remote_failed : Run → ℕ → Next → Option Run
+remote_failed r k (job_step j left) = if is_sync j then Some (go_on r k left (take j (Refused RemoteFault))) else None
+remote_failed r k (sync group left) = Some (tell r k left (Refused RemoteFault))
+remote_failed r k _ = None
 
 -- ---- an order
 
@@ -123,9 +189,13 @@ entered ending_of r place e later =
     let n = next_of r e.lane in
     let ending = ending_of e.lane n in
     if e.kind == 0 then stepped r e.lane e.moment n else
+    if e.kind == 1 then passed r n else
     if e.kind == 2 then short r e.lane n else
+    if e.kind == 3 then opens r e.lane n else
+    if e.kind == 4 then closes r e.lane n else
     if e.kind == 5 then Some (faulted r e.lane place ending later n) else
     if e.kind == 6 then ends r e.lane ending n else
+    if e.kind == 7 then remote_failed r e.lane n else
     None
 
 -- the first entry that doesn't fit, its lane, and how long that lane's replies are by then

@@ -5,7 +5,7 @@ use Rattle.std.proofs.lemmas.Bool.{leb-true, le-leb}
 use Rattle.store_types.specs.Chain.Reading.{◌>>=◌, only_if}
 use Rattle.wire_frames.specs.Frames.{body_limit, AreBytes}
 use Rattle.wire_commands.specs.declared.command.Command.{Command}
-use Rattle.wire_commands.specs.declared.command.Command.TheVariants.{OpenWriter, Previous, NewFixed, NewDynamic, Chunk, Append, CloseIndex, Blob, Finish, Abort, OpenReader, Download, GetChunk, Range, CloseReader, List as ListAll, Files, Forget, Prune, Group, Bye}
+use Rattle.wire_commands.specs.declared.command.Command.TheVariants.{OpenWriter, Previous, NewFixed, NewDynamic, Chunk, Append, CloseIndex, Blob, Finish, Abort, OpenReader, Download, GetChunk, Range, CloseReader, List as ListAll, Files, Forget, Prune, Verify, Sync, Gc, Group, Bye}
 use Rattle.std.specs.Int.{w32, w64}
 use Rattle.store_types.specs.declared.names.Digest32.{Digest32}
 use Rattle.store_types.specs.declared.names.Keep.{Keep}
@@ -150,9 +150,12 @@ fields_spell n bytes fits =
     (either_at P n 31 (one_text Files bytes) _ (one_spells command_text FitsCommand text_field Files bytes 31 fits (λ t. refl) (λ t h. h))
     (either_at P n 32 (one_text Forget bytes) _ (one_spells command_text FitsCommand text_field Forget bytes 32 fits (λ t. refl) (λ t h. h))
     (either_at P n 33 (prune bytes) _ (prune_spells bytes fits)
+    (either_at P n 34 (one_text Verify bytes) _ (one_spells command_text FitsCommand text_field Verify bytes 34 fits (λ t. refl) (λ t h. h))
+    (either_at P n 35 (one_text Sync bytes) _ (one_spells command_text FitsCommand text_field Sync bytes 35 fits (λ t. refl) (λ t h. h))
+    (either_at P n 36 (nothing_more Gc bytes) _ (nothing_spells command_text FitsCommand bytes 36 Gc tt refl)
     (either_at P n 40 (one_text Group bytes) _ (one_spells command_text FitsCommand text_field Group bytes 40 fits (λ t. refl) (λ t h. h))
     (either_at P n 63 (nothing_more Bye bytes) None (nothing_spells command_text FitsCommand bytes 63 Bye tt refl)
-    (none_spells command_text FitsCommand bytes n)))))))))))))))))))))
+    (none_spells command_text FitsCommand bytes n))))))))))))))))))))))))
 
 -- the command of a body of any length
 abbrev command_in : List ℕ → Option Command
@@ -183,6 +186,9 @@ fields_again (ListAll after) fits = one_again text_field ListAll after fits
 fields_again (Files snapshot) fits = one_again text_field Files snapshot fits
 fields_again (Forget snapshot) fits = one_again text_field Forget snapshot fits
 fields_again (Prune group keep dry) fits = prune_again group keep dry fits
+fields_again (Verify snapshot) fits = one_again text_field Verify snapshot fits
+fields_again (Sync group) fits = one_again text_field Sync group fits
+fields_again Gc fits = refl
 fields_again (Group group) fits = one_again text_field Group group fits
 fields_again Bye fits = refl
 

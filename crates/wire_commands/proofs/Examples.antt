@@ -9,8 +9,11 @@ use Rattle.store_types.specs.declared.refusal.ChunkFault.TheVariants.{Nothing, N
 use Rattle.store_types.specs.declared.refusal.Refusal.{Refusal}
 use Rattle.store_types.specs.declared.refusal.Refusal.TheVariants.{BadFrame, TooLong, WrongState, BadName, GroupBusy, SnapshotBusy, NotNewer, NoSnapshot, NoFile, Exists, BadBlob, WrongDigest, WrongSize, UnknownChunk, BadOffset, BadClose, OpenIndexes, BadManifest, ManifestMismatch, NotAllowed, TooMany, BadRange, Damaged, Unreadable, CollectorBusy, DiskFault, Halted, NoMemory, NoRemote, RemoteFault}
 use Rattle.wire_frames.specs.Frames.{frame}
-use Rattle.wire_commands.specs.declared.command.Command.TheVariants.{OpenWriter, Previous, NewFixed, NewDynamic, Chunk, Append, CloseIndex, Blob, Finish, Abort, OpenReader, Download, GetChunk, Range, CloseReader, Bye}
-use Rattle.wire_commands.specs.declared.reply.Reply.TheVariants.{Done, Base, Part, Data, Number, Refused}
+use Rattle.wire_commands.specs.declared.command.Command.TheVariants.{OpenWriter, Previous, NewFixed, NewDynamic, Chunk, Append, CloseIndex, Blob, Finish, Abort, OpenReader, Download, GetChunk, Range, CloseReader, Verify, Sync, Gc, Bye}
+use Rattle.wire_commands.specs.declared.reply.Reply.TheVariants.{Done, Base, Part, Data, Number, Keys, Verified, Collected, Refused}
+use Rattle.wire_commands.specs.declared.rows.FileFault.{FileFault}
+use Rattle.wire_commands.specs.declared.rows.FileFault.TheVariants as file_faults
+use Rattle.wire_commands.specs.declared.rows.FaultRow.{FaultRow}
 use Rattle.wire_commands.specs.CommandText.{command_text, command_of}
 use Rattle.wire_commands.specs.ReplyText.{reply_text}
 use Rattle.wire_commands.specs.ReplyReading.{reply_of}
@@ -108,6 +111,27 @@ abort = refl
 close_reader : frame (command_text CloseReader) ≡ hex (codes "01000000 18")
 unfolding wire_commands_on_literals
 close_reader = refl
+
+verify : frame (command_text (Verify snapshot)) ≡ hex (codes "1d000000 22 1b") ++ snapshot
+unfolding wire_commands_on_literals
+verify = refl
+
+sync : frame (command_text (Sync (codes "host/a"))) ≡ hex (codes "08000000 23 06") ++ codes "host/a"
+unfolding wire_commands_on_literals
+sync = refl
+
+collect : frame (command_text Gc) ≡ hex (codes "01000000 24")
+unfolding wire_commands_on_literals
+collect = refl
+
+collect_read : command_of (hex (codes "24")) ≡ Some Gc
+unfolding wire_commands_on_literals
+collect_read = refl
+
+-- GC has no fields
+no_collect : command_of (hex (codes "24 00")) ≡ None
+unfolding wire_commands_on_literals
+no_collect = refl
 
 open_reader : frame (command_text (OpenReader snapshot)) ≡ hex (codes "1d000000 14 1b") ++ snapshot
 unfolding wire_commands_on_literals
@@ -362,6 +386,52 @@ refused_anywhere = refl
 damaged_with_files : reply_of 30 (hex (codes "00 0100 0161 01 05")) ≡ None
 unfolding wire_commands_on_literals
 damaged_with_files = refl
+
+-- what VERIFY, SYNC and GC reply
+abbrev fault : List ℕ → FileFault → FaultRow
+fault file what = record { file = file; fault = what }
+
+all_well : frame (reply_text (Verified 2 2 5 [])) ≡ hex (codes "13000000 00 02 0200000000000000 0500000000000000 00")
+unfolding wire_commands_on_literals
+all_well = refl
+
+all_well_read : reply_of 34 (hex (codes "00 02 0200000000000000 0500000000000000 00")) ≡ Some (Verified 2 2 5 [])
+unfolding wire_commands_on_literals
+all_well_read = refl
+
+a_damaged_chunk : reply_text (Verified 2 2 5 (fault archive (file_faults.Damaged abc) ∷ []))
+    ≡ hex (codes "00 02 0200000000000000 0500000000000000 01 09") ++ archive ++ hex (codes "17 ba7816bf8f01cfea414140de5dae2223b00361a396177a9cb410ff61f20015ad")
+unfolding wire_commands_on_literals
+a_damaged_chunk = refl
+
+faults_read : reply_of 34 (hex (codes "00 03 0000000000000000 0000000000000000 02 01 61 13 0000000000000000000000000000000000000000000000000000000000000000 01 62 18 0000000000000000000000000000000000000000000000000000000000000000"))
+    ≡ Some (Verified 3 0 0 (fault (codes "a") file_faults.Differs ∷ fault (codes "b") file_faults.Unreadable ∷ []))
+unfolding wire_commands_on_literals
+faults_read = refl
+
+-- a file that differs has no digest
+no_fault_digest : reply_of 34 (hex (codes "00 03 0000000000000000 0000000000000000 01 01 61 13 ba7816bf8f01cfea414140de5dae2223b00361a396177a9cb410ff61f20015ad")) ≡ None
+unfolding wire_commands_on_literals
+no_fault_digest = refl
+
+pulled : frame (reply_text (Keys (snapshot ∷ []))) ≡ hex (codes "1f000000 00 0100 1b") ++ snapshot
+unfolding wire_commands_on_literals
+pulled = refl
+
+pulled_read : reply_of 35 (hex (codes "00 0100 1b") ++ snapshot) ≡ Some (Keys (snapshot ∷ []))
+unfolding wire_commands_on_literals
+pulled_read = refl
+
+-- started at 1,000,000, cutoff 913,300, two chunks used
+a_collection : frame (reply_text (Collected 1_000_000 913_300 2 0 0))
+    ≡ hex (codes "29000000 00 40420f0000000000 94ef0d0000000000 0200000000000000 0000000000000000 0000000000000000")
+unfolding wire_commands_on_literals
+a_collection = refl
+
+a_collection_read : reply_of 36 (hex (codes "00 e0c8100000000000 34760f0000000000 0000000000000000 0000000000000000 0200000000000000"))
+    ≡ Some (Collected 1_100_000 1_013_300 0 0 2)
+unfolding wire_commands_on_literals
+a_collection_read = refl
 
 -- ---- refusals, spelled and read
 

@@ -11,14 +11,17 @@ use Rattle.wire_commands.specs.declared.rows.FileRow.{FileRow}
 use Rattle.wire_commands.specs.declared.rows.PruneMark.{PruneMark}
 use Rattle.wire_commands.specs.declared.rows.PruneMark.TheVariants.{Removed, Kept, Held, Gone}
 use Rattle.wire_commands.specs.declared.rows.PruneRow.{PruneRow}
+use Rattle.wire_commands.specs.declared.rows.FileFault.{FileFault}
+use Rattle.wire_commands.specs.declared.rows.FileFault.TheVariants.{Differs, Damaged, Unreadable}
+use Rattle.wire_commands.specs.declared.rows.FaultRow.{FaultRow}
 use Rattle.wire_commands.specs.Fields.{Read, u16, flag, byte_at, number_at, digest_at, text_at, flag_at}
 use Rattle.wire_commands.specs.CommandText.{keep_text, keep_at}
-use Rattle.wire_commands.specs.ReplyText.{list_row_text, files_fit, file_row_text, mark_number, prune_row_text}
-use Rattle.wire_commands.specs.ReplyReading.{list_row_at, file_row_at, mark_at, prune_row_at}
-use Rattle.wire_commands.specs.RefusalReading.{made}
-use Rattle.wire_commands.specs.HasText.{FitsKeep, FitsListRow, FitsFileRow, FitsPruneRow}
+use Rattle.wire_commands.specs.ReplyText.{list_row_text, files_fit, file_row_text, mark_number, prune_row_text, file_fault_text, fault_row_text}
+use Rattle.wire_commands.specs.ReplyReading.{list_row_at, file_row_at, mark_at, prune_row_at, file_fault_at, fault_row_at}
+use Rattle.wire_commands.specs.RefusalReading.{zeros_at, made}
+use Rattle.wire_commands.specs.HasText.{FitsKeep, FitsListRow, FitsFileRow, FitsPruneRow, FitsFileFault, FitsFaultRow}
 use Rattle.wire_commands.proofs.FieldLaws.{found, bind_some, IsField, Takes, taken_is, byte_field, u16_field, u64_field, digest_field, text_field, both, both_field}
-use Rattle.wire_commands.proofs.RefusalFields.{either_at, none_takes, value_takes, made_some, made_again, both_made, only_if_some}
+use Rattle.wire_commands.proofs.RefusalFields.{either_at, none_takes, value_takes, made_takes, zeros_field, made_some, made_again, both_made, only_if_some}
 use Rattle.wire_commands.proofs.BodyLaws.{two_first}
 
 -- ---- a field that is made of others
@@ -223,6 +226,37 @@ pub prune_row_field : IsField prune_row_at prune_row_text FitsPruneRow
 prune_row_field = made_field prune_row_text FitsPruneRow prune_row_at (both_field text_field mark_field)
     (λ (p : List ℕ × PruneMark). make_prune_row p.0 p.1) (λ (r : PruneRow). (r.snapshot, r.mark)) prune_row_is (λ p. refl)
     (λ p h. h.0) (λ r h. (h, tt)) (λ r. refl)
+
+-- ---- faults of files
+
+file_fault_takes : (bytes : List ℕ) → AreBytes bytes → Takes file_fault_text FitsFileFault bytes (file_fault_at bytes)
+file_fault_takes [] fits = none_takes file_fault_text FitsFileFault []
+file_fault_takes (n ∷ bytes) fits =
+    let rest : AreBytes bytes = λ i. fits (suc i) in
+    let P : ℕ → Read FileFault → Type 0 = λ n o. Takes file_fault_text FitsFileFault (n ∷ bytes) o in
+    either_at P n 19 (made (λ z. Differs) (zeros_at 32 bytes)) _ (made_takes file_fault_text FitsFileFault (zeros_field 32) (λ z. Differs) 19 bytes rest (λ z. refl) (λ z h. h))
+    (either_at P n 23 (made Damaged (digest_at bytes)) _ (made_takes file_fault_text FitsFileFault digest_field Damaged 23 bytes rest (λ x. refl) (λ x h. h))
+    (either_at P n 24 (made (λ z. Unreadable) (zeros_at 32 bytes)) None (made_takes file_fault_text FitsFileFault (zeros_field 32) (λ z. Unreadable) 24 bytes rest (λ z. refl) (λ z h. h))
+    (none_takes file_fault_text FitsFileFault (n ∷ bytes))))
+
+file_fault_again : (f : FileFault) (rest : List ℕ) → FitsFileFault f → file_fault_at (file_fault_text f ++ rest) ≡ Some (f, rest)
+file_fault_again Differs rest fits = made_again (zeros_field 32) (λ z. Differs) tt rest tt
+file_fault_again (Damaged d) rest fits = made_again digest_field Damaged d rest fits
+file_fault_again Unreadable rest fits = made_again (zeros_field 32) (λ z. Unreadable) tt rest tt
+
+pub file_fault_field : IsField file_fault_at file_fault_text FitsFileFault
+file_fault_field = record { takes = file_fault_takes; again = file_fault_again }
+
+abbrev make_fault_row : List ℕ → FileFault → FaultRow
+make_fault_row file fault = record { file = file; fault = fault }
+
+fault_row_is : (bytes : List ℕ) → fault_row_at bytes ≡ made (λ (p : List ℕ × FileFault). make_fault_row p.0 p.1) (both text_at file_fault_at bytes)
+fault_row_is bytes = both_made (text_at bytes) file_fault_at make_fault_row
+
+pub fault_row_field : IsField fault_row_at fault_row_text FitsFaultRow
+fault_row_field = made_field fault_row_text FitsFaultRow fault_row_at (both_field text_field file_fault_field)
+    (λ (p : List ℕ × FileFault). make_fault_row p.0 p.1) (λ (r : FaultRow). (r.file, r.fault)) fault_row_is (λ p. refl)
+    (λ p h. h) (λ r h. h) (λ r. refl)
 
 -- ---- the counts of a prune, put one after another
 

@@ -38,7 +38,7 @@ made_some make None y s e = absurd cc
 made_some make (Some x) y s e = (x, refl, e)
 
 -- a field behind a number
-made_takes : {A B : Type 0} {read : List ℕ → Read A} {part : A → List ℕ} {PartFits : A → Type 0} (spelled : B → List ℕ) (Fits : B → Type 0) → IsField read part PartFits
+pub made_takes : {A B : Type 0} {read : List ℕ → Read A} {part : A → List ℕ} {PartFits : A → Type 0} (spelled : B → List ℕ) (Fits : B → Type 0) → IsField read part PartFits
     → (make : A → B) (n : ℕ) (rest : List ℕ) → AreBytes rest → ((x : A) → n ∷ part x ≡ spelled (make x)) → ((x : A) → PartFits x → Fits (make x))
     → Takes spelled Fits (n ∷ rest) (made make (read rest))
 made_takes {A} {B} {read} {part} spelled Fits field make n rest bytes same fits y s e =
@@ -162,7 +162,7 @@ zeros_takes n bytes fits z rest e =
 zeros_again : (n : ℕ) (z : Unit {0}) (rest : List ℕ) → ⊤ → zeros_at n (zeros n ++ rest) ≡ Some (z, rest)
 zeros_again n z rest fits = rw (bytes_again n (zeros n) rest (length-replicate n 0), zeros_pass n) refl
 
-zeros_field : (n : ℕ) → IsField (zeros_at n) (λ z. zeros n) (λ z. ⊤)
+pub zeros_field : (n : ℕ) → IsField (zeros_at n) (λ z. zeros n) (λ z. ⊤)
 zeros_field n = record { takes = zeros_takes n; again = zeros_again n }
 
 wide_is : (bytes : List ℕ) → wide_at bytes ≡ made (λ (p : ℕ × Unit {0}). p.0) (both (number_at w64) (zeros_at 24) bytes)

@@ -1,23 +1,25 @@
 -- A reply that is read is spelled so, and one that is spelled is read again.
-use Rattle.std.proofs.Common.{◌≡◌, ℕ, zero, suc, ◌≤◌, Bool, List, [], ◌∷◌, length, leb, Option, Some, None, IfSome, Result, Ok, Err, IfOk, refl, sym, ap, subst, ◌∙◌}
+use Rattle.std.proofs.Common.{◌≡◌, ℕ, zero, suc, ◌^◌, ◌<◌, ◌≤◌, Bool, List, [], ◌∷◌, ◌++◌, length, leb, Option, Some, None, IfSome, Result, Ok, Err, IfOk, refl, sym, ap, subst, ◌∙◌}
 use Rattle.std.proofs.lemmas.Bool.{leb-true, le-leb}
+use Rattle.std.specs.Int.{w64}
 use Rattle.store_types.specs.declared.refusal.Refusal.{Refusal}
 use Rattle.store_types.specs.declared.refusal.Refusal.TheVariants as refusals
 use Rattle.store_types.specs.Chain.Reading.{◌>>=◌, only_if}
 use Rattle.wire_frames.specs.Frames.{body_limit, AreBytes}
 use Rattle.wire_commands.specs.declared.reply.Reply.{Reply}
-use Rattle.wire_commands.specs.declared.reply.Reply.TheVariants.{Done, Base, Part, Data, Number, Listing, Files, Keys, Marks, Refused}
-use Rattle.wire_commands.specs.Fields.{text, rows, few_rows, byte_at, text_at, rows_at, few_rows_at, whole}
+use Rattle.wire_commands.specs.declared.reply.Reply.TheVariants.{Done, Base, Part, Data, Number, Listing, Files, Keys, Marks, Verified, Collected, Refused}
+use Rattle.wire_commands.specs.declared.rows.FaultRow.{FaultRow}
+use Rattle.wire_commands.specs.Fields.{Read, u64, text, rows, few_rows, byte_at, number_at, text_at, rows_at, few_rows_at, whole}
 use Rattle.wire_commands.specs.RefusalText.{refusal_text}
 use Rattle.wire_commands.specs.RefusalReading.{refusal_from}
-use Rattle.wire_commands.specs.ReplyText.{Form, empty, base, part, rest, number, listing, files, keys, marks, reply_form, HasForm, list_row_text, file_row_text, prune_row_text, reply_text}
-use Rattle.wire_commands.specs.ReplyReading.{list_row_at, file_row_at, prune_row_at, made, part_in, fields_in, accepted, reply_from, reply_of}
+use Rattle.wire_commands.specs.ReplyText.{Form, empty, base, part, rest, number, listing, files, keys, marks, verified, collected, reply_form, HasForm, list_row_text, file_row_text, prune_row_text, fault_row_text, reply_text}
+use Rattle.wire_commands.specs.ReplyReading.{list_row_at, file_row_at, prune_row_at, fault_row_at, made, part_in, verified_in, collected_in, fields_in, accepted, reply_from, reply_of}
 use Rattle.wire_commands.specs.HasText.{FitsRefusal, FitsReply, ReplyHasText, RepliesAreReadAgain, RepliesHaveOneText}
-use Rattle.wire_commands.proofs.FieldLaws.{byte_field, u64_field, text_field}
+use Rattle.wire_commands.proofs.FieldLaws.{IsField, both, both_field, byte_field, u64_field, text_field}
 use Rattle.wire_commands.proofs.RefusalFields.{only_if_some}
-use Rattle.wire_commands.proofs.BodyLaws.{Spells, value_spells, none_spells, nothing_spells, one_spells, one_again, rest_spells, rest_again}
+use Rattle.wire_commands.proofs.BodyLaws.{Spells, value_spells, none_spells, nothing_spells, one_spells, one_again, two_first, two_spells, two_again, rest_spells, rest_again}
 use Rattle.wire_commands.proofs.RowLaws.{rows_field, few_rows_field}
-use Rattle.wire_commands.proofs.ListFields.{list_row_field, file_row_field, prune_row_field}
+use Rattle.wire_commands.proofs.ListFields.{list_row_field, file_row_field, prune_row_field, fault_row_field}
 use Rattle.wire_commands.proofs.RefusalLaws.{refusal_in, refusal_spells, refusal_again}
 
 made_is : {A : Type 0} (make : A → Reply) (o : Option A) → made make o ≡ (o >>= (λ x. Some (make x)))
@@ -33,6 +35,72 @@ reply_in form body = byte_at body >>= (λ first. reply_from form first.0 first.1
 
 abbrev IsReply : Option Form → Reply → Type 0
 IsReply form r = FitsReply r × HasForm form r
+
+-- the counts of a VERIFY, as one field, and its faults
+abbrev counts_at : List ℕ → Read ((ℕ × ℕ) × ℕ)
+counts_at = both (both byte_at (number_at w64)) (number_at w64)
+
+counts_field : IsField counts_at (λ p. ((p.0).0 ∷ [] ++ u64 (p.0).1) ++ u64 p.1) (λ p. (((p.0).0 < 256) × ((p.0).1 < 2 ^ 64)) × (p.1 < 2 ^ 64))
+counts_field = both_field (both_field byte_field u64_field) u64_field
+
+abbrev make_verified : (ℕ × ℕ) × ℕ → List FaultRow → Reply
+make_verified p faults = Verified (p.0).0 (p.0).1 p.1 faults
+
+verified_is : (bytes : List ℕ) → verified_in bytes ≡ (counts_at bytes >>= (λ p. whole (few_rows_at fault_row_at p.1) >>= (λ faults. Some (make_verified p.0 faults))))
+unfolding verified_in
+verified_is bytes =
+    let last : (ℕ × ℕ) × ℕ → List ℕ → Option Reply = λ p left. whole (few_rows_at fault_row_at left) >>= (λ faults. Some (make_verified p faults)) in
+    two_first byte_at (number_at w64) (λ count entries left. number_at w64 left >>= (λ total. last ((count, entries), total.0) total.1)) bytes
+    ∙ two_first (both byte_at (number_at w64)) (number_at w64) (λ p total left. last (p, total) left) bytes
+
+verified_spells : (bytes : List ℕ) → AreBytes bytes → Spells reply_text (IsReply (Some verified)) bytes 0 (verified_in bytes)
+unfolding reply_text
+verified_spells bytes fits =
+    subst (Spells reply_text (IsReply (Some verified)) bytes 0) (sym (verified_is bytes))
+    (two_spells reply_text (IsReply (Some verified)) counts_field (few_rows_field fault_row_field) make_verified bytes 0 fits (λ p. refl)
+    (λ p h. (((h.0).0.0, (h.0).0.1, (h.0).1, (h.1).0, (h.1).1), refl)))
+
+verified_again : (count entries total : ℕ) (faults : List FaultRow) → FitsReply (Verified count entries total faults)
+    → verified_in (count ∷ u64 entries ++ u64 total ++ few_rows fault_row_text faults) ≡ Some (Verified count entries total faults)
+verified_again count entries total faults fits =
+    verified_is (count ∷ u64 entries ++ u64 total ++ few_rows fault_row_text faults)
+    ∙ two_again counts_field (few_rows_field fault_row_field) make_verified ((count, entries), total) faults ((fits.0, fits.1), fits.2) (fits.3, fits.4)
+
+-- the five numbers of a GC, as one field of the first four and one
+abbrev n64 : List ℕ → Read ℕ
+n64 = number_at w64
+
+abbrev four_at : List ℕ → Read (((ℕ × ℕ) × ℕ) × ℕ)
+four_at = both (both (both n64 n64) n64) n64
+
+four_field : IsField four_at (λ p. ((u64 ((p.0).0).0 ++ u64 ((p.0).0).1) ++ u64 (p.0).1) ++ u64 p.1)
+    (λ p. (((((p.0).0).0 < 2 ^ 64) × (((p.0).0).1 < 2 ^ 64)) × ((p.0).1 < 2 ^ 64)) × (p.1 < 2 ^ 64))
+four_field = both_field (both_field (both_field u64_field u64_field) u64_field) u64_field
+
+abbrev make_collected : ((ℕ × ℕ) × ℕ) × ℕ → ℕ → Reply
+make_collected p removed = Collected ((p.0).0).0 ((p.0).0).1 (p.0).1 p.1 removed
+
+collected_is : (bytes : List ℕ) → collected_in bytes ≡ (four_at bytes >>= (λ p. whole (n64 p.1) >>= (λ removed. Some (make_collected p.0 removed))))
+unfolding collected_in
+collected_is bytes =
+    let last : ((ℕ × ℕ) × ℕ) × ℕ → List ℕ → Option Reply = λ p left. whole (n64 left) >>= (λ removed. Some (make_collected p removed)) in
+    let fourth : (ℕ × ℕ) × ℕ → List ℕ → Option Reply = λ p left. n64 left >>= (λ pending. last (p, pending.0) pending.1) in
+    two_first n64 n64 (λ start cutoff left. n64 left >>= (λ used. fourth ((start, cutoff), used.0) used.1)) bytes
+    ∙ two_first (both n64 n64) n64 (λ p used left. fourth (p, used) left) bytes
+    ∙ two_first (both (both n64 n64) n64) n64 (λ p pending left. last (p, pending) left) bytes
+
+collected_spells : (bytes : List ℕ) → AreBytes bytes → Spells reply_text (IsReply (Some collected)) bytes 0 (collected_in bytes)
+unfolding reply_text
+collected_spells bytes fits =
+    subst (Spells reply_text (IsReply (Some collected)) bytes 0) (sym (collected_is bytes))
+    (two_spells reply_text (IsReply (Some collected)) four_field u64_field make_collected bytes 0 fits (λ p. refl)
+    (λ p h. (((h.0).0.0.0, (h.0).0.0.1, (h.0).0.1, (h.0).1, h.1), refl)))
+
+collected_again : (start cutoff used pending removed : ℕ) → FitsReply (Collected start cutoff used pending removed)
+    → collected_in (u64 start ++ u64 cutoff ++ u64 used ++ u64 pending ++ u64 removed) ≡ Some (Collected start cutoff used pending removed)
+collected_again start cutoff used pending removed fits =
+    collected_is (u64 start ++ u64 cutoff ++ u64 used ++ u64 pending ++ u64 removed)
+    ∙ two_again four_field u64_field make_collected (((start, cutoff), used), pending) removed (((fits.0, fits.1), fits.2), fits.3) fits.4
 
 accepted_spells : (form : Option Form) (bytes : List ℕ) → AreBytes bytes → Spells reply_text (IsReply form) bytes 0 (accepted form bytes)
 unfolding fields_in part_in reply_text
@@ -58,6 +126,8 @@ accepted_spells (Some keys) bytes fits =
 accepted_spells (Some marks) bytes fits =
     subst (Spells reply_text (IsReply (Some marks)) bytes 0) (sym (made_is Marks (whole (rows_at prune_row_at bytes))))
     (one_spells reply_text (IsReply (Some marks)) (rows_field prune_row_field) Marks bytes 0 fits (λ xs. refl) (λ xs h. (h, refl)))
+accepted_spells (Some verified) bytes fits = verified_spells bytes fits
+accepted_spells (Some collected) bytes fits = collected_spells bytes fits
 
 refused_spells : (form : Option Form) (n : ℕ) (bytes : List ℕ) (o : Option Refusal) → Spells refusal_text FitsRefusal bytes n o → Spells reply_text (IsReply form) bytes n (made Refused o)
 unfolding made reply_text
@@ -144,6 +214,10 @@ reply_again form (Keys xs) fits has =
     form_again (Some keys) (Keys xs) has (made_is Keys (whole (rows_at text_at (rows text xs))) ∙ one_again (rows_field text_field) Keys xs fits)
 reply_again form (Marks xs) fits has =
     form_again (Some marks) (Marks xs) has (made_is Marks (whole (rows_at prune_row_at (rows prune_row_text xs))) ∙ one_again (rows_field prune_row_field) Marks xs fits)
+reply_again form (Verified count entries total faults) fits has =
+    form_again (Some verified) (Verified count entries total faults) has (verified_again count entries total faults fits)
+reply_again form (Collected start cutoff used pending removed) fits has =
+    form_again (Some collected) (Collected start cutoff used pending removed) has (collected_again start cutoff used pending removed fits)
 
 pub replies_again : RepliesAreReadAgain
 replies_again code r h has = within_limit code (reply_text r) h.1 ∙ reply_again (reply_form code) r h.0 has

@@ -7,7 +7,7 @@ use Rattle.store_types.specs.declared.names.Keep.{Keep}
 use Rattle.store_types.specs.Chain.Reading.{◌>>=◌, only_if}
 use Rattle.wire_frames.specs.Frames.{body_limit}
 use Rattle.wire_commands.specs.declared.command.Command.{Command}
-use Rattle.wire_commands.specs.declared.command.Command.TheVariants.{OpenWriter, Previous, NewFixed, NewDynamic, Chunk, Append, CloseIndex, Blob, Finish, Abort, OpenReader, Download, GetChunk, Range, CloseReader, List as ListAll, Files, Forget, Prune, Group, Bye}
+use Rattle.wire_commands.specs.declared.command.Command.TheVariants.{OpenWriter, Previous, NewFixed, NewDynamic, Chunk, Append, CloseIndex, Blob, Finish, Abort, OpenReader, Download, GetChunk, Range, CloseReader, List as ListAll, Files, Forget, Prune, Verify, Sync, Gc, Group, Bye}
 use Rattle.wire_commands.specs.Fields.{Read, u16, u32, u64, text, flag, rows, whole, byte_at, number_at, digest_at, text_at, flag_at, rows_at}
 
 abbrev pub entry_text : AppendEntry → List ℕ
@@ -37,6 +37,9 @@ command_text (ListAll after) = 30 ∷ text after
 command_text (Files snapshot) = 31 ∷ text snapshot
 command_text (Forget snapshot) = 32 ∷ text snapshot
 command_text (Prune group keep dry) = 33 ∷ text group ++ keep_text keep ++ flag dry
+command_text (Verify snapshot) = 34 ∷ text snapshot
+command_text (Sync group) = 35 ∷ text group
+command_text Gc = 36 ∷ []
 command_text (Group group) = 40 ∷ text group
 command_text Bye = 63 ∷ []
 
@@ -152,6 +155,9 @@ fields_of code bytes =
     if code == 31 then one_text Files bytes else
     if code == 32 then one_text Forget bytes else
     if code == 33 then prune bytes else
+    if code == 34 then one_text Verify bytes else
+    if code == 35 then one_text Sync bytes else
+    if code == 36 then nothing_more Gc bytes else
     if code == 40 then one_text Group bytes else
     if code == 63 then nothing_more Bye bytes else
     None

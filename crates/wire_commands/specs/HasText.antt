@@ -13,12 +13,15 @@ use Rattle.store_types.specs.declared.refusal.Refusal.{Refusal}
 use Rattle.store_types.specs.declared.refusal.Refusal.TheVariants.{BadFrame, TooLong, GroupBusy, SnapshotBusy, NotNewer, BadBlob, WrongDigest, WrongSize, UnknownChunk, BadOffset, BadClose, OpenIndexes, BadManifest, ManifestMismatch, TooMany, BadRange, Damaged, Unreadable, CollectorBusy, Halted}
 use Rattle.wire_frames.specs.Frames.{body_limit, AreBytes}
 use Rattle.wire_commands.specs.declared.command.Command.{Command}
-use Rattle.wire_commands.specs.declared.command.Command.TheVariants.{OpenWriter, Previous, NewFixed, NewDynamic, Chunk, Append, CloseIndex, Blob, OpenReader, Download, GetChunk, Range, List as ListAll, Files as FilesOf, Forget, Prune, Group}
+use Rattle.wire_commands.specs.declared.command.Command.TheVariants.{OpenWriter, Previous, NewFixed, NewDynamic, Chunk, Append, CloseIndex, Blob, OpenReader, Download, GetChunk, Range, List as ListAll, Files as FilesOf, Forget, Prune, Verify, Sync, Group}
 use Rattle.wire_commands.specs.declared.rows.ListRow.{ListRow}
 use Rattle.wire_commands.specs.declared.rows.FileRow.{FileRow}
 use Rattle.wire_commands.specs.declared.rows.PruneRow.{PruneRow}
+use Rattle.wire_commands.specs.declared.rows.FileFault.{FileFault}
+use Rattle.wire_commands.specs.declared.rows.FileFault.TheVariants as file_faults
+use Rattle.wire_commands.specs.declared.rows.FaultRow.{FaultRow}
 use Rattle.wire_commands.specs.declared.reply.Reply.{Reply}
-use Rattle.wire_commands.specs.declared.reply.Reply.TheVariants.{Base, Part, Number, Listing, Files, Keys, Marks, Refused}
+use Rattle.wire_commands.specs.declared.reply.Reply.TheVariants.{Base, Part, Number, Listing, Files, Keys, Marks, Verified, Collected, Refused}
 use Rattle.wire_commands.specs.CommandText.{command_text, command_of}
 use Rattle.wire_commands.specs.ReplyText.{files_fit, reply_text, AnswersCode}
 use Rattle.wire_commands.specs.ReplyReading.{reply_of}
@@ -52,6 +55,8 @@ FitsCommand (ListAll after) = IsText after
 FitsCommand (FilesOf snapshot) = IsText snapshot
 FitsCommand (Forget snapshot) = IsText snapshot
 FitsCommand (Prune group keep dry) = IsText group × FitsKeep keep
+FitsCommand (Verify snapshot) = IsText snapshot
+FitsCommand (Sync group) = IsText group
 FitsCommand (Group group) = IsText group
 FitsCommand _ = ⊤
 
@@ -111,6 +116,13 @@ FitsFileRow r = IsText r.file × (r.size < 2 ^ 64) × IsDigest r.csum
 abbrev pub FitsPruneRow : PruneRow → Type 0
 FitsPruneRow r = IsText r.snapshot
 
+abbrev pub FitsFileFault : FileFault → Type 0
+FitsFileFault (file_faults.Damaged digest) = IsDigest digest
+FitsFileFault _ = ⊤
+
+abbrev pub FitsFaultRow : FaultRow → Type 0
+FitsFaultRow r = IsText r.file × FitsFileFault r.fault
+
 abbrev pub FitsReply : Reply → Type 0
 FitsReply (Base snapshot) = IsText snapshot
 FitsReply (Part total bytes) = total < 2 ^ 64
@@ -119,6 +131,10 @@ FitsReply (Listing rows) = (length rows < 2 ^ 16) × All FitsListRow rows
 FitsReply (Files rows) = (length rows < 256) × All FitsFileRow rows
 FitsReply (Keys snapshots) = (length snapshots < 2 ^ 16) × All IsText snapshots
 FitsReply (Marks rows) = (length rows < 2 ^ 16) × All FitsPruneRow rows
+FitsReply (Verified files entries bytes faults) =
+    (files < 256) × (entries < 2 ^ 64) × (bytes < 2 ^ 64) × (length faults < 256) × All FitsFaultRow faults
+FitsReply (Collected start cutoff used pending removed) =
+    (start < 2 ^ 64) × (cutoff < 2 ^ 64) × (used < 2 ^ 64) × (pending < 2 ^ 64) × (removed < 2 ^ 64)
 FitsReply (Refused refusal) = FitsRefusal refusal
 FitsReply _ = ⊤
 

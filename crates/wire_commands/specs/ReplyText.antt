@@ -6,10 +6,13 @@ use Rattle.wire_commands.specs.declared.rows.FileRow.{FileRow}
 use Rattle.wire_commands.specs.declared.rows.PruneMark.{PruneMark}
 use Rattle.wire_commands.specs.declared.rows.PruneMark.TheVariants.{Removed, Kept, Held, Gone}
 use Rattle.wire_commands.specs.declared.rows.PruneRow.{PruneRow}
+use Rattle.wire_commands.specs.declared.rows.FileFault.{FileFault}
+use Rattle.wire_commands.specs.declared.rows.FileFault.TheVariants.{Differs, Damaged, Unreadable}
+use Rattle.wire_commands.specs.declared.rows.FaultRow.{FaultRow}
 use Rattle.wire_commands.specs.declared.reply.Reply.{Reply}
-use Rattle.wire_commands.specs.declared.reply.Reply.TheVariants.{Done, Base, Part, Data, Number, Listing, Files, Keys, Marks, Refused}
+use Rattle.wire_commands.specs.declared.reply.Reply.TheVariants.{Done, Base, Part, Data, Number, Listing, Files, Keys, Marks, Verified, Collected, Refused}
 use Rattle.wire_commands.specs.Fields.{u64, text, flag, rows, few_rows}
-use Rattle.wire_commands.specs.RefusalText.{refusal_text}
+use Rattle.wire_commands.specs.RefusalText.{zeros, refusal_text}
 
 -- a snapshot, whether it is damaged, and how many files it has
 abbrev pub list_row_text : ListRow → List ℕ
@@ -31,6 +34,15 @@ mark_number Gone = 3
 abbrev pub prune_row_text : PruneRow → List ℕ
 prune_row_text r = text r.snapshot ++ mark_number r.mark ∷ []
 
+-- the refusal's number, and the digest of the damaged chunk or zeros
+abbrev pub file_fault_text : FileFault → List ℕ
+file_fault_text Differs = 19 ∷ zeros 32
+file_fault_text (Damaged digest) = 23 ∷ digest.0
+file_fault_text Unreadable = 24 ∷ zeros 32
+
+abbrev pub fault_row_text : FaultRow → List ℕ
+fault_row_text r = text r.file ++ file_fault_text r.fault
+
 unfoldable pub reply_text : Reply → List ℕ
 reply_text Done = 0 ∷ []
 reply_text (Base snapshot) = 0 ∷ text snapshot
@@ -41,6 +53,10 @@ reply_text (Listing snapshots) = 0 ∷ rows list_row_text snapshots
 reply_text (Files files) = 0 ∷ few_rows file_row_text files
 reply_text (Keys snapshots) = 0 ∷ rows text snapshots
 reply_text (Marks snapshots) = 0 ∷ rows prune_row_text snapshots
+reply_text (Verified count entries bytes faults) =
+    0 ∷ count ∷ u64 entries ++ u64 bytes ++ few_rows fault_row_text faults
+reply_text (Collected start cutoff used pending removed) =
+    0 ∷ u64 start ++ u64 cutoff ++ u64 used ++ u64 pending ++ u64 removed
 reply_text (Refused refusal) = refusal_text refusal
 
 -- the rows, or the field that takes the rest
@@ -51,6 +67,7 @@ behind_head (Listing snapshots) = flat_map list_row_text snapshots
 behind_head (Files files) = flat_map file_row_text files
 behind_head (Keys snapshots) = flat_map text snapshots
 behind_head (Marks snapshots) = flat_map prune_row_text snapshots
+behind_head (Verified count entries bytes faults) = flat_map fault_row_text faults
 behind_head _ = []
 
 -- the forms of replies that are no refusals
@@ -64,6 +81,8 @@ pub data Form : Type 0 where
   files : Form
   keys : Form
   marks : Form
+  verified : Form
+  collected : Form
 
 -- the form of the reply to a command of the code, where there is such a command
 abbrev pub reply_form : ℕ → Option Form
@@ -87,6 +106,9 @@ reply_form code =
     if code == 31 then Some files else
     if code == 32 then Some empty else
     if code == 33 then Some marks else
+    if code == 34 then Some verified else
+    if code == 35 then Some keys else
+    if code == 36 then Some collected else
     if code == 40 then Some keys else
     if code == 63 then Some empty else
     None
@@ -102,6 +124,8 @@ form_of (Listing snapshots) = Some listing
 form_of (Files rows) = Some files
 form_of (Keys snapshots) = Some keys
 form_of (Marks snapshots) = Some marks
+form_of (Verified count entries bytes faults) = Some verified
+form_of (Collected start cutoff used pending removed) = Some collected
 form_of (Refused refusal) = None
 
 -- a refusal has any form

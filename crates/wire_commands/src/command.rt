@@ -107,6 +107,16 @@ pub enum Command {
         keep: Keep,
         dry: bool,
     },
+    /// 34: a job that compares the snapshot's files and chunks with its manifest and indexes.
+    Verify {
+        snapshot: Bytes,
+    },
+    /// 35: a job that takes the group's newer snapshots over from the remote datastore.
+    Sync {
+        group: Bytes,
+    },
+    /// 36: a job that removes the chunks that no snapshot and no running backup needs.
+    Gc,
     /// 40: the group's snapshots, the oldest first.
     Group {
         group: Bytes,
@@ -219,6 +229,9 @@ impl Command {
             Command::Prune { group, keep, dry } => {
                 Spelling::of(with_keep(Head::new(33).text(group), keep).flag(*dry))
             }
+            Command::Verify { snapshot } => Spelling::of(Head::new(34).text(snapshot)),
+            Command::Sync { group } => Spelling::of(Head::new(35).text(group)),
+            Command::Gc => Spelling::of(Head::new(36)),
             Command::Group { group } => Spelling::of(Head::new(40).text(group)),
             Command::Bye => Spelling::of(Head::new(63)),
         }
@@ -265,6 +278,9 @@ fn with_code(alloc: Global, code: u8, fields: &[u8]) -> Result<Option<Command>, 
         31 => files(alloc, fields),
         32 => forget(alloc, fields),
         33 => prune(alloc, fields),
+        34 => verify(alloc, fields),
+        35 => sync(alloc, fields),
+        36 => Ok(nothing_more(Command::Gc, fields)),
         40 => group(alloc, fields),
         63 => Ok(nothing_more(Command::Bye, fields)),
         _ => Ok(None),
@@ -469,6 +485,24 @@ fn forget(alloc: Global, fields: &[u8]) -> Result<Option<Command>, AllocError>
 {
     let snapshot = only_text(alloc, fields)?;
     Ok(snapshot.map(|snapshot| Command::Forget { snapshot }))
+}
+
+#[tactic(auto, unfolding(crate::specs::CommandText::one_text))]
+fn verify(alloc: Global, fields: &[u8]) -> Result<Option<Command>, AllocError>
+    ensures command { IfOk result (λ c. c ≡ one_text Command.Verify fields.now) }
+    ensures memory { WantsMemory 1 fields.now (one_text Command.Verify fields.now) result }
+{
+    let snapshot = only_text(alloc, fields)?;
+    Ok(snapshot.map(|snapshot| Command::Verify { snapshot }))
+}
+
+#[tactic(auto, unfolding(crate::specs::CommandText::one_text))]
+fn sync(alloc: Global, fields: &[u8]) -> Result<Option<Command>, AllocError>
+    ensures command { IfOk result (λ c. c ≡ one_text Command.Sync fields.now) }
+    ensures memory { WantsMemory 1 fields.now (one_text Command.Sync fields.now) result }
+{
+    let group = only_text(alloc, fields)?;
+    Ok(group.map(|group| Command::Sync { group }))
 }
 
 #[tactic(auto, unfolding(crate::specs::CommandText::one_text))]

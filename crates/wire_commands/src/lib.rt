@@ -18,4 +18,4 @@ mod rows;
 
 pub use command::{BadFrame, Command};
 pub use reply::Reply;
-pub use rows::{FileRow, ListRow, PruneMark, PruneRow};
+pub use rows::{FaultRow, FileFault, FileRow, ListRow, PruneMark, PruneRow};

@@ -1,6 +1,6 @@
 //! Values one after another: the rows of replies.
 
-ghost use Rattle.std.specs.Prelude.{◌≡◌, ℕ, ◌+◌, ◌≤◌, List, length, All, Option, is_some, IsSome, IfOk, OnErr};
+ghost use Rattle.std.specs.Prelude.{◌≡◌, ℕ, ◌+◌, ◌≤◌, List, ◌++◌, length, All, Option, is_some, IsSome, IfOk, OnErr};
 ghost use Rattle.std.specs.List.{flat_map};
 ghost use Rattle.std.specs.Option.{option_map};
 ghost use Rattle.port_traits.specs.Faults.{HasCause};
@@ -14,7 +14,8 @@ ghost use Rattle.wire_commands.specs.ReplyReading as reading;
 
 use crate::fields::{byte_at, copied, digest_at, flag_at, text_at, u64_at};
 use crate::head::Head;
-use crate::rows::{FileRow, ListRow, PruneMark, PruneRow};
+use crate::refusal::zeros_at;
+use crate::rows::{FaultRow, FileFault, FileRow, ListRow, PruneMark, PruneRow};
 use port_traits::{Failed, Sink, write_counted};
 use std::alloc::{AllocError, Global};
 use store_types::{Bytes, Rows};
@@ -173,6 +174,35 @@ impl Row for PruneRow {
     }
 }
 
+impl Row for FaultRow {
+    ghost spelled = { texts.fault_row_text };
+
+    ghost read = { reading.fault_row_at };
+
+    ghost Fits = { fits.FitsFaultRow };
+
+    fn skip(bytes: &[u8]) -> Option<&[u8]> {
+        let (_file, rest) = text_at(bytes)?;
+        let (_fault, rest) = file_fault_at(rest)?;
+        Some(rest)
+    }
+
+    fn at(alloc: Global, bytes: &[u8]) -> Result<Option<(FaultRow, &[u8])>, AllocError> {
+        let Some((file, rest)) = text_at(bytes) else {
+            return Ok(None);
+        };
+        let Some((fault, rest)) = file_fault_at(rest) else {
+            return Ok(None);
+        };
+        let file = copied(alloc, file)?;
+        Ok(Some((FaultRow { file, fault }, rest)))
+    }
+
+    fn head(&self) -> Head {
+        with_file_fault(Head::of_text(&self.file), &self.fault)
+    }
+}
+
 /// Whether a snapshot may be listed so: a damaged one has 0 files.
 fn files_fit(damaged: bool, files: u8) -> bool
     ensures { result ≡ texts.files_fit damaged files }
@@ -203,6 +233,32 @@ fn mark_at(bytes: &[u8]) -> Option<(PruneMark, &[u8])>
         _ => return None,
     };
     Some((mark, rest))
+}
+
+fn with_file_fault(head: Head, fault: &FileFault) -> Head
+    requires { length head ≤ 256 }
+    ensures { result ≡ head ++ texts.file_fault_text fault.now }
+{
+    match fault {
+        FileFault::Differs => head.byte(19).bytes(&[0; 32]),
+        FileFault::Damaged(digest) => head.byte(23).bytes(&digest.0),
+        FileFault::Unreadable => head.byte(24).bytes(&[0; 32]),
+    }
+}
+
+fn file_fault_at(bytes: &[u8]) -> Option<(FileFault, &[u8])>
+    ensures { option_map (λ x. (x.0, x.1.now)) result ≡ reading.file_fault_at bytes.now }
+{
+    let (code, rest) = byte_at(bytes)?;
+    match code {
+        19 => Some((FileFault::Differs, zeros_at(32, rest)?)),
+        23 => {
+            let (digest, rest) = digest_at(rest)?;
+            Some((FileFault::Damaged(digest), rest))
+        }
+        24 => Some((FileFault::Unreadable, zeros_at(32, rest)?)),
+        _ => None,
+    }
 }
 
 /// So many values that are all that there is. Memory is only taken where they are.

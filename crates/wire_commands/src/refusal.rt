@@ -302,7 +302,7 @@ fn wide_at(bytes: &[u8]) -> Option<(u64, &[u8])>
 }
 
 /// What follows so many zero bytes.
-fn zeros_at(count: usize, bytes: &[u8]) -> Option<&[u8]>
+pub fn zeros_at(count: usize, bytes: &[u8]) -> Option<&[u8]>
     ensures { option_map (λ rest. (tt, rest.now)) result ≡ zeros_at count bytes.now }
 {
     if bytes.len() < count {

@@ -8,13 +8,13 @@ ghost use Rattle.wire_commands.specs.Fields.{WantsMemory, whole};
 ghost use Rattle.wire_commands.specs.HasText.{FitsReply, ReplyHasText, SpellsReply};
 ghost use Rattle.wire_commands.specs.Puts.{PutsFrame, PutsReply};
 ghost use Rattle.wire_commands.specs.ReplyText.{reply_text, behind_head, reply_form as form_of};
-ghost use Rattle.wire_commands.specs.ReplyReading.{part_in, accepted, reply_from, reply_of};
+ghost use Rattle.wire_commands.specs.ReplyReading.{part_in, verified_in, collected_in, accepted, reply_from, reply_of};
 
 use crate::fields::{byte_at, copied, only_text, u16_at, u64_at, whole};
 use crate::head::Head;
 use crate::many::{Row, put_rows, values_in};
 use crate::refusal;
-use crate::rows::{FileRow, ListRow, PruneRow};
+use crate::rows::{FaultRow, FileRow, ListRow, PruneRow};
 use port_traits::{Failed, Sink};
 use std::alloc::{AllocError, Global};
 use store_types::{Bytes, Refusal, Rows};
@@ -41,6 +41,23 @@ pub enum Reply {
     Keys(Rows<Bytes>),
     /// The snapshots of a group, the newest first.
     Marks(Rows<PruneRow>),
+    /// What VERIFY read: how many files a snapshot has, with the manifest, how many entries its indexes have, and how
+    /// many bytes these are; and the files with a fault, in byte order of their names.
+    Verified {
+        files: u8,
+        entries: u64,
+        bytes: u64,
+        faults: Rows<FaultRow>,
+    },
+    /// What GC did: its start and its cutoff in seconds since 1970; how many chunks were touched since the start, how many
+    /// others are there, and how many were removed.
+    Collected {
+        start: u64,
+        cutoff: u64,
+        used: u64,
+        pending: u64,
+        removed: u64,
+    },
     /// The command was refused.
     Refused(Refusal),
 }
@@ -78,6 +95,7 @@ impl Reply {
             Reply::Files(rows) => put_rows(sink, &head, rows.as_slice(), given),
             Reply::Keys(snapshots) => put_rows(sink, &head, snapshots.as_slice(), given),
             Reply::Marks(rows) => put_rows(sink, &head, rows.as_slice(), given),
+            Reply::Verified { faults, .. } => put_rows(sink, &head, faults.as_slice(), given),
             Reply::Part { bytes, .. } | Reply::Data(bytes) => {
                 put_frame_counted(sink, head.as_slice(), bytes.as_slice(), given)
             }
@@ -100,6 +118,25 @@ impl Reply {
             Reply::Files(rows) => Head::new(0).byte(rows.as_slice().len() as u8),
             Reply::Keys(snapshots) => Head::new(0).u16(snapshots.as_slice().len() as u16),
             Reply::Marks(rows) => Head::new(0).u16(rows.as_slice().len() as u16),
+            Reply::Verified {
+                files,
+                entries,
+                bytes,
+                faults,
+            } => {
+                let head = Head::new(0).byte(*files).u64(*entries).u64(*bytes);
+                head.byte(faults.as_slice().len() as u8)
+            }
+            Reply::Collected {
+                start,
+                cutoff,
+                used,
+                pending,
+                removed,
+            } => {
+                let head = Head::new(0).u64(*start).u64(*cutoff);
+                head.u64(*used).u64(*pending).u64(*removed)
+            }
             Reply::Refused(refusal) => refusal::head(refusal),
         }
     }
@@ -152,7 +189,9 @@ fn accepted(alloc: Global, code: u8, fields: &[u8]) -> Result<Option<Reply>, All
         30 => Ok(rows_in(alloc, fields)?.map(Reply::Listing)),
         31 => Ok(few_rows_in(alloc, fields)?.map(Reply::Files)),
         33 => Ok(rows_in(alloc, fields)?.map(Reply::Marks)),
-        40 => Ok(rows_in(alloc, fields)?.map(Reply::Keys)),
+        34 => verified(alloc, fields),
+        36 => Ok(collected(fields)),
+        35 | 40 => Ok(rows_in(alloc, fields)?.map(Reply::Keys)),
         14..=20 | 24 | 32 | 63 if fields.is_empty() => Ok(Some(Reply::Done)),
         _ => Ok(None),
     }
@@ -168,6 +207,47 @@ fn part(alloc: Global, fields: &[u8]) -> Result<Option<Reply>, AllocError>
     };
     let bytes = copied(alloc, bytes)?;
     Ok(Some(Reply::Part { total, bytes }))
+}
+
+#[tactic(auto, unfolding(crate::specs::ReplyReading::verified_in))]
+fn verified(alloc: Global, fields: &[u8]) -> Result<Option<Reply>, AllocError>
+    ensures reply { IfOk result (λ r. r ≡ verified_in fields.now) }
+    ensures memory { WantsMemory 1 fields.now (verified_in fields.now) result }
+{
+    let Some((files, rest)) = byte_at(fields) else {
+        return Ok(None);
+    };
+    let Some((entries, rest)) = u64_at(rest) else {
+        return Ok(None);
+    };
+    let Some((bytes, rest)) = u64_at(rest) else {
+        return Ok(None);
+    };
+    let faults = few_rows_in(alloc, rest)?;
+    Ok(faults.map(|faults| Reply::Verified {
+        files,
+        entries,
+        bytes,
+        faults,
+    }))
+}
+
+#[tactic(auto, unfolding(crate::specs::ReplyReading::collected_in))]
+fn collected(fields: &[u8]) -> Option<Reply>
+    ensures { result ≡ collected_in fields.now }
+{
+    let (start, rest) = u64_at(fields)?;
+    let (cutoff, rest) = u64_at(rest)?;
+    let (used, rest) = u64_at(rest)?;
+    let (pending, rest) = u64_at(rest)?;
+    let removed = whole(u64_at(rest))?;
+    Some(Reply::Collected {
+        start,
+        cutoff,
+        used,
+        pending,
+        removed,
+    })
 }
 
 /// Bytes of its own. No memory is taken for none.

@@ -43,3 +43,21 @@ pub struct PruneRow {
     pub snapshot: Bytes,
     pub mark: PruneMark,
 }
+
+/// What is wrong with a file of a snapshot.
+#[derive(Clone, Copy, Debug, PartialEq, Eq)]
+pub enum FileFault {
+    /// 19: it is not what the manifest lists.
+    Differs,
+    /// 23: the chunk of this digest is missing, is no blob, or has another digest.
+    Damaged(Digest32),
+    /// 24: it is missing, or does not decode.
+    Unreadable,
+}
+
+/// A file of a snapshot with its first fault, as VERIFY shows it.
+#[derive(Debug, Drop)]
+pub struct FaultRow {
+    pub file: Bytes,
+    pub fault: FileFault,
+}

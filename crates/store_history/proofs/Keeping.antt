@@ -1,0 +1,391 @@
+-- A lane's position knows of the lane's collector, and its job is to report none.
+use Rattle.std.proofs.Common.{◌≡◌, ◌≢◌, ℕ, zero, suc, Bool, true, false, List, [], Option, Some, None, refl, sym, ap, subst, ◌∙◌, if◌then◌else◌, ◌==◌, is_none}
+use Rattle.store_types.specs.declared.refusal.Refusal.{Refusal}
+use Rattle.store_types.specs.declared.refusal.Refusal.TheVariants.{NoMemory}
+use Rattle.store_files.specs.Archive.{Snapshot}
+use Rattle.wire_commands.specs.declared.command.Command.{Command}
+use Rattle.wire_commands.specs.declared.reply.Reply.{Reply}
+use Rattle.wire_commands.specs.declared.reply.Reply.TheVariants.{Done, Refused}
+use Rattle.store_model.specs.declared.ending.Ending.{Ending}
+use Rattle.store_model.specs.declared.ending.Ending.TheVariants as endings
+use Rattle.store_model.specs.Job.{Asking, Job, over, asking}
+use Rattle.store_model.specs.Jobs.{take as job_take}
+use Rattle.store_model.specs.Lanes.{Next, job_step, plain, sync, collect, collecting, bye, broken, end}
+use Rattle.store_model.specs.Steps.{answered}
+use Rattle.store_model.specs.Weave.{is_replied, fault_refusal}
+use Rattle.store_history.specs.declared.act.Act.{Act}
+use Rattle.store_history.specs.declared.act.Act.TheVariants as acts
+use Rattle.store_history.specs.declared.act.Answer.{Answer}
+use Rattle.store_history.specs.declared.act.Event.{Event}
+use Rattle.store_history.specs.Acts.{Class, stepping, starting, sweeping, wanting, ending, class_of}
+use Rattle.store_history.specs.History.{World, open_on, act_outcome, moved, EntryKind, kind_of, step_kind, pass_kind, short_kind, start_kind, close_kind, fault_kind, end_kind, remote_kind, no_kind}
+use Rattle.store_history.specs.Legal.{Right, Reports, may_open, collecting_on}
+use Rattle.store_history.specs.LaneRun.{Position, next_at, tells, goes_on, used_up, heard_at, heard, heard_as, last_words, end_faulted, end_heard, Asks, Does}
+use Rattle.store_history.proofs.Collectors.{some_none, open_new, cut_none, cut_some, closed_none, closed_some, halted_none, other_none, new_other, cut_other, closed_other, halted_other, may_open_none}
+use Rattle.store_history.proofs.Events.{IsStepping, FitsNext, asks_class, IsPlainNext, next_plain, right_start, right_close, report_is}
+use Rattle.store_history.proofs.Placed.{open_at, open_is}
+use Rattle.store_history.proofs.Plainly.{IsPlainReply, IsPlainJob, ArePlain, says_plainly, take_plainly}
+use Rattle.store_history.proofs.Wanting.{want_shut}
+
+-- ---- where no collector of the lane is open, no answer opens one, but the start of a GC
+
+goes_shut : (p : Position) (left : List ℕ) (j : Job) → (goes_on p left j).collecting ≡ p.collecting
+unfolding goes_on
+goes_shut p left (over report) = refl
+goes_shut p left (asking j) = refl
+
+pub heard_shut : (p : Position) (n : ℕ) (r : Option Reply) (x : Next) → open_at x ≡ None → ((left : List ℕ) → x ≡ collect left → (n == 3) ≡ false)
+    → (heard_at p n r x).collecting ≡ p.collecting
+unfolding heard_at
+heard_shut p n (Some r) (job_step j left) shut starts = goes_shut p left (job_take j r)
+heard_shut p n None (job_step j left) shut starts = refl
+heard_shut p n (Some r) (plain c left) shut starts = refl
+heard_shut p n None (plain c left) shut starts = refl
+heard_shut p n (Some r) (sync group left) shut starts = refl
+heard_shut p n None (sync group left) shut starts = refl
+heard_shut p n (Some r) (collect left) shut starts = refl
+heard_shut p n None (collect left) shut starts =
+    ap (λ b. (if b then record p { left = left; collecting = Some false } else p).collecting) (starts left refl)
+heard_shut p n r (collecting is_short) shut starts = absurd (some_none is_short shut)
+heard_shut p n (Some r) (broken refusal) shut starts = by_kind (n == 2)
+  where
+    by_kind : (b : Bool) → (if b then used_up p r else p).collecting ≡ p.collecting
+    by_kind true = refl
+    by_kind false = refl
+heard_shut p n None (broken refusal) shut starts = refl
+heard_shut p n (Some r) bye shut starts = refl
+heard_shut p n None bye shut starts = refl
+heard_shut p n (Some r) end shut starts = refl
+heard_shut p n None end shut starts = refl
+
+words_shut : (e : Ending) (p : Position) (x : Next) → (last_words e p x).collecting ≡ p.collecting
+unfolding last_words
+words_shut e p bye = by_test (is_replied e)
+  where
+    by_test : (b : Bool) → (if b then tells p [] Done else p).collecting ≡ p.collecting
+    by_test true = refl
+    by_test false = refl
+words_shut e p (broken refusal) = by_test (is_replied e)
+  where
+    by_test : (b : Bool) → (if b then tells p [] (Refused refusal) else p).collecting ≡ p.collecting
+    by_test true = refl
+    by_test false = refl
+words_shut e p (job_step j left) = refl
+words_shut e p (plain c left) = refl
+words_shut e p (sync group left) = refl
+words_shut e p (collect left) = refl
+words_shut e p (collecting is_short) = refl
+words_shut e p end = refl
+
+-- ---- the job
+
+goes_plain : (p : Position) (left : List ℕ) (j : Job) → IsPlainJob j → ArePlain (goes_on p left j).job
+unfolding goes_on
+goes_plain p left (over report) h = tt
+goes_plain p left (asking j) h = h
+
+-- what a job's step is answered is no report
+abbrev AnswersPlainly : Next → Option Reply → Type 0
+AnswersPlainly (job_step j left) (Some r) = IsPlainReply r
+AnswersPlainly _ _ = Unit {0}
+
+heard_plain : (p : Position) (n : ℕ) (r : Option Reply) (x : Next) → ArePlain p.job → IsPlainNext x → AnswersPlainly x r → ArePlain (heard_at p n r x).job
+unfolding heard_at
+heard_plain p n (Some r) (job_step j left) h kept plainly = goes_plain p left (job_take j r) (take_plainly j r kept plainly)
+heard_plain p n None (job_step j left) h kept plainly = h
+heard_plain p n (Some r) (plain c left) h kept plainly = tt
+heard_plain p n None (plain c left) h kept plainly = h
+heard_plain p n (Some r) (sync group left) h kept plainly = tt
+heard_plain p n None (sync group left) h kept plainly = h
+heard_plain p n (Some r) (collect left) h kept plainly = tt
+heard_plain p n None (collect left) h kept plainly = by_kind (n == 3)
+  where
+    by_kind : (b : Bool) → ArePlain (if b then record p { left = left; collecting = Some false } else p).job
+    by_kind true = h
+    by_kind false = h
+heard_plain p n (Some r) (collecting is_short) h kept plainly = by_kind (n == 2)
+  where
+    by_kind : (b : Bool) → ArePlain (if b then record p { collecting = Some true } else tells (record p { collecting = None }) p.left r).job
+    by_kind true = h
+    by_kind false = tt
+heard_plain p n None (collecting is_short) h kept plainly = h
+heard_plain p n (Some r) (broken refusal) h kept plainly = by_kind (n == 2)
+  where
+    by_kind : (b : Bool) → ArePlain (if b then used_up p r else p).job
+    by_kind true = tt
+    by_kind false = h
+heard_plain p n None (broken refusal) h kept plainly = h
+heard_plain p n (Some r) bye h kept plainly = h
+heard_plain p n None bye h kept plainly = h
+heard_plain p n (Some r) end h kept plainly = h
+heard_plain p n None end h kept plainly = h
+
+words_plain : (e : Ending) (p : Position) (x : Next) → ArePlain p.job → ArePlain (last_words e p x).job
+unfolding last_words
+words_plain e p bye h = by_test (is_replied e)
+  where
+    by_test : (b : Bool) → ArePlain (if b then tells p [] Done else p).job
+    by_test true = tt
+    by_test false = h
+words_plain e p (broken refusal) h = by_test (is_replied e)
+  where
+    by_test : (b : Bool) → ArePlain (if b then tells p [] (Refused refusal) else p).job
+    by_test true = tt
+    by_test false = h
+words_plain e p (job_step j left) h = h
+words_plain e p (plain c left) h = h
+words_plain e p (sync group left) h = h
+words_plain e p (collect left) h = h
+words_plain e p (collecting is_short) h = h
+words_plain e p end h = h
+
+plain_by : (j : Asking) (left : List ℕ) (r : Option Reply) (x : Reply) → r ≡ Some x → IsPlainReply x → AnswersPlainly (job_step j left) r
+plain_by j left r x is plainly = subst (λ (o : Option Reply). AnswersPlainly (job_step j left) o) (sym is) plainly
+
+refused_answers : (x : Next) (r : Option Reply) (refusal : Refusal) → r ≡ Some (Refused refusal) → AnswersPlainly x r
+refused_answers (job_step j left) r refusal is = plain_by j left r (Refused refusal) is refl
+refused_answers (plain c left) r refusal is = tt
+refused_answers (sync group left) r refusal is = tt
+refused_answers (collect left) r refusal is = tt
+refused_answers (collecting is_short) r refusal is = tt
+refused_answers bye r refusal is = tt
+refused_answers (broken y) r refusal is = tt
+refused_answers end r refusal is = tt
+
+-- ---- the lane's end
+
+pub fault_shut : (e : Ending) (p : Position) (r : Option Reply) → open_at (next_at p) ≡ None → (end_faulted e p r).collecting ≡ p.collecting
+fault_shut endings.NoMemory p r at = by_test (is_none p.job)
+  where
+    by_test : (b : Bool) → (if b then p else heard_at p 5 r (next_at p)).collecting ≡ p.collecting
+    by_test true = refl
+    by_test false = heard_shut p 5 r (next_at p) at (λ l e. refl)
+fault_shut e p r at = heard_shut p 5 r (next_at p) at (λ l e. refl)
+
+fault_plain : (e : Ending) (p : Position) (r : Option Reply) → ArePlain p.job → AnswersPlainly (next_at p) r → ArePlain (end_faulted e p r).job
+fault_plain endings.NoMemory p r kept plainly = by_test (is_none p.job)
+  where
+    by_test : (b : Bool) → ArePlain (if b then p else heard_at p 5 r (next_at p)).job
+    by_test true = kept
+    by_test false = heard_plain p 5 r (next_at p) kept (next_plain p kept) plainly
+fault_plain e p r kept plainly = heard_plain p 5 r (next_at p) kept (next_plain p kept) plainly
+
+-- ---- one event
+
+job_no_collect : (j : Asking) (left l : List ℕ) → job_step j left ≡ collect l → ⊥
+job_no_collect j left l e = cc
+
+plain_no_collect : (c : Command) (left l : List ℕ) → plain c left ≡ collect l → ⊥
+plain_no_collect c left l e = cc
+
+no_start : (c : Class) → IsStepping c → c ≡ starting → ⊥
+no_start c h is = subst IsStepping is h
+
+heard_opens : (p : Position) (left : List ℕ) (r : Option Reply) → r ≡ None → (heard_at p 3 r (collect left)).collecting ≡ Some false
+unfolding heard_at
+heard_opens p left r is = ap (λ (x : Option Reply). (heard_at p 3 x (collect left)).collecting) is
+
+heard_same : (p : Position) (x : Answer) → (heard p x).collecting ≡ (heard_at p (x.entry).kind x.reply (next_at p)).collecting
+unfolding heard
+heard_same p x = refl
+
+module _ (R : Option (List Snapshot)) (w : World) (k m : ℕ) where
+  -- the collectors of other lanes are as before
+  pub others_keep : (j : ℕ) (a : Act) (r : Option Reply) (kind : EntryKind) → j ≢ k → Right R w k m a r (class_of a) kind
+      → open_on j (moved R w k m a kind).collecting ≡ open_on j w.collecting
+  unfolding moved
+  others_keep j a r step_kind ne right = refl
+  others_keep j a r pass_kind ne right = refl
+  others_keep j a r short_kind ne right = cut_other j k w.collecting ne
+  others_keep j a r start_kind ne right =
+      new_other j k false ne ∙ sym (ap (λ c. open_on j c) (may_open_none w k (right_start R w [] k m a r (class_of a) right).1))
+  others_keep j a r close_kind ne right = by_own (collecting_on w k) refl (right_close R w [] k m a r (class_of a) right).1
+    where
+      by_own : (o : Option Bool) → collecting_on w k ≡ o → Reports o r → None ≡ open_on j w.collecting
+      by_own None is h = absurd h
+      by_own (Some b) is h = sym (other_none j k w.collecting b ne is)
+  others_keep j a r fault_kind ne right = halted_other j k (class_of a) w.collecting ne
+  others_keep j a r end_kind ne right = closed_other j k w.collecting ne
+  others_keep j a r remote_kind ne right = refl
+  others_keep j a r no_kind ne right = refl
+
+  -- where the lane's is not open, it is not after all acts but a start
+  stays_shut : (a : Act) (r : Option Reply) (kind : EntryKind) → Right R w k m a r (class_of a) kind → (class_of a ≡ starting → ⊥)
+      → open_on k w.collecting ≡ None → open_on k (moved R w k m a kind).collecting ≡ None
+  unfolding moved
+  stays_shut a r step_kind right starts shut = shut
+  stays_shut a r pass_kind right starts shut = shut
+  stays_shut a r short_kind right starts shut = ap (λ c. open_on k c) (cut_none k w.collecting shut) ∙ shut
+  stays_shut a r start_kind right starts shut = absurd (starts (right_start R w [] k m a r (class_of a) right).0)
+  stays_shut a r close_kind right starts shut = refl
+  stays_shut a r fault_kind right starts shut = ap (λ c. open_on k c) (halted_none k (class_of a) w.collecting shut) ∙ shut
+  stays_shut a r end_kind right starts shut = ap (λ c. open_on k c) (closed_none k w.collecting shut) ∙ shut
+  stays_shut a r remote_kind right starts shut = shut
+  stays_shut a r no_kind right starts shut = shut
+
+  -- an act of the collector
+  sweep_keeps : (p : Position) (n : ℕ) (r : Option Reply) (b : Bool) → p.collecting ≡ Some b → open_on k w.collecting ≡ Some b
+      → Right R w k m acts.Step r sweeping (kind_of n) → (heard_at p n r (collecting b)).collecting ≡ open_on k (moved R w k m acts.Step (kind_of n)).collecting
+  unfolding moved heard_at
+  sweep_keeps p zero r b on is right = absurd (some_none b (sym is ∙ right.1))
+  sweep_keeps p (suc zero) r b on is right = ap (λ (x : Option Reply). (heard_at p 1 x (collecting b)).collecting) right.2 ∙ on ∙ sym is
+  sweep_keeps p (suc (suc zero)) r b on is right =
+      ap (λ (x : Option Reply). (heard_at p 2 x (collecting b)).collecting) right.0
+      ∙ sym (ap (λ c. open_on k c) (cut_some k w.collecting b is) ∙ open_new k true)
+  sweep_keeps p (suc (suc (suc zero))) r b on is right = absurd right
+  sweep_keeps p (suc (suc (suc (suc zero)))) r b on is right =
+      let rep = report_is R w [] k m b r (subst (λ o. Reports o r) is right.1) in
+      ap (λ (x : Option Reply). (heard_at p 4 x (collecting b)).collecting) rep.1
+  sweep_keeps p (suc (suc (suc (suc (suc zero))))) r b on is right =
+      ap (λ (x : Option Reply). (heard_at p 5 x (collecting b)).collecting) right
+      ∙ sym (ap (λ c. open_on k c) (closed_some k w.collecting b is))
+  sweep_keeps p (suc (suc (suc (suc (suc (suc zero)))))) r b on is right = absurd right
+  sweep_keeps p (suc (suc (suc (suc (suc (suc (suc zero))))))) r b on is right = absurd right
+  sweep_keeps p (suc (suc (suc (suc (suc (suc (suc (suc n)))))))) r b on is right = absurd right
+
+  -- a GC
+  start_keeps : (p : Position) (left : List ℕ) (n : ℕ) (r : Option Reply) → p.collecting ≡ None → open_on k w.collecting ≡ None
+      → Right R w k m acts.Start r starting (kind_of n) → (heard_at p n r (collect left)).collecting ≡ open_on k (moved R w k m acts.Start (kind_of n)).collecting
+  unfolding moved
+  start_keeps p left zero r off shut right = heard_shut p 0 r (collect left) refl (λ l e. refl) ∙ off ∙ sym shut
+  start_keeps p left (suc zero) r off shut right = absurd right
+  start_keeps p left (suc (suc zero)) r off shut right =
+      heard_shut p 2 r (collect left) refl (λ l e. refl) ∙ off
+      ∙ sym (ap (λ c. open_on k c) (cut_none k w.collecting shut) ∙ shut)
+  start_keeps p left (suc (suc (suc zero))) r off shut right = heard_opens p left r right.2 ∙ sym (open_new k false)
+  start_keeps p left (suc (suc (suc (suc zero)))) r off shut right = absurd right
+  start_keeps p left (suc (suc (suc (suc (suc zero))))) r off shut right =
+      heard_shut p 5 r (collect left) refl (λ l e. refl) ∙ off ∙ sym shut
+  start_keeps p left (suc (suc (suc (suc (suc (suc zero)))))) r off shut right = absurd right
+  start_keeps p left (suc (suc (suc (suc (suc (suc (suc zero))))))) r off shut right = absurd right
+  start_keeps p left (suc (suc (suc (suc (suc (suc (suc (suc n)))))))) r off shut right = absurd right
+
+  -- an act that the program asked for
+  asked_keeps : (p : Position) (n : ℕ) (a : Act) (r : Option Reply) (x : Next) → open_at x ≡ p.collecting → p.collecting ≡ open_on k w.collecting → Asks x a
+      → Right R w k m a r (class_of a) (kind_of n) → (heard_at p n r x).collecting ≡ open_on k (moved R w k m a (kind_of n)).collecting
+  asked_keeps p n a r (job_step j left) at agrees asks right =
+      heard_shut p n r (job_step j left) refl (λ l e. absurd (job_no_collect j left l e)) ∙ sym at
+      ∙ sym (stays_shut a r (kind_of n) right (λ h. no_start (class_of a) (asks_class (job_step j left) a asks) h) (sym agrees ∙ sym at))
+  asked_keeps p n a r (plain c left) at agrees asks right =
+      heard_shut p n r (plain c left) refl (λ l e. absurd (plain_no_collect c left l e)) ∙ sym at
+      ∙ sym (stays_shut a r (kind_of n) right (λ h. no_start (class_of a) (asks_class (plain c left) a asks) h) (sym agrees ∙ sym at))
+  asked_keeps p n a r (collect left) at agrees asks right =
+      start_keeps p left n r (sym at) (sym agrees ∙ sym at) (subst (λ y. Right R w k m y r (class_of y) (kind_of n)) asks right)
+      ∙ ap (λ y. open_on k (moved R w k m y (kind_of n)).collecting) (sym asks)
+  asked_keeps p n a r (collecting b) at agrees asks right =
+      sweep_keeps p n r b (sym at) (sym agrees ∙ sym at) (subst (λ y. Right R w k m y r (class_of y) (kind_of n)) asks right)
+      ∙ ap (λ y. open_on k (moved R w k m y (kind_of n)).collecting) (sym asks)
+  asked_keeps p n a r (sync group left) at agrees asks right = absurd asks
+  asked_keeps p n a r bye at agrees asks right = absurd asks
+  asked_keeps p n a r (broken refusal) at agrees asks right = absurd asks
+  asked_keeps p n a r end at agrees asks right = absurd asks
+
+  -- want of memory outside the turn
+  wanted_keeps : (p : Position) (n : ℕ) (r : Option Reply) → p.collecting ≡ None → open_on k w.collecting ≡ None → Right R w k m acts.Short r wanting (kind_of n)
+      → (heard_at p n r (next_at p)).collecting ≡ open_on k (moved R w k m acts.Short (kind_of n)).collecting
+  unfolding moved
+  wanted_keeps p (suc (suc zero)) r off shut right =
+      heard_shut p 2 r (next_at p) (open_is p ∙ off) (λ l e. refl) ∙ off
+      ∙ sym (ap (λ c. open_on k c) (cut_none k w.collecting shut) ∙ shut)
+  wanted_keeps p zero r off shut right = absurd right
+  wanted_keeps p (suc zero) r off shut right = absurd right
+  wanted_keeps p (suc (suc (suc zero))) r off shut right = absurd right
+  wanted_keeps p (suc (suc (suc (suc zero)))) r off shut right = absurd right
+  wanted_keeps p (suc (suc (suc (suc (suc zero))))) r off shut right = absurd right
+  wanted_keeps p (suc (suc (suc (suc (suc (suc zero)))))) r off shut right = absurd right
+  wanted_keeps p (suc (suc (suc (suc (suc (suc (suc zero))))))) r off shut right = absurd right
+  wanted_keeps p (suc (suc (suc (suc (suc (suc (suc (suc n)))))))) r off shut right = absurd right
+
+  -- the lane's end
+  end_keeps : (e : Ending) (p : Position) (n : ℕ) (r : Option Reply) → p.collecting ≡ None → open_on k w.collecting ≡ None → Right R w k m acts.End r ending (kind_of n)
+      → (end_heard e p n r).collecting ≡ open_on k (moved R w k m acts.End (kind_of n)).collecting
+  unfolding moved
+  end_keeps e p zero r off shut right = absurd right
+  end_keeps e p (suc zero) r off shut right = absurd right
+  end_keeps e p (suc (suc zero)) r off shut right = absurd right
+  end_keeps e p (suc (suc (suc zero))) r off shut right = absurd right
+  end_keeps e p (suc (suc (suc (suc zero)))) r off shut right = absurd right
+  end_keeps e p (suc (suc (suc (suc (suc zero))))) r off shut right =
+      fault_shut e p r (open_is p ∙ off) ∙ off ∙ sym shut
+  end_keeps e p (suc (suc (suc (suc (suc (suc zero)))))) r off shut right =
+      words_shut e p (next_at p) ∙ off ∙ sym (ap (λ c. open_on k c) (closed_none k w.collecting shut) ∙ shut)
+  end_keeps e p (suc (suc (suc (suc (suc (suc (suc zero))))))) r off shut right = absurd right
+  end_keeps e p (suc (suc (suc (suc (suc (suc (suc (suc n)))))))) r off shut right = absurd right
+
+  -- the lane's position knows of its collector again
+  pub own_keeps : (e : Ending) (p : Position) (a : Act) (x : Answer) (v : Event) (vs : List Event) → v.act ≡ a → Does (class_of a) e p v vs
+      → p.collecting ≡ open_on k w.collecting → Right R w k m a x.reply (class_of a) (kind_of (x.entry).kind)
+      → (heard_as (class_of a) e p x).collecting ≡ open_on k (moved R w k m a (kind_of (x.entry).kind)).collecting
+  own_keeps e p acts.End x v vs is does agrees right = end_keeps e p (x.entry).kind x.reply does.2 (sym agrees ∙ does.2) right
+  own_keeps e p acts.Short x v vs is does agrees right =
+      let off = want_shut p does.1 in heard_same p x ∙ wanted_keeps p (x.entry).kind x.reply off (sym agrees ∙ off) right
+  own_keeps e p acts.Start x v vs is does agrees right =
+      heard_same p x ∙ asked_keeps p (x.entry).kind acts.Start x.reply (next_at p) (open_is p) agrees (subst (λ y. Asks (next_at p) y) is does.1) right
+  own_keeps e p acts.Step x v vs is does agrees right =
+      heard_same p x ∙ asked_keeps p (x.entry).kind acts.Step x.reply (next_at p) (open_is p) agrees (subst (λ y. Asks (next_at p) y) is does) right
+  own_keeps e p (acts.Plain c) x v vs is does agrees right =
+      heard_same p x ∙ asked_keeps p (x.entry).kind (acts.Plain c) x.reply (next_at p) (open_is p) agrees (subst (λ y. Asks (next_at p) y) is does.1) right
+  own_keeps e p (acts.JobGroup c) x v vs is does agrees right =
+      heard_same p x ∙ asked_keeps p (x.entry).kind (acts.JobGroup c) x.reply (next_at p) (open_is p) agrees (subst (λ y. Asks (next_at p) y) is does.1) right
+  own_keeps e p (acts.Blob name checked) x v vs is does agrees right =
+      heard_same p x ∙ asked_keeps p (x.entry).kind (acts.Blob name checked) x.reply (next_at p) (open_is p) agrees (subst (λ y. Asks (next_at p) y) is does.1) right
+  own_keeps e p (acts.Chunk digest checked) x v vs is does agrees right =
+      heard_same p x ∙ asked_keeps p (x.entry).kind (acts.Chunk digest checked) x.reply (next_at p) (open_is p) agrees (subst (λ y. Asks (next_at p) y) is does.1) right
+
+  -- ---- and its job
+
+  step_answers : (j : Asking) (left : List ℕ) (a : Act) (r : Option Reply) (c : Class) (n : EntryKind) → IsStepping c → Right R w k m a r c n
+      → AnswersPlainly (job_step j left) r
+  step_answers j left a r stepping step_kind fits h = plain_by j left r (answered w.store (act_outcome R w k m a)).1 h.1 (says_plainly R w k m a)
+  step_answers j left a r stepping short_kind fits h = plain_by j left r (Refused NoMemory) h.0 refl
+  step_answers j left a r stepping fault_kind fits h = plain_by j left r (Refused (fault_refusal w.fault)) h refl
+  step_answers j left a r stepping n fits h = absurd h
+  step_answers j left a r wanting short_kind fits h = plain_by j left r (Refused NoMemory) h refl
+  step_answers j left a r wanting n fits h = absurd h
+  step_answers j left a r c n fits h = absurd fits
+
+  answers : (x : Next) (a : Act) (r : Option Reply) (n : EntryKind) → FitsNext x (class_of a) → Right R w k m a r (class_of a) n → AnswersPlainly x r
+  answers (job_step j left) a r n fits h = step_answers j left a r (class_of a) n fits h
+  answers (plain c left) a r n fits h = tt
+  answers (sync group left) a r n fits h = tt
+  answers (collect left) a r n fits h = tt
+  answers (collecting is_short) a r n fits h = tt
+  answers bye a r n fits h = tt
+  answers (broken refusal) a r n fits h = tt
+  answers end a r n fits h = tt
+
+  asked_plain : (p : Position) (a : Act) (x : Answer) → ArePlain p.job → Asks (next_at p) a → Right R w k m a x.reply (class_of a) (kind_of (x.entry).kind) → ArePlain (heard p x).job
+  unfolding heard
+  asked_plain p a x kept asks right =
+      heard_plain p (x.entry).kind x.reply (next_at p) kept (next_plain p kept)
+      (answers (next_at p) a x.reply (kind_of (x.entry).kind) (asks_class (next_at p) a asks) right)
+
+  wanted_plain : (p : Position) (x : Answer) (n : EntryKind) → ArePlain p.job → Right R w k m acts.Short x.reply wanting n → ArePlain (heard p x).job
+  unfolding heard
+  wanted_plain p x short_kind kept right =
+      heard_plain p (x.entry).kind x.reply (next_at p) kept (next_plain p kept) (refused_answers (next_at p) x.reply NoMemory right)
+  wanted_plain p x n kept right = absurd right
+
+  end_plain : (e : Ending) (p : Position) (n : ℕ) (r : Option Reply) → ArePlain p.job → Right R w k m acts.End r ending (kind_of n) → ArePlain (end_heard e p n r).job
+  end_plain e p zero r kept right = absurd right
+  end_plain e p (suc zero) r kept right = absurd right
+  end_plain e p (suc (suc zero)) r kept right = absurd right
+  end_plain e p (suc (suc (suc zero))) r kept right = absurd right
+  end_plain e p (suc (suc (suc (suc zero)))) r kept right = absurd right
+  end_plain e p (suc (suc (suc (suc (suc zero))))) r kept right =
+      fault_plain e p r kept (refused_answers (next_at p) r (fault_refusal w.fault) right.1)
+  end_plain e p (suc (suc (suc (suc (suc (suc zero)))))) r kept right = words_plain e p (next_at p) kept
+  end_plain e p (suc (suc (suc (suc (suc (suc (suc zero))))))) r kept right = absurd right
+  end_plain e p (suc (suc (suc (suc (suc (suc (suc (suc n)))))))) r kept right = absurd right
+
+  pub own_plain : (e : Ending) (p : Position) (a : Act) (x : Answer) (v : Event) (vs : List Event) → v.act ≡ a → Does (class_of a) e p v vs
+      → ArePlain p.job → Right R w k m a x.reply (class_of a) (kind_of (x.entry).kind) → ArePlain (heard_as (class_of a) e p x).job
+  own_plain e p acts.End x v vs is does kept right = end_plain e p (x.entry).kind x.reply kept right
+  own_plain e p acts.Short x v vs is does kept right = wanted_plain p x (kind_of (x.entry).kind) kept right
+  own_plain e p acts.Start x v vs is does kept right = asked_plain p acts.Start x kept (subst (λ y. Asks (next_at p) y) is does.1) right
+  own_plain e p acts.Step x v vs is does kept right = asked_plain p acts.Step x kept (subst (λ y. Asks (next_at p) y) is does) right
+  own_plain e p (acts.Plain c) x v vs is does kept right = asked_plain p (acts.Plain c) x kept (subst (λ y. Asks (next_at p) y) is does.1) right
+  own_plain e p (acts.JobGroup c) x v vs is does kept right = asked_plain p (acts.JobGroup c) x kept (subst (λ y. Asks (next_at p) y) is does.1) right
+  own_plain e p (acts.Blob name checked) x v vs is does kept right = asked_plain p (acts.Blob name checked) x kept (subst (λ y. Asks (next_at p) y) is does.1) right
+  own_plain e p (acts.Chunk digest checked) x v vs is does kept right =
+      asked_plain p (acts.Chunk digest checked) x kept (subst (λ y. Asks (next_at p) y) is does.1) right
