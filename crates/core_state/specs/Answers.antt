@@ -1,6 +1,6 @@
 -- What an act's answer is on any disk, and what stands in the order and in the counts after it.
 use Rattle.disk_trait.specs.declared.disk.Disk.{Ghosts}
-use Rattle.std.specs.Prelude.{◌≡◌, ◌≤◌, ℕ, true, ◌==◌, ◌⊎◌, [], ◌∷◌, ◌++◌, length, if◌then◌else◌, Option, Some, None, IfSome, IsSome, IsTrue}
+use Rattle.std.specs.Prelude.{◌≡◌, ◌≢◌, ◌≤◌, ℕ, true, ◌==◌, ◌⊎◌, [], ◌∷◌, ◌++◌, length, if◌then◌else◌, Option, Some, None, IfSome, IsSome, IsTrue}
 use Rattle.disk_trait.specs.Disk.{Rose}
 use Rattle.store_types.specs.declared.refusal.Refusal.TheVariants.{NoMemory, DiskFault, Halted}
 use Rattle.wire_commands.specs.declared.reply.Reply.{Reply}
@@ -9,9 +9,9 @@ use Rattle.wire_commands.specs.HasText.{ReplyHasText}
 use Rattle.store_model.specs.Weave.{first_fault}
 use Rattle.store_history.specs.declared.act.Act.{Act}
 use Rattle.store_history.specs.declared.act.Answer.{Answer}
-use Rattle.store_history.specs.Acts.{Class, wanting, ending, class_of}
+use Rattle.store_history.specs.Acts.{Class, starting, sweeping, wanting, ending, class_of}
 use Rattle.core_state.specs.declared.state.Core.{Core}
-use Rattle.core_state.specs.Replies.{may_answer}
+use Rattle.core_state.specs.Replies.{may_answer, may_end}
 
 -- the place of the disk's fault, after an entry of this kind at this place
 abbrev pub fault_after : ℕ → ℕ → Option ℕ → Option ℕ
@@ -48,8 +48,21 @@ pub data EndHasCause {D E C : Type 0} (d : Ghosts D) (old new : Core D E C) (ans
   end_failed : old.fault ≡ None → (answer.entry).kind ≡ 5 → answer.reply ≡ Some (Refused DiskFault)
       → new.fault ≡ Some answer.place → Rose (d.faults (old.parts).disk) (d.faults (new.parts).disk) → EndHasCause d old new answer
 
+-- The start of a collector opens it without a reply, or is answered as any act is.
+pub data StartHasCause {D E C : Type 0} (d : Ghosts D) (old new : Core D E C) (act : Act) (answer : Answer) : Type 0 where
+  opens : old.fault ≡ None → (answer.entry).kind ≡ 3 → answer.reply ≡ None → StartHasCause d old new act answer
+  not_opened : HasCause d old new act answer → StartHasCause d old new act answer
+
+-- A mark or a visit has no reply. The end of a collector replies its report, or what ended it early. Any other answer comes as any act's.
+pub data StepHasCause {D E C : Type 0} (d : Ghosts D) (old new : Core D E C) (act : Act) (answer : Answer) : Type 0 where
+  passes : old.fault ≡ None → (answer.entry).kind ≡ 1 → answer.reply ≡ None → StepHasCause d old new act answer
+  closes : old.fault ≡ None → (answer.entry).kind ≡ 4 → (reply : Reply) → answer.reply ≡ Some reply → IsTrue (may_end reply) → StepHasCause d old new act answer
+  not_done : HasCause d old new act answer → StepHasCause d old new act answer
+
 abbrev pub ClassHasCause : {D E C : Type 0} → Ghosts D → Class → Core D E C → Core D E C → Act → Answer → Type 0
 ClassHasCause d ending old new act answer = EndHasCause d old new answer
+ClassHasCause d starting old new act answer = StartHasCause d old new act answer
+ClassHasCause d sweeping old new act answer = StepHasCause d old new act answer
 ClassHasCause d wanting old new act answer = ((answer.entry).kind ≡ 2) × (answer.reply ≡ Some (Refused NoMemory))
 ClassHasCause d _ old new act answer = HasCause d old new act answer
 
@@ -61,10 +74,16 @@ IsCaused d old new act answer = ClassHasCause d (class_of act) old new act answe
 abbrev pub EndIsTold : Answer → Type 0
 EndIsTold answer = (((answer.entry).kind ≡ 6) × (answer.reply ≡ None)) ⊎ (((answer.entry).kind ≡ 5) × IsSome answer.reply)
 
+-- an act is not told exactly where its entry is of this kind
+abbrev pub IsToldBut : ℕ → Answer → Type 0
+IsToldBut untold answer = (((answer.entry).kind ≡ untold) × (answer.reply ≡ None)) ⊎ (((answer.entry).kind ≢ untold) × IsSome answer.reply)
+
 abbrev pub ClassIsTold : Class → Answer → Type 0
 ClassIsTold ending answer = EndIsTold answer
+ClassIsTold starting answer = IsToldBut 3 answer
+ClassIsTold sweeping answer = IsToldBut 1 answer
 ClassIsTold _ answer = IsSome answer.reply
 
--- every other act has a reply
+-- every act has a reply but a collector's start, a mark, a visit, and a lane's end
 abbrev pub IsTold : Act → Answer → Type 0
 IsTold act answer = ClassIsTold (class_of act) answer

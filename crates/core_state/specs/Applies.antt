@@ -1,12 +1,12 @@
 -- What an act promises of the core: the two records of its command, behind the turn.
-use Rattle.std.specs.Prelude.{◌≡◌, ℕ, true, Some, None, IfSome}
+use Rattle.std.specs.Prelude.{◌≡◌, ℕ, true, false, Some, None, IfSome}
 use Rattle.disk_trait.specs.Effects.{SameContent}
 use Rattle.disk_trait.specs.declared.disk.Disk.{Ghosts}
 use Rattle.port_traits.specs.declared.clock.Clock as clocks
 use Rattle.store_types.specs.declared.refusal.Refusal.TheVariants.{DiskFault}
 use Rattle.wire_commands.specs.declared.reply.Reply.TheVariants.{Refused}
 use Rattle.store_history.specs.declared.act.Act.{Act}
-use Rattle.store_history.specs.declared.act.Act.TheVariants.{Chunk}
+use Rattle.store_history.specs.declared.act.Act.TheVariants.{Chunk, Step}
 use Rattle.store_history.specs.declared.act.Answer.{Answer}
 use Rattle.store_history.specs.LastTouches.{SameTouches, touches_by_entry}
 use Rattle.core_state.specs.declared.kept.Session.TheVariants.{Idle}
@@ -15,10 +15,12 @@ use Rattle.core_state.specs.Answers.{IsAnswered, IsCaused, IsTold}
 use Rattle.core_state.specs.Catalogue.{Lists}
 use Rattle.core_state.specs.Changes.{IsFirm, LeavesChange, after, by_reply}
 use Rattle.core_state.specs.Closing.{is_closing}
-use Rattle.core_state.specs.Commands.{IsNoRefusal, change_at, ends_session, is_admins, is_quiet, reads_only}
+use Rattle.core_state.specs.Collectors.{collector_by}
+use Rattle.core_state.specs.Commands.{IsNoRefusal, change_at, ends_session, is_admins, is_collectors, is_quiet, is_step, reads_only}
 use Rattle.core_state.specs.Due.{DueAt}
 use Rattle.core_state.specs.History.{History, IsClear, StandsFor, then_event, event_of}
 use Rattle.core_state.specs.KeepsTouches.{KeepsTouches}
+use Rattle.core_state.specs.Passes.{StepLeaves}
 use Rattle.core_state.specs.Records.{IsTimely, Records}
 use Rattle.core_state.specs.Recovers.{Recovers, TellsMoments}
 use Rattle.core_state.specs.Reserved.{Keeps}
@@ -35,15 +37,21 @@ abbrev pub IsClearFor : Act → History → Type 0
 IsClearFor (Chunk digest checked) h = IsClear h
 IsClearFor _ h = Unit {0}
 
+-- a mark, a visit or the end of a collector asks that the core's book is that of the history
+abbrev pub IsKeptFor : {D E C : Type 0} → Ghosts D → Core D E C → Act → History → Type 0
+IsKeptFor d old Step h = KeepsTouches d old h
+IsKeptFor d old _ h = Unit {0}
+
 -- The core stands for each history that it stood for with this act's event more, of a CHUNK where no two of the pieces of that one have one
--- digest. On any disk it keeps the event behind those that it kept, and its answer has a cause.
+-- digest, and of a collector's act where its book is that of the history. On any disk it keeps the event behind those that it kept, and
+-- its answer has a cause.
 pub record ActApplies {D E C : Type 0} (d : Ghosts D) (clock : clocks.Ghosts C) (old new : Core D E C) (lane : ℕ) (act : Act) (answer : Answer) : Type 0 where
-  pub history : (h : History) → StandsFor d clock.readings old h → IsClearFor act (then_event h (event_of act answer (d.calls (new.parts).disk)))
+  pub history : (h : History) → StandsFor d clock.readings old h → IsKeptFor d old act h → IsClearFor act (then_event h (event_of act answer (d.calls (new.parts).disk)))
       → StandsFor d clock.readings new (then_event h (event_of act answer (d.calls (new.parts).disk)))
   pub records : (h : History) → Records clock.readings old h → Records clock.readings new (then_event h (event_of act answer (d.calls (new.parts).disk)))
   -- what a crash leaves since a moment of the opening stands for what the history gives by then, with this act's event more too
   pub recovers : TellsMoments d → (start : ℕ) (h : History) → StandsFor d clock.readings old h → IsClear (then_event h (event_of act answer (d.calls (new.parts).disk)))
-      → Recovers d start old h → Recovers d start new (then_event h (event_of act answer (d.calls (new.parts).disk)))
+      → IsKeptFor d old act h → Recovers d start old h → Recovers d start new (then_event h (event_of act answer (d.calls (new.parts).disk)))
   -- the core's book is that of the history, and until the disk failed its chunks are the chunk files
   pub touches : (h : History) → StandsFor d clock.readings old h → KeepsTouches d old h → IsClearFor act (then_event h (event_of act answer (d.calls (new.parts).disk)))
       → KeepsTouches d new (then_event h (event_of act answer (d.calls (new.parts).disk)))
@@ -60,10 +68,10 @@ pub record ActKeeps {D E C : Type 0} (d : Ghosts D) (old new : Core D E C) (lane
   -- an honest disk reads as before, whatever it held, in any case
   pub reads : reads_only act ≡ true → SameContent d (old.parts).disk (new.parts).disk
   -- Unless it failed in this act or before, an honest disk reads then as the act's change makes it of what it read before, whatever that
-  -- was. A refusal and want of memory change nothing.
-  pub content : old.fault ≡ None → (answer.reply ≡ Some (Refused DiskFault) → ⊥) → d.honest (old.parts).disk
+  -- was. A refusal and want of memory change nothing. Of the collector's acts see below.
+  pub content : is_step act ≡ false → old.fault ≡ None → (answer.reply ≡ Some (Refused DiskFault) → ⊥) → d.honest (old.parts).disk
       → d.content (new.parts).disk ≡ after (by_reply (change_at old.parts lane act) answer.reply) (d.content (old.parts).disk)
-  pub crash : LeavesChange d (old.parts).disk (new.parts).disk (by_reply (change_at old.parts lane act) answer.reply)
+  pub crash : is_step act ≡ false → LeavesChange d (old.parts).disk (new.parts).disk (by_reply (change_at old.parts lane act) answer.reply)
   -- where the disk failed in it, a FINISH or a FORGET had passed its tests, and a CHUNK was to put a piece's blob
   pub due : DueAt d old lane act answer
   pub firm : old.fault ≡ None → IsDone answer → IsFirm d (old.parts).disk (new.parts).disk (change_at old.parts lane act)
@@ -75,7 +83,11 @@ pub record ActKeeps {D E C : Type 0} (d : Ghosts D) (old new : Core D E C) (lane
   pub halted : IfSome old.fault (λ _. (new.parts).disk ≡ (old.parts).disk)
   pub remote : new.remote ≡ old.remote
   -- the last touches are as the act's reply makes them of those before: a refused act touches nothing
-  pub upkeep : SameTouches (touches_kept new.upkeep) (touches_by_entry act answer.reply (answer.entry).moment (touches_kept old.upkeep))
+  pub upkeep : is_step act ≡ false → SameTouches (touches_kept new.upkeep) (touches_by_entry act answer.reply (answer.entry).moment (touches_kept old.upkeep))
+  -- want of memory ends the lane's collector early, and the lane's end closes it; no other act but the collector's own changes it
+  pub collector : is_collectors act ≡ false → new.collector ≡ collector_by (answer.entry).kind lane old.collector
+  -- what a mark, a visit or the end of a collector leaves of disk, book and collector
+  pub stepped : is_step act ≡ true → StepLeaves d old new lane answer
   -- an ABORT or a CLOSE_READER that ends a session wants no memory
   pub memory : is_closing old lane act ≡ true → (answer.entry).kind ≡ 2 → ⊥
   pub reserve : Keeps act old new lane answer

@@ -35,6 +35,7 @@ pub record IsNext {D E C : Type 0} (readings : C → Option Readings) (old new :
   pub fault : new.fault ≡ old.fault
   pub last : new.last ≡ old.last
   pub upkeep : new.upkeep ≡ old.upkeep
+  pub collector : new.collector ≡ old.collector
   pub journal : new.journal ≡ old.journal
 
 -- the clock was read, and the lane's reserve may have been filled up
@@ -45,6 +46,7 @@ pub record IsBegun {D E C : Type 0} (readings : C → Option Readings) (old new 
   pub fault : new.fault ≡ old.fault
   pub last : new.last ≡ old.last
   pub upkeep : new.upkeep ≡ old.upkeep
+  pub collector : new.collector ≡ old.collector
   pub entries : SameEntries old.journal new.journal
   pub more : held_by old.journal lane ≤ held_by new.journal lane
   pub none_lost : NoneLost old.journal new.journal lane

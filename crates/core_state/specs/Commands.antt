@@ -12,7 +12,7 @@ use Rattle.wire_commands.specs.declared.command.Command.{Command}
 use Rattle.wire_commands.specs.declared.command.Command.TheVariants.{OpenWriter, NewFixed, NewDynamic, Append, CloseIndex, OpenReader, CloseReader, List as ListAll, Files as FilesOf, Forget, Group, Finish, Abort}
 use Rattle.store_model.specs.Store.{Store}
 use Rattle.store_history.specs.declared.act.Act.{Act}
-use Rattle.store_history.specs.declared.act.Act.TheVariants.{Plain, Blob, Chunk, JobGroup, Short, End}
+use Rattle.store_history.specs.declared.act.Act.TheVariants.{Plain, Blob, Chunk, JobGroup, Start, Step, Short, End}
 use Rattle.store_history.specs.History.{World, act_outcome}
 use Rattle.core_state.specs.declared.entering.Place.{Place}
 use Rattle.core_state.specs.declared.kept.Session.TheVariants.{Idle}
@@ -42,6 +42,7 @@ is_quiet (Plain CloseReader) = true
 is_quiet (Plain (ListAll rest)) = true
 is_quiet (Plain (Group group)) = true
 is_quiet (JobGroup command) = true
+is_quiet Start = true
 is_quiet Short = true
 is_quiet _ = false
 
@@ -53,6 +54,7 @@ reads_only (Plain (CloseIndex number count size csum)) = false
 reads_only (Plain Finish) = false
 reads_only (Plain Abort) = false
 reads_only (Plain (Forget snapshot)) = false
+reads_only Step = false
 reads_only End = false
 reads_only _ = true
 
@@ -64,6 +66,17 @@ is_admins (Plain (Forget snapshot)) = true
 is_admins (Plain (Group group)) = true
 is_admins (JobGroup command) = true
 is_admins _ = false
+
+-- a mark, a visit, or the end of a collector
+abbrev pub is_step : Act → Bool
+is_step Step = true
+is_step _ = false
+
+-- the acts of a collector
+abbrev pub is_collectors : Act → Bool
+is_collectors Start = true
+is_collectors Step = true
+is_collectors _ = false
 
 -- the acts after which the lane has no session, once they are done
 abbrev pub ends_session : Act → Bool

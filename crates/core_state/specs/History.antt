@@ -10,6 +10,7 @@ use Rattle.store_model.specs.Clash.{NoClash}
 use Rattle.store_history.specs.History.{Opening, World, opened, after_all, entries, sent}
 use Rattle.store_history.specs.Legal.{IsLegal, IsTimed, readings_left}
 use Rattle.core_state.specs.declared.state.Core.{Core}
+use Rattle.core_state.specs.Collectors.{open_in, shown_collecting}
 use Rattle.core_state.specs.Holds.{Shows, IsOnDisk}
 use Rattle.core_state.specs.Chunks.{HoldsOnly}
 
@@ -50,7 +51,7 @@ KeepsTime readings clock h =
     IfSome h.clock (λ c. IsTimed c (h.opening).moment h.events × (readings clock ≡ Some (readings_left c h.events)))
 
 -- The core stands for the history. Order and calls are the history's; catalogue, sessions and locks are
--- those of the plain store that it gives; on the disk are this store's files, until the disk failed, and no chunk file but of a piece
+-- those of the plain store that it gives; the open collector is the history's; on the disk are this store's files, until the disk failed, and no chunk file but of a piece
 -- that was there at opening or was sent.
 pub record StandsFor {D E C : Type 0} (d : Ghosts D) (readings : C → Option Readings) (core : Core D E C) (h : History) : Type 0 where
   pub legal : IsLegal h.remote (opened h.opening) h.events
@@ -62,5 +63,6 @@ pub record StandsFor {D E C : Type 0} (d : Ghosts D) (readings : C → Option Re
   pub reached : (world h).calls ≤ d.calls (core.parts).disk
   pub honest : d.honest (core.parts).disk
   pub shows : Shows core.parts (world h).store
+  pub collecting : open_in core.collector ≡ shown_collecting (world h).collecting
   pub files : (world h).fault ≡ None → IsOnDisk (d.content (core.parts).disk) (world h).store
   pub chunks : (world h).fault ≡ None → HoldsOnly (d.content (core.parts).disk) (pieces_of h)

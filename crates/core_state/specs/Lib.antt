@@ -1,11 +1,15 @@
 pub mod Named
 pub mod Entering
 pub mod Shown
+pub mod Entries
+pub mod Collectors
 pub mod Locked
 pub mod Holds
 pub mod Chunks
 pub mod History
 pub mod Upkeeps
+pub mod Numbers
+pub mod Sweeps
 pub mod KeepsTouches
 pub mod Settles
 pub mod Begins
@@ -19,7 +23,6 @@ pub mod Records
 pub mod Found
 pub mod Foreign
 pub mod Catalogue
-pub mod Numbers
 pub mod Changes
 pub mod Listing
 pub mod Unreadables
@@ -28,6 +31,7 @@ pub mod Wanted
 pub mod Due
 pub mod Commands
 pub mod ByKept
+pub mod Passes
 pub mod Applies
 pub mod Recovers
 pub mod Saving

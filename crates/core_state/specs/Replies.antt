@@ -1,11 +1,11 @@
 -- What a command's own tests may answer: what it was asked for, or one of its refusals.
 use Rattle.std.specs.Prelude.{Bool, true, false, Result, Ok, Err, length, nat_le}
 use Rattle.store_types.specs.declared.refusal.Refusal.{Refusal}
-use Rattle.store_types.specs.declared.refusal.Refusal.TheVariants.{WrongState, BadName, GroupBusy, SnapshotBusy, NotNewer, NoSnapshot, NoFile, Exists, BadBlob, WrongDigest, WrongSize, UnknownChunk, BadOffset, BadClose, OpenIndexes, TooMany, BadRange, Unreadable, BadManifest, ManifestMismatch, NotAllowed, Damaged}
+use Rattle.store_types.specs.declared.refusal.Refusal.TheVariants.{WrongState, BadName, GroupBusy, SnapshotBusy, NotNewer, NoSnapshot, NoFile, Exists, BadBlob, WrongDigest, WrongSize, UnknownChunk, BadOffset, BadClose, OpenIndexes, TooMany, BadRange, Unreadable, BadManifest, ManifestMismatch, NotAllowed, Damaged, CollectorBusy, NoMemory}
 use Rattle.wire_commands.specs.declared.command.Command.{Command}
 use Rattle.wire_commands.specs.declared.command.Command.TheVariants as commands
 use Rattle.wire_commands.specs.declared.reply.Reply.{Reply}
-use Rattle.wire_commands.specs.declared.reply.Reply.TheVariants.{Done, Base, Part, Data, Number, Listing, Files, Keys, Refused}
+use Rattle.wire_commands.specs.declared.reply.Reply.TheVariants.{Done, Base, Part, Data, Number, Listing, Files, Keys, Collected, Refused}
 use Rattle.store_model.specs.Stands.{group_limit}
 use Rattle.store_history.specs.declared.act.Act.{Act}
 use Rattle.store_history.specs.declared.act.Act.TheVariants as acts
@@ -147,6 +147,24 @@ refuses_prune BadName = true
 refuses_prune (TooMany limit) = true
 refuses_prune _ = false
 
+-- the start of a collector
+abbrev pub refuses_start : Refusal → Bool
+refuses_start (WrongState state) = true
+refuses_start (CollectorBusy lane) = true
+refuses_start (Unreadable name) = true
+refuses_start _ = false
+
+-- an act of a collector that is not open on the lane
+abbrev pub refuses_step : Refusal → Bool
+refuses_step (WrongState state) = true
+refuses_step _ = false
+
+-- what ends a collector early
+abbrev pub refuses_end : Refusal → Bool
+refuses_end NoMemory = true
+refuses_end (Unreadable name) = true
+refuses_end _ = false
+
 -- ---- the replies
 
 abbrev pub answers_writer : Reply → Bool
@@ -250,6 +268,22 @@ abbrev pub answers_end : Reply → Bool
 answers_end Done = true
 answers_end _ = false
 
+-- a collector that starts has no reply
+abbrev pub answers_start : Reply → Bool
+answers_start (Refused refusal) = refuses_start refusal
+answers_start _ = false
+
+-- and none that marks or visits
+abbrev pub answers_step : Reply → Bool
+answers_step (Refused refusal) = refuses_step refusal
+answers_step _ = false
+
+-- a collector's end
+abbrev pub may_end : Reply → Bool
+may_end (Collected start cutoff used pending removed) = true
+may_end (Refused refusal) = refuses_end refusal
+may_end _ = false
+
 abbrev pub command_answers : Command → Reply → Bool
 command_answers (commands.OpenWriter snapshot) reply = answers_writer reply
 command_answers (commands.Previous file offset) reply = answers_previous reply
@@ -280,6 +314,8 @@ may_answer (acts.Plain command) reply = command_answers command reply
 may_answer (acts.JobGroup command) reply = job_answers command reply
 may_answer (acts.Blob name checked) reply = answers_blob reply
 may_answer (acts.Chunk digest checked) reply = answers_chunk reply
+may_answer acts.Start reply = answers_start reply
+may_answer acts.Step reply = answers_step reply
 may_answer acts.End reply = answers_end reply
 may_answer _ reply = false
 

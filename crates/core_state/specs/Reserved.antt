@@ -2,11 +2,12 @@
 use Rattle.std.specs.Prelude.{◌≡◌, ◌≤◌, ◌<◌, ◌+◌, ◌↔◌, ◌⊎◌, ℕ, Bool, true, false}
 use Rattle.store_history.specs.declared.act.Act.{Act}
 use Rattle.store_history.specs.declared.act.Answer.{Answer}
-use Rattle.store_history.specs.Acts.{Class, ending, class_of}
+use Rattle.store_history.specs.Acts.{Class, sweeping, ending, class_of}
 use Rattle.core_state.specs.declared.journal.Journal.{Journal}
 use Rattle.core_state.specs.declared.state.Core.{Core}
 use Rattle.core_state.specs.Entering.{held_by, OthersHold}
 use Rattle.core_state.specs.Closing.{is_closing, ends_by}
+use Rattle.core_state.specs.Collectors.{is_cut}
 use Rattle.core_state.specs.Wanted.{session_at}
 use Rattle.core_state.specs.declared.kept.Session.TheVariants.{Idle}
 
@@ -49,8 +50,19 @@ pub record EndKeeps {D E C : Type 0} (old new : Core D E C) (lane : ℕ) (answer
   pub spare : KeepsSpare old.journal new.journal lane
   pub others : OthersHold old.journal new.journal lane
 
+-- An act of a collector after its start uses one entry of the lane's reserve at most, and none of another lane's. Unless it is the end of a
+-- collector that was ended early, it fills the reserve up, or is want of memory; such an end is none.
+pub record StepKeeps {D E C : Type 0} (old new : Core D E C) (lane : ℕ) (answer : Answer) : Type 0 where
+  pub one : held_by old.journal lane ≤ held_by new.journal lane + 1
+  pub spent : (answer.last ≡ true) ↔ (((answer.entry).kind ≡ 2) × (held_by new.journal lane + 1 ≡ held_by old.journal lane))
+  pub filled : is_cut lane old.collector ≡ false → ((answer.entry).kind ≡ 2 → ⊥) → 3 ≤ held_by new.journal lane
+  pub ends : is_cut lane old.collector ≡ true → (answer.entry).kind ≡ 2 → ⊥
+  pub spare : KeepsSpare old.journal new.journal lane
+  pub others : OthersHold old.journal new.journal lane
+
 abbrev pub ClassKeeps : {D E C : Type 0} → Class → Core D E C → Core D E C → ℕ → Bool → Answer → Type 0
 ClassKeeps ending old new lane closing answer = EndKeeps old new lane answer
+ClassKeeps sweeping old new lane closing answer = StepKeeps old new lane answer
 ClassKeeps _ old new lane closing answer = KeepsReserve old new lane closing answer
 
 abbrev pub Keeps : {D E C : Type 0} → Act → Core D E C → Core D E C → ℕ → Answer → Type 0

@@ -9,6 +9,7 @@ use Rattle.disk_trait.specs.declared.disk.DiskError.TheVariants.{NoMemory, Faile
 use Rattle.store_history.specs.declared.act.Answer.{Answer}
 use Rattle.core_state.specs.declared.state.Core.{Core}
 use Rattle.store_history.specs.LastTouches.{SameTouches, dated}
+use Rattle.core_state.specs.Collectors.{collector_by}
 use Rattle.core_state.specs.Entering.{Enters}
 use Rattle.core_state.specs.Upkeeps.{touches_kept}
 
@@ -21,6 +22,8 @@ pub record IsEntered {D E C : Type 0} (d : Ghosts D) (old new : Core D E C) (lan
   pub last : new.last ≡ moment
   -- the entry dates what was undated
   pub upkeep : SameTouches (touches_kept new.upkeep) (dated moment (touches_kept old.upkeep))
+  -- it may end the lane's collector early, or close it
+  pub collector : new.collector ≡ collector_by kind lane old.collector
   pub entries : (new.journal).entries.items ≡ (old.journal).entries.items ++ answer.entry ∷ []
   pub calls : (new.journal).calls.items ≡ (old.journal).calls.items ++ d.calls (old.parts).disk ∷ []
   pub entry : answer.entry ≡ record { lane = lane; moment = moment; kind = kind }

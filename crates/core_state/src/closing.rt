@@ -74,6 +74,7 @@ impl<D, E, C> Core<D, E, C> {
         ensures remote { self.new.remote ≡ self.old.remote }
         ensures clock { self.new.clock ≡ self.old.clock }
         ensures upkeep { self.new.upkeep ≡ self.old.upkeep }
+        ensures collector { self.new.collector ≡ self.old.collector }
         ensures last { self.new.last ≡ self.old.last }
         ensures fault { self.new.fault ≡ self.old.fault }
     {

@@ -11,6 +11,7 @@ ghost use Rattle.core_state.specs.Reserved.{HasRoom};
 ghost use Rattle.core_state.specs.Settles.{IsEntered, Settles};
 ghost use Rattle.core_state.specs.Stops.{told};
 
+use crate::collector::note_entry;
 use crate::state::Core;
 use crate::stop::Stop;
 use disk_trait::Disk;
@@ -45,7 +46,8 @@ fn moment_by(reading: u64, last: u64) -> u64
     reading.max(last).min(LAST_MOMENT)
 }
 
-/// Enters an act, with what it is answered. Chunks that are undated are dated by it.
+/// Enters an act, with what it is answered. Chunks that are undated are dated by it. By its kind it may end the lane's
+/// collector early, or close it.
 pub fn enter<D: Disk, E, C>(
     core: &mut Core<D, E, C>,
     at: Place,
@@ -66,6 +68,7 @@ pub fn enter<D: Disk, E, C>(
     let calls = core.parts.disk.calls();
     let is_held = core.journal.enter(at.lane as usize, entry, calls);
     core.upkeep.date(at.moment);
+    note_entry(&mut core.collector, at.lane, kind);
     core.last = at.moment;
     Answer {
         reply,
@@ -77,7 +80,7 @@ pub fn enter<D: Disk, E, C>(
 
 /// The reply to an act after the disk failed, which was entered at this place.
 #[tactic(auto, using(crate::proofs::Texts::halted_has_text))]
-fn halted(place: u64) -> Reply
+pub fn halted(place: u64) -> Reply
     ensures reply { result ≡ Refused (Halted place) }
     ensures text { ReplyHasText result }
 {

@@ -3,6 +3,7 @@
 
 mod catalogue;
 mod closing;
+mod collector;
 mod entering;
 mod journal;
 mod kept;
@@ -15,11 +16,12 @@ mod wanted;
 
 pub use catalogue::{path_named, snapshot_named};
 pub use closing::{closes, end_session};
-pub use entering::{Admitted, Place, begin, enter, next_place, settle, short};
+pub use collector::{Collector, is_on};
+pub use entering::{Admitted, Place, begin, enter, halted, next_place, settle, short};
 pub use journal::{HELD, Journal};
 pub use kept::{Kept, Listed, Session, StoredFile, Writing};
 pub use parts::Parts;
 pub use state::{Core, CoreParts};
 pub use stop::Stop;
 pub use store_history::{Act, Answer};
-pub use upkeep::Upkeep;
+pub use upkeep::{Upkeep, touch_each};

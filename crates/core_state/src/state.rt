@@ -3,13 +3,14 @@
 ghost use Rattle.std.specs.Prelude.{◌≡◌, ◌≤◌};
 ghost use Rattle.store_types.specs.Times.{last_moment};
 
+use crate::collector::Collector;
 use crate::journal::Journal;
 use crate::parts::Parts;
 use crate::upkeep::Upkeep;
 use store_types::Entry;
 
 /// The store behind the turn: what it has of the plain store, the remote, the clock, the order of its acts, and what it keeps of
-/// chunks.
+/// chunks and of their collector.
 #[derive(Drop)]
 pub struct Core<D, E, C> {
     pub parts: Parts<D>,
@@ -17,6 +18,8 @@ pub struct Core<D, E, C> {
     pub clock: C,
     pub journal: Journal,
     pub upkeep: Upkeep,
+    /// The collector that is open, on whatever lane.
+    pub collector: Option<Collector>,
     /// The moment of the last act. Before the first one it is the last moment of the saved book, or 0.
     pub last: u64,
     /// The number of the entry that was answered DiskFault.
@@ -49,6 +52,7 @@ impl<D, E, C> Core<D, E, C> {
             clock,
             journal,
             upkeep: _,
+            collector: _,
             last: _,
             fault: _,
         } = self;

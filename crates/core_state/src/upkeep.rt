@@ -15,8 +15,8 @@ pub struct Upkeep {
     pub undated: Vec<Digest32>,
 }
 
-/// Touches those of the chunks that the book has.
-fn touch_each(book: &mut Book, digests: &[Digest32], moment: u64)
+/// Touches those of the chunks that the book has. It takes no memory.
+pub fn touch_each(book: &mut Book, digests: &[Digest32], moment: u64)
     ensures { TouchesEach book.old book.new digests.now moment }
 {
     for digest in digests {

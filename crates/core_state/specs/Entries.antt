@@ -1,0 +1,14 @@
+-- The entries of the index that a collector marks.
+use Rattle.std.specs.Prelude.{ℕ, ◌≤◌, List, length}
+use Rattle.store_types.specs.declared.names.Digest32.{Digest32}
+use Rattle.gc_plan.specs.Plan.{Plan, Stage, marking, sweeping, entry_limit}
+
+-- how many entries of the index that is next are marked
+abbrev pub marked_in : Stage → ℕ
+marked_in (marking place first) = first
+marked_in (sweeping names) = 0
+
+-- so many digests of it are at hand, and no more than an index may have
+pub record FitsEntries (plan : Plan) (entries : List Digest32) : Type 0 where
+  pub within : marked_in plan.stage ≤ length entries
+  pub few : length entries ≤ entry_limit

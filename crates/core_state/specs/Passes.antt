@@ -1,0 +1,74 @@
+-- What a mark, a visit or the end of a collector leaves, on any disk.
+use Rattle.disk_trait.specs.declared.disk.Disk.{Ghosts}
+use Rattle.std.specs.Prelude.{◌≡◌, ◌≤◌, ◌<◌, ◌⊎◌, ℕ, Bool, true, false, ◌||◌, ◌==◌, if◌then◌else◌, List, [], ◌∷◌, length, Option, Some, None}
+use Rattle.store_types.specs.declared.names.Digest32.{Digest32}
+use Rattle.store_types.specs.declared.refusal.Refusal.TheVariants.{DiskFault}
+use Rattle.store_files.specs.Book.{book_text}
+use Rattle.store_files.specs.Folder.{IsDigest, chunk_name}
+use Rattle.wire_commands.specs.declared.reply.Reply.TheVariants.{Refused}
+use Rattle.atime_book.specs.Touches.{NoneAfter, as_of, is_stale, last_of}
+use Rattle.atime_book.specs.Present.{is_among}
+use Rattle.gc_plan.specs.Plan.{mark_limit}
+use Rattle.store_history.specs.LastTouches.{LastTouches, SameTouches, dated, touched}
+use Rattle.store_history.specs.Saved.{book_name}
+use Rattle.store_history.specs.declared.act.Answer.{Answer}
+use Rattle.store_upkeep.specs.Sweeping.{without}
+use Rattle.core_state.specs.declared.collector.Collector.{Collector}
+use Rattle.core_state.specs.declared.state.Core.{Core}
+use Rattle.core_state.specs.Changes.{Change, LeavesChange, after, drops, installs, stays}
+use Rattle.core_state.specs.Collectors.{is_on, steps_left}
+use Rattle.core_state.specs.Upkeeps.{touches_kept}
+
+-- ---- the disk
+
+-- a visit takes a chunk out: its last touch is before the cutoff of the lane's collector
+pub record Takes {D E C : Type 0} (old : Core D E C) (lane : ℕ) (change : Change) : Type 0 where
+  pub collector : Collector
+  pub digest : Digest32
+  pub open_is : old.collector ≡ Some collector
+  pub lane_is : collector.lane ≡ lane
+  pub stale : is_stale (last_of (old.upkeep).book digest.0) (collector.plan).cutoff ≡ true
+  pub change_is : change ≡ drops (chunk_name digest.0 ∷ [])
+
+-- the end saves the book as of its moment
+abbrev pub SavesAt : {D E C : Type 0} → Core D E C → ℕ → Change → Type 0
+SavesAt old moment change = change ≡ installs book_name (book_text (as_of moment (old.upkeep).book))
+
+-- What an act whose entry is of this kind may change: a mark or a visit one chunk, the end the saved book, and one in which the disk failed
+-- either. Others change nothing.
+abbrev pub MayChange : {D E C : Type 0} → Core D E C → ℕ → ℕ → ℕ → Change → Type 0
+MayChange old lane moment kind change =
+    (change ≡ stays) ⊎ ((((kind ≡ 1) ⊎ (kind ≡ 5)) × Takes old lane change) ⊎ (((kind ≡ 4) ⊎ (kind ≡ 5)) × SavesAt old moment change))
+
+-- ---- the book
+
+-- at most so many chunks were touched, or one was taken out; and what was undated is dated
+abbrev pub PassTouches : LastTouches → LastTouches → ℕ → Type 0
+PassTouches old new when =
+    ((digests : List Digest32) × (length digests ≤ mark_limit) × SameTouches new (dated when (touched (λ d. is_among d digests) when old)))
+    ⊎ ((taken : Option (List ℕ)) × SameTouches new (dated when (without taken old)))
+
+-- ---- the collector
+
+-- a mark, a visit and want of memory leave the lane's collector open
+abbrev pub stays_open : ℕ → Bool → Bool
+stays_open kind before = if (kind == 4) || (kind == 5) then false else before
+
+-- What it leaves of disk, book and collector.
+pub record StepLeaves {D E C : Type 0} (d : Ghosts D) (old new : Core D E C) (lane : ℕ) (answer : Answer) : Type 0 where
+  pub change : Change
+  pub may_change : MayChange old lane (answer.entry).moment (answer.entry).kind change
+  pub content : (answer.reply ≡ Some (Refused DiskFault) → ⊥) → d.honest (old.parts).disk → d.content (new.parts).disk ≡ after change (d.content (old.parts).disk)
+  pub crash : LeavesChange d (old.parts).disk (new.parts).disk change
+  pub passes : (answer.entry).kind ≡ 1 → PassTouches (touches_kept old.upkeep) (touches_kept new.upkeep) (answer.entry).moment
+  -- all others touch nothing
+  pub untouched : ((answer.entry).kind ≡ 1 → ⊥) → SameTouches (touches_kept new.upkeep) (dated (answer.entry).moment (touches_kept old.upkeep))
+  -- no chunk is touched after the last moment
+  pub early : NoneAfter (old.upkeep).book old.last → NoneAfter (new.upkeep).book new.last
+  -- it is refused only where the lane's collector is not open
+  pub refused : (answer.entry).kind ≡ 0 → is_on lane old.collector ≡ false
+  pub open_on : is_on lane new.collector ≡ stays_open (answer.entry).kind (is_on lane old.collector)
+  -- another lane's stays as it is
+  pub others : is_on lane old.collector ≡ false → new.collector ≡ old.collector
+  -- a mark, a visit and a want of memory leave less to do
+  pub further : is_on lane old.collector ≡ true → ((answer.entry).kind ≡ 1) ⊎ ((answer.entry).kind ≡ 2) → steps_left new.collector < steps_left old.collector
