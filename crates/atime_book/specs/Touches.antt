@@ -2,6 +2,7 @@
 use Rattle.std.specs.Prelude.{◌≡◌, ℕ, ◌-◌, Bool, false, ◌&&◌, List, [], ◌∷◌, nat_lt, if◌then◌else◌, Option, Some, None, IfSome, IsSome, IsTrue, length, map, min, max, ◌≤◌}
 use Rattle.std.specs.List.{All}
 use Rattle.std.specs.Str.{bytes_eq}
+use Rattle.store_types.specs.Times.{last_moment}
 use Rattle.store_types.specs.declared.names.Digest32.{Digest32}
 use Rattle.store_files.specs.Book.{Touch, Book, digests_rise}
 
@@ -52,6 +53,11 @@ as_of moment book = record book { moment = moment }
 -- no chunk was touched after the moment
 abbrev pub NoneAfter : Book → ℕ → Type 0
 NoneAfter book moment = (digest : List ℕ) → IfSome (last_of book digest) (λ when. when ≤ moment)
+
+-- at this moment a book has a text: none was, and the moment is within the years that have one
+pub record IsAt (book : Book) (moment : ℕ) : Type 0 where
+  pub touches : NoneAfter book moment
+  pub in_time : moment ≤ last_moment
 
 -- nor after the book's own
 abbrev pub IsEarly : Book → Type 0

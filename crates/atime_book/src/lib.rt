@@ -7,9 +7,8 @@
 ghost use Rattle.std.specs.Prelude.{◌≡◌, ◌≤◌, [], ◌++◌, true, All, length, IsOk, IsSome, IfSome, IfOk, OnOk, OnErr, Some, None, codes};
 ghost use Rattle.std.specs.Int.{w64, to_le_bytes};
 ghost use Rattle.std.specs.List.{flat_map};
-ghost use Rattle.store_types.specs.Times.{last_moment};
 ghost use Rattle.store_files.specs.Book.{FitsBook, touch_text, signed_text, book_text, book_of};
-ghost use Rattle.atime_book.specs.Touches.{touches_of, cutoff_of, empty, last_of, is_stale, IsInOrder, TouchedAt, TouchesKnown, SweptAt, NoneAfter, IsEarly, as_of};
+ghost use Rattle.atime_book.specs.Touches.{touches_of, cutoff_of, empty, last_of, is_stale, IsInOrder, TouchedAt, TouchesKnown, SweptAt, IsAt, IsEarly, as_of};
 
 mod counts;
 mod laws;
@@ -119,12 +118,19 @@ impl Book {
         self.touches.get(digest).copied()
     }
 
+    /// Whether a chunk's last touch is before the cutoff. It takes no memory.
+    pub fn is_stale(&self, digest: &Digest32, cutoff: u64) -> bool
+        ensures { result ≡ is_stale (last_of self.now digest.now.0) cutoff }
+    {
+        is_before(self.last(digest), cutoff)
+    }
+
     /// Whether a chunk's last touch is before the cutoff; then it is taken out. It takes no memory.
     pub fn sweep_one(&mut self, digest: &Digest32, cutoff: u64) -> bool
         ensures stale { result ≡ is_stale (last_of self.old digest.now.0) cutoff }
         ensures swept { SweptAt self.old self.new digest.now.0 result }
     {
-        if !is_before(self.last(digest), cutoff) {
+        if !self.is_stale(digest, cutoff) {
             return false;
         }
         self.forget(digest);
@@ -138,13 +144,11 @@ impl Book {
         let _ = self.touches.remove(digest);
     }
 
-    /// The book's file at a moment that no touch is after. `read` gives the book at that moment from it.
+    /// The book's file at a moment. Where no touch is after it, `read` gives the book at that moment from it.
     pub fn text(&self, alloc: Global, moment: u64) -> Result<Vec<u8>, AllocError>
-        requires moment { moment ≤ last_moment }
-        requires touches { NoneAfter self.now moment }
         ensures text { IfOk result (λ text. text.items ≡ book_text (as_of moment self.now)) }
-        ensures fits { OnOk result (FitsBook (as_of moment self.now)) }
-        ensures read_again { IfOk result (λ text. book_of text.items ≡ Some (as_of moment self.now)) }
+        ensures fits { IsAt self.now moment → OnOk result (FitsBook (as_of moment self.now)) }
+        ensures read_again { IsAt self.now moment → IfOk result (λ text. book_of text.items ≡ Some (as_of moment self.now)) }
     {
         self.written(alloc, moment)
     }

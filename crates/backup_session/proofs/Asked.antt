@@ -11,6 +11,10 @@ pub key_is : (p : Option Pending) (w : Writing) → w.key ≡ ((session_of p w).
 key_is None w = refl
 key_is (Some p) w = refl
 
+pub start_is : (p : Option Pending) (w : Writing) → w.start ≡ ((session_of p w).writer).start
+start_is None w = refl
+start_is (Some p) w = refl
+
 pub base_is : (p : Option Pending) (w : Writing) → w.base ≡ ((session_of p w).writer).base
 base_is None w = refl
 base_is (Some p) w = refl

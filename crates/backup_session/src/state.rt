@@ -97,6 +97,12 @@ impl State {
         &self.key
     }
 
+    pub fn start(&self) -> u64
+        ensures { result ≡ self.now.start }
+    {
+        self.start
+    }
+
     pub fn base(&self) -> Option<&SnapshotKey>
         ensures { option_map (λ k. k.now) result ≡ self.now.base }
     {

@@ -69,6 +69,14 @@ impl Writer {
         self.state.key()
     }
 
+    /// The moment at which it was opened, in seconds since 1970.
+    #[tactic(auto, using(crate::proofs::Asked::start_is))]
+    pub fn start(&self) -> u64
+        ensures { result ≡ self.now.writer.start }
+    {
+        self.state.start()
+    }
+
     /// The snapshot that is its base, where it has one.
     #[tactic(auto, using(crate::proofs::Asked::base_is))]
     pub fn base(&self) -> Option<&SnapshotKey>

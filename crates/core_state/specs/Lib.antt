@@ -1,9 +1,11 @@
 pub mod Named
 pub mod Entering
 pub mod Shown
+pub mod Locked
+pub mod States
+pub mod Replies
 pub mod Entries
 pub mod Collectors
-pub mod Locked
 pub mod Holds
 pub mod Chunks
 pub mod History
@@ -13,8 +15,6 @@ pub mod Sweeps
 pub mod KeepsTouches
 pub mod Settles
 pub mod Begins
-pub mod States
-pub mod Replies
 pub mod Unchanged
 pub mod Answers
 pub mod Closing

@@ -1,8 +1,8 @@
 //! The collector of unused chunks, while it is open.
 
-ghost use Rattle.std.specs.Prelude.{◌≡◌};
+ghost use Rattle.std.specs.Prelude.{◌≡◌, IfSome};
 ghost use Rattle.core_state.specs.Collectors.{collector_by, is_cut, is_on, with_cut};
-ghost use Rattle.core_state.specs.Entries.{FitsEntries};
+ghost use Rattle.core_state.specs.Entries.{EndsEarly, FitsEntries};
 
 use crate::state::Core;
 use gc_plan::Gc;
@@ -18,6 +18,7 @@ pub struct Collector {
     /// What ended it early: want of memory, or an index that does not decode. Its next act is its end then.
     pub refusal: Option<Refusal>,
     ghost fits: { FitsEntries plan entries.items },
+    ghost early: { IfSome refusal EndsEarly },
 }
 
 impl Collector {

@@ -21,6 +21,7 @@ pub use entering::{Admitted, Place, begin, enter, halted, next_place, settle, sh
 pub use journal::{HELD, Journal};
 pub use kept::{Kept, Listed, Session, StoredFile, Writing};
 pub use parts::Parts;
+pub use saving::BOOK_NAME;
 pub use state::{Core, CoreParts};
 pub use stop::Stop;
 pub use store_history::{Act, Answer};

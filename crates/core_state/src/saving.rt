@@ -12,7 +12,7 @@ use file_install::install;
 use std::alloc::Global;
 
 /// Where the book of touches stands in the datastore folder.
-const BOOK_NAME: &str = ".chunks/book";
+pub const BOOK_NAME: &str = ".chunks/book";
 
 impl<D: Disk, E, C> Core<D, E, C> {
     /// Installs the book of touches as of the last moment: the last touch of each chunk that is there. A crash leaves the book

@@ -1,0 +1,44 @@
+-- The acts of a collector, and what is told of them by what the core keeps.
+use Rattle.std.specs.Prelude.{◌≡◌, ℕ, Bool, true, false, ◌==◌, if◌then◌else◌, List, Option, Some, None, Result, Ok, Err}
+use Rattle.store_types.specs.declared.refusal.Refusal.{Refusal}
+use Rattle.store_types.specs.declared.refusal.Refusal.TheVariants.{Unreadable}
+use Rattle.store_history.specs.declared.act.Act.{Act}
+use Rattle.store_history.specs.declared.act.Act.TheVariants.{Start, Step}
+use Rattle.store_history.specs.declared.act.Answer.{Answer}
+use Rattle.core_state.specs.declared.collector.Collector.{Collector}
+use Rattle.core_state.specs.declared.kept.Listed.{Listed}
+use Rattle.core_state.specs.declared.kept.Session.{Session}
+use Rattle.core_state.specs.declared.state.Core.{Core}
+use Rattle.core_state.specs.Collectors.{is_on}
+use Rattle.core_state.specs.Unreadables.{Asked, known}
+use Rattle.core_collect.specs.Ending.{refusal_in}
+use Rattle.core_collect.specs.Starting.{StartTells, start_told}
+use Rattle.core_collect.specs.Stepping.{StepTells}
+
+abbrev pub IsCollectors : Act → Type 0
+IsCollectors Start = Unit {0}
+IsCollectors Step = Unit {0}
+IsCollectors _ = ⊥
+
+-- on any disk: what refuses it, and which collector opens
+abbrev pub CoreAnswersBy : {D E C : Type 0} → Core D E C → Core D E C → ℕ → Act → Answer → Type 0
+CoreAnswersBy old new lane Start answer = StartTells old new lane answer
+CoreAnswersBy old new lane Step answer = StepTells old lane answer
+CoreAnswersBy old new lane _ answer = Unit {0}
+
+-- ---- the file that is told to be unreadable
+
+-- the file that the refusal names, which was found to be so before
+abbrev pub asked_by : Option Refusal → Option Asked
+asked_by (Some (Unreadable path)) = Some (record { path = path; way = known })
+asked_by _ = None
+
+abbrev pub refusal_of : Result (Unit {0}) Refusal → Option Refusal
+refusal_of (Ok may) = None
+refusal_of (Err refusal) = Some refusal
+
+-- A start asks for the first damaged snapshot's, where nothing else refuses it; the end of a collector for the one that ended it early.
+abbrev pub asked_of_collector : Act → ℕ → Option Collector → Session → List Listed → Option Asked
+asked_of_collector Start lane collector session catalogue = asked_by (refusal_of (start_told collector session catalogue))
+asked_of_collector Step lane collector session catalogue = if is_on lane collector then asked_by (refusal_in collector) else None
+asked_of_collector _ lane collector session catalogue = None

@@ -1,0 +1,7 @@
+pub mod Starting
+pub mod Marking
+pub mod Visiting
+pub mod Ending
+pub mod Beside
+pub mod Stepping
+pub mod Acts

@@ -1,0 +1,85 @@
+-- The start of a collector: what refuses it, and the collector that opens.
+use Rattle.std.specs.Prelude.{◌≡◌, ℕ, List, [], ◌∷◌, map, filter, is_some, Option, Some, None, Result, Ok, Err, IsSomeAnd}
+use Rattle.std.specs.List.{find, flat_map}
+use Rattle.store_types.specs.FileNames.{is_index_name}
+use Rattle.store_types.specs.Chain.Refusing.{◌>>=◌, if_none}
+use Rattle.store_types.specs.declared.refusal.Refusal.{Refusal}
+use Rattle.store_types.specs.declared.refusal.Refusal.TheVariants.{CollectorBusy, Unreadable}
+use Rattle.wire_commands.specs.declared.reply.Reply.TheVariants.{Refused}
+use Rattle.gc_plan.specs.Plan.{begun}
+use Rattle.gc_plan.specs.declared.IndexAt.{IndexAt}
+use Rattle.store_history.specs.declared.act.Answer.{Answer}
+use Rattle.store_upkeep.specs.Sweeping.{earlier}
+use Rattle.core_state.specs.declared.collector.Collector.{Collector}
+use Rattle.core_state.specs.declared.entering.Place.{Place}
+use Rattle.core_state.specs.declared.kept.Listed.{Listed}
+use Rattle.core_state.specs.declared.kept.Session.{Session}
+use Rattle.core_state.specs.declared.kept.Session.TheVariants.{Idle, Writer, Reader}
+use Rattle.core_state.specs.declared.parts.Parts.{Parts}
+use Rattle.core_state.specs.declared.state.Core.{Core}
+use Rattle.core_state.specs.declared.stop.Stop.{Stop}
+use Rattle.core_state.specs.declared.stop.Stop.TheVariants as stops
+use Rattle.core_state.specs.Collectors.{collector_by}
+use Rattle.core_state.specs.Wanted.{session_at, want_idle}
+
+-- ---- what is to be marked
+
+-- the indexes of a finished snapshot, in byte order of their names
+abbrev pub indexes_of : Listed → List IndexAt
+indexes_of x = map (λ f. record { snapshot = x.number; name = f.name }) (filter (λ f. is_index_name f.name) (x.kept).files)
+
+abbrev pub indexes_in : List Listed → List IndexAt
+indexes_in catalogue = flat_map indexes_of catalogue
+
+-- ---- the oldest writer
+
+abbrev pub earlier_of : Option ℕ → Session → Option ℕ
+earlier_of oldest Idle = oldest
+earlier_of oldest (Writer w) = earlier oldest ((w.session).writer).start
+earlier_of oldest (Reader r) = oldest
+
+-- when the oldest writer among these sessions began
+abbrev pub oldest_kept : List Session → Option ℕ
+oldest_kept [] = None
+oldest_kept (x ∷ xs) = earlier_of (oldest_kept xs) x
+
+-- ---- what refuses it
+
+abbrev pub unreadable_of : Option Listed → Option (List ℕ)
+unreadable_of None = None
+unreadable_of (Some x) = (x.kept).unreadable
+
+-- the file that makes the first damaged snapshot so
+abbrev pub first_unreadable : List Listed → Option (List ℕ)
+first_unreadable catalogue = unreadable_of (find (λ x. is_some (x.kept).unreadable) catalogue)
+
+-- the lane has a session, a collector is open, or a snapshot is damaged, in this order
+unfoldable pub start_told : Option Collector → Session → List Listed → Result (Unit {0}) Refusal
+start_told collector session catalogue = do
+  _ ← want_idle session
+  _ ← if_none (λ c. CollectorBusy c.lane) collector
+  if_none Unreadable (first_unreadable catalogue)
+
+-- ---- the collector that opens
+
+pub record IsNewCollector {D : Type 0} (parts : Parts D) (lane moment : ℕ) (c : Collector) : Type 0 where
+  pub lane_is : c.lane ≡ lane
+  pub plan_is : c.plan ≡ begun moment (oldest_kept parts.sessions.items) (indexes_in parts.catalogue.items)
+  pub none_read : c.entries.items ≡ []
+  pub goes_on : c.refusal ≡ None
+
+-- it opens where nothing refuses it
+abbrev pub GivesCollector : {D : Type 0} → Parts D → Option Collector → Place → Result Collector Stop → Type 0
+GivesCollector parts before at (Ok c) = (start_told before (session_at parts at.lane) parts.catalogue.items ≡ Ok tt) × IsNewCollector parts at.lane at.moment c
+GivesCollector parts before at (Err (stops.Refused refusal)) = start_told before (session_at parts at.lane) parts.catalogue.items ≡ Err refusal
+GivesCollector parts before at (Err stops.NoMemory) = Unit {0}
+GivesCollector parts before at (Err stops.DiskFailed) = ⊥
+
+-- The core answers a start so, on any disk.
+pub record StartTells {D E C : Type 0} (old new : Core D E C) (lane : ℕ) (answer : Answer) : Type 0 where
+  pub refused : (answer.entry).kind ≡ 0 → (refusal : Refusal) × (answer.reply ≡ Some (Refused refusal))
+      × (start_told old.collector (session_at old.parts lane) (old.parts).catalogue.items ≡ Err refusal)
+  pub opens : (answer.entry).kind ≡ 3 → (start_told old.collector (session_at old.parts lane) (old.parts).catalogue.items ≡ Ok tt)
+      × IsSomeAnd new.collector (IsNewCollector old.parts lane (answer.entry).moment)
+  -- where none opens, another lane's stays as it is
+  pub others : ((answer.entry).kind ≡ 3 → ⊥) → new.collector ≡ collector_by (answer.entry).kind lane old.collector

@@ -1,0 +1,159 @@
+-- The acts of a collector after its start.
+use Rattle.disk_trait.specs.declared.disk.Disk.{Ghosts}
+use Rattle.std.specs.Prelude.{◌≡◌, ◌<◌, ◌≤◌, ◌⊎◌, ◌∷◌, [], ℕ, true, false, Option, Some, None, IsSomeAnd, IfSome, IfErr, Result, Ok, Err, IsErrOf}
+use Rattle.disk_trait.specs.Disk.{Serves}
+use Rattle.port_traits.specs.Readings.{Readings}
+use Rattle.store_types.specs.declared.names.Digest32.{Digest32}
+use Rattle.store_types.specs.declared.refusal.Refusal.{Refusal}
+use Rattle.store_types.specs.declared.refusal.Refusal.TheVariants.{WrongState}
+use Rattle.store_files.specs.Book.{Book, book_text}
+use Rattle.store_files.specs.Folder.{chunk_name}
+use Rattle.wire_commands.specs.declared.reply.Reply.{Reply}
+use Rattle.wire_commands.specs.declared.reply.Reply.TheVariants as replies
+use Rattle.store_model.specs.Store.{Store}
+use Rattle.atime_book.specs.Touches.{NoneAfter, as_of}
+use Rattle.gc_plan.specs.Plan.{left_of}
+use Rattle.gc_plan.specs.declared.GcReport.{GcReport}
+use Rattle.store_history.specs.LastTouches.{LastTouches, SameTouches, touched}
+use Rattle.store_history.specs.Saved.{book_name}
+use Rattle.store_history.specs.declared.act.Answer.{Answer}
+use Rattle.store_upkeep.specs.Safety.{IsNeeded}
+use Rattle.store_upkeep.specs.Sweeping.{Sweep, Swept, is_over, passed, report_of}
+use Rattle.core_state.specs.declared.collector.Collector.{Collector}
+use Rattle.core_state.specs.declared.entering.Admitted.TheVariants.{Answered}
+use Rattle.core_state.specs.declared.entering.Place.{Place}
+use Rattle.core_state.specs.declared.parts.Parts.{Parts}
+use Rattle.core_state.specs.declared.state.Core.{Core}
+use Rattle.core_state.specs.declared.stop.Stop.{Stop}
+use Rattle.core_state.specs.declared.stop.Stop.TheVariants.{Refused, NoMemory, DiskFailed}
+use Rattle.core_state.specs.declared.upkeep.Upkeep.{Upkeep}
+use Rattle.core_state.specs.Begins.{AdmittedHasText, IsAdmitted, Refuses}
+use Rattle.core_state.specs.Changes.{Change, LeavesChange, after, drops, installs, stays}
+use Rattle.core_state.specs.Collectors.{is_on, steps_left}
+use Rattle.core_state.specs.Entering.{held_by}
+use Rattle.core_state.specs.Passes.{PassTouches}
+use Rattle.core_state.specs.Settles.{IsEntered, Settles}
+use Rattle.core_state.specs.States.{state_of}
+use Rattle.core_state.specs.Stops.{StopHasText, told}
+use Rattle.core_state.specs.Unchanged.{SameKept}
+use Rattle.core_state.specs.Upkeeps.{touches_kept}
+use Rattle.core_state.specs.Wanted.{session_at}
+use Rattle.core_collect.specs.Beside.{IsSweepable, StandsBeside, passed_touches}
+use Rattle.core_collect.specs.Ending.{report_reply}
+use Rattle.core_collect.specs.Marking.{IsUnreadable}
+use Rattle.core_collect.specs.Visiting.{goes}
+
+-- ---- an open collector, on any disk
+
+-- a mark or a visit without a reply, and the end with its report
+abbrev pub Outcome : Type 0
+Outcome = Result (Option GcReport) Stop
+
+-- A mark or a visit may take a chunk out that goes, the end saves the book, and where the disk failed it may be either.
+abbrev pub MayChange : Book → Collector → ℕ → Change → Outcome → Type 0
+MayChange book c moment change (Ok None) = (change ≡ stays) ⊎ ((x : Digest32) × (goes book c.plan x ≡ true) × (change ≡ drops (chunk_name x.0 ∷ [])))
+MayChange book c moment change (Ok (Some report)) = change ≡ installs book_name (book_text (as_of moment book))
+MayChange book c moment change (Err DiskFailed) =
+    (change ≡ stays) ⊎ (((x : Digest32) × (goes book c.plan x ≡ true) × (change ≡ drops (chunk_name x.0 ∷ []))) ⊎ (change ≡ installs book_name (book_text (as_of moment book))))
+MayChange book c moment change (Err stop) = change ≡ stays
+
+-- a mark or a visit touches some chunks, or takes one out; nothing else does
+abbrev pub MayTouch : Upkeep → Upkeep → ℕ → Outcome → Type 0
+MayTouch u v moment (Ok None) = PassTouches (touches_kept u) (touches_kept v) moment
+MayTouch u v moment result = v ≡ u
+
+-- it goes on, but where an index did not decode
+abbrev pub MayEnd : Collector → Outcome → Type 0
+MayEnd c (Ok None) = IfSome c.refusal IsUnreadable
+MayEnd c result = c.refusal ≡ None
+
+abbrev pub GoesDown : Collector → Collector → Outcome → Type 0
+GoesDown c e (Ok None) = steps_left (Some e) < steps_left (Some c)
+GoesDown c e result = left_of e.plan ≤ left_of c.plan
+
+-- ---- and for what a history tells
+
+-- the digest of a chunk that is taken out is not needed
+abbrev pub Spares : Store → Change → Type 0
+Spares s change = (x : Digest32) → change ≡ drops (chunk_name x.0 ∷ []) → IsNeeded s x.0 → ⊥
+
+-- a mark or a visit is the sweep's next, and the end comes where the sweep is over, with its report
+abbrev pub IsTheSweeps : {D : Type 0} → Ghosts D → Parts D → Upkeep → ℕ → Collector → Store → Swept → ℕ → Outcome → Type 0
+IsTheSweeps d new v acts e s w moment (Ok None) =
+    IsSomeAnd w.sweep (λ sweep. (is_over sweep ≡ false) × (e.refusal ≡ None)
+      × StandsBeside d new v acts (Some e) s (passed_touches w sweep moment) (Some (passed w sweep sweep.unmarked)))
+IsTheSweeps d new v acts e s w moment (Ok (Some report)) =
+    IsSomeAnd w.sweep (λ sweep. (is_over sweep ≡ true) × (report_reply report ≡ report_of w sweep)) × StandsBeside d new v acts (Some e) s w.touches w.sweep
+IsTheSweeps d new v acts e s w moment (Err NoMemory) = StandsBeside d new v acts (Some e) s w.touches w.sweep
+IsTheSweeps d new v acts e s w moment (Err DiskFailed) = d.honest new.disk
+IsTheSweeps d new v acts e s w moment (Err (Refused refusal)) = ⊥
+
+-- ---- the next act of an open collector
+
+pub record CollectDoes {D : Type 0} (d : Ghosts D) (old new : Parts D) (u v : Upkeep) (c e : Collector) (at : Place) (result : Outcome) : Type 0 where
+  pub serves : Serves d.honest d.faults old.disk new.disk (IsErrOf result DiskFailed)
+  pub kept : SameKept old new
+  pub unrefused : (refusal : Refusal) → result ≡ Err (Refused refusal) → ⊥
+  pub change : Change
+  pub may_change : MayChange u.book c at.moment change result
+  pub content : (IsErrOf result DiskFailed → ⊥) → d.honest old.disk → d.content new.disk ≡ after change (d.content old.disk)
+  pub crash : LeavesChange d old.disk new.disk change
+  pub touches : MayTouch u v at.moment result
+  -- no chunk is touched after the act's moment
+  pub early : (before : ℕ) → before ≤ at.moment → NoneAfter u.book before → NoneAfter v.book at.moment
+  pub lane : e.lane ≡ c.lane
+  pub ends : MayEnd e result
+  pub further : GoesDown c e result
+  pub tells : (acts : ℕ) (s : Store) (w : Swept) → StandsBeside d old u acts (Some c) s w.touches w.sweep → IsSweepable s w
+      → IsTheSweeps d new v acts e s w at.moment result × Spares s change
+
+-- ---- the next act of the lane's collector
+
+-- refused: the lane's collector is not open, and nothing has changed
+pub record IsRefused {D : Type 0} (old new : Parts D) (u v : Upkeep) (b c : Option Collector) (at : Place) (result : Outcome) : Type 0 where
+  pub result_is : result ≡ Err (Refused (WrongState (state_of (session_at old at.lane))))
+  pub parts : new ≡ old
+  pub upkeep : v ≡ u
+  pub collector : c ≡ b
+
+pub record PassDoes {D : Type 0} (d : Ghosts D) (old new : Parts D) (u v : Upkeep) (b c : Option Collector) (at : Place) (result : Outcome) : Type 0 where
+  pub refused : is_on at.lane b ≡ false → IsRefused old new u v b c at result
+  pub collects : (x : Collector) → b ≡ Some x → is_on at.lane b ≡ true → IsSomeAnd c (λ y. CollectDoes d old new u v x y at result)
+  pub text : IfErr result StopHasText
+
+-- ---- its entry
+
+abbrev pub EntersPass : {D E C : Type 0} → Ghosts D → Core D E C → Core D E C → Place → Outcome → Answer → Type 0
+EntersPass d old new at (Ok None) answer = IsEntered d old new at.lane at.moment 1 None answer
+EntersPass d old new at (Ok (Some report)) answer = IsEntered d old new at.lane at.moment 4 (Some (report_reply report)) answer
+EntersPass d old new at (Err stop) answer = Settles d old new at.lane at.moment (told (Err stop)) answer
+
+-- between the beginning of the act and its entry parts, upkeep and collector change alone
+pub record KeepsOthers {D E C : Type 0} (mid acted : Core D E C) : Type 0 where
+  pub journal : acted.journal ≡ mid.journal
+  pub clock : acted.clock ≡ mid.clock
+  pub fault : acted.fault ≡ mid.fault
+  pub remote : acted.remote ≡ mid.remote
+  pub last : acted.last ≡ mid.last
+
+-- it was done on the core as it was begun
+pub record HasPassed {D E C : Type 0} (d : Ghosts D) (readings : C → Option Readings) (old new : Core D E C) (lane : ℕ) (answer : Answer) : Type 0 where
+  pub mid : Core D E C
+  pub acted : Core D E C
+  pub at : Place
+  pub result : Outcome
+  pub admitted : IsAdmitted readings old mid lane at
+  pub filled : (3 ≤ held_by mid.journal lane) × (0 < (mid.journal).spare)
+  pub others : KeepsOthers mid acted
+  pub passes : PassDoes d mid.parts acted.parts mid.upkeep acted.upkeep mid.collector acted.collector at result
+  pub enters : EntersPass d acted new at result answer
+
+pub data GoesOn {D E C : Type 0} (d : Ghosts D) (readings : C → Option Readings) (old new : Core D E C) (lane : ℕ) (answer : Answer) : Type 0 where
+  not_begun : Refuses d readings old new lane answer → AdmittedHasText (Answered answer) → GoesOn d readings old new lane answer
+  has_passed : HasPassed d readings old new lane answer → GoesOn d readings old new lane answer
+
+-- ---- what is told
+
+-- it is refused with the lane's session, where the lane's collector is not open
+abbrev pub StepTells : {D E C : Type 0} → Core D E C → ℕ → Answer → Type 0
+StepTells old lane answer = (answer.entry).kind ≡ 0 → (is_on lane old.collector ≡ false) × (answer.reply ≡ Some (replies.Refused (WrongState (state_of (session_at old.parts lane)))))

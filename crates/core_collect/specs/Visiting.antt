@@ -1,0 +1,65 @@
+-- The visits of a collector.
+use Rattle.std.specs.Prelude.{◌≡◌, ◌≤◌, ◌<◌, ◌⊎◌, ℕ, Bool, true, false, List, [], ◌∷◌, Option, Some, None, Result, Ok, Err, IsOk, IsErr, IsErrOf, OnOk}
+use Rattle.disk_trait.specs.Disk.{MayGo}
+use Rattle.disk_trait.specs.Effects.{DiskDrops, OnlyReads, StepsOn}
+use Rattle.disk_trait.specs.declared.disk.Disk.{Ghosts}
+use Rattle.disk_trait.specs.declared.disk.DiskError.{DiskError}
+use Rattle.disk_trait.specs.declared.disk.DiskError.TheVariants.{NoMemory, Failed}
+use Rattle.store_types.specs.declared.names.Digest32.{Digest32}
+use Rattle.store_files.specs.Book.{Book}
+use Rattle.store_files.specs.Folder.{chunk_name}
+use Rattle.atime_book.specs.Touches.{SweptAt, is_stale, last_of}
+use Rattle.chunk_store.specs.Listed.{Lists}
+use Rattle.gc_plan.specs.Plan.{Plan, has_names, left_of, next_visit, visited, with_names, with_removal}
+use Rattle.core_state.specs.Changes.{Change, LeavesChange, after, drops, stays}
+
+-- ---- one chunk
+
+-- its last touch is before the cutoff
+abbrev pub goes : Book → Plan → Digest32 → Bool
+goes book plan digest = is_stale (last_of book digest.0) plan.cutoff
+
+-- It is taken out exactly where it goes, and else nothing is done. Where the disk fails, book and plan are as before.
+pub record VisitsOne {D E : Type 0} (d : Ghosts D) (old new : D) (before after : Book) (p q : Plan) (digest : Digest32) (result : Result (Unit {0}) E) : Type 0 where
+  pub stays : goes before p digest ≡ false → (new ≡ old) × (after ≡ before) × (q ≡ p) × IsOk result
+  pub crash : goes before p digest ≡ true → StepsOn d old new (MayGo (chunk_name digest.0))
+  pub dropped : goes before p digest ≡ true → DiskDrops d old new (chunk_name digest.0) result
+  pub taken : goes before p digest ≡ true → OnOk result (SweptAt before after digest.0 true × (q ≡ with_removal p))
+  pub failed : IsErr result → (after ≡ before) × (q ≡ p)
+
+-- ---- the chunks that are there
+
+-- they are listed now, in byte order, or were listed before
+abbrev pub IsListed : {D : Type 0} → Ghosts D → D → Plan → Plan → Type 0
+IsListed d disk p q =
+    ((has_names p ≡ true) × (q ≡ p))
+    ⊎ ((has_names p ≡ false) × ((names : List Digest32) × (q ≡ with_names p names) × (d.honest disk → Lists (d.content disk) names)))
+
+pub record ListsPlan {D : Type 0} (d : Ghosts D) (old new : D) (p q : Plan) (result : Result (Unit {0}) DiskError) : Type 0 where
+  pub reads : OnlyReads d old new (IsErrOf result Failed)
+  pub listed : OnOk result (IsListed d old p q)
+  pub failed : IsErr result → q ≡ p
+
+-- ---- the next visit
+
+-- the first chunk of a plan that has them listed is visited, if one is left
+abbrev pub VisitedFirst : Book → Book → Plan → Plan → Change → Option Digest32 → Type 0
+VisitedFirst before after p q change None = (after ≡ before) × (q ≡ p) × (change ≡ stays)
+VisitedFirst before after p q change (Some digest) =
+    ((goes before p digest ≡ false) × (after ≡ before) × (q ≡ visited p) × (change ≡ stays))
+    ⊎ ((goes before p digest ≡ true) × SweptAt before after digest.0 true × (q ≡ with_removal (visited p)) × (change ≡ drops (chunk_name digest.0 ∷ [])))
+
+-- what an honest disk may lose: nothing, or a chunk that goes
+abbrev pub IsGoing : Book → Plan → Change → Type 0
+IsGoing book p change = (change ≡ stays) ⊎ ((digest : Digest32) × (goes book p digest ≡ true) × (change ≡ drops (chunk_name digest.0 ∷ [])))
+
+pub record VisitsNext {D : Type 0} (d : Ghosts D) (old new : D) (before after_ : Book) (p q : Plan) (result : Result (Unit {0}) DiskError) : Type 0 where
+  pub change : Change
+  pub going : IsGoing before p change
+  pub crash : LeavesChange d old new change
+  pub content : (IsErrOf result Failed → ⊥) → d.honest old → d.content new ≡ after change (d.content old)
+  pub done : OnOk result ((listed : Plan) × IsListed d old p listed × VisitedFirst before after_ listed q change (next_visit listed))
+  -- want of memory has changed nothing; where the disk failed the book is as before
+  pub want : IsErrOf result NoMemory → (q ≡ p) × (change ≡ stays)
+  pub unswept : IsErr result → after_ ≡ before
+  pub less : OnOk result (left_of q < left_of p)

@@ -1,0 +1,38 @@
+//! An act of a collector.
+
+ghost use Rattle.std.specs.Prelude.{◌<◌};
+ghost use Rattle.core_state.specs.Applies.{ActApplies, ActKeeps};
+ghost use Rattle.core_state.specs.Reserved.{HasRoom};
+ghost use Rattle.core_state.specs.Unreadables.{CoreUnreadable};
+ghost use Rattle.core_collect.specs.Acts.{CoreAnswersBy, IsCollectors, asked_of_collector};
+
+use crate::starting::start;
+use crate::stepping::step;
+use core_state::{Act, Answer, Core};
+use disk_trait::Disk;
+use port_traits::Clock;
+use std::alloc::Global;
+
+/// Opens a collector on the lane, or does the next act of the lane's, and enters it in the order.
+pub fn collect_act<D: Disk, E, C: Clock>(
+    core: &mut Core<D, E, C>,
+    alloc: Global,
+    lane: u32,
+    act: Act,
+) -> Answer
+    requires lane { lane < 64 }
+    requires room { HasRoom core.old lane }
+    requires kind { IsCollectors act }
+    ensures applies { ActApplies D.Disk C.Clock core.old core.new lane act result }
+    ensures keeps { ActKeeps D.Disk core.old core.new lane act result }
+    // on any disk: what refuses it, by what the core keeps, and which collector opens
+    ensures by_kept { CoreAnswersBy core.old core.new lane act result }
+    // a snapshot is told as damaged exactly where one is, and an index as unreadable exactly where one ended the collector
+    ensures unreadable { CoreUnreadable D.Disk (asked_of_collector act lane core.old.collector) core.old lane result }
+{
+    match act {
+        Act::Start => start(core, alloc, lane),
+        Act::Step => step(core, alloc, lane),
+        _ => unreachable!(),
+    }
+}

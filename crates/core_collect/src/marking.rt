@@ -1,0 +1,153 @@
+//! The marks of a collector.
+
+ghost use Rattle.std.specs.Prelude.{◌≡◌, ◌≤◌, IfErr, IfOk, IsErrOf, IsSome, length, map, option_map};
+ghost use Rattle.disk_trait.specs.Effects.{OnlyReads};
+ghost use Rattle.store_types.specs.declared.refusal.Refusal.TheVariants.{Unreadable};
+ghost use Rattle.store_files.specs.Entries.{ends_of};
+ghost use Rattle.wire_commands.specs.HasText.{ReplyHasText};
+ghost use Rattle.wire_commands.specs.declared.reply.Reply.TheVariants.{Refused};
+ghost use Rattle.gc_plan.specs.Plan.{entry_limit, next_mark};
+ghost use Rattle.core_state.specs.Stops.{IfRefused, StopHasText};
+ghost use Rattle.core_state.specs.declared.stop.Stop.TheVariants.{DiskFailed};
+ghost use Rattle.core_state.specs.Unchanged.{SameKept};
+ghost use Rattle.core_collect.specs.Marking.{AtHand, FindsNext, IsUnreadable, MarksSome, PassesOver, ReadsDigests, SettlesNext, path_at};
+
+use atime_book::Book;
+use core_state::{Collector, Listed, Parts, Stop, path_named, touch_each};
+use disk_trait::Disk;
+use gc_plan::{IndexAt, mark_size};
+use snapshot_files::{FilePath, ReadError, read_index};
+use std::alloc::{AllocError, Global};
+use store_types::{Bytes, Digest32, Refusal};
+
+/// Where the index stands, if its snapshot was not forgotten.
+fn path_of<'a>(catalogue: &'a [Listed], index: &IndexAt) -> Option<&'a FilePath>
+    ensures { option_map (λ p. p.now) result ≡ path_at index.now catalogue.now }
+{
+    let found = catalogue.iter().find(|listed| listed.number == index.snapshot);
+    match found {
+        Some(listed) => path_named(listed.kept.files.as_slice(), &index.name),
+        None => None,
+    }
+}
+
+/// The file at the path is no index.
+fn unreadable(alloc: Global, path: &FilePath) -> Result<Refusal, AllocError>
+    ensures value { IfOk result (λ refusal. refusal ≡ Unreadable path.now) }
+    ensures text { IfOk result (λ refusal. ReplyHasText (Refused refusal)) }
+{
+    let name = Bytes::from_slice(alloc, path.as_str().as_bytes())?;
+    Ok(Refusal::Unreadable { name })
+}
+
+/// The digests of an index's entries.
+fn digests_of(alloc: Global, entries: &[(Digest32, u64)]) -> Result<Vec<Digest32>, AllocError>
+    ensures { IfOk result (λ digests. map (λ d. d.0) digests.items ≡ map (λ e. e.digest) (ends_of entries.now)) }
+{
+    let mut digests = Vec::with_capacity(alloc, entries.len())?;
+    for entry in entries {
+        digests.push(entry.0)?;
+    }
+    Ok(digests)
+}
+
+/// The digests of the entries of the index at the path. It is refused where no such index stands there.
+fn read_digests<D: Disk>(
+    disk: &mut D,
+    alloc: Global,
+    path: &FilePath,
+    is_fixed: bool,
+) -> Result<Vec<Digest32>, Stop>
+    ensures reads { OnlyReads D.Disk disk.old disk.new (IsErrOf result DiskFailed) }
+    ensures exact { ReadsDigests D.Disk disk.old path.now is_fixed result }
+    ensures few { IfOk result (λ digests. length digests.items ≤ entry_limit) }
+    // on any disk
+    ensures named { IfErr result (IfRefused (λ refusal. refusal ≡ Unreadable path.now)) }
+    ensures text { IfErr result StopHasText }
+{
+    match read_index(disk, alloc, path.as_str(), is_fixed, 0) {
+        Ok(index) => Ok(digests_of(alloc, &index.entries)?),
+        Err(ReadError::Refused(_)) => Err(Stop::Refused(unreadable(alloc, path)?)),
+        Err(ReadError::NoMemory) => Err(Stop::NoMemory),
+        Err(ReadError::Failed) => Err(Stop::DiskFailed),
+    }
+}
+
+/// Passes over the index that is next. It takes no memory.
+fn pass_over(collector: &mut Collector)
+    requires { IsSome (next_mark collector.old.plan) }
+    ensures { PassesOver collector.old collector.new }
+{
+    collector.plan.marked(0, 0);
+    collector.entries.clear();
+}
+
+/// Reads the index that is next, where its digests are not at hand. Whether it is to be marked: one that was forgotten or
+/// has no entries is passed over.
+fn settle_next<D: Disk>(
+    parts: &mut Parts<D>,
+    alloc: Global,
+    collector: &mut Collector,
+) -> Result<bool, Stop>
+    ensures reads { OnlyReads D.Disk parts.old.disk parts.new.disk (IsErrOf result DiskFailed) }
+    ensures kept { SameKept parts.old parts.new }
+    ensures next { SettlesNext D.Disk parts.old collector.old collector.new result }
+    ensures text { IfErr result StopHasText }
+    ensures named { IfErr result (IfRefused IsUnreadable) }
+{
+    let Some(index) = collector.plan.index_next() else {
+        return Ok(false);
+    };
+    let Some(path) = path_of(&parts.catalogue, index) else {
+        pass_over(collector);
+        return Ok(false);
+    };
+    if collector.entries.is_empty() {
+        collector.entries = read_digests(&mut parts.disk, alloc, path, index.name.is_fixed())?;
+    }
+    if collector.entries.is_empty() {
+        pass_over(collector);
+        return Ok(false);
+    }
+    Ok(true)
+}
+
+/// Passes over indexes that were forgotten or have no entries. Whether one is to be marked then, of which the digests are
+/// at hand. It is refused where the next one does not decode.
+pub fn find_next<D: Disk>(
+    parts: &mut Parts<D>,
+    alloc: Global,
+    collector: &mut Collector,
+) -> Result<bool, Stop>
+    ensures reads { OnlyReads D.Disk parts.old.disk parts.new.disk (IsErrOf result DiskFailed) }
+    ensures kept { SameKept parts.old parts.new }
+    ensures next { FindsNext D.Disk parts.old collector.old collector.new result }
+    ensures text { IfErr result StopHasText }
+    ensures named { IfErr result (IfRefused IsUnreadable) }
+{
+    while collector.plan.mark_next().is_some() {
+        if settle_next(parts, alloc, collector)? {
+            return Ok(true);
+        }
+    }
+    Ok(false)
+}
+
+/// Marks the next entries of the index that is next, 1,000 at most: touches those of their chunks that are there. It takes
+/// no memory.
+pub fn mark(book: &mut Book, collector: &mut Collector, moment: u64)
+    requires { AtHand collector.old }
+    ensures { MarksSome book.old book.new collector.old collector.new moment }
+{
+    let Some((_, first)) = collector.plan.mark_next() else {
+        return;
+    };
+    let from = first as usize;
+    let left = (collector.entries.len() - from) as u32;
+    let count = mark_size(left);
+    touch_each(book, &collector.entries[from..from + count as usize], moment);
+    collector.plan.marked(count, left - count);
+    if count == left {
+        collector.entries.clear();
+    }
+}

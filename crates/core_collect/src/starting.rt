@@ -1,0 +1,153 @@
+//! The start of a collector.
+
+ghost use Rattle.std.specs.Prelude.{◌≡◌, ◌<◌, ◌++◌, IfErr, IfOk, OnOk, option_map};
+ghost use Rattle.store_history.specs.declared.act.Act.TheVariants.{Start};
+ghost use Rattle.core_state.specs.Applies.{ActApplies, ActKeeps};
+ghost use Rattle.core_state.specs.Reserved.{HasRoom};
+ghost use Rattle.core_state.specs.Stops.{Gives, StopHasText};
+ghost use Rattle.core_state.specs.Wanted.{session_at};
+ghost use Rattle.core_collect.specs.Starting.{GivesCollector, IsNewCollector, earlier_of, first_unreadable, indexes_in as indexes_listed, indexes_of as indexes_kept, oldest_kept, StartTells, start_told};
+
+use core_state::{
+    Act, Admitted, Answer, Collector, Core, Listed, Parts, Place, Session, Stop, begin, enter, settle,
+};
+use disk_trait::Disk;
+use gc_plan::IndexAt;
+use port_traits::Clock;
+use std::alloc::{AllocError, Global};
+use store_types::{Bytes, Refusal, START_KIND};
+
+/// Adds the indexes of a finished snapshot, in byte order of their names.
+fn push_indexes(indexes: &mut Vec<IndexAt>, listed: &Listed) -> Result<(), AllocError>
+    ensures { OnOk result (indexes.new.items ≡ indexes.old.items ++ indexes_kept listed.now) }
+{
+    for file in listed.kept.files.as_slice() {
+        if file.name.is_index() {
+            indexes.push(IndexAt {
+                snapshot: listed.number,
+                name: file.name.clone()?,
+            })?;
+        }
+    }
+    Ok(())
+}
+
+/// The indexes of all finished snapshots, in the order of the catalogue.
+fn indexes_in(alloc: Global, catalogue: &[Listed]) -> Result<Vec<IndexAt>, AllocError>
+    ensures { IfOk result (λ indexes. indexes.items ≡ indexes_listed catalogue.now) }
+{
+    let mut indexes = Vec::new(alloc);
+    for listed in catalogue {
+        push_indexes(&mut indexes, listed)?;
+    }
+    Ok(indexes)
+}
+
+/// The earlier of a moment, if there is one, and the start of the session's writer, if it has one.
+fn earlier(oldest: Option<u64>, session: &Session) -> Option<u64>
+    ensures { result ≡ earlier_of oldest session.now }
+{
+    let Session::Writer(writing) = session else {
+        return oldest;
+    };
+    let start = writing.session.start();
+    match oldest {
+        Some(other) => Some(other.min(start)),
+        None => Some(start),
+    }
+}
+
+/// The start of the oldest writer among these sessions.
+fn oldest_in(sessions: &[Session]) -> Option<u64>
+    ensures { result ≡ oldest_kept sessions.now }
+{
+    let mut oldest = None;
+    for session in sessions {
+        oldest = earlier(oldest, session);
+    }
+    oldest
+}
+
+/// The full name of the file that makes the first damaged snapshot of the catalogue so.
+fn first_damage(catalogue: &[Listed]) -> Option<&Bytes>
+    ensures { option_map (λ name. name.now) result ≡ first_unreadable catalogue.now }
+{
+    let found = catalogue.iter().find(|listed| listed.kept.unreadable.is_some());
+    match found {
+        Some(listed) => listed.kept.unreadable.as_ref(),
+        None => None,
+    }
+}
+
+/// A collector may open on the lane.
+///
+/// The refusals, in the order in which they are tested: the lane has a session; a collector is open, on whatever lane; a
+/// snapshot is damaged, of which the first in the catalogue is told.
+fn may_open<D>(
+    parts: &Parts<D>,
+    collector: &Option<Collector>,
+    lane: u32,
+) -> Result<(), Stop>
+    requires { lane < 64 }
+    ensures value { Gives (λ may. may) result (start_told collector.now (session_at parts.now lane) parts.now.catalogue.items) }
+    ensures text { IfErr result StopHasText }
+{
+    parts.idle(lane)?;
+    if let Some(open) = collector {
+        return Err(Stop::Refused(Refusal::CollectorBusy { lane: open.lane }));
+    }
+    if let Some(name) = first_damage(&parts.catalogue) {
+        let name = name.clone()?;
+        return Err(Stop::Refused(Refusal::Unreadable { name }));
+    }
+    Ok(())
+}
+
+/// The collector that opens at this place: the indexes of all finished snapshots are to be marked.
+fn new_collector<D>(parts: &Parts<D>, alloc: Global, at: Place) -> Result<Collector, AllocError>
+    ensures { IfOk result (IsNewCollector parts.now at.lane at.moment) }
+{
+    let indexes = indexes_in(alloc, &parts.catalogue)?;
+    Ok(Collector {
+        lane: at.lane,
+        plan: gc_plan::start(at.moment, oldest_in(&parts.sessions), indexes),
+        entries: Vec::new(alloc),
+        refusal: None,
+    })
+}
+
+/// The collector that opens, where it may.
+fn opening<D>(
+    parts: &Parts<D>,
+    collector: &Option<Collector>,
+    alloc: Global,
+    at: Place,
+) -> Result<Collector, Stop>
+    requires { at.lane < 64 }
+    ensures value { GivesCollector parts.now collector.now at result }
+    ensures text { IfErr result StopHasText }
+{
+    may_open(parts, collector, at.lane)?;
+    Ok(new_collector(parts, alloc, at)?)
+}
+
+/// Opens a collector on the lane, and enters that without a reply, or what refuses it. The disk is not called.
+pub fn start<D: Disk, E, C: Clock>(core: &mut Core<D, E, C>, alloc: Global, lane: u32) -> Answer
+    requires lane { lane < 64 }
+    requires room { HasRoom core.old lane }
+    ensures applies { ActApplies D.Disk C.Clock core.old core.new lane Start result }
+    ensures keeps { ActKeeps D.Disk core.old core.new lane Start result }
+    // on any disk
+    ensures told { StartTells core.old core.new lane result }
+{
+    match begin(core, alloc, lane, &Act::Start) {
+        Admitted::Answered(answer) => answer,
+        Admitted::At(at) => match opening(&core.parts, &core.collector, alloc, at) {
+            Ok(collector) => {
+                core.collector = Some(collector);
+                enter(core, at, START_KIND, None)
+            }
+            Err(stop) => settle(core, at, Err(stop)),
+        },
+    }
+}
