@@ -98,12 +98,13 @@ fn settle_next<D: Disk>(
     let Some(index) = collector.plan.index_next() else {
         return Ok(false);
     };
+    let is_fixed = index.name.is_fixed();
     let Some(path) = path_of(&parts.catalogue, index) else {
         pass_over(collector);
         return Ok(false);
     };
     if collector.entries.is_empty() {
-        collector.entries = read_digests(&mut parts.disk, alloc, path, index.name.is_fixed())?;
+        collector.entries = read_digests(&mut parts.disk, alloc, path, is_fixed)?;
     }
     if collector.entries.is_empty() {
         pass_over(collector);

@@ -143,6 +143,7 @@ pub record IsNew (x : Opened) : Type 0 where
 -- nothing has happened yet, and no lane has a session
 pub record HasBegun {D E C : Type 0} (core : Core D E C) : Type 0 where
   pub fault : core.fault ≡ None
+  pub collector : core.collector ≡ None
   -- the last moment of the saved book
   pub last : core.last ≡ (core.upkeep).book.moment
   pub entries : (core.journal).entries.items ≡ []

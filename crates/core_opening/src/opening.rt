@@ -166,6 +166,7 @@ pub fn open_on<D: Disk, E, C: Clock>(
             journal: opened.journal,
             last: opened.upkeep.book.moment(),
             upkeep: opened.upkeep,
+            collector: None,
             fault: None,
         }),
         Err(e) => Err(NotOpened {

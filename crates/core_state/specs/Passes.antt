@@ -1,10 +1,10 @@
 -- What a mark, a visit or the end of a collector leaves, on any disk.
 use Rattle.disk_trait.specs.declared.disk.Disk.{Ghosts}
-use Rattle.std.specs.Prelude.{◌≡◌, ◌≤◌, ◌<◌, ◌⊎◌, ℕ, Bool, true, false, ◌||◌, ◌==◌, if◌then◌else◌, List, [], ◌∷◌, length, Option, Some, None}
+use Rattle.std.specs.Prelude.{◌≡◌, ◌≤◌, ◌<◌, ◌⊎◌, ℕ, Bool, true, false, ◌||◌, ◌==◌, if◌then◌else◌, List, [], ◌∷◌, length, Option, Some}
 use Rattle.store_types.specs.declared.names.Digest32.{Digest32}
 use Rattle.store_types.specs.declared.refusal.Refusal.TheVariants.{DiskFault}
 use Rattle.store_files.specs.Book.{book_text}
-use Rattle.store_files.specs.Folder.{IsDigest, chunk_name}
+use Rattle.store_files.specs.Folder.{chunk_name}
 use Rattle.wire_commands.specs.declared.reply.Reply.TheVariants.{Refused}
 use Rattle.atime_book.specs.Touches.{NoneAfter, as_of, is_stale, last_of}
 use Rattle.atime_book.specs.Present.{is_among}
@@ -42,11 +42,15 @@ MayChange old lane moment kind change =
 
 -- ---- the book
 
--- at most so many chunks were touched, or one was taken out; and what was undated is dated
+-- at most so many chunks are touched, or one is taken out
 abbrev pub PassTouches : LastTouches → LastTouches → ℕ → Type 0
 PassTouches old new when =
-    ((digests : List Digest32) × (length digests ≤ mark_limit) × SameTouches new (dated when (touched (λ d. is_among d digests) when old)))
-    ⊎ ((taken : Option (List ℕ)) × SameTouches new (dated when (without taken old)))
+    ((digests : List Digest32) × (length digests ≤ mark_limit) × SameTouches new (touched (λ d. is_among d digests) when old))
+    ⊎ ((taken : Option (List ℕ)) × SameTouches new (without taken old))
+
+-- and its entry dates what is undated
+abbrev pub PassDates : LastTouches → LastTouches → ℕ → Type 0
+PassDates old new when = (passed : LastTouches) × PassTouches old passed when × SameTouches new (dated when passed)
 
 -- ---- the collector
 
@@ -60,7 +64,7 @@ pub record StepLeaves {D E C : Type 0} (d : Ghosts D) (old new : Core D E C) (la
   pub may_change : MayChange old lane (answer.entry).moment (answer.entry).kind change
   pub content : (answer.reply ≡ Some (Refused DiskFault) → ⊥) → d.honest (old.parts).disk → d.content (new.parts).disk ≡ after change (d.content (old.parts).disk)
   pub crash : LeavesChange d (old.parts).disk (new.parts).disk change
-  pub passes : (answer.entry).kind ≡ 1 → PassTouches (touches_kept old.upkeep) (touches_kept new.upkeep) (answer.entry).moment
+  pub passes : (answer.entry).kind ≡ 1 → PassDates (touches_kept old.upkeep) (touches_kept new.upkeep) (answer.entry).moment
   -- all others touch nothing
   pub untouched : ((answer.entry).kind ≡ 1 → ⊥) → SameTouches (touches_kept new.upkeep) (dated (answer.entry).moment (touches_kept old.upkeep))
   -- no chunk is touched after the last moment

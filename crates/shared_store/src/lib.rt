@@ -4,7 +4,7 @@
 ghost use Rattle.std.specs.Prelude.{◌≡◌, ◌<◌};
 ghost use Rattle.store_history.specs.Acts.{IsWellFormed};
 ghost use Rattle.core_state.specs.Applies.{ActApplies, ActKeeps};
-ghost use Rattle.core_state.specs.Commands.{is_admins};
+ghost use Rattle.core_state.specs.Commands.{is_admins, is_collectors};
 ghost use Rattle.core_state.specs.Reserved.{HasRoom};
 ghost use Rattle.core_state.specs.Unreadables.{CoreUnreadable};
 ghost use Rattle.core_reader.specs.Damages.{CoreDamaged};
@@ -12,6 +12,7 @@ ghost use Rattle.shared_store.specs.AnsweredBy.{CoreAnswersBy};
 ghost use Rattle.shared_store.specs.Asked.{asked, is_readers};
 
 use core_admin::admin_act;
+use core_collect::collect_act;
 use core_reader::reader_act;
 use core_state::{Act, Answer, Core, short};
 use core_writer::{end_act, writer_act};
@@ -54,6 +55,13 @@ fn is_admins(act: &Act) -> bool
     }
 }
 
+/// The act is one of a collector.
+fn is_collectors(act: &Act) -> bool
+    ensures { result ≡ is_collectors act.now }
+{
+    matches!(act, Act::Start | Act::Step)
+}
+
 /// Does one act on a lane, and enters it in the order. It is one atomic step of the store.
 pub fn apply<D: Disk, E, C: Clock>(
     core: &mut Core<D, E, C>,
@@ -68,11 +76,11 @@ pub fn apply<D: Disk, E, C: Clock>(
     ensures applies { ActApplies D.Disk C.Clock core.old core.new lane act result }
     // what it leaves of disk, catalogue, sessions and reserve, by the act and its reply; what a crash leaves
     ensures keeps { ActKeeps D.Disk core.old core.new lane act result }
-    ensures unreadable { CoreUnreadable D.Disk (asked act) core.old lane result }
+    ensures unreadable { CoreUnreadable D.Disk (asked act lane core.old.collector) core.old lane result }
     ensures damaged { CoreDamaged D.Disk core.old lane act result }
     // on any disk OPEN_WRITER, OPEN_READER and the tests of a command on the store as a whole answer what the core keeps; of
-    // FILES, whether there is such a snapshot
-    ensures by_kept { CoreAnswersBy core.old lane act result }
+    // FILES, whether there is such a snapshot; so do a collector's start, and its acts where none is open on the lane
+    ensures by_kept { CoreAnswersBy core.old core.new lane act result }
     ensures short { act ≡ Act.Short → result.entry.kind ≡ 2 }
 {
     if is_readers(&act) {
@@ -80,6 +88,9 @@ pub fn apply<D: Disk, E, C: Clock>(
     }
     if is_admins(&act) {
         return admin_act(core, alloc, lane, act);
+    }
+    if is_collectors(&act) {
+        return collect_act(core, alloc, lane, act);
     }
     match act {
         Act::Short => short(core, alloc, lane),
