@@ -1,9 +1,9 @@
 -- The acts on the store as a whole are well-formed commands.
 use Rattle.std.proofs.Common.{◌≡◌, false, refl}
-use Rattle.wire_commands.specs.declared.command.Command.TheVariants.{OpenWriter, Previous, NewFixed, NewDynamic, Chunk as ChunkCommand, Append, CloseIndex, Blob as BlobCommand, Finish, Abort, OpenReader, Download, GetChunk, Range, CloseReader, List as ListAll, Files as FilesOf, Forget, Prune, Group, Bye}
+use Rattle.wire_commands.specs.declared.command.Command.TheVariants.{OpenWriter, Previous, NewFixed, NewDynamic, Chunk as ChunkCommand, Append, CloseIndex, Blob as BlobCommand, Finish, Abort, OpenReader, Download, GetChunk, Range, CloseReader, List as ListAll, Files as FilesOf, Forget, Prune, Verify, Sync, Gc, Group, Bye}
 use Rattle.store_history.specs.Acts.{IsWellFormed, class_of, stepping}
 use Rattle.store_history.specs.declared.act.Act.{Act}
-use Rattle.store_history.specs.declared.act.Act.TheVariants.{Plain, JobGroup, Blob, Chunk, Short, End}
+use Rattle.store_history.specs.declared.act.Act.TheVariants.{Plain, JobGroup, Blob, Chunk, Start, Step, Short, End}
 use Rattle.store_history.specs.LastTouches.{may_touch}
 use Rattle.core_admin.specs.AdminActs.{IsAdmins}
 
@@ -23,6 +23,9 @@ admins_formed (Plain (Download file offset)) h = absurd h
 admins_formed (Plain (GetChunk digest)) h = absurd h
 admins_formed (Plain (Range file offset len)) h = absurd h
 admins_formed (Plain CloseReader) h = absurd h
+admins_formed (Plain (Verify snapshot)) h = absurd h
+admins_formed (Plain (Sync group)) h = absurd h
+admins_formed (Plain Gc) h = absurd h
 admins_formed (Plain Bye) h = absurd h
 admins_formed (Plain (ListAll after)) h = tt
 admins_formed (Plain (FilesOf snapshot)) h = tt
@@ -33,6 +36,8 @@ admins_formed (JobGroup (Prune group keep dry)) h = tt
 admins_formed (JobGroup _) h = absurd h
 admins_formed (Blob name checked) h = absurd h
 admins_formed (Chunk digest checked) h = absurd h
+admins_formed Start h = absurd h
+admins_formed Step h = absurd h
 admins_formed Short h = absurd h
 admins_formed End h = absurd h
 
@@ -41,6 +46,8 @@ admins_step (Plain c) h = refl
 admins_step (JobGroup c) h = refl
 admins_step (Blob name checked) h = absurd h
 admins_step (Chunk digest checked) h = absurd h
+admins_step Start h = absurd h
+admins_step Step h = absurd h
 admins_step Short h = absurd h
 admins_step End h = absurd h
 

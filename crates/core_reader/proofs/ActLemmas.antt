@@ -2,10 +2,10 @@
 use Rattle.std.proofs.Common.{◌≡◌, ℕ, false, Option, Result, refl}
 use Rattle.disk_trait.specs.declared.disk.Disk.{Ghosts}
 use Rattle.port_traits.specs.Readings.{Readings}
-use Rattle.wire_commands.specs.declared.command.Command.TheVariants.{OpenWriter, Previous, NewFixed, NewDynamic, Chunk as ChunkCommand, Append, CloseIndex, Blob as BlobCommand, Finish, Abort, OpenReader, Download, GetChunk, Range, CloseReader, List as ListAll, Files as FilesOf, Forget, Prune, Group, Bye}
+use Rattle.wire_commands.specs.declared.command.Command.TheVariants.{OpenWriter, Previous, NewFixed, NewDynamic, Chunk as ChunkCommand, Append, CloseIndex, Blob as BlobCommand, Finish, Abort, OpenReader, Download, GetChunk, Range, CloseReader, List as ListAll, Files as FilesOf, Forget, Prune, Verify, Sync, Gc, Group, Bye}
 use Rattle.wire_commands.specs.declared.reply.Reply.{Reply}
 use Rattle.store_history.specs.declared.act.Act.{Act}
-use Rattle.store_history.specs.declared.act.Act.TheVariants.{Plain, JobGroup, Blob, Chunk, Short, End}
+use Rattle.store_history.specs.declared.act.Act.TheVariants.{Plain, JobGroup, Blob, Chunk, Start, Step, Short, End}
 use Rattle.store_history.specs.declared.act.Answer.{Answer}
 use Rattle.store_history.specs.Acts.{IsWellFormed, class_of, stepping}
 use Rattle.store_history.specs.LastTouches.{may_touch}
@@ -40,10 +40,15 @@ readers_formed (Plain (FilesOf snapshot)) h = absurd h
 readers_formed (Plain (Forget snapshot)) h = absurd h
 readers_formed (Plain (Prune group keep dry)) h = absurd h
 readers_formed (Plain (Group group)) h = absurd h
+readers_formed (Plain (Verify snapshot)) h = absurd h
+readers_formed (Plain (Sync group)) h = absurd h
+readers_formed (Plain Gc) h = absurd h
 readers_formed (Plain Bye) h = absurd h
 readers_formed (JobGroup command) h = absurd h
 readers_formed (Blob name checked) h = absurd h
 readers_formed (Chunk digest checked) h = absurd h
+readers_formed Start h = absurd h
+readers_formed Step h = absurd h
 readers_formed Short h = absurd h
 readers_formed End h = absurd h
 
@@ -52,6 +57,8 @@ readers_step (Plain c) h = refl
 readers_step (JobGroup command) h = absurd h
 readers_step (Blob name checked) h = absurd h
 readers_step (Chunk digest checked) h = absurd h
+readers_step Start h = absurd h
+readers_step Step h = absurd h
 readers_step Short h = absurd h
 readers_step End h = absurd h
 

@@ -236,6 +236,8 @@ act_does s lane moment (acts.Plain command) = outcome s lane moment command
 act_does s lane moment (acts.JobGroup command) = outcome s lane moment command
 act_does s lane moment (acts.Blob name checked) = checked_blob s lane name (data_in checked)
 act_does s lane moment (acts.Chunk digest checked) = checked_chunk s lane (data_in checked)
+act_does s lane moment acts.Start = Err refusals.NoMemory
+act_does s lane moment acts.Step = Err refusals.NoMemory
 act_does s lane moment acts.Short = Err refusals.NoMemory
 act_does s lane moment acts.End = Ok (ended s lane, replies.Done)
 
@@ -245,6 +247,8 @@ does_is remote w s lane moment (acts.Plain command) = refl
 does_is remote w s lane moment (acts.JobGroup command) = refl
 does_is remote w s lane moment (acts.Blob name checked) = refl
 does_is remote w s lane moment (acts.Chunk digest checked) = refl
+does_is remote w s lane moment acts.Start = refl
+does_is remote w s lane moment acts.Step = refl
 does_is remote w s lane moment acts.Short = refl
 does_is remote w s lane moment acts.End = refl
 
@@ -306,6 +310,7 @@ quiet_reads (acts.Plain (CloseIndex number count size csum)) quiet = cc
 quiet_reads (acts.Plain Finish) quiet = cc
 quiet_reads (acts.Plain Abort) quiet = cc
 quiet_reads (acts.Plain (Forget snapshot)) quiet = cc
+quiet_reads acts.Step quiet = cc
 quiet_reads acts.End quiet = cc
 quiet_reads act quiet = refl
 

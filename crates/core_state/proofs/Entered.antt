@@ -13,6 +13,7 @@ use Rattle.store_history.specs.History.{World, opened, after, moved, entry, mome
 use Rattle.store_history.specs.Legal.{IsRight, Right, moment_at, later, readings_left, moment_after}
 use Rattle.store_history.proofs.Longer.{after_all_more, legal_more, timed_more, readings_more, moment_is, events_after, entries_more}
 use Rattle.core_state.specs.declared.state.Core.{Core}
+use Rattle.core_state.specs.Collectors.{collector_by, open_in, shown_collecting}
 use Rattle.core_state.specs.Holds.{Shows, IsOnDisk}
 use Rattle.core_state.specs.History.{History, world, then_event, pieces_of, event_of, KeepsTime, StandsFor}
 use Rattle.core_state.specs.Settles.{IsEntered}
@@ -39,6 +40,7 @@ pub record Grows {D E C : Type 0} (d : Ghosts D) (readings : C → Option Readin
   pub reached : e.calls ≤ d.calls (new.parts).disk
   pub honest : d.honest (new.parts).disk
   pub shows : Shows new.parts (after h.remote (world h) e).store
+  pub collecting : open_in new.collector ≡ shown_collecting (after h.remote (world h) e).collecting
   pub files : (after h.remote (world h) e).fault ≡ None → IsOnDisk (d.content (new.parts).disk) (after h.remote (world h) e).store
   pub chunks : (after h.remote (world h) e).fault ≡ None → HoldsOnly (d.content (new.parts).disk) (pieces_of h ++ sent_by e.act)
 
@@ -70,6 +72,7 @@ grown d readings old new h e s g = let more = sym (world_more h e) in record {
   reached = let at = ap (λ w. w.calls) (world_more h e) in let r = g.reached in omega (arith, at, r);
   honest = g.honest;
   shows = subst (λ w. Shows new.parts w.store) more g.shows;
+  collecting = g.collecting ∙ ap (λ w. shown_collecting w.collecting) more;
   files = subst (λ w. w.fault ≡ None → IsOnDisk (d.content (new.parts).disk) w.store) more g.files;
   chunks = λ none. subst (λ ps. HoldsOnly (d.content (new.parts).disk) ps) (sym (pieces_more h e)) (g.chunks (ap (λ w. w.fault) more ∙ none));
 }
@@ -96,6 +99,8 @@ pub record IsActed {D E C : Type 0} (d : Ghosts D) (readings : C → Option Read
   pub honest : d.honest (mid.parts).disk
   pub fault : mid.fault ≡ (moves h k m act n).fault
   pub shows : Shows mid.parts (moves h k m act n).store
+  -- its collector is that once it is entered
+  pub collecting : open_in (collector_by n k mid.collector) ≡ shown_collecting (moves h k m act n).collecting
   pub files : (moves h k m act n).fault ≡ None → IsOnDisk (d.content (mid.parts).disk) (moves h k m act n).store
   pub chunks : (moves h k m act n).fault ≡ None → HoldsOnly (d.content (mid.parts).disk) (pieces_of h ++ sent_by act)
 
@@ -136,6 +141,7 @@ entered_stands d readings old mid new h k m act n reply answer s inside formed s
       reached = omega arith;
       honest = subst (λ p. d.honest p.disk) (sym e.parts) a.honest;
       shows = subst (λ x. Shows new.parts x.store) moved_is (subst (λ p. Shows p (moves h k m act n).store) (sym e.parts) a.shows);
+      collecting = ap open_in e.collector ∙ a.collecting ∙ ap (λ x. shown_collecting x.collecting) moved_is;
       files = subst (λ x. x.fault ≡ None → IsOnDisk (d.content (new.parts).disk) x.store) moved_is
           (subst (λ p. (moves h k m act n).fault ≡ None → IsOnDisk (d.content p.disk) (moves h k m act n).store) (sym e.parts) a.files);
       chunks = subst (λ x. x.fault ≡ None → HoldsOnly (d.content (new.parts).disk) (pieces_of h ++ sent_by act)) moved_is

@@ -1,5 +1,5 @@
 -- An act changes what stands at files of snapshots and at a chunk's name, and at no name that is none of the store's.
-use Rattle.std.proofs.Common.{◌≡◌, ◌≢◌, ◌<◌, ℕ, suc, Bool, true, false, if◌then◌else◌, cond, List, [], ◌∷◌, ◌++◌, get_or, Option, Some, None, IfSome, Result, Ok, Err, IsTrue, is_some, refl, sym, ap, subst, ◌∙◌, arith}
+use Rattle.std.proofs.Common.{◌≡◌, ◌≢◌, ◌<◌, ℕ, suc, Bool, true, false, if◌then◌else◌, cond, List, [], ◌∷◌, ◌++◌, get_or, Option, Some, None, IfSome, Result, Ok, Err, IsTrue, is_some, ⊎_elim, refl, sym, ap, subst, ◌∙◌, arith}
 use Rattle.std.specs.Prelude.{◌==◌, codes}
 use Rattle.std.specs.List.{All, Contains, cons_option, find}
 use Rattle.std.specs.Str.{bytes_eq}
@@ -26,6 +26,7 @@ use Rattle.store_model.specs.Weave.{first_fault}
 use Rattle.store_history.specs.declared.act.Act.{Act}
 use Rattle.store_history.specs.declared.act.Act.TheVariants as acts
 use Rattle.store_history.specs.declared.act.Answer.{Answer}
+use Rattle.store_history.specs.Saved.{book_name}
 use Rattle.backup_session.specs.Session.{Open, length_at}
 use Rattle.backup_session.specs.Steps.{begun_at}
 use Rattle.core_state.specs.declared.kept.Kept.{Kept}
@@ -35,13 +36,14 @@ use Rattle.core_state.specs.declared.kept.Session.TheVariants.{Idle, Writer, Rea
 use Rattle.core_state.specs.declared.kept.StoredFile.{StoredFile}
 use Rattle.core_state.specs.declared.kept.Writing.{Writing}
 use Rattle.core_state.specs.declared.state.Core.{Core}
-use Rattle.core_state.specs.Answers.{HasCause, EndHasCause, IsCaused, done, short, failed, halted, ended, end_failed, fault_after}
+use Rattle.core_state.specs.Answers.{HasCause, EndHasCause, StartHasCause, StepHasCause, IsCaused, done, short, failed, halted, ended, end_failed, start_opens, start_as_any, step_passes, step_ends, step_as_any, fault_after}
 use Rattle.core_state.specs.Applies.{ActKeeps}
 use Rattle.core_state.specs.Changes.{Change, stays, undone, installs, stores, drops, finishes, forgets, after, by_reply, by_writer, change_of, chunk_put, blob_put, index_put, finish_by, finish_put, manifest_by, put_paths, names_beside, forgotten}
-use Rattle.core_state.specs.Commands.{change_at}
+use Rattle.core_state.specs.Commands.{change_at, is_step}
 use Rattle.core_state.specs.Foreign.{IsForeign, KeepsForeign}
 use Rattle.core_state.specs.Holds.{Shows}
-use Rattle.core_state.specs.Replies.{command_answers, may_answer}
+use Rattle.core_state.specs.Passes.{MayChange, StepLeaves}
+use Rattle.core_state.specs.Replies.{command_answers, may_answer, may_end}
 use Rattle.core_state.specs.Shown.{shown_file, shown_files, shown_session}
 use Rattle.core_state.specs.Wanted.{session_at}
 use Rattle.core_state.proofs.AnyPaths.{temporary_in}
@@ -181,6 +183,8 @@ module _ (q : List ℕ) (none : IsNoFile q) where
   missed_change : (act : Act) (session : Session) (catalogue : List Listed) → MissesChunk q act → MissesFiles q session → MissesAll q (change_of act session catalogue)
   missed_change (acts.Blob name checked) session catalogue chunk has = missed_writer q session _ has (λ w all. missed_blob name checked w)
   missed_change (acts.Chunk digest checked) session catalogue chunk has = missed_writer q session _ has (λ w all. missed_stored q digest checked w chunk)
+  missed_change acts.Start session catalogue chunk has = tt
+  missed_change acts.Step session catalogue chunk has = tt
   missed_change acts.Short session catalogue chunk has = tt
   missed_change acts.End session catalogue chunk has = missed_writer q session _ has (λ w all. missed_paths q w.files all)
   missed_change (acts.JobGroup command) session catalogue chunk has = tt
@@ -230,6 +234,8 @@ not_told (acts.Plain c) = not_command c
 not_told (acts.JobGroup c) = not_job c
 not_told (acts.Blob name checked) = refl
 not_told (acts.Chunk digest checked) = refl
+not_told acts.Start = refl
+not_told acts.Step = refl
 not_told acts.Short = refl
 not_told acts.End = refl
 
@@ -267,11 +273,25 @@ not_ended : {D E C : Type 0} (d : Ghosts D) (old new : Core D E C) (answer : Ans
 not_ended d old new answer (ended kind told) none is = none_fault (sym told ∙ is)
 not_ended d old new answer (end_failed before kind told fault rose) none is = some_none answer.place (sym fault ∙ none)
 
+no_fault_ends : (reply : Reply) → IsTrue (may_end reply) → reply ≡ replies.Refused refusals.DiskFault → ⊥
+no_fault_ends reply may is = true_false (may_end reply) may (ap may_end is)
+
+not_started : {D E C : Type 0} (d : Ghosts D) (old new : Core D E C) (act : Act) (answer : Answer) → StartHasCause d old new act answer → new.fault ≡ None → answer.reply ≡ Some (replies.Refused refusals.DiskFault) → ⊥
+not_started d old new act answer (start_opens before kind told) none is = none_fault (sym told ∙ is)
+not_started d old new act answer (start_as_any cause) none is = not_caused d old new act answer cause none is
+
+not_stepped : {D E C : Type 0} (d : Ghosts D) (old new : Core D E C) (act : Act) (answer : Answer) → StepHasCause d old new act answer → new.fault ≡ None → answer.reply ≡ Some (replies.Refused refusals.DiskFault) → ⊥
+not_stepped d old new act answer (step_passes before kind told) none is = none_fault (sym told ∙ is)
+not_stepped d old new act answer (step_ends before kind reply told may) none is = no_fault_ends reply may (same_some reply (replies.Refused refusals.DiskFault) (sym told ∙ is))
+not_stepped d old new act answer (step_as_any cause) none is = not_caused d old new act answer cause none is
+
 pub not_faulted : {D E C : Type 0} (d : Ghosts D) (old new : Core D E C) (act : Act) (answer : Answer) → IsCaused d old new act answer → new.fault ≡ None → answer.reply ≡ Some (replies.Refused refusals.DiskFault) → ⊥
 not_faulted d old new (acts.Plain c) answer cause = not_caused d old new (acts.Plain c) answer cause
 not_faulted d old new (acts.JobGroup c) answer cause = not_caused d old new (acts.JobGroup c) answer cause
 not_faulted d old new (acts.Blob name checked) answer cause = not_caused d old new (acts.Blob name checked) answer cause
 not_faulted d old new (acts.Chunk digest checked) answer cause = not_caused d old new (acts.Chunk digest checked) answer cause
+not_faulted d old new acts.Start answer cause = not_started d old new acts.Start answer cause
+not_faulted d old new acts.Step answer cause = not_stepped d old new acts.Step answer cause
 not_faulted d old new acts.Short answer cause = λ none is. short_fault (sym cause.1 ∙ is)
 not_faulted d old new acts.End answer cause = not_ended d old new answer cause
 
@@ -288,21 +308,51 @@ no_fault_before place kind (Some first) e = absurd (by_test (kind == 5) e)
 
 -- what stands at a name that is no file's stays, but for the chunk that the act puts
 pub others_kept : {D E C : Type 0} (d : Ghosts D) (old new : Core D E C) (s : Store) (lane place : ℕ) (act : Act) (answer : Answer) → lane < 64 → Shows old.parts s → d.honest (old.parts).disk
-    → new.fault ≡ fault_after place (answer.entry).kind old.fault → IsCaused d old new act answer → ActKeeps d old new lane act answer → new.fault ≡ None
+    → new.fault ≡ fault_after place (answer.entry).kind old.fault → IsCaused d old new act answer → ActKeeps d old new lane act answer → is_step act ≡ false → new.fault ≡ None
     → (q : List ℕ) → IsNoFile q → MissesChunk q act → get (d.content (new.parts).disk) q ≡ get (d.content (old.parts).disk) q
-others_kept d old new s lane place act answer lt shows honest fault cause keeps none q no_file chunk =
+others_kept d old new s lane place act answer lt shows honest fault cause keeps no_step none q no_file chunk =
     let before = no_fault_before place (answer.entry).kind old.fault (sym fault ∙ none) in
     let has : MissesFiles q (session_at old.parts lane) = subst (MissesFiles q) (sym (session_shown old.parts s lane shows lt)) (missed_shown q no_file (session s lane) s.snapshots) in
     let miss = missed_reply q (change_at old.parts lane act) answer.reply (missed_change q no_file act (session_at old.parts lane) (old.parts).catalogue.items chunk has) in
-    ap (λ m. get m q) (keeps.content before (not_faulted d old new act answer cause none) honest)
+    ap (λ m. get m q) (keeps.content no_step before (not_faulted d old new act answer cause none) honest)
     ∙ missed_after (by_reply (change_at old.parts lane act) answer.reply) (d.content (old.parts).disk) q miss
 
 foreign_chunk : (q : List ℕ) (act : Act) → IsForeign q → MissesChunk q act
 foreign_chunk q (acts.Chunk digest checked) foreign = (foreign.chunk digest.0, foreign.lasting (chunk_name digest.0))
 foreign_chunk q act foreign = tt
 
+-- a mark or a visit changes a chunk's name at most, and the end of a collector the book's
+one_missed : (q p : List ℕ) → Misses q p → All (Misses q) (p ∷ [])
+one_missed q p miss = All-cons (Misses q) p [] miss (λ k d lt. absurd (none k lt))
+  where
+    none : (k : ℕ) → k < 0 → ⊥
+    none k lt = omega (arith, lt)
+
+stepped_missed : {D E C : Type 0} (old : Core D E C) (lane moment kind : ℕ) (change : Change) (q : List ℕ) → MayChange old lane moment kind change
+    → ((digest : List ℕ) → Misses q (chunk_name digest)) → Misses q book_name → MissesAll q change
+stepped_missed old lane moment kind change q may chunk book = ⊎_elim {C = MissesAll q change}
+    (λ (none : change ≡ stays). subst (MissesAll q) (sym none) tt)
+    (λ some. ⊎_elim {C = MissesAll q change}
+      (λ one. subst (MissesAll q) (sym (one.1).change_is) (one_missed q (chunk_name ((one.1).digest).0) (chunk ((one.1).digest).0)))
+      (λ saved. subst (MissesAll q) (sym saved.1) book)
+      some)
+    may
+
+pub stepped_kept : {D E C : Type 0} (d : Ghosts D) (old new : Core D E C) (lane : ℕ) (act : Act) (answer : Answer) → d.honest (old.parts).disk
+    → IsCaused d old new act answer → StepLeaves d old new lane answer → new.fault ≡ None
+    → (q : List ℕ) → ((digest : List ℕ) → Misses q (chunk_name digest)) → Misses q book_name → get (d.content (new.parts).disk) q ≡ get (d.content (old.parts).disk) q
+stepped_kept d old new lane act answer honest cause leaves none q chunk book =
+    ap (λ m. get m q) (leaves.content (not_faulted d old new act answer cause none) honest)
+    ∙ missed_after leaves.change (d.content (old.parts).disk) q (stepped_missed old lane (answer.entry).moment (answer.entry).kind leaves.change q leaves.may_change chunk book)
+
 pub foreign_kept : {D E C : Type 0} (d : Ghosts D) (old new : Core D E C) (s : Store) (lane place : ℕ) (act : Act) (answer : Answer) → lane < 64 → Shows old.parts s → d.honest (old.parts).disk
     → new.fault ≡ fault_after place (answer.entry).kind old.fault → IsCaused d old new act answer → ActKeeps d old new lane act answer → new.fault ≡ None
     → KeepsForeign d (old.parts).disk (new.parts).disk
-foreign_kept d old new s lane place act answer lt shows honest fault cause keeps none q foreign =
-    others_kept d old new s lane place act answer lt shows honest fault cause keeps none q foreign.file (foreign_chunk q act foreign)
+foreign_kept d old new s lane place act answer lt shows honest fault cause keeps none q foreign = by_test (is_step act) refl
+  where
+    by_test : (b : Bool) → is_step act ≡ b → get (d.content (new.parts).disk) q ≡ get (d.content (old.parts).disk) q
+    by_test true is =
+        stepped_kept d old new lane act answer honest cause (keeps.stepped is) none q
+        (λ digest. (foreign.chunk digest, foreign.lasting (chunk_name digest))) (foreign.book, foreign.lasting book_name)
+    by_test false is =
+        others_kept d old new s lane place act answer lt shows honest fault cause keeps is none q foreign.file (foreign_chunk q act foreign)

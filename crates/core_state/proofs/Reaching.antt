@@ -12,11 +12,11 @@ use Rattle.core_state.specs.History.{History, event_of, then_event}
 use Rattle.core_state.specs.Records.{Reaches, Records, opened_with}
 use Rattle.core_state.proofs.Chunks.{clear_before}
 use Rattle.core_state.proofs.ForeignLemmas.{foreign_kept, no_fault_before}
-use Rattle.core_state.proofs.Recovering.{clear_for}
+use Rattle.core_state.proofs.Recovering.{clear_for, kept_for}
 
 pub reaches_first : {D E C : Type 0} (d : Ghosts D) (readings : C → Option Readings) (core : Core D E C) (h : History)
     → Records readings core h → Reaches d readings core h core h
-reaches_first d readings core h r = record { records = r; stands = λ L R s _. s; foreign = λ L R s clear none q own. refl; recovers = λ told start L R s r _. r; touches = λ L R s m _. m }
+reaches_first d readings core h r = record { records = r; stands = λ L R s m _. s; foreign = λ L R s m clear none q own. refl; recovers = λ told start L R s m r _. r; touches = λ L R s m _. m }
 
 -- one act more
 pub reaches_more : {D E C : Type 0} (d : Ghosts D) (clock : clocks.Ghosts C) (first : Core D E C) (began : History) (old new : Core D E C) (lane : ℕ) (act : Act) (answer : Answer)
@@ -25,16 +25,18 @@ pub reaches_more : {D E C : Type 0} (d : Ghosts D) (clock : clocks.Ghosts C) (fi
 reaches_more d clock first began old new lane act answer lt applies keeps h x =
     let e = event_of act answer (d.calls (new.parts).disk) in record {
       records = applies.records h x.records;
-      stands = λ L R s clear. applies.history (opened_with L R h) (x.stands L R s (clear_before h e clear)) (clear_for act (opened_with L R (then_event h e)) clear);
-      foreign = λ L R s clear none q own.
+      stands = λ L R s m clear.
           let was = clear_before h e clear in
-          let so = x.stands L R s was in
+          applies.history (opened_with L R h) (x.stands L R s m was) (kept_for d old act (opened_with L R h) (x.touches L R s m was)) (clear_for act (opened_with L R (then_event h e)) clear);
+      foreign = λ L R s m clear none q own.
+          let was = clear_before h e clear in
+          let so = x.stands L R s m was in
           let before = no_fault_before _ (answer.entry).kind old.fault (sym (applies.answers).fault ∙ none) in
-          foreign_kept d old new _ lane _ act answer lt so.shows so.honest (applies.answers).fault applies.cause keeps none q own ∙ x.foreign L R s was before q own;
-      recovers = λ told start L R s r clear.
+          foreign_kept d old new _ lane _ act answer lt so.shows so.honest (applies.answers).fault applies.cause keeps none q own ∙ x.foreign L R s m was before q own;
+      recovers = λ told start L R s m r clear.
           let was = clear_before h e clear in
-          applies.recovers told start (opened_with L R h) (x.stands L R s was) clear (x.recovers told start L R s r was);
+          applies.recovers told start (opened_with L R h) (x.stands L R s m was) clear (kept_for d old act (opened_with L R h) (x.touches L R s m was)) (x.recovers told start L R s m r was);
       touches = λ L R s m clear.
           let was = clear_before h e clear in
-          applies.touches (opened_with L R h) (x.stands L R s was) (x.touches L R s m was) (clear_for act (opened_with L R (then_event h e)) clear);
+          applies.touches (opened_with L R h) (x.stands L R s m was) (x.touches L R s m was) (clear_for act (opened_with L R (then_event h e)) clear);
     }

@@ -10,7 +10,7 @@ use Rattle.store_model.specs.Stands.{StandsFor as Stands}
 use Rattle.store_model.specs.Store.{Store}
 use Rattle.store_model.specs.Weave.{first_fault}
 use Rattle.store_history.specs.declared.act.Act.{Act}
-use Rattle.store_history.specs.declared.act.Act.TheVariants.{Chunk}
+use Rattle.store_history.specs.declared.act.Act.TheVariants.{Chunk, Step}
 use Rattle.store_history.specs.declared.act.Answer.{Answer}
 use Rattle.store_history.specs.declared.act.Event.{Event}
 use Rattle.store_history.specs.CrashPoints.{Either, Reopens, is_past, one_more, undisturbed}
@@ -20,9 +20,10 @@ use Rattle.store_history.proofs.Longer.{calls_risen}
 use Rattle.store_history.proofs.Prefixes.{reopens_before, reopens_from, reopens_halted, reopens_to}
 use Rattle.core_state.specs.declared.state.Core.{Core}
 use Rattle.core_state.specs.Answers.{IsAnswered, IsCaused, fault_after}
-use Rattle.core_state.specs.Applies.{ActKeeps, IsClearFor}
+use Rattle.core_state.specs.Applies.{ActKeeps, IsClearFor, IsKeptFor}
 use Rattle.core_state.specs.History.{History, IsClear, StandsFor, event_of, then_event, world}
 use Rattle.core_state.specs.Holds.{Holds}
+use Rattle.core_state.specs.KeepsTouches.{KeepsTouches}
 use Rattle.core_state.specs.Recovers.{Recovers, TellsMoments}
 use Rattle.core_state.proofs.Calls.{later}
 use Rattle.core_state.proofs.ForeignLemmas.{not_faulted}
@@ -46,6 +47,11 @@ after_is R w e calm = ap (λ b. if b then undisturbed R w e else (after R w e).s
 pub clear_for : (act : Act) (h : History) → IsClear h → IsClearFor act h
 clear_for (Chunk digest checked) h clear = clear
 clear_for act h clear = tt
+
+-- each act may ask for it
+pub kept_for : {D E C : Type 0} (d : Ghosts D) (core : Core D E C) (act : Act) (h : History) → KeepsTouches d core h → IsKeptFor d core act h
+kept_for d core Step h keeps = keeps
+kept_for d core act h keeps = tt
 
 some_is : (o : Option ℕ) (n : ℕ) → o ≡ Some n → is_none o ≡ false
 some_is o n e = ap is_none e

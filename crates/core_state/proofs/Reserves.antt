@@ -12,7 +12,7 @@ use Rattle.wire_commands.specs.declared.reply.Reply.TheVariants.{Refused}
 use Rattle.store_history.specs.declared.act.Act.{Act}
 use Rattle.store_history.specs.declared.act.Act.TheVariants as acts
 use Rattle.store_history.specs.declared.act.Answer.{Answer}
-use Rattle.store_history.specs.Acts.{ending, class_of}
+use Rattle.store_history.specs.Acts.{sweeping, ending, class_of}
 use Rattle.core_state.specs.declared.journal.Journal.{Journal}
 use Rattle.core_state.specs.declared.kept.Session.{Session}
 use Rattle.core_state.specs.declared.kept.Session.TheVariants.{Idle, Writer, Reader}
@@ -98,10 +98,15 @@ closing_two None (acts.Plain (commands.Files snapshot)) x h = absurd (true_false
 closing_two None (acts.Plain (commands.Forget snapshot)) x h = absurd (true_false (sym h))
 closing_two None (acts.Plain (commands.Prune group keep dry)) x h = absurd (true_false (sym h))
 closing_two None (acts.Plain (commands.Group group)) x h = absurd (true_false (sym h))
+closing_two None (acts.Plain (commands.Verify snapshot)) x h = absurd (true_false (sym h))
+closing_two None (acts.Plain (commands.Sync group)) x h = absurd (true_false (sym h))
+closing_two None (acts.Plain commands.Gc) x h = absurd (true_false (sym h))
 closing_two None (acts.Plain commands.Bye) x h = absurd (true_false (sym h))
 closing_two None (acts.JobGroup command) x h = absurd (true_false (sym h))
 closing_two None (acts.Blob name checked) x h = absurd (true_false (sym h))
 closing_two None (acts.Chunk digest checked) x h = absurd (true_false (sym h))
+closing_two None acts.Start x h = absurd (true_false (sym h))
+closing_two None acts.Step x h = absurd (true_false (sym h))
 closing_two None acts.Short x h = absurd (true_false (sym h))
 closing_two None acts.End x h = absurd (true_false (sym h))
 
@@ -276,10 +281,12 @@ end_failed_keeps d readings old mid acted new lane moment answer none busy befor
 
 -- ---- any act
 
-pub no_end_keeps : {D E C : Type 0} (old new : Core D E C) (lane : ℕ) (act : Act) (answer : Answer) → (class_of act ≡ ending → ⊥) → KeepsReserve old new lane (is_closing old lane act) answer → Keeps act old new lane answer
-no_end_keeps old new lane (acts.Plain command) answer other h = h
-no_end_keeps old new lane (acts.JobGroup command) answer other h = h
-no_end_keeps old new lane (acts.Blob name checked) answer other h = h
-no_end_keeps old new lane (acts.Chunk digest checked) answer other h = h
-no_end_keeps old new lane acts.Short answer other h = h
-no_end_keeps old new lane acts.End answer other h = absurd (other refl)
+pub no_end_keeps : {D E C : Type 0} (old new : Core D E C) (lane : ℕ) (act : Act) (answer : Answer) → (class_of act ≡ ending → ⊥) → (class_of act ≡ sweeping → ⊥) → KeepsReserve old new lane (is_closing old lane act) answer → Keeps act old new lane answer
+no_end_keeps old new lane (acts.Plain command) answer other no_step h = h
+no_end_keeps old new lane (acts.JobGroup command) answer other no_step h = h
+no_end_keeps old new lane (acts.Blob name checked) answer other no_step h = h
+no_end_keeps old new lane (acts.Chunk digest checked) answer other no_step h = h
+no_end_keeps old new lane acts.Start answer other no_step h = h
+no_end_keeps old new lane acts.Step answer other no_step h = absurd (no_step refl)
+no_end_keeps old new lane acts.Short answer other no_step h = h
+no_end_keeps old new lane acts.End answer other no_step h = absurd (other refl)

@@ -19,7 +19,7 @@ use Rattle.store_model.specs.Steps.{outcome, answered}
 use Rattle.store_history.specs.declared.act.Act.{Act}
 use Rattle.store_history.specs.declared.act.Act.TheVariants as acts
 use Rattle.store_history.specs.Acts.{IsPrune, IsWellFormed}
-use Rattle.store_history.specs.History.{World, EntryKind, step_kind, short_kind, fault_kind, end_kind, no_kind, kind_of, act_outcome, data_in, moved}
+use Rattle.store_history.specs.History.{World, EntryKind, step_kind, pass_kind, short_kind, start_kind, close_kind, fault_kind, end_kind, remote_kind, no_kind, kind_of, act_outcome, data_in, moved}
 
 -- a FINISH or a FORGET
 abbrev pub moves_manifest : Act → Bool
@@ -87,6 +87,9 @@ command_keeps s k m (commands.Forget text) off = cc
 command_keeps s k m (commands.Prune name keep dry) off =
     bound s (want_idle (session s k)) _ (λ a. bound s (or_else BadName (group_of name)) _ (λ g. bound s (unless (TooMany 1000) (counts_fit keep)) _ (λ b. refl)))
 command_keeps s k m (commands.Group name) off = bound s (or_else BadName (group_of name)) _ (λ g. refl)
+command_keeps s k m (commands.Verify text) off = refl
+command_keeps s k m (commands.Sync name) off = refl
+command_keeps s k m commands.Gc off = refl
 command_keeps s k m commands.Bye off = refl
 
 job_keeps : (s : Store) (k m : ℕ) (c : Command) → IsPrune c → Keeps s (outcome s k m c)
@@ -99,6 +102,8 @@ act_keeps R w k m (acts.Plain c) formed off = command_keeps w.store k m c off
 act_keeps R w k m (acts.JobGroup c) formed off = job_keeps w.store k m c formed
 act_keeps R w k m (acts.Blob name checked) formed off = blob_keeps w.store k name (data_in checked)
 act_keeps R w k m (acts.Chunk digest checked) formed off = chunk_keeps w.store k (data_in checked)
+act_keeps R w k m acts.Start formed off = tt
+act_keeps R w k m acts.Step formed off = tt
 act_keeps R w k m acts.Short formed off = tt
 act_keeps R w k m acts.End formed off = refl
 
@@ -116,9 +121,13 @@ answered_keeps s (Err refusal) keeps = refl
 moved_keeps : (R : Option (List Snapshot)) (w : World) (k m : ℕ) (a : Act) (n : EntryKind) → IsWellFormed a → moves_manifest a ≡ false → ((moved R w k m a n).store).snapshots ≡ (w.store).snapshots
 unfolding moved
 moved_keeps R w k m a step_kind formed off = answered_keeps w.store (act_outcome R w k m a) (act_keeps R w k m a formed off)
+moved_keeps R w k m a pass_kind formed off = refl
 moved_keeps R w k m a short_kind formed off = refl
+moved_keeps R w k m a start_kind formed off = refl
+moved_keeps R w k m a close_kind formed off = refl
 moved_keeps R w k m a fault_kind formed off = refl
 moved_keeps R w k m a end_kind formed off = refl
+moved_keeps R w k m a remote_kind formed off = refl
 moved_keeps R w k m a no_kind formed off = refl
 
 pub next_keeps : (R : Option (List Snapshot)) (w : World) (k m : ℕ) (a : Act) (n : ℕ) → IsWellFormed a → moves_manifest a ≡ false → (next_store R w k m a n).snapshots ≡ (w.store).snapshots

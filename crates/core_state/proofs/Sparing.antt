@@ -132,5 +132,7 @@ module _ (s : Store) (lane : ℕ) (sound : IsSound s) where
   spares_change (acts.JobGroup c) catalogue is = tt
   spares_change (acts.Blob name checked) catalogue is = by_session (blob_put name checked) (λ w h. spares_blob s.snapshots w sound.each h name checked)
   spares_change (acts.Chunk digest checked) catalogue is = cc
+  spares_change acts.Start catalogue is = tt
+  spares_change acts.Step catalogue is = tt
   spares_change acts.Short catalogue is = tt
   spares_change acts.End catalogue is = spares_drops

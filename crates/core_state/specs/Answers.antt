@@ -50,14 +50,14 @@ pub data EndHasCause {D E C : Type 0} (d : Ghosts D) (old new : Core D E C) (ans
 
 -- The start of a collector opens it without a reply, or is answered as any act is.
 pub data StartHasCause {D E C : Type 0} (d : Ghosts D) (old new : Core D E C) (act : Act) (answer : Answer) : Type 0 where
-  opens : old.fault ≡ None → (answer.entry).kind ≡ 3 → answer.reply ≡ None → StartHasCause d old new act answer
-  not_opened : HasCause d old new act answer → StartHasCause d old new act answer
+  start_opens : old.fault ≡ None → (answer.entry).kind ≡ 3 → answer.reply ≡ None → StartHasCause d old new act answer
+  start_as_any : HasCause d old new act answer → StartHasCause d old new act answer
 
 -- A mark or a visit has no reply. The end of a collector replies its report, or what ended it early. Any other answer comes as any act's.
 pub data StepHasCause {D E C : Type 0} (d : Ghosts D) (old new : Core D E C) (act : Act) (answer : Answer) : Type 0 where
-  passes : old.fault ≡ None → (answer.entry).kind ≡ 1 → answer.reply ≡ None → StepHasCause d old new act answer
-  closes : old.fault ≡ None → (answer.entry).kind ≡ 4 → (reply : Reply) → answer.reply ≡ Some reply → IsTrue (may_end reply) → StepHasCause d old new act answer
-  not_done : HasCause d old new act answer → StepHasCause d old new act answer
+  step_passes : old.fault ≡ None → (answer.entry).kind ≡ 1 → answer.reply ≡ None → StepHasCause d old new act answer
+  step_ends : old.fault ≡ None → (answer.entry).kind ≡ 4 → (reply : Reply) → answer.reply ≡ Some reply → IsTrue (may_end reply) → StepHasCause d old new act answer
+  step_as_any : HasCause d old new act answer → StepHasCause d old new act answer
 
 abbrev pub ClassHasCause : {D E C : Type 0} → Ghosts D → Class → Core D E C → Core D E C → Act → Answer → Type 0
 ClassHasCause d ending old new act answer = EndHasCause d old new answer

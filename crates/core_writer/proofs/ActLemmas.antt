@@ -2,10 +2,10 @@
 use Rattle.std.proofs.Common.{◌≡◌, ℕ, Option, Result, refl}
 use Rattle.disk_trait.specs.declared.disk.Disk.{Ghosts}
 use Rattle.port_traits.specs.Readings.{Readings}
-use Rattle.wire_commands.specs.declared.command.Command.TheVariants.{OpenWriter, Previous, NewFixed, NewDynamic, Chunk as ChunkCommand, Append, CloseIndex, Blob as BlobCommand, Finish, Abort, OpenReader, Download, GetChunk, Range, CloseReader, List as ListAll, Files as FilesOf, Forget, Prune, Group, Bye}
+use Rattle.wire_commands.specs.declared.command.Command.TheVariants.{OpenWriter, Previous, NewFixed, NewDynamic, Chunk as ChunkCommand, Append, CloseIndex, Blob as BlobCommand, Finish, Abort, OpenReader, Download, GetChunk, Range, CloseReader, List as ListAll, Files as FilesOf, Forget, Prune, Verify, Sync, Gc, Group, Bye}
 use Rattle.wire_commands.specs.declared.reply.Reply.{Reply}
 use Rattle.store_history.specs.declared.act.Act.{Act}
-use Rattle.store_history.specs.declared.act.Act.TheVariants.{Plain, JobGroup, Blob, Chunk, Short, End}
+use Rattle.store_history.specs.declared.act.Act.TheVariants.{Plain, JobGroup, Blob, Chunk, Start, Step, Short, End}
 use Rattle.store_history.specs.declared.act.Answer.{Answer}
 use Rattle.store_history.specs.Acts.{IsWellFormed, class_of, stepping}
 use Rattle.core_state.specs.declared.entering.Place.{Place}
@@ -39,10 +39,15 @@ writers_formed (Plain (FilesOf snapshot)) h = absurd h
 writers_formed (Plain (Forget snapshot)) h = absurd h
 writers_formed (Plain (Prune group keep dry)) h = absurd h
 writers_formed (Plain (Group group)) h = absurd h
+writers_formed (Plain (Verify snapshot)) h = absurd h
+writers_formed (Plain (Sync group)) h = absurd h
+writers_formed (Plain Gc) h = absurd h
 writers_formed (Plain Bye) h = absurd h
 writers_formed (JobGroup command) h = absurd h
 writers_formed (Blob name checked) h = h
 writers_formed (Chunk digest checked) h = h
+writers_formed Start h = absurd h
+writers_formed Step h = absurd h
 writers_formed Short h = absurd h
 writers_formed End h = absurd h
 
@@ -51,6 +56,8 @@ writers_step (Plain c) h = refl
 writers_step (JobGroup command) h = refl
 writers_step (Blob name checked) h = refl
 writers_step (Chunk digest checked) h = refl
+writers_step Start h = absurd h
+writers_step Step h = absurd h
 writers_step Short h = absurd h
 writers_step End h = absurd h
 

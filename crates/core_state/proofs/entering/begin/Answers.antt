@@ -11,7 +11,7 @@ returns-then-is_err-clause-begun g c = let at = c.next_place-at.ensures in
     short (record {
       moment = _;
       between = _;
-      begun = is_begun g.C.Clock.readings _ _ _ _ _ at refl refl refl refl refl refl
+      begun = is_begun g.C.Clock.readings _ _ _ _ _ at refl refl refl refl refl refl refl
           c.fill.ensures.same c.fill.ensures.more c.fill.ensures.none_lost c.fill.ensures.filled c.fill.ensures.whole c.fill.ensures.others;
       entered = entered_for g.D.Disk _ _ _ _ c.next_place-at.result _ _ at.lane_is c.enter.ensures;
     })
@@ -24,7 +24,7 @@ returns-in-Some-clause-begun g c =
       moment = _;
       first = _;
       between = _;
-      begun = is_begun g.C.Clock.readings _ _ _ _ _ at refl refl refl refl refl refl
+      begun = is_begun g.C.Clock.readings _ _ _ _ _ at refl refl refl refl refl refl refl
           c.fill.ensures.same c.fill.ensures.more c.fill.ensures.none_lost c.fill.ensures.filled c.fill.ensures.whole c.fill.ensures.others;
       fault = sym at.fault ∙ c.in-Some.is;
       whole = filled.whole;
