@@ -13,10 +13,11 @@ use Rattle.store_types.specs.declared.refusal.Refusal.TheVariants.{DiskFault}
 use Rattle.wire_commands.specs.declared.reply.Reply.{Reply}
 use Rattle.wire_commands.specs.declared.reply.Reply.TheVariants as replies
 use Rattle.store_history.specs.declared.act.Act.{Act}
-use Rattle.store_history.specs.declared.act.Act.TheVariants.{Chunk, Short, End}
+use Rattle.store_history.specs.declared.act.Act.TheVariants.{Chunk, Start, Step, Short, End}
 use Rattle.store_history.specs.declared.act.Answer.{Answer}
-use Rattle.store_history.specs.Acts.{IsWellFormed, class_of, stepping, wanting, ending}
+use Rattle.store_history.specs.Acts.{IsWellFormed, class_of, stepping, starting, sweeping, wanting, ending}
 use Rattle.store_history.specs.History.{act_outcome}
+use Rattle.atime_book.specs.Touches.{NoneAfter}
 use Rattle.store_history.specs.LastTouches.{SameTouches, touches_by_entry, touched_by}
 use Rattle.core_state.specs.declared.kept.Session.{Session}
 use Rattle.core_state.specs.declared.entering.Admitted.TheVariants.{Answered}
@@ -24,22 +25,24 @@ use Rattle.core_state.specs.declared.entering.Place.{Place}
 use Rattle.core_state.specs.declared.state.Core.{Core}
 use Rattle.core_state.specs.declared.stop.Stop.{Stop}
 use Rattle.core_state.specs.declared.stop.Stop.TheVariants.{Refused, NoMemory, DiskFailed}
-use Rattle.core_state.specs.Answers.{IsTold}
+use Rattle.core_state.specs.Answers.{IsTold, HasCause, done as was_done, short as was_short, failed as has_failed, halted as was_halted}
 use Rattle.core_state.specs.Applies.{ActApplies, ActKeeps, IsClearFor, IsDone}
 use Rattle.core_state.specs.Begins.{AdmittedHasText, IsAdmitted, IsNotShort, IsReady, IsShort, ReadsClock, Refuses, short, halted}
 use Rattle.core_state.specs.Changes.{Change, IsFirm, LeavesChange, after, by_reply, by_stop, stays}
 use Rattle.core_state.specs.Catalogue.{listed_by}
 use Rattle.core_state.specs.Closing.{HasClosed, closes, closes_by, is_closing}
-use Rattle.core_state.specs.Commands.{ActDoes, ActLeaves, IsNoRefusal, change_at}
+use Rattle.core_state.specs.Collectors.{collector_by}
+use Rattle.core_state.specs.Commands.{ActDoes, ActLeaves, IsNoRefusal, change_at, is_collectors, is_step}
 use Rattle.core_state.specs.Entering.{held_by}
 use Rattle.core_state.specs.History.{History, event_of, pieces_of, then_event, world}
 use Rattle.core_state.specs.Holds.{Holds}
+use Rattle.core_state.specs.Records.{IsTimely}
 use Rattle.core_state.specs.Replies.{may_answer}
 use Rattle.core_state.specs.Settles.{Settles, fault_by, kind_by, reply_by, with_fault}
 use Rattle.core_state.specs.Stops.{told}
 use Rattle.core_state.specs.Upkeeps.{touches_kept}
 use Rattle.core_state.specs.Wanted.{session_at}
-use Rattle.core_state.proofs.Answered.{refused_stands, short_stands, done_stands}
+use Rattle.core_state.proofs.Answered.{IsAsked, refused_stands, short_stands, done_stands}
 use Rattle.core_state.proofs.Answering.{refused_answered, short_answered, done_answered, refused_told, short_told, where_some, where_none, refused_same}
 use Rattle.core_state.proofs.Calls.{later}
 use Rattle.core_state.proofs.Caused.{refused_caused, short_caused, done_caused, step_caused, want_caused}
@@ -50,7 +53,7 @@ use Rattle.core_state.proofs.KeepingTouches.{touches_more}
 use Rattle.core_state.proofs.Recorded.{records_more, refused_timely, settled_timely, short_timely, step_kind, tells_reply, wanting_kind}
 use Rattle.core_state.proofs.Recovering.{StandsMore, recovers_more}
 use Rattle.core_state.proofs.Reserves.{refused_keeps, done_keeps, closing_kind, closing_before, no_end_keeps}
-use Rattle.core_state.proofs.Touching.{entered_touches, refusal_untouched}
+use Rattle.core_state.proofs.Touching.{early_more, entered_touches, refusal_untouched}
 use Rattle.core_state.proofs.Unchanging.{refused_parts, refused_unchanged, done_unchanged}
 
 -- between the beginning of an act and its entry the parts change alone, and the last touches by what the act is answered
@@ -60,6 +63,7 @@ pub record SameRest {D E C : Type 0} (mid acted : Core D E C) (when : ℕ) (act 
   pub fault : acted.fault ≡ mid.fault
   pub remote : acted.remote ≡ mid.remote
   pub upkeep : SameTouches (touches_kept acted.upkeep) (touched_by act reply when (touches_kept mid.upkeep))
+  pub collector : acted.collector ≡ mid.collector
 
 -- ---- the change by the reply
 
@@ -123,9 +127,56 @@ module _ {D : Type 0} (d : Ghosts D) where
 true_false : true ≡ false → ⊥
 true_false e = cc
 
-class_told : (act : Act) (answer : Answer) → (class_of act ≡ ending → ⊥) → IsSome answer.reply → IsTold act answer
-class_told End answer other is = absurd (other refl)
-class_told act answer other is = is
+-- no lane's end, and no mark, visit or end of a collector
+pub record IsNoEnd (act : Act) : Type 0 where
+  pub end : class_of act ≡ ending → ⊥
+  pub sweep : class_of act ≡ sweeping → ⊥
+  pub step : is_step act ≡ true → ⊥
+  pub no : is_step act ≡ false
+
+pub step_other : (act : Act) → class_of act ≡ stepping → IsNoEnd act
+step_other Start step = cc
+step_other Step step = cc
+step_other Short step = cc
+step_other End step = cc
+step_other act step = record { end = λ e. cc; sweep = λ e. cc; step = λ e. cc; no = refl }
+
+pub step_plain : (act : Act) → class_of act ≡ stepping → is_collectors act ≡ false
+step_plain Start step = cc
+step_plain Step step = cc
+step_plain Short step = cc
+step_plain End step = cc
+step_plain act step = refl
+
+step_asked : (act : Act) → class_of act ≡ stepping → IsAsked (class_of act)
+step_asked act step = subst IsAsked (sym step) tt
+
+-- an act that is answered as any opens no collector
+pub no_start_kind : {D E C : Type 0} (d : Ghosts D) (old new : Core D E C) (act : Act) (answer : Answer) → HasCause d old new act answer → (answer.entry).kind ≡ 3 → ⊥
+no_start_kind d old new act answer (was_done before zero reply told may) three = omega (arith, zero, three)
+no_start_kind d old new act answer (was_short two told) three = omega (arith, two, three)
+no_start_kind d old new act answer (has_failed before five told fault rose) three = omega (arith, five, three)
+no_start_kind d old new act answer (was_halted place before five told) three = omega (arith, five, three)
+
+pub want_plain : (act : Act) → class_of act ≡ wanting → is_collectors act ≡ false
+want_plain Short want = refl
+want_plain act want = cc
+
+step_no_start : stepping ≡ starting → ⊥
+step_no_start e = cc
+
+want_no_start : wanting ≡ starting → ⊥
+want_no_start e = cc
+
+pub want_other : (act : Act) → class_of act ≡ wanting → IsNoEnd act
+want_other Short want = record { end = λ e. cc; sweep = λ e. cc; step = λ e. cc; no = refl }
+want_other act want = cc
+
+class_told : (act : Act) (answer : Answer) → IsNoEnd act → (class_of act ≡ starting → ⊥) → IsSome answer.reply → IsTold act answer
+class_told End answer other no_start is = absurd (other.end refl)
+class_told Step answer other no_start is = absurd (other.sweep refl)
+class_told Start answer other no_start is = absurd (no_start refl)
+class_told act answer other no_start is = is
 
 -- an act that never ends a session
 pub closes_none : (fault : Option ℕ) (act : Act) (x : Session) → closes act x ≡ false → closes_by fault act x ≡ true → ⊥
@@ -166,6 +217,12 @@ wanting_closes Short x want = refl
 wanting_closes act x want = cc
 
 module _ {D E C : Type 0} (d : Ghosts D) (clock : clocks.Ghosts C) where
+  -- moments never fall, and the act touches at its own
+  pub early_by : (old new : Core D E C) (lane : ℕ) (act : Act) (answer : Answer) → is_step act ≡ false → IsTimely clock.readings old new answer → ActKeeps d old new lane act answer
+      → NoneAfter (old.upkeep).book old.last → NoneAfter (new.upkeep).book new.last
+  early_by old new lane act answer no timely keeps early =
+      early_more old.upkeep new.upkeep act answer.reply old.last (answer.entry).moment new.last (timely.clock).risen timely.last (keeps.upkeep no) early
+
   refused_remote : (old new : Core D E C) (lane : ℕ) (answer : Answer) → Refuses d clock.readings old new lane answer → new.remote ≡ old.remote
   refused_remote old new lane answer (short is) = (is.entered).remote ∙ (is.begun).remote
   refused_remote old new lane answer (halted is) = (is.entered).remote ∙ (is.begun).remote
@@ -180,13 +237,20 @@ module _ {D E C : Type 0} (d : Ghosts D) (clock : clocks.Ghosts C) where
       entered_touches d old is.between is.between new lane is.moment 5 act (Some (replies.Refused (refusals.Halted is.first))) answer (is.begun).upkeep
       (refusal_untouched act (refusals.Halted is.first) is.moment (touches_kept (is.between).upkeep)) is.entered
 
+  -- nor does it change the collector but by its entry
+  refused_collector : (old new : Core D E C) (lane : ℕ) (answer : Answer) → Refuses d clock.readings old new lane answer → new.collector ≡ collector_by (answer.entry).kind lane old.collector
+  refused_collector old new lane answer (short is) =
+      (is.entered).collector ∙ ap (collector_by 2 lane) (is.begun).collector ∙ ap (λ k. collector_by k lane old.collector) (sym (ap (λ x. x.kind) (is.entered).entry))
+  refused_collector old new lane answer (halted is) =
+      (is.entered).collector ∙ ap (collector_by 5 lane) (is.begun).collector ∙ ap (λ k. collector_by k lane old.collector) (sym (ap (λ x. x.kind) (is.entered).entry))
+
   -- the refusal is none of the disk's in this act
   refused_as : (old new : Core D E C) (lane : ℕ) (answer : Answer) → Refuses d clock.readings old new lane answer
       → (refusal : Refusal) × (answer.reply ≡ Some (replies.Refused refusal)) × (refusal ≡ DiskFault → ⊥)
   refused_as old new lane answer (short is) = (refusals.NoMemory, (is.entered).reply_is, λ e. cc)
   refused_as old new lane answer (halted is) = (refusals.Halted is.first, (is.entered).reply_is, λ e. cc)
 
-  refused_kept : (old new : Core D E C) (lane : ℕ) (act : Act) (answer : Answer) → (class_of act ≡ ending → ⊥)
+  refused_kept : (old new : Core D E C) (lane : ℕ) (act : Act) (answer : Answer) → IsNoEnd act
       → Refuses d clock.readings old new lane answer → (is_closing old lane act ≡ true → IsNotShort (Answered answer)) → ActKeeps d old new lane act answer
   refused_kept old new lane act answer other refuses memory =
       let parts = refused_parts d clock.readings old new lane answer refuses in
@@ -196,8 +260,8 @@ module _ {D E C : Type 0} (d : Ghosts D) (clock : clocks.Ghosts C) where
         unchanged = refused_unchanged d clock.readings old new lane answer refuses;
         quiet = λ _. same;
         reads = λ _ h. ap d.content same;
-        content = λ _ _ h. ap d.content same ∙ ap (λ c. after c (d.content (old.parts).disk)) (sym none);
-        crash = inl same;
+        content = λ _ _ _ h. ap d.content same ∙ ap (λ c. after c (d.content (old.parts).disk)) (sym none);
+        crash = λ _. inl same;
         due = λ _ told. absurd (fine (refusal_is refusal DiskFault (sym is ∙ told)));
         firm = λ _. undone answer refusal is;
         listed = ap (λ p. p.catalogue.items) parts ∙ sym (ap (λ r. listed_by act r answer.place (session_at old.parts lane) (old.parts).catalogue.items) is
@@ -206,14 +270,16 @@ module _ {D E C : Type 0} (d : Ghosts D) (clock : clocks.Ghosts C) where
         ended = λ _. undone answer refusal is;
         halted = where_some _ _ (refused_same d clock.readings old new lane answer refuses);
         remote = refused_remote old new lane answer refuses;
-        upkeep = refusal_enters_none old new lane act answer refuses;
+        upkeep = λ _. refusal_enters_none old new lane act answer refuses;
+        collector = λ _. refused_collector old new lane answer refuses;
+        stepped = λ is. absurd (other.step is);
         memory = memory;
-        reserve = no_end_keeps old new lane act answer other (refused_keeps d clock.readings old new lane _ answer refuses);
+        reserve = no_end_keeps old new lane act answer other.end other.sweep (refused_keeps d clock.readings old new lane _ answer refuses);
       }
 
   pub refused_keeps_all : (old new : Core D E C) (lane : ℕ) (act : Act) (answer : Answer) → class_of act ≡ stepping
       → Refuses d clock.readings old new lane answer → (is_closing old lane act ≡ true → IsNotShort (Answered answer)) → ActKeeps d old new lane act answer
-  refused_keeps_all old new lane act answer step refuses memory = refused_kept old new lane act answer (step_no_end act step) refuses memory
+  refused_keeps_all old new lane act answer step refuses memory = refused_kept old new lane act answer (step_other act step) refuses memory
 
   -- refused before it is done
   pub refused_applies : (old new : Core D E C) (lane : ℕ) (act : Act) (answer : Answer) → lane < 64 → IsWellFormed act → class_of act ≡ stepping
@@ -222,22 +288,22 @@ module _ {D E C : Type 0} (d : Ghosts D) (clock : clocks.Ghosts C) where
       let answers = refused_answered d clock.readings old new lane answer refuses text in
       let timely = refused_timely d clock.readings old new lane answer refuses in
       let cause = refused_caused d clock.readings old new lane act answer refuses in
-      let keeps = refused_kept old new lane act answer (step_no_end act step) refuses memory in
-      let more : StandsMore d clock old new act answer = λ h s clear. refused_stands d clock.readings old new h lane act answer s lt formed step refuses memory in record {
-        history = more;
-        records = λ h. records_more d clock.readings old new lane act answer h answers timely (step_kind d old new act answer step cause) (tells_reply d old new act answer cause answers.text) keeps.listed keeps.upkeep;
-        recovers = recovers_more d clock old new lane act answer lt more answers (step_caused d old new act answer step cause) keeps;
-        touches = touches_more d clock old new lane act answer lt formed more answers (step_caused d old new act answer step cause) keeps;
+      let keeps = refused_kept old new lane act answer (step_other act step) refuses memory in
+      let more : StandsMore d clock old new act answer = λ h s clear. refused_stands d clock.readings old new h lane act answer s lt formed (step_asked act step) refuses memory in record {
+        history = λ h s kept clear. more h s clear;
+        records = λ h. records_more d clock.readings old new lane act answer h answers timely (step_kind d old new act answer step cause) (tells_reply d old new act answer cause answers.text) keeps.listed (early_by old new lane act answer (step_other act step).no timely keeps);
+        recovers = λ told start h s clear kept. recovers_more d clock old new lane act answer lt more answers (step_caused d old new act answer step cause) keeps (step_other act step).no told start h s clear;
+        touches = touches_more d clock old new lane act answer lt formed more answers (step_caused d old new act answer step cause) keeps (step_other act step).no (keeps.collector (step_plain act step)) (no_start_kind d old new act answer cause);
         answers = answers;
         timely = timely;
-        told = class_told act answer (step_no_end act step) (refused_told d clock.readings old new lane answer refuses);
+        told = class_told act answer (step_other act step) (λ e. step_no_start (sym step ∙ e)) (refused_told d clock.readings old new lane answer refuses);
         cause = step_caused d old new act answer step cause;
       }
 
   -- want of memory that was met outside the core
   short_kept : (old new : Core D E C) (lane : ℕ) (act : Act) (answer : Answer) → class_of act ≡ wanting → IsShort d clock.readings old new lane answer → ActKeeps d old new lane act answer
   short_kept old new lane act answer want is =
-      refused_kept old new lane act answer (want_no_end act want) (short is)
+      refused_kept old new lane act answer (want_other act want) (short is)
       (λ closing. absurd (closes_none old.fault act (session_at old.parts lane) (wanting_closes act (session_at old.parts lane) want) closing))
 
   pub short_keeps_all : (old new : Core D E C) (lane : ℕ) (answer : Answer) → IsShort d clock.readings old new lane answer → ActKeeps d old new lane Short answer
@@ -250,20 +316,20 @@ module _ {D E C : Type 0} (d : Ghosts D) (clock : clocks.Ghosts C) where
       let timely = short_timely d clock.readings old new lane answer is in
       let cause = short_caused d clock.readings old new lane act answer is in
       let keeps = short_kept old new lane act answer want is in
-      let more : StandsMore d clock old new act answer = λ h s clear. short_stands d clock.readings old new h lane act answer s lt formed (want_no_end act want) (λ step closing. want_no_step act want step) is in record {
-        history = more;
-        records = λ h. records_more d clock.readings old new lane act answer h answers timely (wanting_kind old act answer want (ap (λ x. x.kind) (is.entered).entry)) (tells_reply d old new act answer cause answers.text) keeps.listed keeps.upkeep;
-        recovers = recovers_more d clock old new lane act answer lt more answers (want_caused d clock.readings old new lane act answer want is) keeps;
-        touches = touches_more d clock old new lane act answer lt formed more answers (want_caused d clock.readings old new lane act answer want is) keeps;
+      let more : StandsMore d clock old new act answer = λ h s clear. short_stands d clock.readings old new h lane act answer s lt formed (want_no_end act want) (λ step closing. want_no_step act want step) (λ sweep. absurd ((want_other act want).sweep sweep)) is in record {
+        history = λ h s kept clear. more h s clear;
+        records = λ h. records_more d clock.readings old new lane act answer h answers timely (wanting_kind old act answer want (ap (λ x. x.kind) (is.entered).entry)) (tells_reply d old new act answer cause answers.text) keeps.listed (early_by old new lane act answer (want_other act want).no timely keeps);
+        recovers = λ told start h s clear kept. recovers_more d clock old new lane act answer lt more answers (want_caused d clock.readings old new lane act answer want is) keeps (want_other act want).no told start h s clear;
+        touches = touches_more d clock old new lane act answer lt formed more answers (want_caused d clock.readings old new lane act answer want is) keeps (want_other act want).no (keeps.collector (want_plain act want)) (no_start_kind d old new act answer cause);
         answers = answers;
         timely = timely;
-        told = class_told act answer (want_no_end act want) (short_told d clock.readings old new lane answer is);
+        told = class_told act answer (want_other act want) (λ e. want_no_start (sym want ∙ e)) (short_told d clock.readings old new lane answer is);
         cause = want_caused d clock.readings old new lane act answer want is;
       }
 
   -- ---- done on these parts, and entered
 
-  kept_at : (old mid acted new : Core D E C) (at : Place) (act : Act) (result : Result Reply Stop) (answer : Answer) → (class_of act ≡ ending → ⊥)
+  kept_at : (old mid acted new : Core D E C) (at : Place) (act : Act) (result : Result Reply Stop) (answer : Answer) → IsNoEnd act
       → IsReady clock.readings old mid at.lane at.moment → at.number ≡ length (mid.journal).entries.items
       → (is_closing old at.lane act ≡ false → (3 ≤ held_by mid.journal at.lane) × (0 < (mid.journal).spare)) → SameRest mid acted at.moment act (Some (reply_by (told result)))
       → ActDoes d mid.parts acted.parts at act result → ActLeaves d mid.parts acted.parts at act result
@@ -275,8 +341,8 @@ module _ {D E C : Type 0} (d : Ghosts D) (clock : clocks.Ghosts C) where
         unchanged = done_unchanged d clock.readings old mid acted new at.lane at.moment (told result) answer ready leaves.unchanged settles;
         quiet = λ quiet. ap (λ p. p.disk) settles.parts ∙ leaves.quiet quiet ∙ ap (λ p. p.disk) before;
         reads = λ only h. ap (λ p. d.content p.disk) settles.parts ∙ leaves.reads only (subst (λ p. d.honest p.disk) (sym before) h) ∙ ap (λ p. d.content p.disk) before;
-        content = λ _ fine h. ap (λ p. d.content p.disk) settles.parts ∙ content_at before reply (λ e. fine (reply ∙ e)) h;
-        crash = subst (λ p. LeavesChange d (old.parts).disk p.disk (by_reply (change_at old.parts at.lane act) answer.reply)) (sym settles.parts)
+        content = λ _ _ fine h. ap (λ p. d.content p.disk) settles.parts ∙ content_at before reply (λ e. fine (reply ∙ e)) h;
+        crash = λ _. subst (λ p. LeavesChange d (old.parts).disk p.disk (by_reply (change_at old.parts at.lane act) answer.reply)) (sym settles.parts)
             (subst (λ r. LeavesChange d (old.parts).disk (acted.parts).disk (by_reply (change_at old.parts at.lane act) r)) (sym reply)
             (subst (λ p. LeavesChange d p.disk (acted.parts).disk (by_reply (change_at p at.lane act) (Some (reply_by (told result))))) before
             (crash_told d (mid.parts).disk (acted.parts).disk (change_at mid.parts at.lane act) result does.plain leaves.crash)));
@@ -292,10 +358,13 @@ module _ {D E C : Type 0} (d : Ghosts D) (clock : clocks.Ghosts C) where
         ended = λ ends done. ap (λ p. session_at p at.lane) settles.parts ∙ done_told _ result (leaves.ended ends) (if_plain answer.reply _ reply done);
         halted = where_none _ _ ready.no_fault;
         remote = settles.remote ∙ rest.remote ∙ (ready.begun).remote;
-        upkeep = entered_touches d old mid (with_fault acted (fault_by acted.fault (length (acted.journal).entries.items) (told result))) new at.lane at.moment (kind_by (told result)) act (Some (reply_by (told result))) answer
+        upkeep = λ _. entered_touches d old mid (with_fault acted (fault_by acted.fault (length (acted.journal).entries.items) (told result))) new at.lane at.moment (kind_by (told result)) act (Some (reply_by (told result))) answer
             (ready.begun).upkeep rest.upkeep settles;
+        collector = λ _. settles.collector ∙ ap (collector_by (kind_by (told result)) at.lane) (rest.collector ∙ (ready.begun).collector)
+            ∙ ap (λ k. collector_by k at.lane old.collector) (sym (ap (λ x. x.kind) settles.entry));
+        stepped = λ is. absurd (other.step is);
         memory = λ closing. closing_kind d acted new at.lane at.moment (told result) answer (closed closing) settles;
-        reserve = no_end_keeps old new at.lane act answer other (done_keeps d clock.readings old mid acted new at.lane at.moment act (told result) answer ready rest.journal filled closed settles);
+        reserve = no_end_keeps old new at.lane act answer other.end other.sweep (done_keeps d clock.readings old mid acted new at.lane at.moment act (told result) answer ready rest.journal filled closed settles);
       }
     where
       content_at : mid.parts ≡ old.parts → answer.reply ≡ Some (reply_by (told result)) → (Some (reply_by (told result)) ≡ Some (replies.Refused DiskFault) → ⊥) → d.honest (old.parts).disk
@@ -315,21 +384,21 @@ module _ {D E C : Type 0} (d : Ghosts D) (clock : clocks.Ghosts C) where
       let timely = settled_timely d clock.readings old acted new at.lane at.moment (told result) answer
       (subst (λ k. ReadsClock clock.readings old.clock k old.last at.moment) (sym rest.clock) (ready.begun).clock) settles in
       let cause = done_caused d clock.readings old mid acted new at.lane at.moment act (told result) answer ready (serves_told d (mid.parts).disk (acted.parts).disk result does.serves) does.answers settles in
-      let keeps = kept_at old mid acted new at act result answer (step_no_end act step) ready number filled rest does leaves settles in record {
-        history = more;
-        records = λ h. records_more d clock.readings old new at.lane act answer h answers timely (step_kind d old new act answer step cause) (tells_reply d old new act answer cause answers.text) keeps.listed keeps.upkeep;
-        recovers = recovers_more d clock old new at.lane act answer lt more answers (step_caused d old new act answer step cause) keeps;
-        touches = touches_more d clock old new at.lane act answer lt formed more answers (step_caused d old new act answer step cause) keeps;
+      let keeps = kept_at old mid acted new at act result answer (step_other act step) ready number filled rest does leaves settles in record {
+        history = λ h s kept clear. more h s clear;
+        records = λ h. records_more d clock.readings old new at.lane act answer h answers timely (step_kind d old new act answer step cause) (tells_reply d old new act answer cause answers.text) keeps.listed (early_by old new at.lane act answer (step_other act step).no timely keeps);
+        recovers = λ told start h s clear kept. recovers_more d clock old new at.lane act answer lt more answers (step_caused d old new act answer step cause) keeps (step_other act step).no told start h s clear;
+        touches = touches_more d clock old new at.lane act answer lt formed more answers (step_caused d old new act answer step cause) keeps (step_other act step).no (keeps.collector (step_plain act step)) (no_start_kind d old new act answer cause);
         answers = answers;
         timely = timely;
-        told = class_told act answer (step_no_end act step) (ap is_some settles.reply_is);
+        told = class_told act answer (step_other act step) (λ e. step_no_start (sym step ∙ e)) (ap is_some settles.reply_is);
         cause = step_caused d old new act answer step cause;
       }
     where
       more : StandsMore d clock old new act answer
       more h s clear =
           done_stands d clock.readings old mid acted new h at.lane at.moment act (λ st. act_outcome h.remote (record (world h) { store = st }) at.lane at.moment act) (told result) answer s lt formed step refl
-          (record { ready = ready; journal = rest.journal; clock = rest.clock; fault = rest.fault; later = later d (mid.parts).disk (acted.parts).disk _ leaves.crash }) (λ safe. does.step safe h.remote (world h)) leaves.adds leaves.closed settles
+          (record { ready = ready; journal = rest.journal; clock = rest.clock; fault = rest.fault; collector = rest.collector; later = later d (mid.parts).disk (acted.parts).disk _ leaves.crash }) (λ safe. does.step safe h.remote (world h)) leaves.adds leaves.closed settles
           (λ whole only. safe_for (d.content (mid.parts).disk) h act answer (d.calls (new.parts).disk) formed clear whole only)
 
   ready_at : (old mid : Core D E C) (lane : ℕ) (at : Place) → IsAdmitted clock.readings old mid lane at → IsReady clock.readings old mid at.lane at.moment
@@ -349,5 +418,5 @@ module _ {D E C : Type 0} (d : Ghosts D) (clock : clocks.Ghosts C) where
       → Settles d acted new at.lane at.moment (told result) answer → ActKeeps d old new lane act answer
   done_keeps_all old mid acted new lane at act result answer step admitted filled rest does leaves settles =
       subst (λ l. ActKeeps d old new l act answer) admitted.lane_is
-      (kept_at old mid acted new at act result answer (step_no_end act step) (ready_at old mid lane at admitted) admitted.number_is
+      (kept_at old mid acted new at act result answer (step_other act step) (ready_at old mid lane at admitted) admitted.number_is
       (subst (λ l. is_closing old l act ≡ false → (3 ≤ held_by mid.journal l) × (0 < (mid.journal).spare)) (sym admitted.lane_is) filled) rest does leaves settles)

@@ -15,9 +15,11 @@ use Rattle.core_state.specs.declared.entering.Place.{Place}
 use Rattle.core_state.specs.declared.kept.Session.TheVariants.{Idle}
 use Rattle.core_state.specs.declared.state.Core.{Core}
 use Rattle.core_state.specs.declared.stop.Stop.TheVariants.{DiskFailed}
+use Rattle.core_state.specs.Answers.{EndHasCause, ended as has_ended, end_failed}
 use Rattle.core_state.specs.Applies.{ActApplies, ActKeeps}
 use Rattle.core_state.specs.Begins.{IsNext, ReadsClock}
 use Rattle.core_state.specs.Changes.{IsFirm, LeavesChange, after, by_reply}
+use Rattle.core_state.specs.Collectors.{collector_by}
 use Rattle.core_state.specs.Commands.{ActDoes, ActLeaves, change_at}
 use Rattle.core_state.specs.History.{History, StandsFor, world}
 use Rattle.core_state.specs.Holds.{Holds, Shows, Does}
@@ -25,7 +27,7 @@ use Rattle.core_state.specs.Settles.{IsEntered, Settles, with_fault, reply_by}
 use Rattle.core_state.specs.Stops.{ended_as}
 use Rattle.core_state.specs.Wanted.{session_at}
 use Rattle.core_state.proofs.Answering.{ended_answered, ended_told, end_failed_answered, end_failed_told, untouched, where_none, where_some}
-use Rattle.core_state.proofs.Applying.{SameRest, closes_none, undone}
+use Rattle.core_state.proofs.Applying.{SameRest, closes_none, early_by, undone}
 use Rattle.core_state.proofs.Calls.{later}
 use Rattle.core_state.proofs.Caused.{ended_caused, end_failed_caused}
 use Rattle.core_state.proofs.Clocks.{next_begun}
@@ -43,19 +45,30 @@ none_some first e = cc
 false_true : false ≡ true → ⊥
 false_true e = cc
 
+-- a lane's end opens no collector
+no_open : {D E C : Type 0} (d : Ghosts D) (old new : Core D E C) (answer : Answer) → EndHasCause d old new answer → (answer.entry).kind ≡ 3 → ⊥
+no_open d old new answer (has_ended six told) three = omega (arith, six, three)
+no_open d old new answer (end_failed before five told fault rose) three = omega (arith, five, three)
+
 module _ {D E C : Type 0} (d : Ghosts D) (clock : clocks.Ghosts C) where
   next_at : (old mid : Core D E C) (lane : ℕ) (at : Place) → IsNext clock.readings old mid lane at → IsNext clock.readings old mid at.lane at
   next_at old mid lane at next = subst (λ l. IsNext clock.readings old mid l at) (sym next.lane_is) next
 
   closed_at : {reply : Option Reply} (old mid acted : Core D E C) (at : Place) → IsNext clock.readings old mid at.lane at → SameRest mid acted at.moment End reply → d.calls (mid.parts).disk ≤ d.calls (acted.parts).disk
       → IsClosed d clock.readings old mid acted at.lane at.moment
-  closed_at old mid acted at next rest up = record { begun = next_begun clock.readings old mid at.lane at next; journal = rest.journal; clock = rest.clock; fault = rest.fault; later = up }
+  closed_at old mid acted at next rest up = record { begun = next_begun clock.readings old mid at.lane at next; journal = rest.journal; clock = rest.clock; fault = rest.fault; collector = rest.collector; later = up }
 
   acted_clock : {reply : Option Reply} (old mid acted : Core D E C) (at : Place) → IsNext clock.readings old mid at.lane at → SameRest mid acted at.moment End reply → ReadsClock clock.readings old.clock acted.clock old.last at.moment
   acted_clock old mid acted at next rest = subst (λ c. ReadsClock clock.readings old.clock c old.last at.moment) (sym rest.clock) next.clock
 
   held_before : (old mid : Core D E C) (h : History) → mid.parts ≡ old.parts → old.fault ≡ None → StandsFor d clock.readings old h → Holds d mid.parts (world h).store
   held_before old mid h same none s = subst (λ p. Holds d p (world h).store) (sym same) (record { honest = s.honest; shows = s.shows; files = s.files (sym s.fault ∙ none) })
+
+  -- the end closes the lane's collector, and one that met a fault leaves it
+  entered_collector : (old mid acted new : Core D E C) (at : Place) (kind : ℕ) (reply : Option Reply) (answer : Answer) → IsNext clock.readings old mid at.lane at → acted.collector ≡ mid.collector
+      → IsEntered d acted new at.lane at.moment kind reply answer → new.collector ≡ collector_by (answer.entry).kind at.lane old.collector
+  entered_collector old mid acted new at kind reply answer next same e =
+      e.collector ∙ ap (collector_by kind at.lane) (same ∙ next.collector) ∙ ap (λ k. collector_by k at.lane old.collector) (sym (ap (λ x. x.kind) e.entry))
 
   -- its session has ended, and its files are gone
 
@@ -65,10 +78,10 @@ module _ {D E C : Type 0} (d : Ghosts D) (clock : clocks.Ghosts C) where
     unchanged = untold_unchanged d old.parts new.parts answer.reply entered.reply_is;
     quiet = λ quiet. absurd (false_true quiet);
     reads = λ only. absurd (false_true only);
-    content = λ _ _ h. subst (λ p. d.content p.disk ≡ after (by_reply (change_at old.parts at.lane End) answer.reply) (d.content (old.parts).disk)) (sym entered.parts)
+    content = λ _ _ _ h. subst (λ p. d.content p.disk ≡ after (by_reply (change_at old.parts at.lane End) answer.reply) (d.content (old.parts).disk)) (sym entered.parts)
         (subst (λ r. d.content (acted.parts).disk ≡ after (by_reply (change_at old.parts at.lane End) r) (d.content (old.parts).disk)) (sym entered.reply_is)
         (subst (λ p. d.honest p.disk → d.content (acted.parts).disk ≡ after (change_at p at.lane End) (d.content p.disk)) next.parts (leaves.content (λ e. cc)) h));
-    crash = subst (λ p. LeavesChange d (old.parts).disk p.disk (by_reply (change_at old.parts at.lane End) answer.reply)) (sym entered.parts)
+    crash = λ _. subst (λ p. LeavesChange d (old.parts).disk p.disk (by_reply (change_at old.parts at.lane End) answer.reply)) (sym entered.parts)
         (subst (λ r. LeavesChange d (old.parts).disk (acted.parts).disk (by_reply (change_at old.parts at.lane End) r)) (sym entered.reply_is)
         (subst (λ p. LeavesChange d p.disk (acted.parts).disk (change_at p at.lane End)) next.parts leaves.crash));
     due = λ _ _ s h. tt;
@@ -79,7 +92,9 @@ module _ {D E C : Type 0} (d : Ghosts D) (clock : clocks.Ghosts C) where
     ended = λ _ _. ap (λ p. session_at p at.lane) entered.parts ∙ leaves.ended refl;
     halted = where_none _ _ none;
     remote = entered.remote ∙ rest.remote ∙ next.remote;
-    upkeep = entered_touches d old mid acted new at.lane at.moment 6 End None answer next.upkeep rest.upkeep entered;
+    upkeep = λ _. entered_touches d old mid acted new at.lane at.moment 6 End None answer next.upkeep rest.upkeep entered;
+    collector = λ _. entered_collector old mid acted new at 6 None answer next rest.collector entered;
+    stepped = λ is. absurd (false_true is);
     memory = λ closing. absurd (closes_none old.fault End (session_at old.parts at.lane) refl closing);
     reserve = ended_keeps d clock.readings old mid acted new at.lane at.moment answer next.journal rest.journal entered;
   }
@@ -94,10 +109,10 @@ module _ {D E C : Type 0} (d : Ghosts D) (clock : clocks.Ghosts C) where
       let timely = entered_timely d clock.readings old acted new at.lane at.moment 6 None answer (acted_clock old mid acted at next rest) entered in
       let cause = ended_caused d old acted new at.lane at.moment answer entered in
       let keeps = ended_kept_at old mid acted new at answer none next rest leaves entered in record {
-        history = more;
-        records = λ h. records_more d clock.readings old new at.lane End answer h answers timely (end_kind d old new End answer refl cause) (end_tells_reply d old new End answer cause) keeps.listed keeps.upkeep;
-        recovers = recovers_more d clock old new at.lane End answer lt more answers cause keeps;
-        touches = touches_more d clock old new at.lane End answer lt tt more answers cause keeps;
+        history = λ h s kept clear. more h s clear;
+        records = λ h. records_more d clock.readings old new at.lane End answer h answers timely (end_kind d old new End answer refl cause) (end_tells_reply d old new End answer cause) keeps.listed (early_by d clock old new at.lane End answer refl timely keeps);
+        recovers = λ told start h s clear kept. recovers_more d clock old new at.lane End answer lt more answers cause keeps refl told start h s clear;
+        touches = touches_more d clock old new at.lane End answer lt tt more answers cause keeps refl (keeps.collector refl) (no_open d old new answer cause);
         answers = answers;
         timely = timely;
         told = ended_told d acted new at.lane at.moment answer entered;
@@ -135,8 +150,8 @@ module _ {D E C : Type 0} (d : Ghosts D) (clock : clocks.Ghosts C) where
     unchanged = unchanged_between d old.parts mid.parts acted.parts new.parts (reply_by (Err disks.Failed)) answer.reply next.parts settles.parts settles.reply_is leaves.unchanged;
     quiet = λ quiet. absurd (false_true quiet);
     reads = λ only. absurd (false_true only);
-    content = λ _ fine h. absurd (fine settles.reply_is);
-    crash = subst (λ p. LeavesChange d (old.parts).disk p.disk (by_reply (change_at old.parts at.lane End) answer.reply)) (sym settles.parts)
+    content = λ _ _ fine h. absurd (fine settles.reply_is);
+    crash = λ _. subst (λ p. LeavesChange d (old.parts).disk p.disk (by_reply (change_at old.parts at.lane End) answer.reply)) (sym settles.parts)
         (subst (λ r. LeavesChange d (old.parts).disk (acted.parts).disk (by_reply (change_at old.parts at.lane End) r)) (sym settles.reply_is)
         (subst (λ p. LeavesChange d p.disk (acted.parts).disk (change_at p at.lane End)) next.parts leaves.crash));
     due = λ _ _ s h. tt;
@@ -146,7 +161,9 @@ module _ {D E C : Type 0} (d : Ghosts D) (clock : clocks.Ghosts C) where
     ended = λ _. undone answer DiskFault settles.reply_is;
     halted = where_none _ _ none;
     remote = settles.remote ∙ rest.remote ∙ next.remote;
-    upkeep = entered_touches d old mid (with_fault acted (Some (length (acted.journal).entries.items))) new at.lane at.moment 5 End (Some (reply_by (Err disks.Failed))) answer next.upkeep rest.upkeep settles;
+    upkeep = λ _. entered_touches d old mid (with_fault acted (Some (length (acted.journal).entries.items))) new at.lane at.moment 5 End (Some (reply_by (Err disks.Failed))) answer next.upkeep rest.upkeep settles;
+    collector = λ _. entered_collector old mid (with_fault acted (Some (length (acted.journal).entries.items))) new at 5 (Some (reply_by (Err disks.Failed))) answer next rest.collector settles;
+    stepped = λ is. absurd (false_true is);
     memory = λ closing. absurd (closes_none old.fault End (session_at old.parts at.lane) refl closing);
     reserve = end_failed_keeps d clock.readings old mid (with_fault acted (Some (length (acted.journal).entries.items))) new at.lane at.moment answer none busy next.journal rest.journal _ refl settles;
   }
@@ -160,10 +177,10 @@ module _ {D E C : Type 0} (d : Ghosts D) (clock : clocks.Ghosts C) where
       let timely = entered_timely d clock.readings old (with_fault acted (Some (length (acted.journal).entries.items))) new at.lane at.moment 5 _ answer (acted_clock old mid acted at next rest) settles in
       let cause = end_failed_caused d clock.readings _ old mid (with_fault acted (Some (length (acted.journal).entries.items))) new at.lane at.moment answer begun none refl does.serves refl settles in
       let keeps = end_failed_kept_at old mid acted new at answer none busy next rest leaves settles in record {
-        history = more;
-        records = λ h. records_more d clock.readings old new at.lane End answer h answers timely (end_kind d old new End answer refl cause) (end_tells_reply d old new End answer cause) keeps.listed keeps.upkeep;
-        recovers = recovers_more d clock old new at.lane End answer lt more answers cause keeps;
-        touches = touches_more d clock old new at.lane End answer lt tt more answers cause keeps;
+        history = λ h s kept clear. more h s clear;
+        records = λ h. records_more d clock.readings old new at.lane End answer h answers timely (end_kind d old new End answer refl cause) (end_tells_reply d old new End answer cause) keeps.listed (early_by d clock old new at.lane End answer refl timely keeps);
+        recovers = λ told start h s clear kept. recovers_more d clock old new at.lane End answer lt more answers cause keeps refl told start h s clear;
+        touches = touches_more d clock old new at.lane End answer lt tt more answers cause keeps refl (keeps.collector refl) (no_open d old new answer cause);
         answers = answers;
         timely = timely;
         told = end_failed_told d mid acted new at.lane at.moment answer rest.fault settles;
@@ -203,8 +220,8 @@ module _ {D E C : Type 0} (d : Ghosts D) (clock : clocks.Ghosts C) where
         unchanged = untold_unchanged d old.parts new.parts answer.reply entered.reply_is;
         quiet = λ quiet. absurd (false_true quiet);
         reads = λ only. absurd (false_true only);
-        content = λ none. absurd (none_some first (sym some ∙ none));
-        crash = inl still;
+        content = λ _ none. absurd (none_some first (sym some ∙ none));
+        crash = λ _. inl still;
         due = λ _ _ s h. tt;
         firm = λ none. absurd (none_some first (sym some ∙ none));
         listed = ap (λ p. p.catalogue.items) entered.parts ∙ catalogue ∙ ap (λ p. p.catalogue.items) next.parts;
@@ -212,7 +229,9 @@ module _ {D E C : Type 0} (d : Ghosts D) (clock : clocks.Ghosts C) where
         ended = λ _ _. ap (λ p. session_at p at.lane) entered.parts ∙ idle;
         halted = where_some _ _ still;
         remote = entered.remote ∙ rest.remote ∙ next.remote;
-        upkeep = entered_touches d old mid acted new at.lane at.moment 6 End None answer next.upkeep rest.upkeep entered;
+        upkeep = λ _. entered_touches d old mid acted new at.lane at.moment 6 End None answer next.upkeep rest.upkeep entered;
+        collector = λ _. entered_collector old mid acted new at 6 None answer next rest.collector entered;
+        stepped = λ is. absurd (false_true is);
         memory = λ closing. absurd (closes_none old.fault End (session_at old.parts at.lane) refl closing);
         reserve = ended_keeps d clock.readings old mid acted new at.lane at.moment answer next.journal rest.journal entered;
       }
@@ -226,10 +245,10 @@ module _ {D E C : Type 0} (d : Ghosts D) (clock : clocks.Ghosts C) where
       let timely = entered_timely d clock.readings old acted new at.lane at.moment 6 None answer (acted_clock old mid acted at next rest) entered in
       let cause = ended_caused d old acted new at.lane at.moment answer entered in
       let keeps = end_halted_kept_at old mid acted new at first answer some next rest same catalogue idle entered in record {
-        history = more;
-        records = λ h. records_more d clock.readings old new at.lane End answer h answers timely (end_kind d old new End answer refl cause) (end_tells_reply d old new End answer cause) keeps.listed keeps.upkeep;
-        recovers = recovers_more d clock old new at.lane End answer lt more answers cause keeps;
-        touches = touches_more d clock old new at.lane End answer lt tt more answers cause keeps;
+        history = λ h s kept clear. more h s clear;
+        records = λ h. records_more d clock.readings old new at.lane End answer h answers timely (end_kind d old new End answer refl cause) (end_tells_reply d old new End answer cause) keeps.listed (early_by d clock old new at.lane End answer refl timely keeps);
+        recovers = λ told start h s clear kept. recovers_more d clock old new at.lane End answer lt more answers cause keeps refl told start h s clear;
+        touches = touches_more d clock old new at.lane End answer lt tt more answers cause keeps refl (keeps.collector refl) (no_open d old new answer cause);
         answers = answers;
         timely = timely;
         told = ended_told d acted new at.lane at.moment answer entered;

@@ -40,7 +40,7 @@ use Rattle.core_state.specs.declared.kept.Writing.{Writing}
 use Rattle.core_state.specs.declared.state.Core.{Core}
 use Rattle.core_state.specs.Applies.{ActKeeps}
 use Rattle.core_state.specs.Changes.{Change, IsFirm, LeavesChange, MayLeave, after, by_reply, change_of, chunk_put, drops, finishes, forgets, installs, stays, stores, undone}
-use Rattle.core_state.specs.Commands.{IsNoRefusal, change_at}
+use Rattle.core_state.specs.Commands.{IsNoRefusal, change_at, is_step}
 use Rattle.core_state.specs.Holds.{Holds}
 use Rattle.core_state.specs.Due.{IsDue}
 use Rattle.core_state.specs.Recovers.{TellsMoments}
@@ -126,7 +126,8 @@ came_to R w k m a r (suc (suc (suc zero))) none right = absurd right
 came_to R w k m a r (suc (suc (suc (suc zero)))) none right = absurd right
 came_to R w k m a r (suc (suc (suc (suc (suc zero))))) none right = faulted refl (right ∙ ap (λ f. Some (replies.Refused (fault_refusal f))) none) refl
 came_to R w k m a r (suc (suc (suc (suc (suc (suc zero)))))) none right = absurd right
-came_to R w k m a r (suc (suc (suc (suc (suc (suc (suc n))))))) none right = absurd right
+came_to R w k m a r (suc (suc (suc (suc (suc (suc (suc zero))))))) none right = absurd right
+came_to R w k m a r (suc (suc (suc (suc (suc (suc (suc (suc n)))))))) none right = absurd right
 
 -- what is known of an act, and of its answer, where the disk had not failed
 pub record IsCalm {D E C : Type 0} (d : Ghosts D) (old new : Core D E C) (R : Option (List Snapshot)) (w : World) (act : Act) (answer : Answer) : Type 0 where
@@ -134,6 +135,8 @@ pub record IsCalm {D E C : Type 0} (d : Ghosts D) (old new : Core D E C) (R : Op
   pub none_there : w.fault ≡ None
   pub inside : (answer.entry).lane < 64
   pub keeps : ActKeeps d old new (answer.entry).lane act answer
+  -- it is no mark, visit or end of a collector
+  pub no : is_step act ≡ false
   pub holds : Holds d old.parts w.store
   pub formed : IsWellFormed act
   pub right : Right R w (answer.entry).lane (answer.entry).moment act answer.reply (class_of act) (kind_of (answer.entry).kind)
@@ -213,16 +216,16 @@ module _ {D E C : Type 0} (d : Ghosts D) (told : TellsMoments d) (old new : Core
     refused r is calm says then_is =
         let reply : answer.reply ≡ Some (replies.Refused r) = says ∙ ap (λ (x : Outcome). Some (answered w.store x).1) is in
         let none : by_reply (change_at old.parts k act) answer.reply ≡ stays = ap (by_reply (change_at old.parts k act)) reply ∙ stays_refused (change_at old.parts k act) r (λ e. f.unhurt calm (reply ∙ ap (λ x. Some (replies.Refused x)) e)) in
-        leads_stays d told (old.parts).disk (new.parts).disk ((n == 5) ≡ false) now (next act) _ (f.keeps).crash none
+        leads_stays d told (old.parts).disk (new.parts).disk ((n == 5) ≡ false) now (next act) _ ((f.keeps).crash f.no) none
         (ap (λ (s : Store). s.snapshots) (then_is ∙ ap (λ (x : Outcome). (answered w.store x).0) is))
 
     shorted : answer.reply ≡ Some (replies.Refused refusals.NoMemory) → next_store R w k (answer.entry).moment act n ≡ w.store → LeadsTo (next act)
     shorted reply then_is =
-        leads_stays d told (old.parts).disk (new.parts).disk ((n == 5) ≡ false) now (next act) _ (f.keeps).crash (ap (by_reply (change_at old.parts k act)) reply) (ap (λ (s : Store). s.snapshots) then_is)
+        leads_stays d told (old.parts).disk (new.parts).disk ((n == 5) ≡ false) now (next act) _ ((f.keeps).crash f.no) (ap (by_reply (change_at old.parts k act)) reply) (ap (λ (s : Store). s.snapshots) then_is)
 
     -- the change of the act, where it was done, or met the fault
     crash_as : (change : Change) → by_reply (change_at old.parts k act) answer.reply ≡ change_at old.parts k act → change_at old.parts k act ≡ change → LeavesChange d (old.parts).disk (new.parts).disk change
-    crash_as change all is = subst (LeavesChange d (old.parts).disk (new.parts).disk) (all ∙ is) (f.keeps).crash
+    crash_as change all is = subst (LeavesChange d (old.parts).disk (new.parts).disk) (all ∙ is) ((f.keeps).crash f.no)
 
     firm_as : (change : Change) → change_at old.parts k act ≡ change → ((n == 5) ≡ false → answer.reply ≡ Some replies.Done) → (n == 5) ≡ false → IsFirm d (old.parts).disk (new.parts).disk change
     firm_as change is reply calm = subst (IsFirm d (old.parts).disk (new.parts).disk) is ((f.keeps).firm f.none (subst (λ r. IfSome r IsNoRefusal) (sym (reply calm)) tt))
@@ -238,7 +241,7 @@ module _ {D E C : Type 0} (d : Ghosts D) (told : TellsMoments d) (old new : Core
         subst (λ x. Spares now (change_of act x (old.parts).catalogue.items)) (sym (session_shown old.parts w.store k (f.holds).shows f.inside))
         (spares_change w.store k ((f.holds).shows).sound act (old.parts).catalogue.items is) in
         let change = by_reply (change_at old.parts k act) answer.reply in
-        leads_same d told (old.parts).disk (new.parts).disk ((n == 5) ≡ false) now (next act) change (f.keeps).crash (moves_none off)
+        leads_same d told (old.parts).disk (new.parts).disk ((n == 5) ≡ false) now (next act) change ((f.keeps).crash f.no) (moves_none off)
         (λ b c may s. stands_spared now change (d.content (old.parts).disk) b c (spares_reply now (change_at old.parts k act) answer.reply spares) may s)
 
   -- ---- FINISH
@@ -312,13 +315,13 @@ module _ {D E C : Type 0} (d : Ghosts D) (told : TellsMoments d) (old new : Core
     stored : (bytes : List ℕ) → by_reply (change_at old.parts k sends) answer.reply ≡ stores (chunk_name digest.0) bytes → HasWholeChunks (with_chunk digest.0 bytes read) → LeadsTo (next sends)
     stored bytes is whole =
         leads_same d told (old.parts).disk (new.parts).disk ((n == 5) ≡ false) now (next sends) (stores (chunk_name digest.0) bytes)
-        (subst (LeavesChange d (old.parts).disk (new.parts).disk) is (f.keeps).crash) (moves_none sends f refl) (λ b c may s. stands_storing now digest.0 bytes read b c whole may s)
+        (subst (LeavesChange d (old.parts).disk (new.parts).disk) is ((f.keeps).crash f.no)) (moves_none sends f refl) (λ b c may s. stands_storing now digest.0 bytes read b c whole may s)
 
     by_change : Puts digest checked (by_reply (change_at old.parts k sends) answer.reply)
         → CameTo R w k (answer.entry).moment sends answer.reply n → LeadsTo (next sends)
-    by_change (inl none) came = leads_stays d told (old.parts).disk (new.parts).disk ((n == 5) ≡ false) now (next sends) _ (f.keeps).crash none (moves_none sends f refl)
+    by_change (inl none) came = leads_stays d told (old.parts).disk (new.parts).disk ((n == 5) ≡ false) now (next sends) _ ((f.keeps).crash f.no) none (moves_none sends f refl)
     by_change (inr put) (done calm says then_is) =
-        let now_reads = (f.keeps).content f.none (f.unhurt calm) (f.holds).honest ∙ ap (λ c. after c read) put.2 in
+        let now_reads = (f.keeps).content f.no f.none (f.unhurt calm) (f.holds).honest ∙ ap (λ c. after c read) put.2 in
         stored put.0 put.2 (subst HasWholeChunks now_reads (f.whole calm))
     by_change (inr put) (short reply then_is) = shorted sends f reply then_is
     by_change (inr put) (faulted hurt reply then_is) =

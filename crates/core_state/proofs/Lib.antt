@@ -1,5 +1,6 @@
 pub mod Clocks
 pub mod Chunks
+pub mod Collecting
 pub mod Entered
 pub mod Answered
 pub mod Ended

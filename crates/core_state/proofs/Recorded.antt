@@ -9,27 +9,26 @@ use Rattle.wire_commands.specs.declared.reply.Reply.TheVariants.{Refused}
 use Rattle.wire_commands.specs.HasText.{ReplyHasText}
 use Rattle.store_model.specs.Weave.{fault_refusal}
 use Rattle.store_history.specs.declared.act.Act.{Act}
+use Rattle.store_history.specs.declared.act.Act.TheVariants.{Start, Step}
 use Rattle.store_history.specs.declared.act.Answer.{Answer}
 use Rattle.store_history.specs.declared.act.Event.{Event}
-use Rattle.store_history.specs.Acts.{stepping, wanting, ending, class_of}
+use Rattle.store_history.specs.Acts.{stepping, starting, sweeping, wanting, ending, class_of}
 use Rattle.store_history.specs.History.{entry, kind, moment, kind_of}
 use Rattle.store_history.specs.History as kinds
 use Rattle.store_history.specs.Legal.{moment_after}
-use Rattle.store_history.specs.LastTouches.{SameTouches, touches_by_entry}
+use Rattle.atime_book.specs.Touches.{NoneAfter}
 use Rattle.store_history.proofs.Longer.{moment_more, entries_more}
 use Rattle.core_state.specs.declared.state.Core.{Core}
 use Rattle.core_state.specs.History.{History, then_event, event_of}
 use Rattle.core_state.specs.Settles.{IsEntered, Settles, with_fault, fault_by, kind_by}
 use Rattle.core_state.specs.Begins.{ReadsClock, IsShort, Refuses, short, halted}
-use Rattle.core_state.specs.Answers.{IsAnswered, fault_after, HasCause, done, short as was_short, failed, halted as was_halted, EndHasCause, ended, end_failed}
+use Rattle.core_state.specs.Answers.{IsAnswered, fault_after, HasCause, done, short as was_short, failed, halted as was_halted, StartHasCause, start_opens, start_as_any, StepHasCause, step_passes, step_ends, step_as_any, EndHasCause, ended, end_failed}
 use Rattle.core_state.specs.Records.{IsTimely, FitsKind, FitsReply, IsKept, AreKept, fault_in, Records}
 use Rattle.core_state.specs.Catalogue.{Lists, listed_by}
 use Rattle.core_state.specs.Numbers.{AreNumbered}
-use Rattle.core_state.specs.Upkeeps.{touches_kept}
 use Rattle.core_state.specs.Wanted.{session_at}
 use Rattle.core_state.proofs.Entered.{time_more}
 use Rattle.core_state.proofs.Numbering.{numbered_by}
-use Rattle.core_state.proofs.Touching.{early_more}
 
 -- ---- one event more
 
@@ -52,7 +51,7 @@ fault_more place fault (v ∷ h) e =
     let first = fault_after place (kind v) fault in
     fault_more (place + 1) first h e ∙ ap (λ n. fault_after n (kind e) (fault_in (place + 1) first h)) on
 
-numbers_more : {D E C : Type 0} (old new : Core D E C) (lane : ℕ) (act : Act) (answer : Answer)
+pub numbers_more : {D E C : Type 0} (old new : Core D E C) (lane : ℕ) (act : Act) (answer : Answer)
     → answer.place ≡ length (old.journal).entries.items → (new.journal).entries.items ≡ (old.journal).entries.items ++ answer.entry ∷ [] → Lists old new lane act answer
     → AreNumbered (length (old.journal).entries.items) (old.parts).catalogue.items → AreNumbered (length (new.journal).entries.items) (new.parts).catalogue.items
 numbers_more old new lane act answer place entered lists numbers =
@@ -67,9 +66,9 @@ numbers_more old new lane act answer place entered lists numbers =
 pub records_more : {D E C : Type 0} (d : Ghosts D) (readings : C → Option Readings) (old new : Core D E C) (lane : ℕ) (act : Act) (answer : Answer) (h : History)
     → IsAnswered d old new lane answer → IsTimely readings old new answer → FitsKind (class_of act) old.fault (answer.entry).kind
     → FitsReply old.fault act (kind_of (answer.entry).kind) answer.reply → Lists old new lane act answer
-    → SameTouches (touches_kept new.upkeep) (touches_by_entry act answer.reply (answer.entry).moment (touches_kept old.upkeep))
+    → (NoneAfter (old.upkeep).book old.last → NoneAfter (new.upkeep).book new.last)
     → Records readings old h → Records readings new (then_event h (event_of act answer (d.calls (new.parts).disk)))
-records_more d readings old new lane act answer h a t fits tells lists touches r = record {
+records_more d readings old new lane act answer h a t fits tells lists early r = record {
   kept = kept_more 0 None (h.opening).moment h.events e r.kept (record {
     kind_is = subst (λ o. FitsKind (class_of act) o (answer.entry).kind) r.fault fits;
     tells = subst (λ o. FitsReply o act (kind_of (answer.entry).kind) answer.reply) r.fault tells;
@@ -84,7 +83,7 @@ records_more d readings old new lane act answer h a t fits tells lists touches r
       ∙ sym (fault_more 0 None h.events e);
   last = t.last ∙ sym (moment_more (h.opening).moment h.events e);
   time = time_more readings old.clock new.clock old.last h e r.last r.time t.clock;
-  early = early_more old.upkeep new.upkeep act answer.reply old.last (answer.entry).moment new.last (t.clock).risen t.last touches r.early;
+  early = early r.early;
   numbers = numbers_more old new lane act answer a.place a.entries lists r.numbers;
 }
   where
@@ -144,6 +143,23 @@ end_kind d old new act answer ends cause = subst (λ c. FitsKind c old.fault (an
     by_cause (ended is told) = inl is
     by_cause (end_failed before is told first rose) = inr (is, before)
 
+-- the start of a collector
+pub start_fits : {D E C : Type 0} (d : Ghosts D) (old new : Core D E C) (answer : Answer) → StartHasCause d old new Start answer → FitsKind starting old.fault (answer.entry).kind
+start_fits d old new answer (start_opens before is told) = inl (inr is, before)
+start_fits d old new answer (start_as_any (done before is reply told may)) = inl (inl is, before)
+start_fits d old new answer (start_as_any (was_short is told)) = inr (inl is)
+start_fits d old new answer (start_as_any (failed before is told first rose)) = inr (inr is)
+start_fits d old new answer (start_as_any (was_halted place before is told)) = inr (inr is)
+
+-- and its other acts
+pub sweep_fits : {D E C : Type 0} (d : Ghosts D) (old new : Core D E C) (answer : Answer) → StepHasCause d old new Step answer → FitsKind sweeping old.fault (answer.entry).kind
+sweep_fits d old new answer (step_passes before is told) = inl (inr (inl is), before)
+sweep_fits d old new answer (step_ends before is reply told may) = inl (inr (inr is), before)
+sweep_fits d old new answer (step_as_any (done before is reply told may)) = inl (inl is, before)
+sweep_fits d old new answer (step_as_any (was_short is told)) = inr (inl is)
+sweep_fits d old new answer (step_as_any (failed before is told first rose)) = inr (inr is)
+sweep_fits d old new answer (step_as_any (was_halted place before is told)) = inr (inr is)
+
 -- ---- the reply
 
 fault_told : (fault now : Option ℕ) (act : Act) (n : ℕ) (r : Option Reply) → n ≡ 5 → fault ≡ now → r ≡ Some (Refused (fault_refusal now)) → FitsReply fault act (kind_of n) r
@@ -158,6 +174,19 @@ tells_reply d old new act answer (done before is reply told may) text =
 tells_reply d old new act answer (was_short is told) text = subst (λ k. FitsReply old.fault act (kind_of k) answer.reply) (sym is) told
 tells_reply d old new act answer (failed before is told first rose) text = fault_told old.fault None act (answer.entry).kind answer.reply is before told
 tells_reply d old new act answer (was_halted place before is told) text = fault_told old.fault (Some place) act (answer.entry).kind answer.reply is before told
+
+pub start_tells : {D E C : Type 0} (d : Ghosts D) (old new : Core D E C) (answer : Answer)
+    → StartHasCause d old new Start answer → IfSome answer.reply ReplyHasText → FitsReply old.fault Start (kind_of (answer.entry).kind) answer.reply
+start_tells d old new answer (start_opens before is told) text = subst (λ k. FitsReply old.fault Start (kind_of k) answer.reply) (sym is) told
+start_tells d old new answer (start_as_any cause) text = tells_reply d old new Start answer cause text
+
+pub sweep_tells : {D E C : Type 0} (d : Ghosts D) (old new : Core D E C) (answer : Answer)
+    → StepHasCause d old new Step answer → IfSome answer.reply ReplyHasText → FitsReply old.fault Step (kind_of (answer.entry).kind) answer.reply
+sweep_tells d old new answer (step_passes before is told) text = subst (λ k. FitsReply old.fault Step (kind_of k) answer.reply) (sym is) told
+sweep_tells d old new answer (step_ends before is reply told may) text =
+    subst (λ k. FitsReply old.fault Step (kind_of k) answer.reply) (sym is)
+    (subst (λ r. FitsReply old.fault Step kinds.close_kind r) (sym told) (may, subst (λ r. IfSome r ReplyHasText) told text))
+sweep_tells d old new answer (step_as_any cause) text = tells_reply d old new Step answer cause text
 
 pub end_tells_reply : {D E C : Type 0} (d : Ghosts D) (old new : Core D E C) (act : Act) (answer : Answer)
     → EndHasCause d old new answer → FitsReply old.fault act (kind_of (answer.entry).kind) answer.reply

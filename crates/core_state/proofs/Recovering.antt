@@ -21,6 +21,7 @@ use Rattle.store_history.proofs.Prefixes.{reopens_before, reopens_from, reopens_
 use Rattle.core_state.specs.declared.state.Core.{Core}
 use Rattle.core_state.specs.Answers.{IsAnswered, IsCaused, fault_after}
 use Rattle.core_state.specs.Applies.{ActKeeps, IsClearFor, IsKeptFor}
+use Rattle.core_state.specs.Commands.{is_step}
 use Rattle.core_state.specs.History.{History, IsClear, StandsFor, event_of, then_event, world}
 use Rattle.core_state.specs.Holds.{Holds}
 use Rattle.core_state.specs.KeepsTouches.{KeepsTouches}
@@ -75,7 +76,7 @@ module _ {D E C : Type 0} (d : Ghosts D) (clock : clocks.Ghosts C) (told : Tells
   Found t c = (found : List Snapshot) × Stands c found × Reopens h.remote start (h.events ++ e ∷ []) t found
 
   module _ (inside : k < 64) (so : StandsFor d clock.readings new (then_event h e)) (fault : new.fault ≡ fault_after (length (old.journal).entries.items) (answer.entry).kind old.fault)
-      (cause : IsCaused d old new act answer) (keeps : ActKeeps d old new k act answer)
+      (cause : IsCaused d old new act answer) (keeps : ActKeeps d old new k act answer) (no : is_step act ≡ false)
       (s : StandsFor d clock.readings old h) (begin : ℕ) (recovers : Recovers d begin old h) where
     -- after a fault the disk is not called
     halted : (first : ℕ) → old.fault ≡ Some first → (t : ℕ) (c : Files) → begin ≤ t → d.images (new.parts).disk t c → Found t c
@@ -103,6 +104,7 @@ module _ {D E C : Type 0} (d : Ghosts D) (clock : clocks.Ghosts C) (told : Tells
         none_there = none_there;
         inside = inside;
         keeps = keeps;
+        no = no;
         holds = holds;
         formed = right.formed;
         right = right.says;
@@ -132,7 +134,7 @@ module _ {D E C : Type 0} (d : Ghosts D) (clock : clocks.Ghosts C) (told : Tells
       before : (t : ℕ) (c : Files) → begin ≤ t → t < d.calls (old.parts).disk → d.images (old.parts).disk t c → Found t c
       before t c from lt image =
           let x = recovers.each t c from image in
-          let up = later d (old.parts).disk (new.parts).disk _ keeps.crash in
+          let up = later d (old.parts).disk (new.parts).disk _ (keeps.crash no) in
           (x.0, x.1, reopens_before h.remote start h.events e t x.0 (omega (arith, lt, up)) x.2)
 
       past_by : (t : ℕ) (a b : Bool) → nat_le e.calls t ≡ a → (kind e == 5) ≡ b → is_past t w e ≡ (a && not b && true)
@@ -176,7 +178,7 @@ module _ {D E C : Type 0} (d : Ghosts D) (clock : clocks.Ghosts C) (told : Tells
           by_kind false calm = by_time calm (nat_le e.calls t) refl
 
       stood : (t : ℕ) (c : Files) → t < d.calls (old.parts).disk → d.images (new.parts).disk t c → d.images (old.parts).disk t c
-      stood t c lt image = ⊎_elim {C = d.images (old.parts).disk t c} (λ same. subst (λ (x : D). d.images x t c) same image) (λ steps. steps.past t c (omega (arith, lt)) image) keeps.crash
+      stood t c lt image = ⊎_elim {C = d.images (old.parts).disk t c} (λ same. subst (λ (x : D). d.images x t c) same image) (λ steps. steps.past t c (omega (arith, lt)) image) (keeps.crash no)
 
       unhalted : (t : ℕ) (c : Files) → begin ≤ t → d.images (new.parts).disk t c → Found t c
       unhalted t c from image = ⊎_elim {C = Found t c} (λ (lt : t < d.calls (old.parts).disk). before t c from lt (stood t c lt image)) (λ (le : d.calls (old.parts).disk ≤ t). since t c le image) (cases_lt t (d.calls (old.parts).disk))
@@ -196,11 +198,11 @@ StandsMore d clock old new act answer =
 
 -- with one act more
 pub recovers_more : {D E C : Type 0} (d : Ghosts D) (clock : clocks.Ghosts C) (old new : Core D E C) (lane : ℕ) (act : Act) (answer : Answer)
-    → lane < 64 → StandsMore d clock old new act answer → IsAnswered d old new lane answer → IsCaused d old new act answer → ActKeeps d old new lane act answer
+    → lane < 64 → StandsMore d clock old new act answer → IsAnswered d old new lane answer → IsCaused d old new act answer → ActKeeps d old new lane act answer → is_step act ≡ false
     → TellsMoments d → (begin : ℕ) (h : History) → StandsFor d clock.readings old h → IsClear (then_event h (event_of act answer (d.calls (new.parts).disk)))
     → Recovers d begin old h → Recovers d begin new (then_event h (event_of act answer (d.calls (new.parts).disk)))
-recovers_more d clock old new lane act answer lt more answers cause keeps told begin h s clear recovers =
+recovers_more d clock old new lane act answer lt more answers cause keeps no told begin h s clear recovers =
     let is = answers.lane_is in
     recovers_here d clock told old new act answer h (subst (λ l. l < 64) (sym is) lt)
     (more h s (clear_for act (then_event h (event_of act answer (d.calls (new.parts).disk))) clear)) answers.fault cause
-    (subst (λ l. ActKeeps d old new l act answer) (sym is) keeps) s begin recovers
+    (subst (λ l. ActKeeps d old new l act answer) (sym is) keeps) no s begin recovers
