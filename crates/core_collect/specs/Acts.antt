@@ -1,5 +1,5 @@
 -- The acts of a collector, and what is told of them by what the core keeps.
-use Rattle.std.specs.Prelude.{◌≡◌, ℕ, Bool, true, false, ◌==◌, if◌then◌else◌, List, Option, Some, None, Result, Ok, Err}
+use Rattle.std.specs.Prelude.{◌≡◌, ℕ, Bool, true, false, ◌==◌, if◌then◌else◌, List, Option, Some, None, option_map, Result, Ok, Err}
 use Rattle.store_types.specs.declared.refusal.Refusal.{Refusal}
 use Rattle.store_types.specs.declared.refusal.Refusal.TheVariants.{Unreadable}
 use Rattle.store_history.specs.declared.act.Act.{Act}
@@ -9,9 +9,9 @@ use Rattle.core_state.specs.declared.collector.Collector.{Collector}
 use Rattle.core_state.specs.declared.kept.Listed.{Listed}
 use Rattle.core_state.specs.declared.kept.Session.{Session}
 use Rattle.core_state.specs.declared.state.Core.{Core}
-use Rattle.core_state.specs.Collectors.{is_on}
+use Rattle.core_state.specs.Collectors.{is_on, refusal_of as early_refusal}
 use Rattle.core_state.specs.Unreadables.{Asked, known}
-use Rattle.core_collect.specs.Ending.{refusal_in}
+use Rattle.core_collect.specs.Ending.{early_in}
 use Rattle.core_collect.specs.Starting.{StartTells, start_told}
 use Rattle.core_collect.specs.Stepping.{StepTells}
 
@@ -40,5 +40,5 @@ refusal_of (Err refusal) = Some refusal
 -- A start asks for the first damaged snapshot's, where nothing else refuses it; the end of a collector for the one that ended it early.
 abbrev pub asked_of_collector : Act → ℕ → Option Collector → Session → List Listed → Option Asked
 asked_of_collector Start lane collector session catalogue = asked_by (refusal_of (start_told collector session catalogue))
-asked_of_collector Step lane collector session catalogue = if is_on lane collector then asked_by (refusal_in collector) else None
+asked_of_collector Step lane collector session catalogue = if is_on lane collector then asked_by (option_map early_refusal (early_in collector)) else None
 asked_of_collector _ lane collector session catalogue = None

@@ -5,7 +5,6 @@ use Rattle.disk_trait.specs.declared.disk.DiskError.{DiskError}
 use Rattle.disk_trait.specs.Effects.{LeavesBy}
 use Rattle.file_install.specs.Install.{Installs, OkInstalls}
 use Rattle.port_traits.specs.Readings.{Readings}
-use Rattle.store_types.specs.declared.refusal.Refusal.{Refusal}
 use Rattle.store_types.specs.declared.refusal.Refusal.TheVariants.{Halted}
 use Rattle.store_files.specs.Book.{Book, book_text}
 use Rattle.wire_commands.specs.declared.reply.Reply.{Reply}
@@ -17,9 +16,11 @@ use Rattle.gc_plan.specs.declared.GcReport.{GcReport}
 use Rattle.store_history.specs.Saved.{book_name}
 use Rattle.store_history.specs.declared.act.Answer.{Answer}
 use Rattle.core_state.specs.declared.collector.Collector.{Collector}
+use Rattle.core_state.specs.declared.collector.Early.{Early}
 use Rattle.core_state.specs.declared.entering.Place.{Place}
 use Rattle.core_state.specs.declared.state.Core.{Core}
 use Rattle.core_state.specs.Begins.{IsNext}
+use Rattle.core_state.specs.Collectors.{refusal_of}
 use Rattle.core_state.specs.Settles.{IsEntered}
 
 -- ---- a whole collection
@@ -39,13 +40,13 @@ pub record EndsPlan {D : Type 0} (d : Ghosts D) (old new : D) (book : Book) (pla
 
 -- ---- one that was ended early
 
-abbrev pub refusal_in : Option Collector → Option Refusal
-refusal_in None = None
-refusal_in (Some c) = c.refusal
+abbrev pub early_in : Option Collector → Option Early
+early_in None = None
+early_in (Some c) = c.ended
 
 -- It replies what ended it, without a call of the disk. After a fault of the disk it is refused.
 pub data TellsEarly {D E C : Type 0} (d : Ghosts D) (readings : C → Option Readings) (old new : Core D E C) (lane : ℕ) (answer : Answer) : Type 0 where
-  replies_early : (mid : Core D E C) (at : Place) (refusal : Refusal) → old.fault ≡ None → refusal_in old.collector ≡ Some refusal → IsNext readings old mid lane at
-      → IsEntered d (record mid { collector = None }) new lane at.moment 4 (Some (Refused refusal)) answer → TellsEarly d readings old new lane answer
+  replies_early : (mid : Core D E C) (at : Place) (early : Early) → old.fault ≡ None → early_in old.collector ≡ Some early → IsNext readings old mid lane at
+      → IsEntered d (record mid { collector = None }) new lane at.moment 4 (Some (Refused (refusal_of early))) answer → TellsEarly d readings old new lane answer
   halts_early : (mid : Core D E C) (at : Place) (first : ℕ) → old.fault ≡ Some first → IsNext readings old mid lane at
       → IsEntered d mid new lane at.moment 5 (Some (Refused (Halted first))) answer → TellsEarly d readings old new lane answer

@@ -66,7 +66,7 @@ pub record IsNewCollector {D : Type 0} (parts : Parts D) (lane moment : ℕ) (c 
   pub lane_is : c.lane ≡ lane
   pub plan_is : c.plan ≡ begun moment (oldest_kept parts.sessions.items) (indexes_in parts.catalogue.items)
   pub none_read : c.entries.items ≡ []
-  pub goes_on : c.refusal ≡ None
+  pub goes_on : c.ended ≡ None
 
 -- it opens where nothing refuses it
 abbrev pub GivesCollector : {D : Type 0} → Parts D → Option Collector → Place → Result Collector Stop → Type 0

@@ -20,6 +20,8 @@ use Rattle.store_history.specs.declared.act.Answer.{Answer}
 use Rattle.store_upkeep.specs.Safety.{IsNeeded}
 use Rattle.store_upkeep.specs.Sweeping.{Sweep, Swept, is_over, passed, report_of}
 use Rattle.core_state.specs.declared.collector.Collector.{Collector}
+use Rattle.core_state.specs.declared.collector.Early.{Early}
+use Rattle.core_state.specs.declared.collector.Early.TheVariants.{Unreadable}
 use Rattle.core_state.specs.declared.entering.Admitted.TheVariants.{Answered}
 use Rattle.core_state.specs.declared.entering.Place.{Place}
 use Rattle.core_state.specs.declared.parts.Parts.{Parts}
@@ -40,7 +42,6 @@ use Rattle.core_state.specs.Upkeeps.{touches_kept}
 use Rattle.core_state.specs.Wanted.{session_at}
 use Rattle.core_collect.specs.Beside.{IsSweepable, StandsBeside, passed_touches}
 use Rattle.core_collect.specs.Ending.{report_reply}
-use Rattle.core_collect.specs.Marking.{IsUnreadable}
 use Rattle.core_collect.specs.Visiting.{goes}
 
 -- ---- an open collector, on any disk
@@ -62,10 +63,15 @@ abbrev pub MayTouch : Upkeep → Upkeep → ℕ → Outcome → Type 0
 MayTouch u v moment (Ok None) = PassTouches (touches_kept u) (touches_kept v) moment
 MayTouch u v moment result = v ≡ u
 
--- it goes on, but where an index did not decode
+-- an index did not decode
+abbrev pub IsIndex : Early → Type 0
+IsIndex (Unreadable path) = Unit {0}
+IsIndex early = ⊥
+
+-- it goes on, but where that is so
 abbrev pub MayEnd : Collector → Outcome → Type 0
-MayEnd c (Ok None) = IfSome c.refusal IsUnreadable
-MayEnd c result = c.refusal ≡ None
+MayEnd c (Ok None) = IfSome c.ended IsIndex
+MayEnd c result = c.ended ≡ None
 
 abbrev pub GoesDown : Collector → Collector → Outcome → Type 0
 GoesDown c e (Ok None) = steps_left (Some e) < steps_left (Some c)
@@ -80,7 +86,7 @@ Spares s change = (x : Digest32) → change ≡ drops (chunk_name x.0 ∷ []) �
 -- a mark or a visit is the sweep's next, and the end comes where the sweep is over, with its report
 abbrev pub IsTheSweeps : {D : Type 0} → Ghosts D → Parts D → Upkeep → ℕ → Collector → Store → Swept → ℕ → Outcome → Type 0
 IsTheSweeps d new v acts e s w moment (Ok None) =
-    IsSomeAnd w.sweep (λ sweep. (is_over sweep ≡ false) × (e.refusal ≡ None)
+    IsSomeAnd w.sweep (λ sweep. (is_over sweep ≡ false) × (e.ended ≡ None)
       × StandsBeside d new v acts (Some e) s (passed_touches w sweep moment) (Some (passed w sweep sweep.unmarked)))
 IsTheSweeps d new v acts e s w moment (Ok (Some report)) =
     IsSomeAnd w.sweep (λ sweep. (is_over sweep ≡ true) × (report_reply report ≡ report_of w sweep)) × StandsBeside d new v acts (Some e) s w.touches w.sweep

@@ -6,16 +6,16 @@ ghost use Rattle.disk_trait.specs.Effects.{DiskWantKeeps};
 ghost use Rattle.wire_commands.specs.HasText.{ReplyHasText};
 ghost use Rattle.core_state.specs.Collectors.{is_cut};
 ghost use Rattle.core_state.specs.Reserved.{HasRoom};
-ghost use Rattle.core_collect.specs.Ending.{EndsPlan, TellsEarly, refusal_in, report_reply};
+ghost use Rattle.core_collect.specs.Ending.{EndsPlan, TellsEarly, early_in, report_reply};
 
 use atime_book::{Book, Counts};
-use core_state::{Answer, BOOK_NAME, Collector, Core, enter, halted, next_place};
+use core_state::{Answer, BOOK_NAME, Collector, Core, Early, enter, halted, next_place};
 use disk_trait::{Disk, DiskError};
 use file_install::install;
 use gc_plan::{Gc, GcReport};
 use port_traits::Clock;
 use std::alloc::Global;
-use store_types::{FAULT_KIND, Refusal, STOP_KIND};
+use store_types::{FAULT_KIND, STOP_KIND};
 use wire_commands::Reply;
 
 /// The report of a whole collection, as it is told.
@@ -51,17 +51,17 @@ pub fn end<D: Disk>(
 }
 
 /// What ended the collector early.
-fn refusal_of(collector: Option<Collector>) -> Refusal
-    requires { IsSome (refusal_in collector) }
-    ensures { refusal_in collector ≡ Some result }
+fn early_of(collector: Option<Collector>) -> Early
+    requires { IsSome (early_in collector) }
+    ensures { early_in collector ≡ Some result }
 {
-    let Some(Collector { refusal, .. }) = collector else {
+    let Some(Collector { ended, .. }) = collector else {
         unreachable!()
     };
-    let Some(refusal) = refusal else {
+    let Some(early) = ended else {
         unreachable!()
     };
-    refusal
+    early
 }
 
 /// The end of a collector that was ended early. It replies what ended it, and takes no memory; after a fault of the disk it is
@@ -76,6 +76,6 @@ pub fn end_early<D: Disk, E, C: Clock>(core: &mut Core<D, E, C>, lane: u32) -> A
     if let Some(place) = core.fault {
         return enter(core, at, FAULT_KIND, Some(halted(place)));
     }
-    let refusal = refusal_of(core.collector.take());
-    enter(core, at, STOP_KIND, Some(Reply::Refused(refusal)))
+    let early = early_of(core.collector.take());
+    enter(core, at, STOP_KIND, Some(Reply::Refused(early.into_refusal())))
 }

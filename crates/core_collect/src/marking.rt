@@ -2,23 +2,36 @@
 
 ghost use Rattle.std.specs.Prelude.{◌≡◌, ◌≤◌, IfErr, IfOk, IsErrOf, IsSome, length, map, option_map};
 ghost use Rattle.disk_trait.specs.Effects.{OnlyReads};
-ghost use Rattle.store_types.specs.declared.refusal.Refusal.TheVariants.{Unreadable};
 ghost use Rattle.store_files.specs.Entries.{ends_of};
-ghost use Rattle.wire_commands.specs.HasText.{ReplyHasText};
-ghost use Rattle.wire_commands.specs.declared.reply.Reply.TheVariants.{Refused};
 ghost use Rattle.gc_plan.specs.Plan.{entry_limit, next_mark};
-ghost use Rattle.core_state.specs.Stops.{IfRefused, StopHasText};
-ghost use Rattle.core_state.specs.declared.stop.Stop.TheVariants.{DiskFailed};
 ghost use Rattle.core_state.specs.Unchanged.{SameKept};
-ghost use Rattle.core_collect.specs.Marking.{AtHand, FindsNext, IsUnreadable, MarksSome, PassesOver, ReadsDigests, SettlesNext, path_at};
+ghost use Rattle.core_collect.specs.declared.marking.Unread.TheVariants.{DiskFailed, NoMemory, Unreadable};
+ghost use Rattle.core_collect.specs.Marking.{AtHand, FindsNext, IfUnreadable, MarksSome, PassesOver, ReadsDigests, SettlesNext, path_at};
 
 use atime_book::Book;
-use core_state::{Collector, Listed, Parts, Stop, path_named, touch_each};
+use core_state::{Collector, Listed, Parts, path_named, touch_each};
 use disk_trait::Disk;
 use gc_plan::{IndexAt, mark_size};
 use snapshot_files::{FilePath, ReadError, read_index};
 use std::alloc::{AllocError, Global};
-use store_types::{Bytes, Digest32, Refusal};
+use store_types::Digest32;
+
+/// Why the digests of an index are not had.
+#[derive(Debug, Drop)]
+pub enum Unread {
+    /// No index stands there, or the file does not decode.
+    Unreadable(FilePath),
+    NoMemory,
+    DiskFailed,
+}
+
+impl From<AllocError> for Unread {
+    ghost from_gives = { λ _ unread. unread ≡ NoMemory };
+
+    fn from(_: AllocError) -> Self {
+        Unread::NoMemory
+    }
+}
 
 /// Where the index stands, if its snapshot was not forgotten.
 fn path_of<'a>(catalogue: &'a [Listed], index: &IndexAt) -> Option<&'a FilePath>
@@ -32,12 +45,11 @@ fn path_of<'a>(catalogue: &'a [Listed], index: &IndexAt) -> Option<&'a FilePath>
 }
 
 /// The file at the path is no index.
-fn unreadable(alloc: Global, path: &FilePath) -> Result<Refusal, AllocError>
-    ensures value { IfOk result (λ refusal. refusal ≡ Unreadable path.now) }
-    ensures text { IfOk result (λ refusal. ReplyHasText (Refused refusal)) }
+fn unreadable(alloc: Global, path: &FilePath) -> Result<Unread, AllocError>
+    ensures { IfOk result (λ unread. unread ≡ Unreadable path.now) }
 {
-    let name = Bytes::from_slice(alloc, path.as_str().as_bytes())?;
-    Ok(Refusal::Unreadable { name })
+    let text = String::from_str(alloc, path.as_str())?;
+    Ok(Unread::Unreadable(FilePath::from_string(text)))
 }
 
 /// The digests of an index's entries.
@@ -51,25 +63,24 @@ fn digests_of(alloc: Global, entries: &[(Digest32, u64)]) -> Result<Vec<Digest32
     Ok(digests)
 }
 
-/// The digests of the entries of the index at the path. It is refused where no such index stands there.
+/// The digests of the entries of the index at the path. It is unreadable where no such index stands there.
 fn read_digests<D: Disk>(
     disk: &mut D,
     alloc: Global,
     path: &FilePath,
     is_fixed: bool,
-) -> Result<Vec<Digest32>, Stop>
+) -> Result<Vec<Digest32>, Unread>
     ensures reads { OnlyReads D.Disk disk.old disk.new (IsErrOf result DiskFailed) }
     ensures exact { ReadsDigests D.Disk disk.old path.now is_fixed result }
     ensures few { IfOk result (λ digests. length digests.items ≤ entry_limit) }
     // on any disk
-    ensures named { IfErr result (IfRefused (λ refusal. refusal ≡ Unreadable path.now)) }
-    ensures text { IfErr result StopHasText }
+    ensures named { IfErr result (IfUnreadable (λ name. name ≡ path.now)) }
 {
     match read_index(disk, alloc, path.as_str(), is_fixed, 0) {
         Ok(index) => Ok(digests_of(alloc, &index.entries)?),
-        Err(ReadError::Refused(_)) => Err(Stop::Refused(unreadable(alloc, path)?)),
-        Err(ReadError::NoMemory) => Err(Stop::NoMemory),
-        Err(ReadError::Failed) => Err(Stop::DiskFailed),
+        Err(ReadError::Refused(_)) => Err(unreadable(alloc, path)?),
+        Err(ReadError::NoMemory) => Err(Unread::NoMemory),
+        Err(ReadError::Failed) => Err(Unread::DiskFailed),
     }
 }
 
@@ -88,12 +99,10 @@ fn settle_next<D: Disk>(
     parts: &mut Parts<D>,
     alloc: Global,
     collector: &mut Collector,
-) -> Result<bool, Stop>
+) -> Result<bool, Unread>
     ensures reads { OnlyReads D.Disk parts.old.disk parts.new.disk (IsErrOf result DiskFailed) }
     ensures kept { SameKept parts.old parts.new }
     ensures next { SettlesNext D.Disk parts.old collector.old collector.new result }
-    ensures text { IfErr result StopHasText }
-    ensures named { IfErr result (IfRefused IsUnreadable) }
 {
     let Some(index) = collector.plan.index_next() else {
         return Ok(false);
@@ -114,17 +123,15 @@ fn settle_next<D: Disk>(
 }
 
 /// Passes over indexes that were forgotten or have no entries. Whether one is to be marked then, of which the digests are
-/// at hand. It is refused where the next one does not decode.
+/// at hand. The next one may not decode.
 pub fn find_next<D: Disk>(
     parts: &mut Parts<D>,
     alloc: Global,
     collector: &mut Collector,
-) -> Result<bool, Stop>
+) -> Result<bool, Unread>
     ensures reads { OnlyReads D.Disk parts.old.disk parts.new.disk (IsErrOf result DiskFailed) }
     ensures kept { SameKept parts.old parts.new }
     ensures next { FindsNext D.Disk parts.old collector.old collector.new result }
-    ensures text { IfErr result StopHasText }
-    ensures named { IfErr result (IfRefused IsUnreadable) }
 {
     while collector.plan.mark_next().is_some() {
         if settle_next(parts, alloc, collector)? {

@@ -112,7 +112,7 @@ fn new_collector<D>(parts: &Parts<D>, alloc: Global, at: Place) -> Result<Collec
         lane: at.lane,
         plan: gc_plan::start(at.moment, oldest_in(&parts.sessions), indexes),
         entries: Vec::new(alloc),
-        refusal: None,
+        ended: None,
     })
 }
 

@@ -9,10 +9,11 @@ ghost use Rattle.core_state.specs.Reserved.{HasRoom};
 ghost use Rattle.core_collect.specs.Stepping.{EntersPass, GoesOn, PassDoes, CollectDoes, StepTells};
 
 use crate::ending::{end, end_early, told};
-use crate::marking::{find_next, mark};
+use crate::marking::{Unread, find_next, mark};
 use crate::visiting::visit_next;
 use core_state::{
-    Act, Admitted, Answer, Collector, Core, Parts, Place, Stop, Upkeep, begin, enter, is_on, settle,
+    Act, Admitted, Answer, Collector, Core, Early, Parts, Place, Stop, Upkeep, begin, enter, is_on,
+    settle,
 };
 use disk_trait::Disk;
 use gc_plan::GcReport;
@@ -29,7 +30,7 @@ fn collect<D: Disk>(
     alloc: Global,
     at: Place,
 ) -> Result<Option<GcReport>, Stop>
-    requires { collector.old.refusal ≡ None }
+    requires { collector.old.ended ≡ None }
     ensures { CollectDoes D.Disk parts.old parts.new upkeep.old upkeep.new collector.old collector.new at result }
 {
     if collector.plan.is_over() {
@@ -39,8 +40,9 @@ fn collect<D: Disk>(
     match find_next(parts, alloc, collector) {
         Ok(true) => mark(&mut upkeep.book, collector, at.moment),
         Ok(false) => visit_next(&mut parts.disk, alloc, &mut upkeep.book, &mut collector.plan)?,
-        Err(Stop::Refused(refusal)) => collector.refusal = Some(refusal),
-        Err(stop) => return Err(stop),
+        Err(Unread::Unreadable(path)) => collector.ended = Some(Early::Unreadable(path)),
+        Err(Unread::NoMemory) => return Err(Stop::NoMemory),
+        Err(Unread::DiskFailed) => return Err(Stop::DiskFailed),
     }
     Ok(None)
 }

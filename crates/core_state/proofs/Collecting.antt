@@ -2,15 +2,14 @@
 use Rattle.std.proofs.Common.{◌≡◌, ℕ, Bool, true, false, ◌&&◌, ◌==◌, cond, is_some, List, Option, Some, None, refl, sym, ap, ◌∙◌}
 use Rattle.std.proofs.lemmas.Bool.{eqb-true}
 use Rattle.store_files.specs.Archive.{Snapshot}
-use Rattle.store_types.specs.declared.refusal.Refusal.{Refusal}
-use Rattle.store_types.specs.declared.refusal.Refusal.TheVariants.{NoMemory}
 use Rattle.store_model.specs.Lanes.{Collecting, collects}
 use Rattle.store_history.specs.declared.act.Act.{Act}
 use Rattle.store_history.specs.Acts.{Class, stepping, starting, sweeping, wanting, ending, class_of}
 use Rattle.store_history.specs.History.{World, moved, halted_on, kind_of, open_on}
 use Rattle.store_history.specs.History as worlds
 use Rattle.core_state.specs.declared.collector.Collector.{Collector}
-use Rattle.core_state.specs.Collectors.{OpenOn, closed_on, collector_by, cut_on, first_refusal, is_cut, is_on, open_in, refusal_if, shown_collecting, with_cut}
+use Rattle.core_state.specs.declared.collector.Early.TheVariants.{NoMemory}
+use Rattle.core_state.specs.Collectors.{OpenOn, closed_on, collector_by, cut_on, first_of, is_cut, is_on, open_in, ended_if, shown_collecting, with_cut}
 
 some_none : {A : Type 0} (x : A) → Some x ≡ None → ⊥
 some_none x e = cc
@@ -25,20 +24,20 @@ same_open : (x y : OpenOn) → Some x ≡ Some y → x ≡ y
 same_open x y e = cc
 
 -- want of memory, whatever ended it before
-cut_refusal : (is_short : Bool) → first_refusal (refusal_if is_short) NoMemory ≡ Some NoMemory
-cut_refusal true = refl
-cut_refusal false = refl
+cut_ended : (is_short : Bool) → first_of (ended_if is_short) NoMemory ≡ Some NoMemory
+cut_ended true = refl
+cut_ended false = refl
 
 module _ (k : ℕ) where
   -- both are this lane's, or neither
   on_same : (c : Collector) (w : Collecting) → open_in (Some c) ≡ shown_collecting (Some w) → (c.lane == k) ≡ (w.lane == k)
-  on_same c w is = ap (λ (x : OpenOn). x.lane == k) (same_open (record { lane = c.lane; refusal = c.refusal }) (record { lane = w.lane; refusal = refusal_if w.is_short }) is)
+  on_same c w is = ap (λ (x : OpenOn). x.lane == k) (same_open (record { lane = c.lane; ended = c.ended }) (record { lane = w.lane; ended = ended_if w.is_short }) is)
 
-  refusal_same : (c : Collector) (w : Collecting) → open_in (Some c) ≡ shown_collecting (Some w) → c.refusal ≡ refusal_if w.is_short
-  refusal_same c w is = ap (λ (x : OpenOn). x.refusal) (same_open (record { lane = c.lane; refusal = c.refusal }) (record { lane = w.lane; refusal = refusal_if w.is_short }) is)
+  ended_same : (c : Collector) (w : Collecting) → open_in (Some c) ≡ shown_collecting (Some w) → c.ended ≡ ended_if w.is_short
+  ended_same c w is = ap (λ (x : OpenOn). x.ended) (same_open (record { lane = c.lane; ended = c.ended }) (record { lane = w.lane; ended = ended_if w.is_short }) is)
 
   lane_same : (c : Collector) (w : Collecting) → open_in (Some c) ≡ shown_collecting (Some w) → c.lane ≡ w.lane
-  lane_same c w is = ap (λ (x : OpenOn). x.lane) (same_open (record { lane = c.lane; refusal = c.refusal }) (record { lane = w.lane; refusal = refusal_if w.is_short }) is)
+  lane_same c w is = ap (λ (x : OpenOn). x.lane) (same_open (record { lane = c.lane; ended = c.ended }) (record { lane = w.lane; ended = ended_if w.is_short }) is)
 
   pub cut_shown : (c : Option Collector) (w : Option Collecting) → open_in c ≡ shown_collecting w → open_in (cut_on k c) ≡ shown_collecting (worlds.cut_on k w)
   cut_shown None None is = refl
@@ -46,15 +45,15 @@ module _ (k : ℕ) where
   cut_shown (Some c) None is = absurd (some_none _ is)
   cut_shown (Some c) (Some w) is = by_test (w.lane == k) refl
     where
-      cut_is : open_in (Some (with_cut c)) ≡ Some (record { lane = w.lane; refusal = Some NoMemory })
-      cut_is = ap (λ n. Some (record { lane = n; refusal = first_refusal c.refusal NoMemory })) (lane_same c w is)
-          ∙ ap (λ r. Some (record { lane = w.lane; refusal = first_refusal r NoMemory })) (refusal_same c w is)
-          ∙ ap (λ r. Some (record { lane = w.lane; refusal = r })) (cut_refusal w.is_short)
+      cut_is : open_in (Some (with_cut c)) ≡ Some (record { lane = w.lane; ended = Some NoMemory })
+      cut_is = ap (λ n. Some (record { lane = n; ended = first_of c.ended NoMemory })) (lane_same c w is)
+          ∙ ap (λ r. Some (record { lane = w.lane; ended = first_of r NoMemory })) (ended_same c w is)
+          ∙ ap (λ r. Some (record { lane = w.lane; ended = r })) (cut_ended w.is_short)
 
       by_test : (b : Bool) → (w.lane == k) ≡ b → open_in (cut_on k (Some c)) ≡ shown_collecting (cond (w.lane == k) (worlds.new_collecting k true) (Some w))
       by_test true on =
           ap (λ b. open_in (cond b (Some (with_cut c)) (Some c))) (on_same c w is ∙ on) ∙ cut_is
-          ∙ ap (λ n. Some (record { lane = n; refusal = Some NoMemory })) (eqb-true w.lane k on)
+          ∙ ap (λ n. Some (record { lane = n; ended = Some NoMemory })) (eqb-true w.lane k on)
           ∙ sym (ap (λ b. shown_collecting (cond b (worlds.new_collecting k true) (Some w))) on)
       by_test false off =
           ap (λ b. open_in (cond b (Some (with_cut c)) (Some c))) (on_same c w is ∙ off) ∙ is
@@ -78,10 +77,10 @@ module _ (k : ℕ) where
   cut_is None (Some w) is on = absurd (none_some _ is)
   cut_is (Some c) (Some w) is on = by_test (w.lane == k) refl on
     where
-      by_test : (b : Bool) → (w.lane == k) ≡ b → cond b (Some w.is_short) None ≡ Some true → (c.lane == k) && is_some c.refusal ≡ true
+      by_test : (b : Bool) → (w.lane == k) ≡ b → cond b (Some w.is_short) None ≡ Some true → (c.lane == k) && is_some c.ended ≡ true
       by_test true at short =
           let so : w.is_short ≡ true = bool_same w.is_short true short in
-          ap (λ b. b && is_some c.refusal) (on_same c w is ∙ at) ∙ ap is_some (refusal_same c w is ∙ ap refusal_if so)
+          ap (λ b. b && is_some c.ended) (on_same c w is ∙ at) ∙ ap is_some (ended_same c w is ∙ ap ended_if so)
       by_test false at short = absurd (none_some true short)
 
 halted_same : (k : ℕ) (c : Class) (w : Option Collecting) → (c ≡ sweeping → ⊥) → halted_on k c w ≡ w

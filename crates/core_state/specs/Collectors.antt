@@ -1,30 +1,39 @@
 -- The collector that is open, and what the entries of the order make of it.
 use Rattle.std.specs.Prelude.{ℕ, ◌+◌, Bool, true, false, ◌&&◌, ◌||◌, ◌==◌, if◌then◌else◌, Option, Some, None, option_map, is_some}
 use Rattle.store_types.specs.declared.refusal.Refusal.{Refusal}
-use Rattle.store_types.specs.declared.refusal.Refusal.TheVariants.{NoMemory}
+use Rattle.store_types.specs.declared.refusal.Refusal.TheVariants as refusals
 use Rattle.store_model.specs.Lanes.{Collecting}
 use Rattle.gc_plan.specs.Plan.{left_of}
 use Rattle.core_state.specs.declared.collector.Collector.{Collector}
+use Rattle.core_state.specs.declared.collector.Early.{Early}
+use Rattle.core_state.specs.declared.collector.Early.TheVariants.{NoMemory, Unreadable}
+
+-- ---- what ended it early
+
+-- as its end replies it
+abbrev pub refusal_of : Early → Refusal
+refusal_of NoMemory = refusals.NoMemory
+refusal_of (Unreadable path) = refusals.Unreadable path
 
 -- ---- which collector is open
 
 -- the lane whose collector is open, and what ended it early
 pub record OpenOn : Type 0 where
   pub lane : ℕ
-  pub refusal : Option Refusal
+  pub ended : Option Early
 
 abbrev pub open_in : Option Collector → Option OpenOn
 open_in None = None
-open_in (Some c) = Some (record { lane = c.lane; refusal = c.refusal })
+open_in (Some c) = Some (record { lane = c.lane; ended = c.ended })
 
 -- as the plain store has it: want of memory alone ends one early
-abbrev pub refusal_if : Bool → Option Refusal
-refusal_if false = None
-refusal_if true = Some NoMemory
+abbrev pub ended_if : Bool → Option Early
+ended_if false = None
+ended_if true = Some NoMemory
 
 abbrev pub shown_collecting : Option Collecting → Option OpenOn
 shown_collecting None = None
-shown_collecting (Some c) = Some (record { lane = c.lane; refusal = refusal_if c.is_short })
+shown_collecting (Some c) = Some (record { lane = c.lane; ended = ended_if c.is_short })
 
 -- the open collector is this lane's
 abbrev pub is_on : ℕ → Option Collector → Bool
@@ -34,17 +43,17 @@ is_on lane (Some c) = c.lane == lane
 -- and was ended early
 abbrev pub is_cut : ℕ → Option Collector → Bool
 is_cut lane None = false
-is_cut lane (Some c) = (c.lane == lane) && is_some c.refusal
+is_cut lane (Some c) = (c.lane == lane) && is_some c.ended
 
 -- ---- what entries make of it
 
--- the first refusal stands
-abbrev pub first_refusal : Option Refusal → Refusal → Option Refusal
-first_refusal None later = Some later
-first_refusal (Some refusal) later = Some refusal
+-- what came first stands
+abbrev pub first_of : Option Early → Early → Option Early
+first_of None later = Some later
+first_of (Some early) later = Some early
 
 abbrev pub with_cut : Collector → Collector
-with_cut c = record c { refusal = first_refusal c.refusal NoMemory }
+with_cut c = record c { ended = first_of c.ended NoMemory }
 
 -- memory was wanting on the lane
 abbrev pub cut_on : ℕ → Option Collector → Option Collector
@@ -70,4 +79,4 @@ steps_if false left = left + 1
 
 abbrev pub steps_left : Option Collector → ℕ
 steps_left None = 0
-steps_left (Some c) = steps_if (is_some c.refusal) (left_of c.plan)
+steps_left (Some c) = steps_if (is_some c.ended) (left_of c.plan)

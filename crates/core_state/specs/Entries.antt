@@ -1,11 +1,7 @@
--- What a collector that is open keeps: the entries of the index that it marks, and what ended it early.
-use Rattle.std.specs.Prelude.{◌≡◌, ◌<◌, ◌≤◌, ◌⊎◌, ℕ, List, length, IsTrue}
+-- The entries of the index that a collector marks.
+use Rattle.std.specs.Prelude.{◌≡◌, ◌<◌, ◌≤◌, ◌⊎◌, ℕ, List, length}
 use Rattle.store_types.specs.declared.names.Digest32.{Digest32}
-use Rattle.store_types.specs.declared.refusal.Refusal.{Refusal}
-use Rattle.wire_commands.specs.HasText.{ReplyHasText}
-use Rattle.wire_commands.specs.declared.reply.Reply.TheVariants.{Refused}
 use Rattle.gc_plan.specs.Plan.{Plan, Stage, marking, sweeping, entry_limit}
-use Rattle.core_state.specs.Replies.{refuses_end}
 
 -- how many entries of the index that is next are marked
 abbrev pub marked_in : Stage → ℕ
@@ -16,8 +12,3 @@ marked_in (sweeping names) = 0
 pub record FitsEntries (plan : Plan) (entries : List Digest32) : Type 0 where
   pub within : (marked_in plan.stage ≡ 0) ⊎ (marked_in plan.stage < length entries)
   pub few : length entries ≤ entry_limit
-
--- it is a reply of a collector's end
-pub record EndsEarly (refusal : Refusal) : Type 0 where
-  pub ends : IsTrue (refuses_end refusal)
-  pub text : ReplyHasText (Refused refusal)

@@ -1,12 +1,39 @@
 //! The collector of unused chunks, while it is open.
 
-ghost use Rattle.std.specs.Prelude.{◌≡◌, IfSome};
-ghost use Rattle.core_state.specs.Collectors.{collector_by, is_cut, is_on, with_cut};
-ghost use Rattle.core_state.specs.Entries.{EndsEarly, FitsEntries};
+ghost use Rattle.std.specs.Prelude.{◌≡◌};
+ghost use Rattle.wire_commands.specs.HasText.{ReplyHasText};
+ghost use Rattle.wire_commands.specs.declared.reply.Reply.TheVariants.{Refused};
+ghost use Rattle.core_state.specs.Collectors.{collector_by, is_cut, is_on, refusal_of, with_cut};
+ghost use Rattle.core_state.specs.Entries.{FitsEntries};
 
 use crate::state::Core;
 use gc_plan::Gc;
+use snapshot_files::FilePath;
 use store_types::{Digest32, END_KIND, MEMORY_KIND, Refusal, STOP_KIND};
+
+/// What ended a collector early.
+#[derive(Debug, Drop)]
+pub enum Early {
+    /// Memory was wanting for one of its acts.
+    NoMemory,
+    /// The index that stands there does not decode.
+    Unreadable(FilePath),
+}
+
+impl Early {
+    /// As the collector's end replies it. It takes no memory.
+    pub fn into_refusal(self) -> Refusal
+        ensures value { result ≡ refusal_of self }
+        ensures text { ReplyHasText (Refused result) }
+    {
+        match self {
+            Early::NoMemory => Refusal::NoMemory,
+            Early::Unreadable(path) => Refusal::Unreadable {
+                name: path.into_bytes(),
+            },
+        }
+    }
+}
 
 /// A collector that is open on a lane.
 #[derive(Drop)]
@@ -15,10 +42,9 @@ pub struct Collector {
     pub plan: Gc,
     /// The digests of the index that is being marked, from its first entry on. None are at hand before it is read.
     pub entries: Vec<Digest32>,
-    /// What ended it early: want of memory, or an index that does not decode. Its next act is its end then.
-    pub refusal: Option<Refusal>,
+    /// Where something ended it early, its next act is its end.
+    pub ended: Option<Early>,
     ghost fits: { FitsEntries plan entries.items },
-    ghost early: { IfSome refusal EndsEarly },
 }
 
 impl Collector {
@@ -26,8 +52,8 @@ impl Collector {
     pub fn cut(&mut self)
         ensures { self.new ≡ with_cut self.old }
     {
-        if self.refusal.is_none() {
-            self.refusal = Some(Refusal::NoMemory);
+        if self.ended.is_none() {
+            self.ended = Some(Early::NoMemory);
         }
     }
 }
@@ -67,7 +93,7 @@ impl<D, E, C> Core<D, E, C> {
         ensures { result ≡ is_cut lane self.now.collector }
     {
         match &self.collector {
-            Some(open) => open.lane == lane && open.refusal.is_some(),
+            Some(open) => open.lane == lane && open.ended.is_some(),
             None => false,
         }
     }

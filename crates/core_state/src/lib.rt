@@ -16,7 +16,7 @@ mod wanted;
 
 pub use catalogue::{path_named, snapshot_named};
 pub use closing::{closes, end_session};
-pub use collector::{Collector, is_on};
+pub use collector::{Collector, Early, is_on};
 pub use entering::{Admitted, Place, begin, enter, halted, next_place, settle, short};
 pub use journal::{HELD, Journal};
 pub use kept::{Kept, Listed, Session, StoredFile, Writing};
