@@ -1,5 +1,5 @@
 -- The book of a datastore that was opened is that of the history without events.
-use Rattle.std.proofs.Common.{◌≡◌, ◌⊎◌, ◌↔◌, inl, inr, ⊎_elim, ℕ, Bool, true, false, cond, ◌&&◌, ◌||◌, if◌then◌else◌, filter, map, List, [], ◌∷◌, Option, Some, None, refl, sym, ap, subst, ◌∙◌, arith}
+use Rattle.std.proofs.Common.{◌≡◌, ◌⊎◌, ◌↔◌, inl, inr, ⊎_elim, ℕ, Bool, true, false, cond, ◌&&◌, ◌||◌, if◌then◌else◌, filter, length, map, List, [], ◌∷◌, Option, Some, None, refl, sym, ap, subst, ◌∙◌, arith}
 use Rattle.std.specs.Prelude.{is_none, is_some, unwrap_or, nat_le, length, drop}
 use Rattle.std.specs.FinMap.{get, entries}
 use Rattle.std.specs.List.{Contains}
@@ -28,15 +28,17 @@ use Rattle.opening_files.proofs.Endings.{last, last_temporary}
 use Rattle.opening_files.proofs.Leavers.{chunk_stays}
 use Rattle.store_history.specs.History.{Opening}
 use Rattle.store_history.specs.Saved.{book_in, book_name, saved_book}
-use Rattle.store_history.specs.LastTouches.{SameTouches, is_one_of, touches_after_all, touches_at_opening}
+use Rattle.store_history.specs.LastTouches.{SameTouches, is_one_of, touches_at_opening}
+use Rattle.store_upkeep.specs.Sweeping.{swept_all}
 use Rattle.store_history.proofs.Naming.{book_apart}
 use Rattle.core_state.specs.declared.state.Core.{Core}
 use Rattle.core_state.specs.declared.upkeep.Upkeep.{Upkeep}
-use Rattle.core_state.specs.History.{began}
+use Rattle.core_state.specs.History.{began, world}
 use Rattle.core_state.specs.KeepsTouches.{KeepsTouches}
+use Rattle.core_state.specs.Sweeps.{ShowsOpen}
 use Rattle.core_state.specs.Upkeeps.{touches_kept}
 use Rattle.core_state.proofs.Chunks.{is_digest, opened_only}
-use Rattle.core_opening.specs.Opening.{IsBookOf, opening_of}
+use Rattle.core_opening.specs.Opening.{IsBookOf, NumbersAll, opening_of}
 
 -- ---- the saved book stays
 
@@ -216,12 +218,17 @@ module _ (m c : Files) (u : Upkeep) (whole : HasWholeChunks m) (may : MayClean m
 -- where an honest disk stands for a list
 pub opened_touches : {D E C : Type 0} (d : Ghosts D) (readings : Option Readings) (old : D) (core : Core D E C) (L : List Snapshot) (R : Option (List Snapshot)) → Stands (d.content old) L
     → MayClean (d.content old) (d.content old) (d.content (core.parts).disk) → IsBookOf (d.content (core.parts).disk) core.upkeep
+    → core.collector ≡ None → NumbersAll (core.parts).catalogue.items
     → KeepsTouches d core (began (opening_of d old (core.parts).disk L) R readings)
-unfolding touches_after_all
-opened_touches d readings old core L R stands may book =
+unfolding swept_all
+opened_touches d readings old core L R stands may book none numbers =
     let m = d.content old in
     let c = d.content (core.parts).disk in
+    let acts = length (core.journal).entries.items in
     record {
       touches = opened_touches_are m c core.upkeep stands.chunks may book L (d.calls (core.parts).disk);
       present = λ calm. opened_present m c core.upkeep stands.chunks may book L (d.calls (core.parts).disk);
+      sweep = subst (λ x. ShowsOpen acts (core.parts).catalogue.items (world (began (opening_of d old (core.parts).disk L) R readings)).store.snapshots x None) (sym none) refl;
+      is_swept = tt;
+      numbers = numbers acts;
     }

@@ -21,6 +21,7 @@ use Rattle.opening_files.proofs.Leavers.{stands_cleaned}
 use Rattle.core_state.specs.declared.state.Core.{Core}
 use Rattle.core_state.specs.declared.kept.Session.TheVariants.{Idle}
 use Rattle.core_state.specs.Chunks.{HoldsOnly}
+use Rattle.core_state.specs.Collectors.{open_in}
 use Rattle.core_state.specs.Shown.{shown_session}
 use Rattle.core_state.specs.Locked.{Locked}
 use Rattle.core_state.specs.Holds.{IsSound}
@@ -107,6 +108,7 @@ module _ {D E C : Type 0} (d : Ghosts D) (readings : C → Option Readings) (old
           locks = subst (λ l. Locked l (store_of L)) (sym begun.locks) (locked_none (store_of L) (no_session L));
           sound = idle_is_sound c L after;
         };
+        collecting = ap open_in begun.collector;
         files = λ _. record { snapshots = after; writers = λ lane w e. absurd (no_writer L lane w e) };
         chunks = λ _. only_same c (chunk_pieces m) [] (only_before m c (chunk_pieces m) may (opened_only m stands.chunks));
       }

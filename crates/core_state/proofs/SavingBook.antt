@@ -1,5 +1,5 @@
 -- The core stands for what it stood for once its book is saved, and what a crash leaves for what it did.
-use Rattle.std.proofs.Common.{◌≡◌, ◌<◌, ◌≤◌, ◌⊎◌, ◌↔◌, ⊎_elim, ℕ, Bool, true, false, not, ◌&&◌, ◌==◌, nat_le, is_none, map, List, [], ◌∷◌, Option, Some, None, Result, Ok, Err, refl, sym, ap, subst, ◌∙◌, arith}
+use Rattle.std.proofs.Common.{◌≡◌, ◌<◌, ◌≤◌, ◌⊎◌, ◌↔◌, ⊎_elim, ℕ, Bool, true, false, not, ◌&&◌, ◌==◌, nat_le, is_none, length, map, List, [], ◌∷◌, Option, Some, None, Result, Ok, Err, refl, sym, ap, subst, ◌∙◌, arith}
 use Rattle.std.specs.Prelude.{IsErrOf, OnOk}
 use Rattle.std.specs.FinMap.{get}
 use Rattle.std.specs.Option.{IsSome}
@@ -30,7 +30,10 @@ use Rattle.core_state.specs.declared.kept.Listed.{Listed}
 use Rattle.core_state.specs.declared.state.Core.{Core}
 use Rattle.core_state.specs.History.{History, KeepsTime, StandsFor, pieces_of, world}
 use Rattle.core_state.specs.Locked.{Locked}
-use Rattle.core_state.specs.KeepsTouches.{KeepsTouches, touches_of_history}
+use Rattle.core_state.specs.KeepsTouches.{KeepsTouches, swept_of, touches_of_history}
+use Rattle.core_state.specs.Collectors.{open_in}
+use Rattle.core_state.specs.Numbers.{AreNumbered}
+use Rattle.core_state.specs.Sweeps.{ShowsOpen}
 use Rattle.core_state.specs.Recovers.{Recovers}
 use Rattle.core_state.specs.Saving.{HasSaved, LeavesBook, SavesBook, text_of_book}
 use Rattle.core_state.specs.Upkeeps.{touches_kept}
@@ -63,6 +66,7 @@ pub record KeepsFields {D E C : Type 0} (old new : Core D E C) : Type 0 where
   pub clock : new.clock ≡ old.clock
   pub journal : new.journal ≡ old.journal
   pub upkeep : new.upkeep ≡ old.upkeep
+  pub collector : new.collector ≡ old.collector
   pub last : new.last ≡ old.last
   pub fault : new.fault ≡ old.fault
   pub catalogue : (new.parts).catalogue ≡ (old.parts).catalogue
@@ -110,6 +114,7 @@ module _ {D E C : Type 0} (d : Ghosts D) (old new : Core D E C) (result : Result
         locks = subst (λ locks. Locked locks (world h).store) (sym rest.locks) (s.shows).locks;
         sound = (s.shows).sound;
       };
+      collecting = ap open_in rest.collector ∙ s.collecting;
       files = λ none. on_disk_same read reads (reads_same unfailed s.honest) (world h).store (s.files none);
       chunks = λ none. only_as_before read reads (reads_same unfailed s.honest) (pieces_of h) (s.chunks none);
     }
@@ -119,7 +124,19 @@ module _ {D E C : Type 0} (d : Ghosts D) (old new : Core D E C) (result : Result
       touches = subst (λ u. SameTouches (touches_kept u) (touches_of_history h)) (sym rest.upkeep) m.touches;
       present = λ none x digest.
           subst (λ (o : Option (List ℕ)). IsSome o ↔ IsSome ((touches_of_history h).last x)) (sym ((reads_same unfailed s.honest).chunks x)) (m.present (sym rest.fault ∙ none) x digest);
+      sweep = subst (λ n. ShowsOpen n (new.parts).catalogue.items (world h).store.snapshots new.collector (swept_of h).sweep) (sym acts)
+          (subst (λ xs. ShowsOpen (length (old.journal).entries.items) xs (world h).store.snapshots new.collector (swept_of h).sweep) (sym listed)
+          (subst (λ c. ShowsOpen (length (old.journal).entries.items) (old.parts).catalogue.items (world h).store.snapshots c (swept_of h).sweep) (sym rest.collector) m.sweep));
+      is_swept = m.is_swept;
+      numbers = subst (λ n. AreNumbered n (new.parts).catalogue.items) (sym acts)
+          (subst (AreNumbered (length (old.journal).entries.items)) (sym listed) m.numbers);
     }
+      where
+        acts : length (new.journal).entries.items ≡ length (old.journal).entries.items
+        acts = ap (λ (j : Journal). length j.entries.items) rest.journal
+
+        listed : (new.parts).catalogue.items ≡ (old.parts).catalogue.items
+        listed = ap (λ xs. xs.items) rest.catalogue
 
     holds : old.fault ≡ None → KeepsTouches d old h → OnOk result (HoldsBook reads old.last (touches_of_history h))
     holds none m = by_result result refl saved

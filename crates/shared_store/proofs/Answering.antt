@@ -2,7 +2,7 @@
 use Rattle.std.proofs.Common.{◌≡◌, ℕ, true, false}
 use Rattle.wire_commands.specs.declared.command.Command.TheVariants.{OpenWriter, Previous, NewFixed, NewDynamic, Append, CloseIndex, Finish, Abort, OpenReader, Download, GetChunk, Range, CloseReader, List as ListAll, Files as FilesOf, Forget, Prune, Group}
 use Rattle.store_history.specs.declared.act.Act.{Act}
-use Rattle.store_history.specs.declared.act.Act.TheVariants.{Plain, JobGroup, Blob, Chunk, Short, End}
+use Rattle.store_history.specs.declared.act.Act.TheVariants.{Plain, JobGroup, Blob, Chunk, Start, Step, Short, End}
 use Rattle.store_history.specs.declared.act.Answer.{Answer}
 use Rattle.core_state.specs.declared.state.Core.{Core}
 use Rattle.core_writer.specs.WriterActs.{IsWriters}
@@ -11,6 +11,8 @@ use Rattle.core_reader.specs.ReaderActs.{IsReaders}
 use Rattle.core_reader.specs.AnsweredBy as readers
 use Rattle.core_admin.specs.AdminActs.{IsAdmins}
 use Rattle.core_admin.specs.AnsweredBy as admins
+use Rattle.core_collect.specs.Acts as collectors
+use Rattle.core_collect.specs.Acts.{IsCollectors}
 use Rattle.shared_store.specs.AnsweredBy.{CoreAnswersBy}
 
 never : {P : Type 0} → false ≡ true → P
@@ -19,38 +21,44 @@ never e = absurd (apart e)
     apart : false ≡ true → ⊥
     apart e = cc
 
-pub readers_answer : {D E C : Type 0} (old : Core D E C) (lane : ℕ) (act : Act) (answer : Answer) → IsReaders act → readers.CoreAnswersBy old lane act answer → CoreAnswersBy old lane act answer
-readers_answer old lane (Plain (OpenReader snapshot)) answer is tells = tells
-readers_answer old lane (Plain (Download file offset)) answer is tells = λ so. never so
-readers_answer old lane (Plain (GetChunk digest)) answer is tells = λ so. never so
-readers_answer old lane (Plain (Range file offset len)) answer is tells = λ so. never so
-readers_answer old lane (Plain CloseReader) answer is tells = λ so. never so
-readers_answer old lane act answer is tells = absurd is
+pub readers_answer : {D E C : Type 0} (old new : Core D E C) (lane : ℕ) (act : Act) (answer : Answer) → IsReaders act → readers.CoreAnswersBy old lane act answer → CoreAnswersBy old new lane act answer
+readers_answer old new lane (Plain (OpenReader snapshot)) answer is tells = tells
+readers_answer old new lane (Plain (Download file offset)) answer is tells = λ so. never so
+readers_answer old new lane (Plain (GetChunk digest)) answer is tells = λ so. never so
+readers_answer old new lane (Plain (Range file offset len)) answer is tells = λ so. never so
+readers_answer old new lane (Plain CloseReader) answer is tells = λ so. never so
+readers_answer old new lane act answer is tells = absurd is
 
-pub writers_answer : {D E C : Type 0} (old : Core D E C) (lane : ℕ) (act : Act) (answer : Answer) → IsWriters act → writers.CoreAnswersBy old lane act answer → CoreAnswersBy old lane act answer
-writers_answer old lane (Plain (OpenWriter snapshot)) answer is tells = tells
-writers_answer old lane (Plain (Previous file offset)) answer is tells = λ so. never so
-writers_answer old lane (Plain (NewFixed file size chunk_size)) answer is tells = λ so. never so
-writers_answer old lane (Plain (NewDynamic file)) answer is tells = λ so. never so
-writers_answer old lane (Plain (Append number entries)) answer is tells = λ so. never so
-writers_answer old lane (Plain (CloseIndex number count size csum)) answer is tells = λ so. never so
-writers_answer old lane (Plain Finish) answer is tells = λ so. never so
-writers_answer old lane (Plain Abort) answer is tells = λ so. never so
-writers_answer old lane (Blob name checked) answer is tells = λ so. never so
-writers_answer old lane (Chunk digest checked) answer is tells = λ so. never so
-writers_answer old lane act answer is tells = absurd is
+pub writers_answer : {D E C : Type 0} (old new : Core D E C) (lane : ℕ) (act : Act) (answer : Answer) → IsWriters act → writers.CoreAnswersBy old lane act answer → CoreAnswersBy old new lane act answer
+writers_answer old new lane (Plain (OpenWriter snapshot)) answer is tells = tells
+writers_answer old new lane (Plain (Previous file offset)) answer is tells = λ so. never so
+writers_answer old new lane (Plain (NewFixed file size chunk_size)) answer is tells = λ so. never so
+writers_answer old new lane (Plain (NewDynamic file)) answer is tells = λ so. never so
+writers_answer old new lane (Plain (Append number entries)) answer is tells = λ so. never so
+writers_answer old new lane (Plain (CloseIndex number count size csum)) answer is tells = λ so. never so
+writers_answer old new lane (Plain Finish) answer is tells = λ so. never so
+writers_answer old new lane (Plain Abort) answer is tells = λ so. never so
+writers_answer old new lane (Blob name checked) answer is tells = λ so. never so
+writers_answer old new lane (Chunk digest checked) answer is tells = λ so. never so
+writers_answer old new lane act answer is tells = absurd is
 
-pub admins_answer : {D E C : Type 0} (old : Core D E C) (lane : ℕ) (act : Act) (answer : Answer) → IsAdmins act → admins.CoreAnswersBy old lane act answer → CoreAnswersBy old lane act answer
-admins_answer old lane (Plain (ListAll rest)) answer is tells = λ so. tells
-admins_answer old lane (Plain (FilesOf snapshot)) answer is tells = λ so. tells
-admins_answer old lane (Plain (Forget snapshot)) answer is tells = λ so. tells
-admins_answer old lane (Plain (Group group)) answer is tells = λ so. tells
-admins_answer old lane (JobGroup (Prune group keep dry)) answer is tells = λ so. tells
-admins_answer old lane act answer is tells = absurd is
+pub admins_answer : {D E C : Type 0} (old new : Core D E C) (lane : ℕ) (act : Act) (answer : Answer) → IsAdmins act → admins.CoreAnswersBy old lane act answer → CoreAnswersBy old new lane act answer
+admins_answer old new lane (Plain (ListAll rest)) answer is tells = λ so. tells
+admins_answer old new lane (Plain (FilesOf snapshot)) answer is tells = λ so. tells
+admins_answer old new lane (Plain (Forget snapshot)) answer is tells = λ so. tells
+admins_answer old new lane (Plain (Group group)) answer is tells = λ so. tells
+admins_answer old new lane (JobGroup (Prune group keep dry)) answer is tells = λ so. tells
+admins_answer old new lane act answer is tells = absurd is
 
 -- want of memory that was met outside the core, and a lane's end
-pub short_answers : {D E C : Type 0} (old : Core D E C) (lane : ℕ) (answer : Answer) → CoreAnswersBy old lane Short answer
-short_answers old lane answer = λ so. never so
+pub short_answers : {D E C : Type 0} (old new : Core D E C) (lane : ℕ) (answer : Answer) → CoreAnswersBy old new lane Short answer
+short_answers old new lane answer = λ so. never so
 
-pub end_answers : {D E C : Type 0} (old : Core D E C) (lane : ℕ) (answer : Answer) → CoreAnswersBy old lane End answer
-end_answers old lane answer = λ so. never so
+pub end_answers : {D E C : Type 0} (old new : Core D E C) (lane : ℕ) (answer : Answer) → CoreAnswersBy old new lane End answer
+end_answers old new lane answer = λ so. never so
+
+-- and the acts of a collector
+pub collectors_answer : {D E C : Type 0} (old new : Core D E C) (lane : ℕ) (act : Act) (answer : Answer) → IsCollectors act → collectors.CoreAnswersBy old new lane act answer → CoreAnswersBy old new lane act answer
+collectors_answer old new lane Start answer is tells = tells
+collectors_answer old new lane Step answer is tells = tells
+collectors_answer old new lane act answer is tells = absurd is

@@ -1,22 +1,24 @@
 -- Which acts are readers', writers', and on the store as a whole, and what they ask for.
-use Rattle.std.proofs.Common.{◌≡◌, true, false, List, [], refl}
+use Rattle.std.proofs.Common.{◌≡◌, ℕ, true, false, List, [], Option, refl}
 use Rattle.store_types.specs.declared.names.Digest32.{Digest32}
 use Rattle.store_types.specs.declared.refusal.ChunkFault.{ChunkFault}
 use Rattle.store_types.specs.declared.refusal.Refusal.TheVariants.{Damaged}
-use Rattle.wire_commands.specs.declared.command.Command.TheVariants.{OpenWriter, Previous, NewFixed, NewDynamic, Chunk as ChunkCommand, Append, CloseIndex, Blob as BlobCommand, Finish, Abort, OpenReader, Download, GetChunk, Range, CloseReader, List as ListAll, Files as FilesOf, Forget, Prune, Group, Bye}
+use Rattle.wire_commands.specs.declared.command.Command.TheVariants.{OpenWriter, Previous, NewFixed, NewDynamic, Chunk as ChunkCommand, Append, CloseIndex, Blob as BlobCommand, Finish, Abort, OpenReader, Download, GetChunk, Range, CloseReader, List as ListAll, Files as FilesOf, Forget, Prune, Verify, Sync, Gc, Group, Bye}
 use Rattle.wire_commands.specs.declared.reply.Reply.TheVariants.{Refused}
 use Rattle.store_history.specs.declared.act.Act.{Act}
-use Rattle.store_history.specs.declared.act.Act.TheVariants.{Plain, JobGroup, Blob, Chunk, Short, End}
+use Rattle.store_history.specs.declared.act.Act.TheVariants.{Plain, JobGroup, Blob, Chunk, Start, Step, Short, End}
 use Rattle.store_history.specs.Acts.{IsWellFormed, class_of, stepping}
 use Rattle.core_state.specs.declared.kept.Listed.{Listed}
 use Rattle.core_state.specs.declared.kept.Session.{Session}
-use Rattle.core_state.specs.Commands.{is_admins}
+use Rattle.core_state.specs.declared.collector.Collector.{Collector}
+use Rattle.core_state.specs.Commands.{is_admins, is_collectors}
 use Rattle.core_state.specs.Replies.{may_answer}
 use Rattle.core_writer.specs.WriterActs.{IsWriters, asked_of_writer}
 use Rattle.core_reader.specs.ReaderActs.{IsReaders}
 use Rattle.core_reader.specs.Asked.{asked_file}
 use Rattle.core_reader.specs.Damages.{needed}
 use Rattle.core_admin.specs.AdminActs.{IsAdmins, asked_of_admin}
+use Rattle.core_collect.specs.Acts.{IsCollectors, asked_of_collector}
 use Rattle.shared_store.specs.Asked.{asked, is_readers}
 
 -- ---- whose act it is
@@ -58,34 +60,48 @@ are_writers (Blob name checked) formed step h k = formed
 are_writers (Chunk digest checked) formed step h k = formed
 are_writers act formed step h k = cc
 
--- neither want of memory nor a lane's end
-pub is_step : (act : Act) → (act ≡ Short → ⊥) → (act ≡ End → ⊥) → class_of act ≡ stepping
-is_step Short no_short no_end = absurd (no_short refl)
-is_step End no_short no_end = absurd (no_end refl)
-is_step act no_short no_end = refl
+pub are_collectors : (act : Act) → is_collectors act ≡ true → IsCollectors act
+are_collectors Start h = tt
+are_collectors Step h = tt
+are_collectors act h = cc
+
+-- neither an act of a collector, nor want of memory, nor a lane's end
+pub is_step : (act : Act) → is_collectors act ≡ false → (act ≡ Short → ⊥) → (act ≡ End → ⊥) → class_of act ≡ stepping
+is_step Start no_collector no_short no_end = cc
+is_step Step no_collector no_short no_end = cc
+is_step Short no_collector no_short no_end = absurd (no_short refl)
+is_step End no_collector no_short no_end = absurd (no_end refl)
+is_step act no_collector no_short no_end = refl
 
 -- ---- what it asks for
 
 -- a writer's act asks for a file of its base alone
-pub writers_ask : (act : Act) (session : Session) (catalogue : List Listed) → IsWriters act → asked act session catalogue ≡ asked_of_writer act session catalogue
-writers_ask (Plain (Download file offset)) session catalogue h = absurd h
-writers_ask (Plain (OpenReader snapshot)) session catalogue h = absurd h
-writers_ask (Plain (FilesOf snapshot)) session catalogue h = absurd h
-writers_ask act session catalogue h = refl
+pub writers_ask : (act : Act) (lane : ℕ) (collector : Option Collector) (session : Session) (catalogue : List Listed) → IsWriters act → asked act lane collector session catalogue ≡ asked_of_writer act session catalogue
+writers_ask (Plain (Download file offset)) lane collector session catalogue h = absurd h
+writers_ask (Plain (OpenReader snapshot)) lane collector session catalogue h = absurd h
+writers_ask (Plain (FilesOf snapshot)) lane collector session catalogue h = absurd h
+writers_ask act lane collector session catalogue h = refl
+
+-- an act of a collector asks for what core_collect says
+pub collectors_ask : (act : Act) (lane : ℕ) (collector : Option Collector) (session : Session) (catalogue : List Listed) → IsCollectors act
+    → asked act lane collector session catalogue ≡ asked_of_collector act lane collector session catalogue
+collectors_ask Start lane collector session catalogue h = refl
+collectors_ask Step lane collector session catalogue h = refl
+collectors_ask act lane collector session catalogue h = absurd h
 
 -- and a reader's act for one of its snapshot
-pub readers_ask : (act : Act) (session : Session) (catalogue : List Listed) → IsReaders act → asked act session catalogue ≡ asked_file act session catalogue
-readers_ask (Plain (Previous file offset)) session catalogue h = absurd h
-readers_ask (Plain (FilesOf snapshot)) session catalogue h = absurd h
-readers_ask act session catalogue h = refl
+pub readers_ask : (act : Act) (lane : ℕ) (collector : Option Collector) (session : Session) (catalogue : List Listed) → IsReaders act → asked act lane collector session catalogue ≡ asked_file act session catalogue
+readers_ask (Plain (Previous file offset)) lane collector session catalogue h = absurd h
+readers_ask (Plain (FilesOf snapshot)) lane collector session catalogue h = absurd h
+readers_ask act lane collector session catalogue h = refl
 
-pub admins_ask : (act : Act) (session : Session) (catalogue : List Listed) → IsAdmins act → asked act session catalogue ≡ asked_of_admin act catalogue
-admins_ask (Plain (ListAll rest)) session catalogue h = refl
-admins_ask (Plain (FilesOf snapshot)) session catalogue h = refl
-admins_ask (Plain (Forget snapshot)) session catalogue h = refl
-admins_ask (Plain (Group group)) session catalogue h = refl
-admins_ask (JobGroup (Prune group keep dry)) session catalogue h = refl
-admins_ask act session catalogue h = absurd h
+pub admins_ask : (act : Act) (lane : ℕ) (collector : Option Collector) (session : Session) (catalogue : List Listed) → IsAdmins act → asked act lane collector session catalogue ≡ asked_of_admin act catalogue
+admins_ask (Plain (ListAll rest)) lane collector session catalogue h = refl
+admins_ask (Plain (FilesOf snapshot)) lane collector session catalogue h = refl
+admins_ask (Plain (Forget snapshot)) lane collector session catalogue h = refl
+admins_ask (Plain (Group group)) lane collector session catalogue h = refl
+admins_ask (JobGroup (Prune group keep dry)) lane collector session catalogue h = refl
+admins_ask act lane collector session catalogue h = absurd h
 
 abbrev pub NeedsNothing : Act → Session → List Listed → Type 0
 NeedsNothing act session catalogue =
@@ -113,3 +129,9 @@ admins_need (Plain (Forget snapshot)) session catalogue h = (refl, λ digest fou
 admins_need (Plain (Group group)) session catalogue h = (refl, λ digest found. refl)
 admins_need (JobGroup (Prune group keep dry)) session catalogue h = (refl, λ digest found. refl)
 admins_need act session catalogue h = absurd h
+
+-- nor do the acts of a collector
+pub collectors_need : (act : Act) (session : Session) (catalogue : List Listed) → IsCollectors act → NeedsNothing act session catalogue
+collectors_need Start session catalogue h = (refl, λ digest found. refl)
+collectors_need Step session catalogue h = (refl, λ digest found. refl)
+collectors_need act session catalogue h = absurd h

@@ -1,6 +1,6 @@
 -- Acts that need no chunk tell of none that is damaged.
 use Rattle.disk_trait.specs.declared.disk.Disk.{Ghosts}
-use Rattle.std.proofs.Common.{◌≡◌, ℕ, true, false, List, [], Option, None, Some, sym, ap, subst, ◌∙◌}
+use Rattle.std.proofs.Common.{◌≡◌, ℕ, Bool, true, false, List, [], Option, None, Some, IsTrue, refl, sym, ap, subst, ◌∙◌}
 use Rattle.disk_trait.specs.Files.{Files}
 use Rattle.store_types.specs.declared.names.Digest32.{Digest32}
 use Rattle.store_types.specs.declared.refusal.ChunkFault.{ChunkFault}
@@ -8,11 +8,13 @@ use Rattle.store_types.specs.declared.refusal.Refusal.TheVariants.{Damaged, NoMe
 use Rattle.wire_commands.specs.declared.reply.Reply.{Reply}
 use Rattle.wire_commands.specs.declared.reply.Reply.TheVariants.{Refused}
 use Rattle.store_history.specs.declared.act.Act.{Act}
+use Rattle.store_history.specs.declared.act.Act.TheVariants.{Start, Step}
 use Rattle.store_history.specs.declared.act.Answer.{Answer}
 use Rattle.core_state.specs.declared.state.Core.{Core}
-use Rattle.core_state.specs.Answers.{HasCause, done, short, failed, halted, EndHasCause, ended, end_failed}
-use Rattle.core_state.specs.Replies.{may_answer}
+use Rattle.core_state.specs.Answers.{HasCause, done, short, failed, halted, EndHasCause, ended, end_failed, StartHasCause, start_opens, start_as_any, StepHasCause, step_passes, step_ends, step_as_any, IsCaused}
+use Rattle.core_state.specs.Replies.{may_answer, may_end}
 use Rattle.core_reader.specs.Damages.{TellsDamaged, first_damage}
+use Rattle.core_collect.specs.Acts.{IsCollectors}
 
 apart_memory : (digest : Digest32) (found : ChunkFault) → Some (Refused NoMemory) ≡ Some (Refused (Damaged digest found)) → ⊥
 apart_memory digest found e = cc
@@ -28,6 +30,10 @@ apart_none digest found e = cc
 
 same_reply : (r s : Reply) → Some r ≡ Some s → r ≡ s
 same_reply r s e = cc
+
+is_true : {b : Bool} → IsTrue b → b ≡ true
+is_true {true} t = refl
+is_true {false} t = absurd t
 
 true_false : true ≡ false → ⊥
 true_false e = cc
@@ -65,3 +71,27 @@ end_tells_whole d old new disk chunks answer (ended kind is) none =
     tells_other d disk chunks _ answer.reply (λ digest found e. apart_none digest found (sym is ∙ e)) none
 end_tells_whole d old new disk chunks answer (end_failed before kind is fault risen) none =
     tells_other d disk chunks _ answer.reply (λ digest found e. apart_fault digest found (sym is ∙ e)) none
+
+-- nor does an act of a collector tell of one
+pub start_tells_whole : {D E C : Type 0} (d : Ghosts D) (old new : Core D E C) (disk : D) (chunks : List Digest32) (answer : Answer)
+    → StartHasCause d old new Start answer → chunks ≡ [] → TellsDamaged d disk chunks (answer.entry).kind answer.reply
+start_tells_whole d old new disk chunks answer (start_opens before kind is) none =
+    tells_other d disk chunks _ answer.reply (λ digest found e. apart_none digest found (sym is ∙ e)) none
+start_tells_whole d old new disk chunks answer (start_as_any cause) none =
+    tells_whole d old new disk chunks Start answer cause none (λ digest found. refl)
+
+pub step_tells_whole : {D E C : Type 0} (d : Ghosts D) (old new : Core D E C) (disk : D) (chunks : List Digest32) (answer : Answer)
+    → StepHasCause d old new Step answer → chunks ≡ [] → TellsDamaged d disk chunks (answer.entry).kind answer.reply
+step_tells_whole d old new disk chunks answer (step_passes before kind is) none =
+    tells_other d disk chunks _ answer.reply (λ digest found e. apart_none digest found (sym is ∙ e)) none
+step_tells_whole d old new disk chunks answer (step_ends before kind reply is may) none =
+    tells_other d disk chunks _ answer.reply
+    (λ digest found e. true_false (sym (is_true may) ∙ ap may_end (same_reply reply (Refused (Damaged digest found)) (sym is ∙ e)))) none
+step_tells_whole d old new disk chunks answer (step_as_any cause) none =
+    tells_whole d old new disk chunks Step answer cause none (λ digest found. refl)
+
+pub collectors_tell_whole : {D E C : Type 0} (d : Ghosts D) (old new : Core D E C) (disk : D) (chunks : List Digest32) (act : Act) (answer : Answer) → IsCollectors act
+    → IsCaused d old new act answer → chunks ≡ [] → TellsDamaged d disk chunks (answer.entry).kind answer.reply
+collectors_tell_whole d old new disk chunks Start answer is cause none = start_tells_whole d old new disk chunks answer cause none
+collectors_tell_whole d old new disk chunks Step answer is cause none = step_tells_whole d old new disk chunks answer cause none
+collectors_tell_whole d old new disk chunks act answer is cause none = absurd is

@@ -4,15 +4,15 @@ use Rattle.store_history.specs.declared.act.Act.TheVariants as acts
 use Rattle.store_history.specs.Acts.{class_of}
 use Rattle.core_state.specs.Answers.{ClassHasCause}
 use Rattle.core_state.specs.Applies.{ActKeeps}
-use Rattle.core_state.specs.Commands.{is_admins}
+use Rattle.core_state.specs.Commands.{is_admins, is_collectors}
 use Rattle.core_state.specs.Unreadables.{TellsUnreadable}
 use Rattle.core_state.specs.Wanted.{session_at}
 use Rattle.core_state.proofs.Applying.{short_applies, short_keeps_all}
 use Rattle.shared_store.specs.AnsweredBy.{CoreAnswersBy}
 use Rattle.shared_store.specs.Asked.{is_readers}
-use Rattle.shared_store.proofs.Answering.{admins_answer, end_answers, readers_answer, short_answers, writers_answer}
-use Rattle.shared_store.proofs.Asking.{are_readers, are_admins, are_writers, is_step, readers_ask, admins_ask, writers_ask, writers_need}
-use Rattle.shared_store.proofs.Damages.{tells_whole}
+use Rattle.shared_store.proofs.Answering.{admins_answer, collectors_answer, end_answers, readers_answer, short_answers, writers_answer}
+use Rattle.shared_store.proofs.Asking.{are_readers, are_admins, are_collectors, are_writers, is_step, readers_ask, admins_ask, collectors_ask, collectors_need, writers_ask, writers_need}
+use Rattle.shared_store.proofs.Damages.{collectors_tell_whole, tells_whole}
 use Rattle.shared_store.proofs.apply.Goals as goal
 
 short_reads : (act : Act) → act ≡ acts.Short → is_readers act ≡ true → ⊥
@@ -27,6 +27,12 @@ short_asks act is asks = apart (sym (ap is_admins is) ∙ asks)
     apart : false ≡ true → ⊥
     apart e = cc
 
+short_collects : (act : Act) → act ≡ acts.Short → is_collectors act ≡ true → ⊥
+short_collects act is collects = apart (sym (ap is_collectors is) ∙ collects)
+  where
+    apart : false ≡ true → ⊥
+    apart e = cc
+
 -- ---- a reader's act
 
 pub reader_act-requires-clause-kind : goal.reader_act-requires-clause-kind
@@ -36,11 +42,11 @@ pub returns-then-is_readers-clause-unreadable : goal.returns-then-is_readers-cla
 returns-then-is_readers-clause-unreadable g c =
     let old = (c.args.core.now).parts in
     subst (λ a. TellsUnreadable g.D.Disk old.disk a (c.reader_act.result.entry).kind c.reader_act.result.reply)
-    (sym (readers_ask c.args.act (session_at old c.args.lane) old.catalogue.items (are_readers c.args.act (sym c.is_readers.ensures ∙ c.if-is_readers.true)))) c.reader_act.ensures.unreadable
+    (sym (readers_ask c.args.act c.args.lane c.args.core.now.collector (session_at old c.args.lane) old.catalogue.items (are_readers c.args.act (sym c.is_readers.ensures ∙ c.if-is_readers.true)))) c.reader_act.ensures.unreadable
 
 pub returns-then-is_readers-clause-by_kept : goal.returns-then-is_readers-clause-by_kept
 returns-then-is_readers-clause-by_kept g c =
-    readers_answer c.args.core.now c.args.lane c.args.act c.reader_act.result (are_readers c.args.act (sym c.is_readers.ensures ∙ c.if-is_readers.true)) c.reader_act.ensures.by_kept
+    readers_answer c.args.core.now c.reader_act.new.core c.args.lane c.args.act c.reader_act.result (are_readers c.args.act (sym c.is_readers.ensures ∙ c.if-is_readers.true)) c.reader_act.ensures.by_kept
 
 pub returns-then-is_readers-clause-short : goal.returns-then-is_readers-clause-short
 returns-then-is_readers-clause-short g c = λ is. absurd (short_reads c.args.act is (sym c.is_readers.ensures ∙ c.if-is_readers.true))
@@ -54,14 +60,39 @@ pub returns-then-is_admins-clause-unreadable : goal.returns-then-is_admins-claus
 returns-then-is_admins-clause-unreadable g c =
     let old = (c.args.core.now).parts in
     subst (λ a. TellsUnreadable g.D.Disk old.disk a (c.admin_act.result.entry).kind c.admin_act.result.reply)
-    (sym (admins_ask c.args.act (session_at old c.args.lane) old.catalogue.items (are_admins c.args.act c.requires.formed (sym c.is_admins.ensures ∙ c.if-is_admins.true)))) c.admin_act.ensures.unreadable
+    (sym (admins_ask c.args.act c.args.lane c.args.core.now.collector (session_at old c.args.lane) old.catalogue.items (are_admins c.args.act c.requires.formed (sym c.is_admins.ensures ∙ c.if-is_admins.true)))) c.admin_act.ensures.unreadable
 
 pub returns-then-is_admins-clause-by_kept : goal.returns-then-is_admins-clause-by_kept
 returns-then-is_admins-clause-by_kept g c =
-    admins_answer c.args.core.now c.args.lane c.args.act c.admin_act.result (are_admins c.args.act c.requires.formed (sym c.is_admins.ensures ∙ c.if-is_admins.true)) c.admin_act.ensures.by_kept
+    admins_answer c.args.core.now c.admin_act.new.core c.args.lane c.args.act c.admin_act.result (are_admins c.args.act c.requires.formed (sym c.is_admins.ensures ∙ c.if-is_admins.true)) c.admin_act.ensures.by_kept
 
 pub returns-then-is_admins-clause-short : goal.returns-then-is_admins-clause-short
 returns-then-is_admins-clause-short g c = λ is. absurd (short_asks c.args.act is (sym c.is_admins.ensures ∙ c.if-is_admins.true))
+
+-- ---- an act of a collector
+
+pub collect_act-requires-clause-kind : goal.collect_act-requires-clause-kind
+collect_act-requires-clause-kind g c = are_collectors c.args.act (sym c.is_collectors.ensures ∙ c.if-is_collectors.true)
+
+pub returns-then-is_collectors-clause-unreadable : goal.returns-then-is_collectors-clause-unreadable
+returns-then-is_collectors-clause-unreadable g c =
+    let old = (c.args.core.now).parts in
+    subst (λ a. TellsUnreadable g.D.Disk old.disk a (c.collect_act.result.entry).kind c.collect_act.result.reply)
+    (sym (collectors_ask c.args.act c.args.lane c.args.core.now.collector (session_at old c.args.lane) old.catalogue.items (are_collectors c.args.act (sym c.is_collectors.ensures ∙ c.if-is_collectors.true)))) c.collect_act.ensures.unreadable
+
+pub returns-then-is_collectors-clause-damaged : goal.returns-then-is_collectors-clause-damaged
+returns-then-is_collectors-clause-damaged g c =
+    let old = (c.args.core.now).parts in
+    let collects = are_collectors c.args.act (sym c.is_collectors.ensures ∙ c.if-is_collectors.true) in
+    collectors_tell_whole g.D.Disk _ _ old.disk _ c.args.act _ collects (c.collect_act.ensures.applies).cause
+    (collectors_need c.args.act (session_at old c.args.lane) old.catalogue.items collects).0
+
+pub returns-then-is_collectors-clause-by_kept : goal.returns-then-is_collectors-clause-by_kept
+returns-then-is_collectors-clause-by_kept g c =
+    collectors_answer c.args.core.now c.collect_act.new.core c.args.lane c.args.act c.collect_act.result (are_collectors c.args.act (sym c.is_collectors.ensures ∙ c.if-is_collectors.true)) c.collect_act.ensures.by_kept
+
+pub returns-then-is_collectors-clause-short : goal.returns-then-is_collectors-clause-short
+returns-then-is_collectors-clause-short g c = λ is. absurd (short_collects c.args.act is (sym c.is_collectors.ensures ∙ c.if-is_collectors.true))
 
 -- ---- want of memory
 
@@ -76,30 +107,30 @@ returns-in-Short-clause-keeps g c =
 
 pub returns-in-Short-clause-by_kept : goal.returns-in-Short-clause-by_kept
 returns-in-Short-clause-by_kept g c =
-    subst (λ a. CoreAnswersBy c.args.core.now c.args.lane a c.short.result) (sym c.in-Short.is) (short_answers c.args.core.now c.args.lane c.short.result)
+    subst (λ a. CoreAnswersBy c.args.core.now c.short.new.core c.args.lane a c.short.result) (sym c.in-Short.is) (short_answers c.args.core.now c.short.new.core c.args.lane c.short.result)
 
 -- ---- a lane's end
 
 pub returns-in-End-clause-by_kept : goal.returns-in-End-clause-by_kept
 returns-in-End-clause-by_kept g c =
-    subst (λ a. CoreAnswersBy c.args.core.now c.args.lane a c.end_act.result) (sym c.in-End.is) (end_answers c.args.core.now c.args.lane c.end_act.result)
+    subst (λ a. CoreAnswersBy c.args.core.now c.end_act.new.core c.args.lane a c.end_act.result) (sym c.in-End.is) (end_answers c.args.core.now c.end_act.new.core c.args.lane c.end_act.result)
 
 -- ---- a writer's act
 
 pub writer_act-requires-clause-kind : goal.writer_act-requires-clause-kind
-writer_act-requires-clause-kind g c = are_writers c.args.act c.requires.formed (is_step c.args.act c.in_default.not-Short c.in_default.not-End) (sym c.is_readers.ensures ∙ c.if-is_readers.false) (sym c.is_admins.ensures ∙ c.if-is_admins.false)
+writer_act-requires-clause-kind g c = are_writers c.args.act c.requires.formed (is_step c.args.act (sym c.is_collectors.ensures ∙ c.if-is_collectors.false) c.in_default.not-Short c.in_default.not-End) (sym c.is_readers.ensures ∙ c.if-is_readers.false) (sym c.is_admins.ensures ∙ c.if-is_admins.false)
 
 pub returns-in_default-clause-unreadable : goal.returns-in_default-clause-unreadable
 returns-in_default-clause-unreadable g c =
     let old = (c.args.core.now).parts in
-    let writes = are_writers c.args.act c.requires.formed (is_step c.args.act c.in_default.not-Short c.in_default.not-End) (sym c.is_readers.ensures ∙ c.if-is_readers.false) (sym c.is_admins.ensures ∙ c.if-is_admins.false) in
+    let writes = are_writers c.args.act c.requires.formed (is_step c.args.act (sym c.is_collectors.ensures ∙ c.if-is_collectors.false) c.in_default.not-Short c.in_default.not-End) (sym c.is_readers.ensures ∙ c.if-is_readers.false) (sym c.is_admins.ensures ∙ c.if-is_admins.false) in
     subst (λ a. TellsUnreadable g.D.Disk old.disk a (c.writer_act.result.entry).kind c.writer_act.result.reply)
-    (sym (writers_ask c.args.act (session_at old c.args.lane) old.catalogue.items writes)) c.writer_act.ensures.unreadable
+    (sym (writers_ask c.args.act c.args.lane c.args.core.now.collector (session_at old c.args.lane) old.catalogue.items writes)) c.writer_act.ensures.unreadable
 
 pub returns-in_default-clause-damaged : goal.returns-in_default-clause-damaged
 returns-in_default-clause-damaged g c =
     let old = (c.args.core.now).parts in
-    let step = is_step c.args.act c.in_default.not-Short c.in_default.not-End in
+    let step = is_step c.args.act (sym c.is_collectors.ensures ∙ c.if-is_collectors.false) c.in_default.not-Short c.in_default.not-End in
     let writes = are_writers c.args.act c.requires.formed step (sym c.is_readers.ensures ∙ c.if-is_readers.false) (sym c.is_admins.ensures ∙ c.if-is_admins.false) in
     let none = writers_need c.args.act (session_at old c.args.lane) old.catalogue.items writes in
     tells_whole g.D.Disk _ _ old.disk _ c.args.act _
@@ -107,8 +138,8 @@ returns-in_default-clause-damaged g c =
 
 pub returns-in_default-clause-by_kept : goal.returns-in_default-clause-by_kept
 returns-in_default-clause-by_kept g c =
-    let writes = are_writers c.args.act c.requires.formed (is_step c.args.act c.in_default.not-Short c.in_default.not-End) (sym c.is_readers.ensures ∙ c.if-is_readers.false) (sym c.is_admins.ensures ∙ c.if-is_admins.false) in
-    writers_answer c.args.core.now c.args.lane c.args.act c.writer_act.result writes c.writer_act.ensures.by_kept
+    let writes = are_writers c.args.act c.requires.formed (is_step c.args.act (sym c.is_collectors.ensures ∙ c.if-is_collectors.false) c.in_default.not-Short c.in_default.not-End) (sym c.is_readers.ensures ∙ c.if-is_readers.false) (sym c.is_admins.ensures ∙ c.if-is_admins.false) in
+    writers_answer c.args.core.now c.writer_act.new.core c.args.lane c.args.act c.writer_act.result writes c.writer_act.ensures.by_kept
 
 pub returns-in_default-clause-short : goal.returns-in_default-clause-short
 returns-in_default-clause-short g c = λ is. absurd (c.in_default.not-Short is)
