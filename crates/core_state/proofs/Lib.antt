@@ -38,6 +38,7 @@ pub mod Storing
 pub mod Sparing
 pub mod Leading
 pub mod Recovering
+pub mod Planned
 pub mod KeepingTouches
 pub mod SavingNames
 pub mod SavingBook

@@ -27,10 +27,10 @@ all_insert P new (x ∷ xs) p all = by_test (key_lt (new.kept).key (x.kept).key)
     by_test true later = All-cons P new (x ∷ xs) p all
     by_test false later = All-cons P x (insert_listed new xs) (All-head P x xs all) later
 
-head_differs : (x : Listed) (xs : List Listed) → AllPairs DifferInNumber (x ∷ xs) → All (DifferInNumber x) xs
+pub head_differs : (x : Listed) (xs : List Listed) → AllPairs DifferInNumber (x ∷ xs) → All (DifferInNumber x) xs
 head_differs x xs pairs k d within = pairs zero (suc k) d (omega arith) (omega (arith, within))
 
-tail_differs : (x : Listed) (xs : List Listed) → AllPairs DifferInNumber (x ∷ xs) → AllPairs DifferInNumber xs
+pub tail_differs : (x : Listed) (xs : List Listed) → AllPairs DifferInNumber (x ∷ xs) → AllPairs DifferInNumber xs
 tail_differs x xs pairs i j d lt within = pairs (suc i) (suc j) d (omega (arith, lt)) (omega (arith, within))
 
 pairs_insert : (new : Listed) (xs : List Listed) → All (DifferInNumber new) xs → AllPairs DifferInNumber xs → AllPairs DifferInNumber (insert_listed new xs)

@@ -1,6 +1,6 @@
 -- Acts that need no chunk tell of none that is damaged.
 use Rattle.disk_trait.specs.declared.disk.Disk.{Ghosts}
-use Rattle.std.proofs.Common.{◌≡◌, ℕ, Bool, true, false, List, [], Option, None, Some, IsTrue, refl, sym, ap, subst, ◌∙◌}
+use Rattle.std.proofs.Common.{◌≡◌, ℕ, true, false, List, [], Option, None, Some, refl, sym, ap, subst, ◌∙◌}
 use Rattle.disk_trait.specs.Files.{Files}
 use Rattle.store_types.specs.declared.names.Digest32.{Digest32}
 use Rattle.store_types.specs.declared.refusal.ChunkFault.{ChunkFault}
@@ -30,10 +30,6 @@ apart_none digest found e = cc
 
 same_reply : (r s : Reply) → Some r ≡ Some s → r ≡ s
 same_reply r s e = cc
-
-is_true : {b : Bool} → IsTrue b → b ≡ true
-is_true {true} t = refl
-is_true {false} t = absurd t
 
 true_false : true ≡ false → ⊥
 true_false e = cc
@@ -86,7 +82,7 @@ step_tells_whole d old new disk chunks answer (step_passes before kind is) none 
     tells_other d disk chunks _ answer.reply (λ digest found e. apart_none digest found (sym is ∙ e)) none
 step_tells_whole d old new disk chunks answer (step_ends before kind reply is may) none =
     tells_other d disk chunks _ answer.reply
-    (λ digest found e. true_false (sym (is_true may) ∙ ap may_end (same_reply reply (Refused (Damaged digest found)) (sym is ∙ e)))) none
+    (λ digest found e. true_false (sym may ∙ ap may_end (same_reply reply (Refused (Damaged digest found)) (sym is ∙ e)))) none
 step_tells_whole d old new disk chunks answer (step_as_any cause) none =
     tells_whole d old new disk chunks Step answer cause none (λ digest found. refl)
 
