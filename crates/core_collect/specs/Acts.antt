@@ -1,4 +1,5 @@
 -- The acts of a collector, and what is told of them by what the core keeps.
+use Rattle.disk_trait.specs.declared.disk.Disk.{Ghosts}
 use Rattle.std.specs.Prelude.{◌≡◌, ℕ, Bool, true, false, ◌==◌, if◌then◌else◌, List, Option, Some, None, option_map, Result, Ok, Err}
 use Rattle.store_types.specs.declared.refusal.Refusal.{Refusal}
 use Rattle.store_types.specs.declared.refusal.Refusal.TheVariants.{Unreadable}
@@ -10,7 +11,7 @@ use Rattle.core_state.specs.declared.kept.Listed.{Listed}
 use Rattle.core_state.specs.declared.kept.Session.{Session}
 use Rattle.core_state.specs.declared.state.Core.{Core}
 use Rattle.core_state.specs.Collectors.{is_on, refusal_of as early_refusal}
-use Rattle.core_state.specs.Unreadables.{Asked, known}
+use Rattle.core_state.specs.Unreadables.{Asked, CoreUnreadable, known}
 use Rattle.core_collect.specs.Ending.{early_in}
 use Rattle.core_collect.specs.Starting.{StartTells, start_told}
 use Rattle.core_collect.specs.Stepping.{StepTells}
@@ -42,3 +43,7 @@ abbrev pub asked_of_collector : Act → ℕ → Option Collector → Session →
 asked_of_collector Start lane collector session catalogue = asked_by (refusal_of (start_told collector session catalogue))
 asked_of_collector Step lane collector session catalogue = if is_on lane collector then asked_by (option_map early_refusal (early_in collector)) else None
 asked_of_collector _ lane collector session catalogue = None
+
+-- it is told so exactly, on any disk
+abbrev pub CollectUnreadable : {D E C : Type 0} → Ghosts D → Core D E C → ℕ → Act → Answer → Type 0
+CollectUnreadable d old lane act answer = CoreUnreadable d (asked_of_collector act lane old.collector) old lane answer

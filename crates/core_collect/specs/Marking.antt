@@ -8,6 +8,7 @@ use Rattle.store_types.specs.declared.names.Digest32.{Digest32}
 use Rattle.store_types.specs.declared.refusal.Refusal.{Refusal}
 use Rattle.store_types.specs.declared.refusal.Refusal.TheVariants as refusals
 use Rattle.store_files.specs.Book.{Book}
+use Rattle.store_files.specs.DynamicIndex.{Ended}
 use Rattle.gc_plan.specs.Plan.{Plan, left_of, mark_limit, next_index, next_mark, with_mark}
 use Rattle.gc_plan.specs.declared.IndexAt.{IndexAt}
 use Rattle.snapshot_files.specs.Indexes.{index_at}
@@ -33,6 +34,10 @@ path_at i catalogue = path_of_kept i.name (kept_at i.snapshot catalogue)
 -- the digests of the entries of the index at the path, or that there is none
 unfoldable pub digests_read : Files → List ℕ → Bool → Result (List (List ℕ)) Refusal
 digests_read m path is_fixed = index_at m path is_fixed 0 >>= λ x. Ok (map (λ e. e.digest) x.entries)
+
+-- these are the entries' digests
+abbrev pub AreDigests : List Ended → Vec Digest32 Global → Type 0
+AreDigests entries digests = map (λ d. d.0) digests.items ≡ map (λ e. e.digest) entries
 
 abbrev pub bytes_of : Vec Digest32 Global → List (List ℕ)
 bytes_of digests = map (λ d. d.0) digests.items

@@ -20,6 +20,7 @@ use Rattle.core_state.specs.declared.state.Core.{Core}
 use Rattle.core_state.specs.declared.stop.Stop.{Stop}
 use Rattle.core_state.specs.declared.stop.Stop.TheVariants as stops
 use Rattle.core_state.specs.Collectors.{collector_by}
+use Rattle.core_state.specs.Stops.{Gives}
 use Rattle.core_state.specs.Wanted.{session_at, want_idle}
 
 -- ---- what is to be marked
@@ -59,6 +60,10 @@ start_told collector session catalogue = do
   _ ← want_idle session
   _ ← if_none (λ c. CollectorBusy c.lane) collector
   if_none Unreadable (first_unreadable catalogue)
+
+-- nothing refuses it, or this does
+abbrev pub MayOpen : {D : Type 0} → Parts D → Option Collector → ℕ → Result (Unit {0}) Stop → Type 0
+MayOpen parts collector lane result = Gives (λ (may : Unit {0}). may) result (start_told collector (session_at parts lane) parts.catalogue.items)
 
 -- ---- the collector that opens
 

@@ -3,8 +3,7 @@
 ghost use Rattle.std.specs.Prelude.{◌<◌};
 ghost use Rattle.core_state.specs.Applies.{ActApplies, ActKeeps};
 ghost use Rattle.core_state.specs.Reserved.{HasRoom};
-ghost use Rattle.core_state.specs.Unreadables.{CoreUnreadable};
-ghost use Rattle.core_collect.specs.Acts.{CoreAnswersBy, IsCollectors, asked_of_collector};
+ghost use Rattle.core_collect.specs.Acts.{CollectUnreadable, CoreAnswersBy, IsCollectors};
 
 use crate::starting::start;
 use crate::stepping::step;
@@ -28,7 +27,7 @@ pub fn collect_act<D: Disk, E, C: Clock>(
     // on any disk: what refuses it, by what the core keeps, and which collector opens
     ensures by_kept { CoreAnswersBy core.old core.new lane act result }
     // a snapshot is told as damaged exactly where one is, and an index as unreadable exactly where one ended the collector
-    ensures unreadable { CoreUnreadable D.Disk (asked_of_collector act lane core.old.collector) core.old lane result }
+    ensures unreadable { CollectUnreadable D.Disk core.old lane act result }
 {
     match act {
         Act::Start => start(core, alloc, lane),

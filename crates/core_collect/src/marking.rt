@@ -1,12 +1,12 @@
 //! The marks of a collector.
 
-ghost use Rattle.std.specs.Prelude.{◌≡◌, ◌≤◌, IfErr, IfOk, IsErrOf, IsSome, length, map, option_map};
+ghost use Rattle.std.specs.Prelude.{◌≡◌, ◌≤◌, IfErr, IfOk, IsErrOf, IsSome, length, option_map};
 ghost use Rattle.disk_trait.specs.Effects.{OnlyReads};
 ghost use Rattle.store_files.specs.Entries.{ends_of};
 ghost use Rattle.gc_plan.specs.Plan.{entry_limit, next_mark};
 ghost use Rattle.core_state.specs.Unchanged.{SameKept};
 ghost use Rattle.core_collect.specs.declared.marking.Unread.TheVariants.{DiskFailed, NoMemory, Unreadable};
-ghost use Rattle.core_collect.specs.Marking.{AtHand, FindsNext, IfUnreadable, MarksSome, PassesOver, ReadsDigests, SettlesNext, path_at};
+ghost use Rattle.core_collect.specs.Marking.{AreDigests, AtHand, FindsNext, IfUnreadable, MarksSome, PassesOver, ReadsDigests, SettlesNext, path_at};
 
 use atime_book::Book;
 use core_state::{Collector, Listed, Parts, path_named, touch_each};
@@ -54,7 +54,7 @@ fn unreadable(alloc: Global, path: &FilePath) -> Result<Unread, AllocError>
 
 /// The digests of an index's entries.
 fn digests_of(alloc: Global, entries: &[(Digest32, u64)]) -> Result<Vec<Digest32>, AllocError>
-    ensures { IfOk result (λ digests. map (λ d. d.0) digests.items ≡ map (λ e. e.digest) (ends_of entries.now)) }
+    ensures { IfOk result (AreDigests (ends_of entries.now)) }
 {
     let mut digests = Vec::with_capacity(alloc, entries.len())?;
     for entry in entries {

@@ -4,9 +4,8 @@ ghost use Rattle.std.specs.Prelude.{◌≡◌, ◌<◌, ◌++◌, IfErr, IfOk, O
 ghost use Rattle.store_history.specs.declared.act.Act.TheVariants.{Start};
 ghost use Rattle.core_state.specs.Applies.{ActApplies, ActKeeps};
 ghost use Rattle.core_state.specs.Reserved.{HasRoom};
-ghost use Rattle.core_state.specs.Stops.{Gives, StopHasText};
-ghost use Rattle.core_state.specs.Wanted.{session_at};
-ghost use Rattle.core_collect.specs.Starting.{GivesCollector, IsNewCollector, earlier_of, first_unreadable, indexes_in as indexes_listed, indexes_of as indexes_kept, oldest_kept, StartTells, start_told};
+ghost use Rattle.core_state.specs.Stops.{StopHasText};
+ghost use Rattle.core_collect.specs.Starting.{GivesCollector, IsNewCollector, MayOpen, earlier_of, first_unreadable, indexes_in as indexes_listed, indexes_of as indexes_kept, oldest_kept, StartTells};
 
 use core_state::{
     Act, Admitted, Answer, Collector, Core, Listed, Parts, Place, Session, Stop, begin, enter, settle,
@@ -89,7 +88,7 @@ fn may_open<D>(
     lane: u32,
 ) -> Result<(), Stop>
     requires { lane < 64 }
-    ensures value { Gives (λ may. may) result (start_told collector.now (session_at parts.now lane) parts.now.catalogue.items) }
+    ensures value { MayOpen parts.now collector.now lane result }
     ensures text { IfErr result StopHasText }
 {
     parts.idle(lane)?;

@@ -39,6 +39,7 @@ pub mod Sparing
 pub mod Leading
 pub mod Recovering
 pub mod Planned
+pub mod Plans
 pub mod KeepingTouches
 pub mod SavingNames
 pub mod SavingBook

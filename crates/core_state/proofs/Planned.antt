@@ -98,7 +98,7 @@ module _ (catalogue : List Listed) (snapshots : List Snapshot) where
   -- a finished snapshot of another key and number
   module _ (new : Listed) (x : Snapshot) where
     -- the key is none's that is kept
-    abbrev IsNewKey : Type 0
+    abbrev pub IsNewKey : Type 0
     IsNewKey = (number : ℕ) (k : Kept) → kept_at number catalogue ≡ Some k → same_key x.key k.key ≡ false
 
     finished_kept : IsNewKey → (number : ℕ) (name : List ℕ) (first : ℕ) (o : Option Kept) → kept_at number catalogue ≡ o
@@ -107,7 +107,7 @@ module _ (catalogue : List Listed) (snapshots : List Snapshot) where
     finished_kept fresh number name first (Some k) at =
         ap (λ ds. unmarked_of k.key name (drop first ds)) (digests_as k.key name snapshots (insert_snapshot x snapshots) (named_still k.key x snapshots (fresh number k at)))
 
-    finished_left : IsNewKey → (i : IndexAt) → new.number ≢ i.snapshot → (first : ℕ)
+    pub finished_left : IsNewKey → (i : IndexAt) → new.number ≢ i.snapshot → (first : ℕ)
         → left_at (insert_listed new catalogue) (insert_snapshot x snapshots) first i ≡ left_at catalogue snapshots first i
     finished_left fresh i other first =
         ap (left_of_kept (insert_snapshot x snapshots) i.name first) (kept_inserted i.snapshot new catalogue other)
@@ -140,7 +140,7 @@ module _ (catalogue : List Listed) (snapshots : List Snapshot) where
             ∙ ap (λ ds. unmarked_of k.key name (drop first ds)) (digests_as k.key name snapshots (without_snapshot key snapshots) (named-without key k.key snapshots (same_key_equiv.symm key k.key ∙ gone)))
             ∙ filtered k.key name (drop first (digests_named k.key name snapshots)) false gone
 
-    forgotten_left : AllPairs DifferInNumber catalogue → (i : IndexAt) (first : ℕ)
+    pub forgotten_left : AllPairs DifferInNumber catalogue → (i : IndexAt) (first : ℕ)
         → left_at (without_listed key catalogue) (without_snapshot key snapshots) first i ≡ filter spares (left_at catalogue snapshots first i)
     forgotten_left once i first =
         ap (left_of_kept (without_snapshot key snapshots) i.name first) (kept_forgotten i.snapshot key catalogue once)
@@ -170,14 +170,14 @@ module _ (c c2 : List Listed) (s s2 : List Snapshot) where
       ap (λ xs. xs ++ flat_map (left_at c2 s2 0) is) (All-head (λ (j : IndexAt). (first : ℕ) → left_at c2 s2 first j ≡ left_at c s first j) i is each 0)
       ∙ ap (λ xs. left_at c s 0 i ++ xs) (same_rest is (All-tail (λ (j : IndexAt). (first : ℕ) → left_at c2 s2 first j ≡ left_at c s first j) i is each))
 
-  same_left : (first : ℕ) (is : List IndexAt) → All (λ (i : IndexAt). (first : ℕ) → left_at c2 s2 first i ≡ left_at c s first i) is → left_in c2 s2 first is ≡ left_in c s first is
+  pub same_left : (first : ℕ) (is : List IndexAt) → All (λ (i : IndexAt). (first : ℕ) → left_at c2 s2 first i ≡ left_at c s first i) is → left_in c2 s2 first is ≡ left_in c s first is
   same_left first [] each = refl
   same_left first (i ∷ is) each =
       ap (λ xs. xs ++ flat_map (left_at c2 s2 0) is) (All-head (λ (j : IndexAt). (first : ℕ) → left_at c2 s2 first j ≡ left_at c s first j) i is each first)
       ∙ ap (λ xs. left_at c s first i ++ xs) (same_rest is (All-tail (λ (j : IndexAt). (first : ℕ) → left_at c2 s2 first j ≡ left_at c s first j) i is each))
 
   -- each index is filtered
-  filtered_left : (p : Unmarked → Bool) (first : ℕ) (is : List IndexAt) → ((i : IndexAt) (n : ℕ) → left_at c2 s2 n i ≡ filter p (left_at c s n i)) → left_in c2 s2 first is ≡ filter p (left_in c s first is)
+  pub filtered_left : (p : Unmarked → Bool) (first : ℕ) (is : List IndexAt) → ((i : IndexAt) (n : ℕ) → left_at c2 s2 n i ≡ filter p (left_at c s n i)) → left_in c2 s2 first is ≡ filter p (left_in c s first is)
   filtered_left p first [] each = refl
   filtered_left p first (i ∷ is) each =
       ap (λ xs. xs ++ flat_map (left_at c2 s2 0) is) (each i first)
