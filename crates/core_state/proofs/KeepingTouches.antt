@@ -35,28 +35,33 @@ use Rattle.store_history.specs.declared.act.Act.{Act}
 use Rattle.store_history.specs.declared.act.Act.TheVariants.{Plain, Chunk}
 use Rattle.store_history.specs.declared.act.Answer.{Answer}
 use Rattle.store_history.specs.declared.act.Event.{Event}
-use Rattle.store_history.specs.Acts.{IsCheckedChunk, IsWellFormed, stepping}
+use Rattle.store_history.specs.Acts.{IsCheckedChunk, IsWellFormed, class_of, stepping}
 use Rattle.store_history.specs.History.{World, act_outcome, after as world_after, data_in, kind, kind_of, lane as lane_of, moment, moved, opened}
 use Rattle.store_history.specs.Legal.{Right}
-use Rattle.store_history.specs.LastTouches.{LastTouches, SameTouches, dated, is_one_of, touches_at_opening, touches_by_entry, touched_by}
+use Rattle.store_history.specs.LastTouches.{LastTouches, SameTouches, dated, is_one_of, touches_by_entry, touched_by}
 use Rattle.store_history.proofs.Checking.{checked_digest}
-use Rattle.store_history.proofs.LastTouches.{touches_longer}
+use Rattle.store_upkeep.specs.Sweeping.{Swept, swept_after, swept_at}
+use Rattle.store_upkeep.proofs.Longer.{is_swept_longer, swept_longer}
 use Rattle.core_state.specs.declared.state.Core.{Core}
 use Rattle.core_state.specs.Answers.{HasCause, IsAnswered, IsCaused, done, short, failed, halted, fault_after}
 use Rattle.core_state.specs.Applies.{ActKeeps, IsClearFor}
 use Rattle.core_state.specs.Changes.{Change, after, by_reply}
-use Rattle.core_state.specs.Commands.{change_at}
+use Rattle.core_state.specs.Collectors.{collector_by}
+use Rattle.core_state.specs.Commands.{change_at, is_step}
 use Rattle.core_state.specs.History.{History, StandsFor, event_of, then_event, world}
 use Rattle.core_state.specs.Holds.{IsOnDisk}
-use Rattle.core_state.specs.KeepsTouches.{KeepsTouches, touches_of_history}
+use Rattle.core_state.specs.KeepsTouches.{KeepsTouches, swept_of, touches_of_history}
 use Rattle.core_state.specs.Replies.{may_answer}
 use Rattle.core_state.specs.Upkeeps.{touches_kept}
 use Rattle.core_state.proofs.Chunks.{is_digest}
 use Rattle.core_state.proofs.Entered.{world_more}
 use Rattle.core_state.proofs.ForeignLemmas.{MissesChunk, no_fault_before, not_faulted, others_kept}
+use Rattle.core_state.proofs.Plans.{plans_more}
+use Rattle.core_state.proofs.Recorded.{numbers_more}
 use Rattle.core_state.proofs.Recovering.{StandsMore, last_right}
 use Rattle.core_state.proofs.Sessions.{session_same}
-use Rattle.core_state.proofs.Touching.{refusal_untouched, same_then, entry_touches_same}
+use Rattle.core_state.proofs.Touching.{refusal_untouched, same_back, same_then, entry_touches_same}
+use Rattle.core_state.proofs.Unswept.{fits_other, no_sweep, unswept_touches}
 
 -- ---- which chunks are there after an act
 
@@ -180,6 +185,8 @@ record IsCalm {D E C : Type 0} (d : Ghosts D) (clock : clocks.Ghosts C) (old new
   pub inside : (answer.entry).lane < 64
   pub formed : IsWellFormed act
   pub keeps : ActKeeps d old new (answer.entry).lane act answer
+  -- it is no mark, visit or end of a collector
+  pub no : is_step act ≡ false
   pub fault : new.fault ≡ fault_after (length (old.journal).entries.items) (answer.entry).kind old.fault
   pub cause : IsCaused d old new act answer
   pub s : StandsFor d clock.readings old h
@@ -214,7 +221,7 @@ module _ {D E C : Type 0} (d : Ghosts D) (clock : clocks.Ghosts C) (old new : Co
 
   others : (act : Act) → Calm act → (x : List ℕ) → IsDigest x → MissesChunk (chunk_name x) act → IsOther x act → Present act x
   others act f x is misses other =
-      let same = others_kept d old new w.store k (length (old.journal).entries.items) act answer f.inside (f.s).shows (f.s).honest f.fault f.cause f.keeps f.none (chunk_name x) (chunk_apart x) misses in
+      let same = others_kept d old new w.store k (length (old.journal).entries.items) act answer f.inside (f.s).shows (f.s).honest f.fault f.cause f.keeps f.no f.none (chunk_name x) (chunk_apart x) misses in
       both (get read (chunk_name x)) (get reads (chunk_name x)) ((touches_of_history h).last x) ((t act).last x) (ap is_some same) (touches_there x act answer.reply (answer.entry).moment (touches_of_history h) other) (f.was x is)
 
   before : (act : Act) → Calm act → old.fault ≡ None
@@ -223,7 +230,7 @@ module _ {D E C : Type 0} (d : Ghosts D) (clock : clocks.Ghosts C) (old new : Co
   refused : (act : Act) → Calm act → (r : Refusal) → answer.reply ≡ Some (replies.Refused r) → (r ≡ refusals.DiskFault → ⊥) → (x : List ℕ) → IsDigest x → Present act x
   refused act f r told other x is =
       let same : reads ≡ read =
-      (f.keeps).content (before act f) (not_faulted d old new act answer f.cause f.none) (f.s).honest
+      (f.keeps).content f.no (before act f) (not_faulted d old new act answer f.cause f.none) (f.s).honest
       ∙ ap (λ o. after (by_reply (change_at old.parts k act) o) read) told ∙ after_refused (change_at old.parts k act) r read other in
       both (get read (chunk_name x)) (get reads (chunk_name x)) ((touches_of_history h).last x) ((t act).last x) (ap (λ (m : Files). is_some (get m (chunk_name x))) same)
       (ap (λ o. is_some ((touches_by_entry act o (answer.entry).moment (touches_of_history h)).last x)) told ∙ refused_there x act r (answer.entry).moment (touches_of_history h)) (f.was x is)
@@ -290,26 +297,54 @@ module _ {D E C : Type 0} (d : Ghosts D) (clock : clocks.Ghosts C) (old new : Co
 
 pub touches_more : {D E C : Type 0} (d : Ghosts D) (clock : clocks.Ghosts C) (old new : Core D E C) (lane : ℕ) (act : Act) (answer : Answer) → lane < 64 → IsWellFormed act
     → StandsMore d clock old new act answer → IsAnswered d old new lane answer → IsCaused d old new act answer → ActKeeps d old new lane act answer
+    → is_step act ≡ false → new.collector ≡ collector_by (answer.entry).kind lane old.collector → ((answer.entry).kind ≡ 3 → ⊥)
     → (h : History) → StandsFor d clock.readings old h → KeepsTouches d old h → IsClearFor act (then_event h (event_of act answer (d.calls (new.parts).disk)))
     → KeepsTouches d new (then_event h (event_of act answer (d.calls (new.parts).disk)))
-touches_more d clock old new lane act answer lt formed more answers cause keeps h s touches clear =
-    let is = answers.lane_is in
-    let longer = touches_longer (touches_at_opening h.opening) h.events (event_of act answer (d.calls (new.parts).disk)) in record {
-      touches = subst (λ (t : LastTouches). SameTouches (touches_kept new.upkeep) t) (sym longer)
-          (same_then (touches_kept new.upkeep) (touches_by_entry act answer.reply (answer.entry).moment (touches_kept old.upkeep)) (touches_by_entry act answer.reply (answer.entry).moment (touches_of_history h)) keeps.upkeep
-          (entry_touches_same act answer.reply (answer.entry).moment (touches_kept old.upkeep) (touches_of_history h) touches.touches));
-      present = λ none x digest.
-          subst (λ (t : LastTouches). IsSome (get (d.content (new.parts).disk) (chunk_name x)) ↔ IsSome (t.last x)) (sym longer)
-          (present d clock old new answer h act
-          (record {
-            none = none;
-            inside = subst (λ l. l < 64) (sym is) lt;
-            formed = formed;
-            keeps = subst (λ l. ActKeeps d old new l act answer) (sym is) keeps;
-            fault = answers.fault;
-            cause = cause;
-            s = s;
-            so = more h s clear;
-            was = touches.present (no_fault_before (length (old.journal).entries.items) (answer.entry).kind old.fault (sym answers.fault ∙ none));
-          }) x digest);
-    }
+touches_more d clock old new lane act answer lt formed more answers cause keeps no collector opens_none h s touches clear = record {
+  touches = subst (λ (t : LastTouches). SameTouches (touches_kept new.upkeep) t) (sym (ap (λ w. w.touches) longer))
+      (same_then (touches_kept new.upkeep) plain after_.touches touched (same_back after_.touches plain unswept));
+  present = λ none x digest.
+      subst (λ (o : Option ℕ). IsSome (get (d.content (new.parts).disk) (chunk_name x)) ↔ IsSome o) (sym (ap (λ w. w.touches.last x) longer ∙ unswept.last x))
+      (present d clock old new answer h act
+      (record {
+        none = none;
+        inside = subst (λ l. l < 64) (sym is) lt;
+        formed = formed;
+        keeps = subst (λ l. ActKeeps d old new l act answer) (sym is) keeps;
+        no = no;
+        fault = answers.fault;
+        cause = cause;
+        s = s;
+        so = so;
+        was = touches.present (no_fault_before (length (old.journal).entries.items) (answer.entry).kind old.fault (sym answers.fault ∙ none));
+      }) x digest);
+  sweep = plans_more d clock old new lane act answer h lt formed answers keeps no collector opens_none s so touches;
+  is_swept = is_swept_longer h.remote (opened h.opening) (swept_at h.opening) h.events e touches.is_swept
+      (fits_other (world h) (swept_of h) (lane_of e) answer.reply (class_of act) (kind_of (answer.entry).kind) (no_sweep act no));
+  numbers = numbers_more old new lane act answer answers.place answers.entries keeps.listed touches.numbers;
+}
+  where
+    is : (answer.entry).lane ≡ lane
+    is = answers.lane_is
+
+    e : Event
+    e = event_of act answer (d.calls (new.parts).disk)
+
+    after_ : Swept
+    after_ = swept_after h.remote (world h) (swept_of h) e
+
+    longer : swept_of (then_event h e) ≡ after_
+    longer = swept_longer h.remote h.opening h.events e
+
+    plain : LastTouches
+    plain = touches_by_entry act answer.reply (answer.entry).moment (touches_of_history h)
+
+    unswept : SameTouches after_.touches plain
+    unswept = unswept_touches h.remote (world h) (swept_of h) e (no_sweep act no)
+
+    touched : SameTouches (touches_kept new.upkeep) plain
+    touched = same_then (touches_kept new.upkeep) (touches_by_entry act answer.reply (answer.entry).moment (touches_kept old.upkeep)) plain (keeps.upkeep no)
+        (entry_touches_same act answer.reply (answer.entry).moment (touches_kept old.upkeep) (touches_of_history h) touches.touches)
+
+    so : StandsFor d clock.readings new (then_event h e)
+    so = more h s clear

@@ -40,6 +40,7 @@ pub mod Leading
 pub mod Recovering
 pub mod Planned
 pub mod Plans
+pub mod Unswept
 pub mod KeepingTouches
 pub mod SavingNames
 pub mod SavingBook
