@@ -1,7 +1,7 @@
+-- The two records of a command, lifted once over the beginning and the entry of an act.
+use Rattle.std.proofs.Common.{◌≡◌, ◌<◌, ◌≤◌, ℕ, true, false, length, is_some, Option, Some, None, Result, Ok, Err, IfOk, IfSome, IsSome, IsTrue, IsErrOf, inl, inr, refl, sym, ap, subst, ◌∙◌}
 use Rattle.store_files.specs.Folder.{HasWholeChunks}
 use Rattle.core_state.specs.Chunks.{HoldsOnly, IsSafe}
--- The two records of a command, lifted once over the beginning and the entry of an act.
-use Rattle.std.proofs.Common.{◌≡◌, ◌<◌, ◌≤◌, ℕ, true, false, length, is_some, Option, Some, None, Result, Ok, Err, IfOk, IfSome, IsSome, IsTrue, IsErrOf, inl, refl, sym, ap, subst, ◌∙◌}
 use Rattle.disk_trait.specs.Disk.{Serves}
 use Rattle.disk_trait.specs.Files.{Files}
 use Rattle.disk_trait.specs.declared.disk.Disk.{Ghosts}
@@ -25,7 +25,7 @@ use Rattle.core_state.specs.declared.entering.Place.{Place}
 use Rattle.core_state.specs.declared.state.Core.{Core}
 use Rattle.core_state.specs.declared.stop.Stop.{Stop}
 use Rattle.core_state.specs.declared.stop.Stop.TheVariants.{Refused, NoMemory, DiskFailed}
-use Rattle.core_state.specs.Answers.{IsTold, HasCause, done as was_done, short as was_short, failed as has_failed, halted as was_halted}
+use Rattle.core_state.specs.Answers.{IsTold, HasCause, done as was_done, short as was_short, failed as has_failed, halted as was_halted, start_as_any}
 use Rattle.core_state.specs.Applies.{ActApplies, ActKeeps, IsClearFor, IsDone}
 use Rattle.core_state.specs.Begins.{AdmittedHasText, IsAdmitted, IsNotShort, IsReady, IsShort, ReadsClock, Refuses, short, halted}
 use Rattle.core_state.specs.Changes.{Change, IsFirm, LeavesChange, after, by_reply, by_stop, stays}
@@ -50,7 +50,7 @@ use Rattle.core_state.proofs.Chunks.{clear_safe}
 use Rattle.core_state.proofs.Commanding.{same_leaves, unlisted}
 use Rattle.core_state.proofs.ForeignLemmas.{never_told}
 use Rattle.core_state.proofs.KeepingTouches.{touches_more}
-use Rattle.core_state.proofs.Recorded.{records_more, refused_timely, settled_timely, short_timely, step_kind, tells_reply, wanting_kind}
+use Rattle.core_state.proofs.Recorded.{records_more, refused_timely, settled_timely, short_timely, start_fits, start_tells, step_kind, tells_reply, wanting_kind}
 use Rattle.core_state.proofs.Recovering.{StandsMore, recovers_more}
 use Rattle.core_state.proofs.Reserves.{refused_keeps, done_keeps, closing_kind, closing_before, no_end_keeps}
 use Rattle.core_state.proofs.Touching.{early_more, entered_touches, refusal_untouched}
@@ -140,6 +140,9 @@ step_other Step step = cc
 step_other Short step = cc
 step_other End step = cc
 step_other act step = record { end = λ e. cc; sweep = λ e. cc; step = λ e. cc; no = refl }
+
+start_other : IsNoEnd Start
+start_other = record { end = λ e. cc; sweep = λ e. cc; step = λ e. cc; no = refl }
 
 pub step_plain : (act : Act) → class_of act ≡ stepping → is_collectors act ≡ false
 step_plain Start step = cc
@@ -298,6 +301,33 @@ module _ {D E C : Type 0} (d : Ghosts D) (clock : clocks.Ghosts C) where
         timely = timely;
         told = class_told act answer (step_other act step) (λ e. step_no_start (sym step ∙ e)) (refused_told d clock.readings old new lane answer refuses);
         cause = step_caused d old new act answer step cause;
+      }
+
+  -- ---- the start of a collector that is refused before it is done
+
+  start_closes_none : (old : Core D E C) (lane : ℕ) → is_closing old lane Start ≡ true → ⊥
+  start_closes_none old lane closing = closes_none old.fault Start (session_at old.parts lane) refl closing
+
+  pub start_refused_keeps : (old new : Core D E C) (lane : ℕ) (answer : Answer) → Refuses d clock.readings old new lane answer → ActKeeps d old new lane Start answer
+  start_refused_keeps old new lane answer refuses =
+      refused_kept old new lane Start answer start_other refuses (λ closing. absurd (start_closes_none old lane closing))
+
+  pub start_refused_applies : (old new : Core D E C) (lane : ℕ) (answer : Answer) → lane < 64 → Refuses d clock.readings old new lane answer → AdmittedHasText (Answered answer)
+      → ActApplies d clock old new lane Start answer
+  start_refused_applies old new lane answer lt refuses text =
+      let answers = refused_answered d clock.readings old new lane answer refuses text in
+      let timely = refused_timely d clock.readings old new lane answer refuses in
+      let cause = refused_caused d clock.readings old new lane Start answer refuses in
+      let keeps = start_refused_keeps old new lane answer refuses in
+      let more : StandsMore d clock old new Start answer = λ h s clear. refused_stands d clock.readings old new h lane Start answer s lt tt tt refuses (λ closing. absurd (start_closes_none old lane closing)) in record {
+        history = λ h s kept clear. more h s clear;
+        records = λ h. records_more d clock.readings old new lane Start answer h answers timely (start_fits d old new answer (start_as_any cause)) (start_tells d old new answer (start_as_any cause) answers.text) keeps.listed (early_by old new lane Start answer refl timely keeps);
+        recovers = λ told start h s clear kept. recovers_more d clock old new lane Start answer lt more answers (start_as_any cause) keeps refl told start h s clear;
+        touches = touches_more d clock old new lane Start answer lt tt more answers (start_as_any cause) keeps refl (refused_collector old new lane answer refuses) (no_start_kind d old new Start answer cause);
+        answers = answers;
+        timely = timely;
+        told = inr (no_start_kind d old new Start answer cause, refused_told d clock.readings old new lane answer refuses);
+        cause = start_as_any cause;
       }
 
   -- want of memory that was met outside the core

@@ -29,6 +29,7 @@ returns-in-At-clause-applies g c =
       clock = refl;
       fault = refl;
       remote = refl;
+      collector = refl;
       upkeep = untouched c.args.act (Some (reply_by (told c.perform-ended.result))) c.in-At.at.moment (touches_kept c.begin.new.core.upkeep) (admins_untouching c.args.act c.requires.kind);
     })
     c.perform-ended.ensures.does c.perform-ended.ensures.leaves c.settle.ensures
@@ -42,6 +43,7 @@ returns-in-At-clause-keeps g c =
       clock = refl;
       fault = refl;
       remote = refl;
+      collector = refl;
       upkeep = untouched c.args.act (Some (reply_by (told c.perform-ended.result))) c.in-At.at.moment (touches_kept c.begin.new.core.upkeep) (admins_untouching c.args.act c.requires.kind);
     })
     c.perform-ended.ensures.does c.perform-ended.ensures.leaves c.settle.ensures

@@ -41,6 +41,7 @@ returns-in-At-clause-applies g c =
       clock = refl;
       fault = refl;
       remote = refl;
+      collector = refl;
       upkeep = untouched c.args.act (Some (reply_by (told c.perform-ended.result))) c.in-At.at.moment (touches_kept c.begin.new.core.upkeep) (readers_untouching c.args.act c.requires.kind);
     })
     c.perform-ended.ensures.does c.perform-ended.ensures.leaves c.settle.ensures
@@ -54,6 +55,7 @@ returns-in-At-clause-keeps g c =
       clock = refl;
       fault = refl;
       remote = refl;
+      collector = refl;
       upkeep = untouched c.args.act (Some (reply_by (told c.perform-ended.result))) c.in-At.at.moment (touches_kept c.begin.new.core.upkeep) (readers_untouching c.args.act c.requires.kind);
     })
     c.perform-ended.ensures.does c.perform-ended.ensures.leaves c.settle.ensures

@@ -12,7 +12,7 @@ returns-then-is_some-clause-applies g c =
     let next = c.next_place-at.ensures in
     let fault = some_is _ (sym c.is_some.ensures ∙ c.if-is_some.true) in
     end_halted_applies g.D.Disk g.C.Clock _ c.next_place-at.new.core _ _ c.args.lane c.next_place-at.result fault.0 _ c.requires.lane (sym next.fault ∙ fault.1) next
-    (record { journal = refl; clock = refl; fault = refl; remote = refl; upkeep = same_touches (touches_kept c.next_place-at.new.core.upkeep) }) c.end_session.ensures.disk c.end_session.ensures.catalogue
+    (record { journal = refl; clock = refl; fault = refl; remote = refl; collector = refl; upkeep = same_touches (touches_kept c.next_place-at.new.core.upkeep) }) c.end_session.ensures.disk c.end_session.ensures.catalogue
     (lane_idle c.end_session.new.parts _ _ next.lane_is c.end_session.ensures.ended) (λ s shows. lane_shows c.end_session.new.parts _ _ _ next.lane_is (c.end_session.ensures.shows s shows)) c.enter.ensures
 
 pub returns-then-is_some-clause-keeps : goal.returns-then-is_some-clause-keeps
@@ -20,30 +20,30 @@ returns-then-is_some-clause-keeps g c =
     let next = c.next_place-at.ensures in
     let fault = some_is _ (sym c.is_some.ensures ∙ c.if-is_some.true) in
     end_halted_keeps_all g.D.Disk g.C.Clock _ c.next_place-at.new.core _ _ c.args.lane c.next_place-at.result fault.0 _ (sym next.fault ∙ fault.1) next
-    (record { journal = refl; clock = refl; fault = refl; remote = refl; upkeep = same_touches (touches_kept c.next_place-at.new.core.upkeep) }) c.end_session.ensures.disk c.end_session.ensures.catalogue (lane_idle c.end_session.new.parts _ _ next.lane_is c.end_session.ensures.ended) c.enter.ensures
+    (record { journal = refl; clock = refl; fault = refl; remote = refl; collector = refl; upkeep = same_touches (touches_kept c.next_place-at.new.core.upkeep) }) c.end_session.ensures.disk c.end_session.ensures.catalogue (lane_idle c.end_session.new.parts _ _ next.lane_is c.end_session.ensures.ended) c.enter.ensures
 
 pub returns-in-Ok-clause-applies : goal.returns-in-Ok-clause-applies
 returns-in-Ok-clause-applies g c =
     let next = c.next_place-at.ensures in
     ended_applies g.D.Disk g.C.Clock _ c.next_place-at.new.core _ _ c.args.lane c.next_place-at.result c.end.result _ c.requires.lane (sym next.fault ∙ none_is _ (sym c.is_some.ensures ∙ c.if-is_some.false)) next
-    (record { journal = refl; clock = refl; fault = refl; remote = refl; upkeep = same_touches (touches_kept c.next_place-at.new.core.upkeep) }) c.in-Ok.is c.end.ensures.does c.end.ensures.leaves c.enter-in-Ok.ensures
+    (record { journal = refl; clock = refl; fault = refl; remote = refl; collector = refl; upkeep = same_touches (touches_kept c.next_place-at.new.core.upkeep) }) c.in-Ok.is c.end.ensures.does c.end.ensures.leaves c.enter-in-Ok.ensures
 
 pub returns-in-Ok-clause-keeps : goal.returns-in-Ok-clause-keeps
 returns-in-Ok-clause-keeps g c =
     let next = c.next_place-at.ensures in
     ended_keeps_all g.D.Disk g.C.Clock _ c.next_place-at.new.core _ _ c.args.lane c.next_place-at.result c.end.result _ (sym next.fault ∙ none_is _ (sym c.is_some.ensures ∙ c.if-is_some.false)) next
-    (record { journal = refl; clock = refl; fault = refl; remote = refl; upkeep = same_touches (touches_kept c.next_place-at.new.core.upkeep) }) c.in-Ok.is c.end.ensures.leaves c.enter-in-Ok.ensures
+    (record { journal = refl; clock = refl; fault = refl; remote = refl; collector = refl; upkeep = same_touches (touches_kept c.next_place-at.new.core.upkeep) }) c.in-Ok.is c.end.ensures.leaves c.enter-in-Ok.ensures
 
 pub returns-in-Err-clause-applies : goal.returns-in-Err-clause-applies
 returns-in-Err-clause-applies g c =
     let next = c.next_place-at.ensures in
     end_failed_applies g.D.Disk g.C.Clock _ c.next_place-at.new.core _ _ c.args.lane c.next_place-at.result c.end.result _ _ c.requires.lane (sym next.fault ∙ none_is _ (sym c.is_some.ensures ∙ c.if-is_some.false))
     (λ idle. never_failed c.end.result _ c.in-Err.is (c.end.ensures.idle (ap (λ p. session_at p c.next_place-at.result.lane) next.parts ∙ lane_idle c.args.core.now.parts _ _ next.lane_is idle))) next
-    (record { journal = refl; clock = refl; fault = refl; remote = refl; upkeep = same_touches (touches_kept c.next_place-at.new.core.upkeep) }) c.in-Err.is c.end.ensures.does c.end.ensures.leaves c.settle.ensures
+    (record { journal = refl; clock = refl; fault = refl; remote = refl; collector = refl; upkeep = same_touches (touches_kept c.next_place-at.new.core.upkeep) }) c.in-Err.is c.end.ensures.does c.end.ensures.leaves c.settle.ensures
 
 pub returns-in-Err-clause-keeps : goal.returns-in-Err-clause-keeps
 returns-in-Err-clause-keeps g c =
     let next = c.next_place-at.ensures in
     end_failed_keeps_all g.D.Disk g.C.Clock _ c.next_place-at.new.core _ _ c.args.lane c.next_place-at.result c.end.result _ _ (sym next.fault ∙ none_is _ (sym c.is_some.ensures ∙ c.if-is_some.false))
     (λ idle. never_failed c.end.result _ c.in-Err.is (c.end.ensures.idle (ap (λ p. session_at p c.next_place-at.result.lane) next.parts ∙ lane_idle c.args.core.now.parts _ _ next.lane_is idle))) next
-    (record { journal = refl; clock = refl; fault = refl; remote = refl; upkeep = same_touches (touches_kept c.next_place-at.new.core.upkeep) }) c.in-Err.is c.end.ensures.leaves c.settle.ensures
+    (record { journal = refl; clock = refl; fault = refl; remote = refl; collector = refl; upkeep = same_touches (touches_kept c.next_place-at.new.core.upkeep) }) c.in-Err.is c.end.ensures.leaves c.settle.ensures

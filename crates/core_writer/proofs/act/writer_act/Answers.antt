@@ -24,14 +24,14 @@ pub returns-in-At-clause-applies : goal.returns-in-At-clause-applies
 returns-in-At-clause-applies g c =
     done_applies g.D.Disk g.C.Clock _ c.begin.new.core _ _ c.args.lane c.in-At.at c.args.act c.perform-ended.result _ c.requires.lane (writers_formed c.args.act c.requires.kind) (writers_step c.args.act c.requires.kind)
     c.in-At.ensures.begun c.in-At.ensures.filled
-    (record { journal = refl; clock = refl; fault = refl; remote = refl; upkeep = c.perform-ended.ensures.touches })
+    (record { journal = refl; clock = refl; fault = refl; remote = refl; collector = refl; upkeep = c.perform-ended.ensures.touches })
     c.perform-ended.ensures.does c.perform-ended.ensures.leaves c.settle.ensures
 
 pub returns-in-At-clause-keeps : goal.returns-in-At-clause-keeps
 returns-in-At-clause-keeps g c =
     done_keeps_all g.D.Disk g.C.Clock _ c.begin.new.core _ _ c.args.lane c.in-At.at c.args.act c.perform-ended.result _ (writers_step c.args.act c.requires.kind)
     c.in-At.ensures.begun c.in-At.ensures.filled
-    (record { journal = refl; clock = refl; fault = refl; remote = refl; upkeep = c.perform-ended.ensures.touches })
+    (record { journal = refl; clock = refl; fault = refl; remote = refl; collector = refl; upkeep = c.perform-ended.ensures.touches })
     c.perform-ended.ensures.does c.perform-ended.ensures.leaves c.settle.ensures
 
 pub returns-in-At-clause-by_kept : goal.returns-in-At-clause-by_kept
