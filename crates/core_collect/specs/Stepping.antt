@@ -87,7 +87,7 @@ Spares s change = (x : Digest32) → change ≡ drops (chunk_name x.0 ∷ []) �
 abbrev pub IsTheSweeps : {D : Type 0} → Ghosts D → Parts D → Upkeep → ℕ → Collector → Store → Swept → ℕ → Outcome → Type 0
 IsTheSweeps d new v acts e s w moment (Ok None) =
     IsSomeAnd w.sweep (λ sweep. (is_over sweep ≡ false) × (e.ended ≡ None)
-      × StandsBeside d new v acts (Some e) s (passed_touches w sweep moment) (Some (passed w sweep sweep.unmarked)))
+    × StandsBeside d new v acts (Some e) s (passed_touches w sweep moment) (Some (passed w sweep sweep.unmarked)))
 IsTheSweeps d new v acts e s w moment (Ok (Some report)) =
     IsSomeAnd w.sweep (λ sweep. (is_over sweep ≡ true) × (report_reply report ≡ report_of w sweep)) × StandsBeside d new v acts (Some e) s w.touches w.sweep
 IsTheSweeps d new v acts e s w moment (Err NoMemory) = StandsBeside d new v acts (Some e) s w.touches w.sweep

@@ -58,9 +58,7 @@ fn early_of(collector: Option<Collector>) -> Early
     let Some(Collector { ended, .. }) = collector else {
         unreachable!()
     };
-    let Some(early) = ended else {
-        unreachable!()
-    };
+    let Some(early) = ended else { unreachable!() };
     early
 }
 
@@ -77,5 +75,10 @@ pub fn end_early<D: Disk, E, C: Clock>(core: &mut Core<D, E, C>, lane: u32) -> A
         return enter(core, at, FAULT_KIND, Some(halted(place)));
     }
     let early = early_of(core.collector.take());
-    enter(core, at, STOP_KIND, Some(Reply::Refused(early.into_refusal())))
+    enter(
+        core,
+        at,
+        STOP_KIND,
+        Some(Reply::Refused(early.into_refusal())),
+    )
 }

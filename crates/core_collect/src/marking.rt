@@ -37,7 +37,9 @@ impl From<AllocError> for Unread {
 fn path_of<'a>(catalogue: &'a [Listed], index: &IndexAt) -> Option<&'a FilePath>
     ensures { option_map (λ p. p.now) result ≡ path_at index.now catalogue.now }
 {
-    let found = catalogue.iter().find(|listed| listed.number == index.snapshot);
+    let found = catalogue
+        .iter()
+        .find(|listed| listed.number == index.snapshot);
     match found {
         Some(listed) => path_named(listed.kept.files.as_slice(), &index.name),
         None => None,
@@ -153,7 +155,11 @@ pub fn mark(book: &mut Book, collector: &mut Collector, moment: u64)
     let from = first as usize;
     let left = (collector.entries.len() - from) as u32;
     let count = mark_size(left);
-    touch_each(book, &collector.entries[from..from + count as usize], moment);
+    touch_each(
+        book,
+        &collector.entries[from..from + count as usize],
+        moment,
+    );
     collector.plan.marked(count, left - count);
     if count == left {
         collector.entries.clear();

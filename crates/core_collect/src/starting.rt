@@ -8,7 +8,8 @@ ghost use Rattle.core_state.specs.Stops.{StopHasText};
 ghost use Rattle.core_collect.specs.Starting.{GivesCollector, IsNewCollector, MayOpen, earlier_of, first_unreadable, indexes_in as indexes_listed, indexes_of as indexes_kept, oldest_kept, StartTells};
 
 use core_state::{
-    Act, Admitted, Answer, Collector, Core, Listed, Parts, Place, Session, Stop, begin, enter, settle,
+    Act, Admitted, Answer, Collector, Core, Listed, Parts, Place, Session, Stop, begin, enter,
+    settle,
 };
 use disk_trait::Disk;
 use gc_plan::IndexAt;
@@ -71,7 +72,9 @@ fn oldest_in(sessions: &[Session]) -> Option<u64>
 fn first_damage(catalogue: &[Listed]) -> Option<&Bytes>
     ensures { option_map (λ name. name.now) result ≡ first_unreadable catalogue.now }
 {
-    let found = catalogue.iter().find(|listed| listed.kept.unreadable.is_some());
+    let found = catalogue
+        .iter()
+        .find(|listed| listed.kept.unreadable.is_some());
     match found {
         Some(listed) => listed.kept.unreadable.as_ref(),
         None => None,
@@ -82,11 +85,7 @@ fn first_damage(catalogue: &[Listed]) -> Option<&Bytes>
 ///
 /// The refusals, in the order in which they are tested: the lane has a session; a collector is open, on whatever lane; a
 /// snapshot is damaged, of which the first in the catalogue is told.
-fn may_open<D>(
-    parts: &Parts<D>,
-    collector: &Option<Collector>,
-    lane: u32,
-) -> Result<(), Stop>
+fn may_open<D>(parts: &Parts<D>, collector: &Option<Collector>, lane: u32) -> Result<(), Stop>
     requires { lane < 64 }
     ensures value { MayOpen parts.now collector.now lane result }
     ensures text { IfErr result StopHasText }

@@ -34,12 +34,23 @@ fn collect<D: Disk>(
     ensures { CollectDoes D.Disk parts.old parts.new upkeep.old upkeep.new collector.old collector.new at result }
 {
     if collector.plan.is_over() {
-        let report = end(&mut parts.disk, alloc, &upkeep.book, &collector.plan, at.moment)?;
+        let report = end(
+            &mut parts.disk,
+            alloc,
+            &upkeep.book,
+            &collector.plan,
+            at.moment,
+        )?;
         return Ok(Some(report));
     }
     match find_next(parts, alloc, collector) {
         Ok(true) => mark(&mut upkeep.book, collector, at.moment),
-        Ok(false) => visit_next(&mut parts.disk, alloc, &mut upkeep.book, &mut collector.plan)?,
+        Ok(false) => visit_next(
+            &mut parts.disk,
+            alloc,
+            &mut upkeep.book,
+            &mut collector.plan,
+        )?,
         Err(Unread::Unreadable(path)) => collector.ended = Some(Early::Unreadable(path)),
         Err(Unread::NoMemory) => return Err(Stop::NoMemory),
         Err(Unread::DiskFailed) => return Err(Stop::DiskFailed),
@@ -97,7 +108,13 @@ fn go_on<D: Disk, E, C: Clock>(core: &mut Core<D, E, C>, alloc: Global, lane: u3
     match begin(core, alloc, lane, &Act::Step) {
         Admitted::Answered(answer) => answer,
         Admitted::At(at) => {
-            let ended = pass(&mut core.parts, &mut core.upkeep, &mut core.collector, alloc, at);
+            let ended = pass(
+                &mut core.parts,
+                &mut core.upkeep,
+                &mut core.collector,
+                alloc,
+                at,
+            );
             enter_pass(core, at, ended)
         }
     }

@@ -333,9 +333,9 @@ stepped_missed : {D E C : Type 0} (old : Core D E C) (lane moment kind : ℕ) (c
 stepped_missed old lane moment kind change q may chunk book = ⊎_elim {C = MissesAll q change}
     (λ (none : change ≡ stays). subst (MissesAll q) (sym none) tt)
     (λ some. ⊎_elim {C = MissesAll q change}
-      (λ one. subst (MissesAll q) (sym (one.1).change_is) (one_missed q (chunk_name ((one.1).digest).0) (chunk ((one.1).digest).0)))
-      (λ saved. subst (MissesAll q) (sym saved.1) book)
-      some)
+    (λ one. subst (MissesAll q) (sym (one.1).change_is) (one_missed q (chunk_name ((one.1).digest).0) (chunk ((one.1).digest).0)))
+    (λ saved. subst (MissesAll q) (sym saved.1) book)
+    some)
     may
 
 pub stepped_kept : {D E C : Type 0} (d : Ghosts D) (old new : Core D E C) (lane : ℕ) (act : Act) (answer : Answer) → d.honest (old.parts).disk
