@@ -56,7 +56,7 @@ use Rattle.core_state.specs.Upkeeps.{touches_kept}
 use Rattle.core_state.proofs.Chunks.{is_digest}
 use Rattle.core_state.proofs.Entered.{world_more}
 use Rattle.core_state.proofs.ForeignLemmas.{MissesChunk, no_fault_before, not_faulted, others_kept}
-use Rattle.core_state.proofs.Plans.{plans_more}
+use Rattle.core_state.proofs.LaterPlans.{plans_more}
 use Rattle.core_state.proofs.Recorded.{numbers_more}
 use Rattle.core_state.proofs.Recovering.{StandsMore, last_right}
 use Rattle.core_state.proofs.Sessions.{session_same}

@@ -46,7 +46,7 @@ inserted_at number new (x ∷ xs) off = by_order (key_lt (new.kept).key (x.kept)
     by_order false ih = ap (cond (x.number == number) (Some x)) ih
 
 -- one more, with another number
-kept_inserted : (number : ℕ) (new : Listed) (xs : List Listed) → new.number ≢ number → kept_at number (insert_listed new xs) ≡ kept_at number xs
+pub kept_inserted : (number : ℕ) (new : Listed) (xs : List Listed) → new.number ≢ number → kept_at number (insert_listed new xs) ≡ kept_at number xs
 kept_inserted number new xs other = ap (option_map (λ x. x.kept)) (inserted_at number new xs (not_equal new.number number other))
 
 none_numbered : (number : ℕ) (key : SnapshotKey) (xs : List Listed) → All (λ (y : Listed). y.number ≢ number) xs → numbered number (without_listed key xs) ≡ None
@@ -61,12 +61,12 @@ none_numbered number key (x ∷ xs) all =
         ap (λ t. cond t (Some x) (numbered number (without_listed key xs))) (not_equal x.number number (All-head (λ (y : Listed). y.number ≢ number) x xs all)) ∙ ih
 
 -- what is kept of a snapshot, unless it is the one with this key
-abbrev keep_unless : SnapshotKey → Option Kept → Option Kept
+abbrev pub keep_unless : SnapshotKey → Option Kept → Option Kept
 keep_unless key None = None
 keep_unless key (Some k) = cond (same_key k.key key) None (Some k)
 
 -- one less
-kept_forgotten : (number : ℕ) (key : SnapshotKey) (xs : List Listed) → AllPairs DifferInNumber xs → kept_at number (without_listed key xs) ≡ keep_unless key (kept_at number xs)
+pub kept_forgotten : (number : ℕ) (key : SnapshotKey) (xs : List Listed) → AllPairs DifferInNumber xs → kept_at number (without_listed key xs) ≡ keep_unless key (kept_at number xs)
 kept_forgotten number key [] once = refl
 kept_forgotten number key (x ∷ xs) once =
     by_test (x.number == number) refl (same_key (x.kept).key key) refl (kept_forgotten number key xs (tail_differs x xs once))
@@ -89,7 +89,7 @@ kept_forgotten number key (x ∷ xs) once =
 
 -- ---- the digests of an index
 
-digests_as : (key : SnapshotKey) (name : List ℕ) (xs ys : List Snapshot) → snapshot_named key ys ≡ snapshot_named key xs → digests_named key name ys ≡ digests_named key name xs
+pub digests_as : (key : SnapshotKey) (name : List ℕ) (xs ys : List Snapshot) → snapshot_named key ys ≡ snapshot_named key xs → digests_named key name ys ≡ digests_named key name xs
 digests_as key name xs ys same = ap (λ (o : Option Snapshot). digests_in (file_named name (elim o [ None ↦ [] | Some x ↦ x.files ]))) same
 
 -- ---- what is left of an index

@@ -118,7 +118,7 @@ unfolding Keeps
 answered_keeps s (Ok after) keeps = keeps
 answered_keeps s (Err refusal) keeps = refl
 
-moved_keeps : (R : Option (List Snapshot)) (w : World) (k m : ℕ) (a : Act) (n : EntryKind) → IsWellFormed a → moves_manifest a ≡ false → ((moved R w k m a n).store).snapshots ≡ (w.store).snapshots
+pub moved_keeps : (R : Option (List Snapshot)) (w : World) (k m : ℕ) (a : Act) (n : EntryKind) → IsWellFormed a → moves_manifest a ≡ false → ((moved R w k m a n).store).snapshots ≡ (w.store).snapshots
 unfolding moved
 moved_keeps R w k m a step_kind formed off = answered_keeps w.store (act_outcome R w k m a) (act_keeps R w k m a formed off)
 moved_keeps R w k m a pass_kind formed off = refl
