@@ -144,7 +144,7 @@ pub record IsDone {D E C : Type 0} (d : Ghosts D) (readings : C → Option Readi
   pub later : d.calls (mid.parts).disk ≤ d.calls (acted.parts).disk
 
 -- The core before the entry, with a fault or without.
-acted_by : {D E C : Type 0} (g : Ghosts D) (readings : C → Option Readings) (old mid acted : Core D E C) (h : History) (k m : ℕ) (act : Act) (n : ℕ) (fault : Option ℕ)
+pub acted_by : {D E C : Type 0} (g : Ghosts D) (readings : C → Option Readings) (old mid acted : Core D E C) (h : History) (k m : ℕ) (act : Act) (n : ℕ) (fault : Option ℕ)
     → IsDone g readings old mid acted k m → open_in (collector_by n k mid.collector) ≡ shown_collecting (moves h k m act n).collecting
     → fault ≡ (moves h k m act n).fault → g.honest (acted.parts).disk → Shows acted.parts (moves h k m act n).store
     → ((moves h k m act n).fault ≡ None → IsOnDisk (g.content (acted.parts).disk) (moves h k m act n).store)

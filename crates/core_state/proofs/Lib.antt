@@ -3,6 +3,7 @@ pub mod Chunks
 pub mod Collecting
 pub mod Entered
 pub mod Answered
+pub mod Started
 pub mod Ended
 pub mod NamedLemmas
 pub mod Reserves
@@ -40,6 +41,7 @@ pub mod Leading
 pub mod Recovering
 pub mod Planned
 pub mod Plans
+pub mod LaterPlans
 pub mod Unswept
 pub mod KeepingTouches
 pub mod SavingNames

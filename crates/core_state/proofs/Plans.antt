@@ -49,7 +49,7 @@ shows_sifted acts c c2 s s2 p x y sweep is h = record {
 
 -- ---- a snapshot is forgotten
 
-forgotten_unmarked : (c : List Listed) (s : List Snapshot) (key : SnapshotKey) → Rattle.std.specs.Prelude.AllPairs Rattle.core_state.specs.Numbers.DifferInNumber c
+pub forgotten_unmarked : (c : List Listed) (s : List Snapshot) (key : SnapshotKey) → Rattle.std.specs.Prelude.AllPairs Rattle.core_state.specs.Numbers.DifferInNumber c
     → (indexes : List IndexAt) (stage : Stage)
     → unmarked_by (without_listed key c) (without_snapshot key s) indexes stage ≡ filter (λ u. not (same_key u.key key)) (unmarked_by c s indexes stage)
 forgotten_unmarked c s key once indexes (marking place first) =
@@ -58,7 +58,7 @@ forgotten_unmarked c s key once indexes (sweeping names) = refl
 
 -- ---- a snapshot is finished
 
-finished_unmarked : (acts : ℕ) (c : List Listed) (s : List Snapshot) (new : Listed) (x : Snapshot) → IsNewKey c s new x
+pub finished_unmarked : (acts : ℕ) (c : List Listed) (s : List Snapshot) (new : Listed) (x : Snapshot) → IsNewKey c s new x
     → (indexes : List IndexAt) → All (λ (i : IndexAt). new.number ≢ i.snapshot) indexes → (stage : Stage)
     → unmarked_by (insert_listed new c) (insert_snapshot x s) indexes stage ≡ unmarked_by c s indexes stage
 finished_unmarked acts c s new x fresh indexes others (marking place first) =
