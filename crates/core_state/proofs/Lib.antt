@@ -28,6 +28,7 @@ pub mod Calls
 pub mod Touching
 pub mod ByKept
 pub mod Applying
+pub mod Starts
 pub mod Ending
 pub mod ForeignLemmas
 pub mod Reaching

@@ -206,6 +206,15 @@ filled_keeps d readings old mid acted new lane moment closing result answer read
     by_spare old new mid.journal lane closing e.is_held (kind_by result == 2) answer b.more b.others filled.0 filled.1
     (spare_by old.journal mid.journal new.journal lane e.is_held b.none_lost b.whole entered) e.last_held entered
 
+-- a collector opened
+pub opened_keeps : {D E C : Type 0} (d : Ghosts D) (readings : C → Option Readings) (old mid acted new : Core D E C) (lane moment : ℕ) (closing : Bool) (answer : Answer)
+    → IsReady readings old mid lane moment → acted.journal ≡ mid.journal → (3 ≤ held_by mid.journal lane) × (0 < (mid.journal).spare)
+    → IsEntered d acted new lane moment 3 None answer → KeepsReserve old new lane closing answer
+opened_keeps d readings old mid acted new lane moment closing answer ready same filled e =
+    let b = ready.begun in let entered = subst (λ j. Enters j new.journal lane e.is_held) same e.room in
+    by_spare old new mid.journal lane closing e.is_held false answer b.more b.others filled.0 filled.1
+    (spare_by old.journal mid.journal new.journal lane e.is_held b.none_lost b.whole entered) e.last_held entered
+
 -- what the lane's end may take after its session has ended
 closed_one : {D E C : Type 0} (d : Ghosts D) (acted new : Core D E C) (lane moment : ℕ) (result : Result Reply DiskError) (answer : Answer)
     → Settles d acted new lane moment result answer → HasClosed acted.parts lane result → (ends_by new lane ≡ 1) × ((answer.entry).kind ≡ 2 → ⊥)

@@ -1,0 +1,93 @@
+-- The start of a collector that opens it, on any disk and for each history.
+use Rattle.disk_trait.specs.declared.disk.Disk.{Ghosts}
+use Rattle.std.proofs.Common.{◌≡◌, ◌<◌, ◌≤◌, ℕ, true, false, Option, Some, None, Ok, inl, refl, sym, ap, subst, ◌∙◌, arith}
+use Rattle.port_traits.specs.declared.clock.Clock as clocks
+use Rattle.store_history.specs.declared.act.Act.TheVariants.{Start}
+use Rattle.store_history.specs.declared.act.Answer.{Answer}
+use Rattle.store_history.specs.Legal.{may_open}
+use Rattle.core_state.specs.declared.collector.Collector.{Collector}
+use Rattle.core_state.specs.declared.state.Core.{Core}
+use Rattle.core_state.specs.Answers.{IsAnswered, start_opens}
+use Rattle.core_state.specs.Applies.{ActApplies, ActKeeps}
+use Rattle.core_state.specs.Begins.{IsReady}
+use Rattle.core_state.specs.Changes.{after, by_reply, stays}
+use Rattle.core_state.specs.Commands.{change_at}
+use Rattle.core_state.specs.Entering.{held_by}
+use Rattle.core_state.specs.History.{History, StandsFor, event_of, then_event, world}
+use Rattle.core_state.specs.KeepsTouches.{KeepsTouches}
+use Rattle.core_state.specs.Settles.{IsEntered}
+use Rattle.core_state.specs.Wanted.{session_at}
+use Rattle.core_state.proofs.Answering.{entered_answered, where_none}
+use Rattle.core_state.proofs.Applying.{closes_none, early_by}
+use Rattle.core_state.proofs.Recorded.{entered_timely, records_more, start_fits, start_tells}
+use Rattle.core_state.proofs.Recovering.{StandsMore, recovers_more}
+use Rattle.core_state.proofs.Reserves.{opened_keeps}
+use Rattle.core_state.proofs.Started.{opened_stands}
+use Rattle.core_state.proofs.Touching.{entered_touches}
+use Rattle.core_state.proofs.Unchanging.{untold_unchanged}
+
+false_true : false ≡ true → ⊥
+false_true e = cc
+
+true_false : true ≡ false → ⊥
+true_false e = cc
+
+module _ {D E C : Type 0} (d : Ghosts D) (clock : clocks.Ghosts C) (old mid new : Core D E C) (k m : ℕ) (c : Collector) (answer : Answer)
+    (ready : IsReady clock.readings old mid k m) (filled : (3 ≤ held_by mid.journal k) × (0 < (mid.journal).spare)) (entered : IsEntered d (record mid { collector = Some c }) new k m 3 None answer) where
+  abbrev acted : Core D E C
+  acted = record mid { collector = Some c }
+
+  parts : new.parts ≡ old.parts
+  parts = entered.parts ∙ (ready.begun).parts
+
+  kind_is : (answer.entry).kind ≡ 3
+  kind_is = ap (λ x. x.kind) entered.entry
+
+  pub start_opened_keeps : ActKeeps d old new k Start answer
+  start_opened_keeps =
+      let same = ap (λ p. p.disk) parts in
+      let none : by_reply (change_at old.parts k Start) answer.reply ≡ stays = ap (by_reply (change_at old.parts k Start)) entered.reply_is in record {
+        unchanged = untold_unchanged d old.parts new.parts answer.reply entered.reply_is;
+        quiet = λ _. same;
+        reads = λ _ h. ap d.content same;
+        content = λ _ _ _ h. ap d.content same ∙ ap (λ x. after x (d.content (old.parts).disk)) (sym none);
+        crash = λ _. inl same;
+        due = λ _ _ s h. tt;
+        firm = λ _ _. tt;
+        listed = ap (λ p. p.catalogue.items) parts;
+        admin = λ _. (ap (λ p. p.sessions.items) parts, ap (λ p. p.locks) parts);
+        ended = λ ends. absurd (false_true ends);
+        halted = where_none _ _ ready.no_fault;
+        remote = entered.remote ∙ (ready.begun).remote;
+        upkeep = λ _. entered_touches d old mid acted new k m 3 Start None answer (ready.begun).upkeep (record { last = λ x. refl; undated = λ x. refl }) entered;
+        collector = λ is. absurd (true_false is);
+        stepped = λ is. absurd (false_true is);
+        memory = λ closing. absurd (closes_none old.fault Start (session_at old.parts k) refl closing);
+        reserve = opened_keeps d clock.readings old mid acted new k m _ answer ready refl filled entered;
+      }
+
+  answers : IsAnswered d old new k answer
+  answers =
+      let b = ready.begun in
+      entered_answered d old acted new k m 3 None answer entered (b.entries).entries (b.entries).calls tt b.fault
+      (let e = ap (λ p. d.faults p.disk) b.parts in omega (arith, e)) (λ is. absurd (omega (arith, is)))
+
+  -- it may open in each history, and its plan is the new sweep of each whose book the core's is
+  pub start_opened_applies : k < 64 → ((h : History) → StandsFor d clock.readings old h → may_open (world h) k ≡ Ok tt) → c.lane ≡ k → c.ended ≡ None
+      → ((h : History) → StandsFor d clock.readings old h → KeepsTouches d old h → StandsFor d clock.readings new (then_event h (event_of Start answer (d.calls (new.parts).disk)))
+          → KeepsTouches d new (then_event h (event_of Start answer (d.calls (new.parts).disk))))
+      → ActApplies d clock old new k Start answer
+  start_opened_applies lt may lane goes touches =
+      let timely = entered_timely d clock.readings old acted new k m 3 None answer (ready.begun).clock entered in
+      let cause = start_opens ready.no_fault kind_is entered.reply_is in
+      let keeps = start_opened_keeps in
+      let more : StandsMore d clock old new Start answer = λ h s clear. opened_stands d clock.readings old mid h k m s ready new c answer lt (may h s) lane goes entered in record {
+        history = λ h s kept clear. more h s clear;
+        records = λ h. records_more d clock.readings old new k Start answer h answers timely (start_fits d old new answer cause) (start_tells d old new answer cause answers.text) keeps.listed (early_by d clock old new k Start answer refl timely keeps);
+        recovers = λ told start h s clear kept. recovers_more d clock old new k Start answer lt more answers cause keeps refl told start h s clear;
+        touches = λ h s kept clear. touches h s kept (more h s clear);
+        answers = answers;
+        timely = timely;
+        told = inl (kind_is, entered.reply_is);
+        cause = cause;
+      }
