@@ -146,7 +146,7 @@ pub record IsCalm {D E C : Type 0} (d : Ghosts D) (old new : Core D E C) (R : Op
   -- one did
   pub due : answer.reply ≡ Some (replies.Refused refusals.DiskFault) → IsDue act w.store (answer.entry).lane
 
-stays_refused : (change : Change) (r : Refusal) → (r ≡ refusals.DiskFault → ⊥) → by_reply change (Some (replies.Refused r)) ≡ stays
+pub stays_refused : (change : Change) (r : Refusal) → (r ≡ refusals.DiskFault → ⊥) → by_reply change (Some (replies.Refused r)) ≡ stays
 stays_refused change refusals.DiskFault other = absurd (other refl)
 stays_refused change r other = refl
 

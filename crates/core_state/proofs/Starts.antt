@@ -1,7 +1,12 @@
 -- The start of a collector that opens it, on any disk and for each history.
 use Rattle.disk_trait.specs.declared.disk.Disk.{Ghosts}
-use Rattle.std.proofs.Common.{◌≡◌, ◌<◌, ◌≤◌, ℕ, true, false, Option, Some, None, Ok, inl, refl, sym, ap, subst, ◌∙◌, arith}
+use Rattle.std.proofs.Common.{◌≡◌, ◌<◌, ◌≤◌, ℕ, true, false, length, IfSome, Option, Some, None, Result, Ok, inl, refl, sym, ap, subst, ◌∙◌, arith}
+use Rattle.disk_trait.specs.declared.disk.DiskError.{DiskError}
 use Rattle.port_traits.specs.declared.clock.Clock as clocks
+use Rattle.store_types.specs.declared.refusal.Refusal.{Refusal}
+use Rattle.store_types.specs.declared.refusal.Refusal.TheVariants.{DiskFault}
+use Rattle.wire_commands.specs.declared.reply.Reply.{Reply}
+use Rattle.wire_commands.specs.declared.reply.Reply.TheVariants.{Refused}
 use Rattle.store_history.specs.declared.act.Act.TheVariants.{Start}
 use Rattle.store_history.specs.declared.act.Answer.{Answer}
 use Rattle.store_history.specs.Legal.{may_open}
@@ -11,17 +16,20 @@ use Rattle.core_state.specs.Answers.{IsAnswered, start_opens}
 use Rattle.core_state.specs.Applies.{ActApplies, ActKeeps}
 use Rattle.core_state.specs.Begins.{IsReady}
 use Rattle.core_state.specs.Changes.{after, by_reply, stays}
+use Rattle.core_state.specs.Closing.{is_closing}
 use Rattle.core_state.specs.Commands.{change_at}
 use Rattle.core_state.specs.Entering.{held_by}
 use Rattle.core_state.specs.History.{History, StandsFor, event_of, then_event, world}
 use Rattle.core_state.specs.KeepsTouches.{KeepsTouches}
-use Rattle.core_state.specs.Settles.{IsEntered}
+use Rattle.core_state.specs.Settles.{IsEntered, Settles, fault_by, kind_by, reply_by, with_fault}
+use Rattle.core_state.specs.Unchanged.{Unchanged}
 use Rattle.core_state.specs.Wanted.{session_at}
 use Rattle.core_state.proofs.Answering.{entered_answered, where_none}
-use Rattle.core_state.proofs.Applying.{closes_none, early_by}
+use Rattle.core_state.proofs.Applying.{closes_none, early_by, undone}
+use Rattle.core_state.proofs.Leading.{stays_refused}
 use Rattle.core_state.proofs.Recorded.{entered_timely, records_more, start_fits, start_tells}
 use Rattle.core_state.proofs.Recovering.{StandsMore, recovers_more}
-use Rattle.core_state.proofs.Reserves.{opened_keeps}
+use Rattle.core_state.proofs.Reserves.{done_keeps, opened_keeps}
 use Rattle.core_state.proofs.Started.{opened_stands}
 use Rattle.core_state.proofs.Touching.{entered_touches}
 use Rattle.core_state.proofs.Unchanging.{untold_unchanged}
@@ -90,4 +98,42 @@ module _ {D E C : Type 0} (d : Ghosts D) (clock : clocks.Ghosts C) (old mid new 
         timely = timely;
         told = inl (kind_is, entered.reply_is);
         cause = cause;
+      }
+
+-- ---- refused as it was done
+
+module _ {D E C : Type 0} (d : Ghosts D) (clock : clocks.Ghosts C) (old mid new : Core D E C) (k m : ℕ) (result : Result Reply DiskError) (refusal : Refusal) (answer : Answer)
+    (ready : IsReady clock.readings old mid k m) (filled : is_closing old k Start ≡ false → (3 ≤ held_by mid.journal k) × (0 < (mid.journal).spare))
+    (told : reply_by result ≡ Refused refusal) (fine : refusal ≡ DiskFault → ⊥) (settles : Settles d mid new k m result answer) where
+  kept : new.parts ≡ old.parts
+  kept = settles.parts ∙ (ready.begun).parts
+
+  reply_is : answer.reply ≡ Some (Refused refusal)
+  reply_is = settles.reply_is ∙ ap Some told
+
+  refusal_same : (a b : Refusal) → Some (Refused a) ≡ Some (Refused b) → a ≡ b
+  refusal_same a b e = cc
+
+  pub start_settled_keeps : ActKeeps d old new k Start answer
+  start_settled_keeps =
+      let same = ap (λ p. p.disk) kept in
+      let none : by_reply (change_at old.parts k Start) answer.reply ≡ stays = ap (by_reply (change_at old.parts k Start)) reply_is ∙ stays_refused (change_at old.parts k Start) refusal fine in record {
+        unchanged = subst (λ r. IfSome r (Unchanged d old.parts new.parts)) (sym reply_is) (same_unchanged d old.parts new.parts refusal kept);
+        quiet = λ _. same;
+        reads = λ _ h. ap d.content same;
+        content = λ _ _ _ h. ap d.content same ∙ ap (λ x. after x (d.content (old.parts).disk)) (sym none);
+        crash = λ _. inl same;
+        due = λ _ said. absurd (fine (refusal_same refusal DiskFault (sym reply_is ∙ said)));
+        firm = λ _. undone answer refusal reply_is;
+        listed = ap (λ p. p.catalogue.items) kept;
+        admin = λ _. (ap (λ p. p.sessions.items) kept, ap (λ p. p.locks) kept);
+        ended = λ ends. absurd (false_true ends);
+        halted = where_none _ _ ready.no_fault;
+        remote = settles.remote ∙ (ready.begun).remote;
+        upkeep = λ _. entered_touches d old mid (with_fault mid (fault_by mid.fault (length (mid.journal).entries.items) result)) new k m (kind_by result) Start (Some (reply_by result)) answer
+            (ready.begun).upkeep (record { last = λ x. refl; undated = λ x. refl }) settles;
+        collector = λ is. absurd (true_false is);
+        stepped = λ is. absurd (false_true is);
+        memory = λ closing. absurd (closes_none old.fault Start (session_at old.parts k) refl closing);
+        reserve = done_keeps d clock.readings old mid mid new k m Start result answer ready refl filled (λ closing. absurd (closes_none old.fault Start (session_at old.parts k) refl closing)) settles;
       }
