@@ -32,7 +32,7 @@ use Rattle.core_state.proofs.Recovering.{StandsMore, recovers_more}
 use Rattle.core_state.proofs.Reserves.{done_keeps, opened_keeps}
 use Rattle.core_state.proofs.Started.{opened_stands}
 use Rattle.core_state.proofs.Touching.{entered_touches}
-use Rattle.core_state.proofs.Unchanging.{untold_unchanged}
+use Rattle.core_state.proofs.Unchanging.{same_unchanged, untold_unchanged}
 
 false_true : false ≡ true → ⊥
 false_true e = cc
@@ -118,7 +118,7 @@ module _ {D E C : Type 0} (d : Ghosts D) (clock : clocks.Ghosts C) (old mid new 
   start_settled_keeps =
       let same = ap (λ p. p.disk) kept in
       let none : by_reply (change_at old.parts k Start) answer.reply ≡ stays = ap (by_reply (change_at old.parts k Start)) reply_is ∙ stays_refused (change_at old.parts k Start) refusal fine in record {
-        unchanged = subst (λ r. IfSome r (Unchanged d old.parts new.parts)) (sym reply_is) (same_unchanged d old.parts new.parts refusal kept);
+        unchanged = subst (λ r. IfSome r (Unchanged d old.parts new.parts)) (sym reply_is) (same_unchanged d old.parts new.parts (Refused refusal) kept);
         quiet = λ _. same;
         reads = λ _ h. ap d.content same;
         content = λ _ _ _ h. ap d.content same ∙ ap (λ x. after x (d.content (old.parts).disk)) (sym none);
