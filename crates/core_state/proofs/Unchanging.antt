@@ -6,7 +6,7 @@ use Rattle.disk_trait.specs.declared.disk.DiskError.{DiskError}
 use Rattle.store_types.specs.declared.refusal.Refusal.{Refusal}
 use Rattle.store_types.specs.declared.refusal.Refusal.TheVariants.{NoMemory, Halted}
 use Rattle.wire_commands.specs.declared.reply.Reply.{Reply}
-use Rattle.wire_commands.specs.declared.reply.Reply.TheVariants.{Done, Base, Part, Data, Number, Listing, Files as FileRows, Keys, Marks, Refused}
+use Rattle.wire_commands.specs.declared.reply.Reply.TheVariants.{Done, Base, Part, Data, Number, Listing, Files as FileRows, Keys, Marks, Verified, Collected, Refused}
 use Rattle.store_history.specs.declared.act.Answer.{Answer}
 use Rattle.core_state.specs.declared.parts.Parts.{Parts}
 use Rattle.core_state.specs.declared.state.Core.{Core}
@@ -29,6 +29,8 @@ module _ {D : Type 0} (g : Ghosts D) where
   same_unchanged old new (FileRows rows) is = tt
   same_unchanged old new (Keys snapshots) is = tt
   same_unchanged old new (Marks rows) is = tt
+  same_unchanged old new (Verified files entries bytes faults) is = tt
+  same_unchanged old new (Collected start cutoff used pending removed) is = tt
   same_unchanged old new (Refused r) is = leaves_same old new r (ap (λ p. p.disk) is) (record { catalogue = ap (λ p. p.catalogue.items) is; sessions = ap (λ p. p.sessions.items) is; locks = ap (λ p. p.locks) is })
 
 -- ---- acts
