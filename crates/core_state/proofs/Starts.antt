@@ -1,22 +1,27 @@
 -- The start of a collector that opens it, on any disk and for each history.
 use Rattle.disk_trait.specs.declared.disk.Disk.{Ghosts}
-use Rattle.std.proofs.Common.{◌≡◌, ◌<◌, ◌≤◌, ℕ, true, false, length, IfSome, Option, Some, None, Result, Ok, inl, refl, sym, ap, subst, ◌∙◌, arith}
+use Rattle.std.proofs.Common.{◌≡◌, ◌<◌, ◌≤◌, ℕ, true, false, is_some, length, IfOk, IfSome, IsErrOf, IsTrue, Option, Some, None, Result, Ok, Err, inl, inr, refl, sym, ap, subst, ◌∙◌, arith}
+use Rattle.disk_trait.specs.Disk.{Serves}
 use Rattle.disk_trait.specs.declared.disk.DiskError.{DiskError}
+use Rattle.disk_trait.specs.declared.disk.DiskError.TheVariants as disks
 use Rattle.port_traits.specs.declared.clock.Clock as clocks
 use Rattle.store_types.specs.declared.refusal.Refusal.{Refusal}
 use Rattle.store_types.specs.declared.refusal.Refusal.TheVariants.{DiskFault}
 use Rattle.wire_commands.specs.declared.reply.Reply.{Reply}
 use Rattle.wire_commands.specs.declared.reply.Reply.TheVariants.{Refused}
+use Rattle.wire_commands.specs.HasText.{ReplyHasText}
 use Rattle.store_history.specs.declared.act.Act.TheVariants.{Start}
 use Rattle.store_history.specs.declared.act.Answer.{Answer}
 use Rattle.store_history.specs.Legal.{may_open}
 use Rattle.core_state.specs.declared.collector.Collector.{Collector}
 use Rattle.core_state.specs.declared.state.Core.{Core}
-use Rattle.core_state.specs.Answers.{IsAnswered, start_opens}
+use Rattle.core_state.specs.Answers.{IsAnswered, start_as_any, start_opens}
 use Rattle.core_state.specs.Applies.{ActApplies, ActKeeps}
 use Rattle.core_state.specs.Begins.{IsReady}
 use Rattle.core_state.specs.Changes.{after, by_reply, stays}
 use Rattle.core_state.specs.Closing.{is_closing}
+use Rattle.core_state.specs.Collectors.{collector_by}
+use Rattle.core_state.specs.Replies.{may_answer}
 use Rattle.core_state.specs.Commands.{change_at}
 use Rattle.core_state.specs.Entering.{held_by}
 use Rattle.core_state.specs.History.{History, StandsFor, event_of, then_event, world}
@@ -24,10 +29,12 @@ use Rattle.core_state.specs.KeepsTouches.{KeepsTouches}
 use Rattle.core_state.specs.Settles.{IsEntered, Settles, fault_by, kind_by, reply_by, with_fault}
 use Rattle.core_state.specs.Unchanged.{Unchanged}
 use Rattle.core_state.specs.Wanted.{session_at}
-use Rattle.core_state.proofs.Answering.{entered_answered, where_none}
-use Rattle.core_state.proofs.Applying.{closes_none, early_by, undone}
+use Rattle.core_state.proofs.Answering.{done_answered, entered_answered, untouched, where_none}
+use Rattle.core_state.proofs.Applying.{closes_none, early_by, no_start_kind, undone}
+use Rattle.core_state.proofs.Caused.{done_caused}
+use Rattle.core_state.proofs.KeepingTouches.{touches_more}
 use Rattle.core_state.proofs.Leading.{stays_refused}
-use Rattle.core_state.proofs.Recorded.{entered_timely, records_more, start_fits, start_tells}
+use Rattle.core_state.proofs.Recorded.{entered_timely, records_more, settled_timely, start_fits, start_tells}
 use Rattle.core_state.proofs.Recovering.{StandsMore, recovers_more}
 use Rattle.core_state.proofs.Reserves.{done_keeps, opened_keeps}
 use Rattle.core_state.proofs.Started.{opened_stands}
@@ -136,4 +143,33 @@ module _ {D E C : Type 0} (d : Ghosts D) (clock : clocks.Ghosts C) (old mid new 
         stepped = λ is. absurd (false_true is);
         memory = λ closing. absurd (closes_none old.fault Start (session_at old.parts k) refl closing);
         reserve = done_keeps d clock.readings old mid mid new k m Start result answer ready refl filled (λ closing. absurd (closes_none old.fault Start (session_at old.parts k) refl closing)) settles;
+      }
+
+  not_failed : (o : Result Reply DiskError) → reply_by o ≡ Refused refusal → IsErrOf o disks.Failed → ⊥
+  not_failed (Ok reply) is e = cc
+  not_failed (Err disks.NoMemory) is e = cc
+  not_failed (Err disks.Failed) is e = fine (sym (refusal_same DiskFault refusal (ap Some is)))
+
+  serves : Serves d.honest d.faults (mid.parts).disk (mid.parts).disk (IsErrOf result disks.Failed)
+  serves = let u = untouched d (mid.parts).disk (mid.parts).disk refl in record { kept = u.kept; count = u.count; cause = λ e. absurd (not_failed result told e) }
+
+  pub start_settled_applies : k < 64 → IfOk result ReplyHasText → IfOk result (λ reply. IsTrue (may_answer Start reply))
+      → ((h : History) → StandsFor d clock.readings old h → StandsFor d clock.readings new (then_event h (event_of Start answer (d.calls (new.parts).disk))))
+      → ActApplies d clock old new k Start answer
+  start_settled_applies lt text may stands =
+      let answers = done_answered d clock.readings old mid mid new k m result answer ready refl refl serves text settles in
+      let timely = settled_timely d clock.readings old mid new k m result answer (ready.begun).clock settles in
+      let cause = done_caused d clock.readings old mid mid new k m Start result answer ready serves may settles in
+      let keeps = start_settled_keeps in
+      let more : StandsMore d clock old new Start answer = λ h s clear. stands h s in
+      let collector : new.collector ≡ collector_by (answer.entry).kind k old.collector =
+      settles.collector ∙ ap (collector_by (kind_by result) k) (ready.begun).collector ∙ ap (λ n. collector_by n k old.collector) (sym (ap (λ x. x.kind) settles.entry)) in record {
+        history = λ h s kept clear. more h s clear;
+        records = λ h. records_more d clock.readings old new k Start answer h answers timely (start_fits d old new answer (start_as_any cause)) (start_tells d old new answer (start_as_any cause) answers.text) keeps.listed (early_by d clock old new k Start answer refl timely keeps);
+        recovers = λ told start h s clear kept. recovers_more d clock old new k Start answer lt more answers (start_as_any cause) keeps refl told start h s clear;
+        touches = touches_more d clock old new k Start answer lt tt more answers (start_as_any cause) keeps refl collector (no_start_kind d old new Start answer cause);
+        answers = answers;
+        timely = timely;
+        told = inr (no_start_kind d old new Start answer cause, ap is_some settles.reply_is);
+        cause = start_as_any cause;
       }
