@@ -490,19 +490,23 @@ static LARGE: [(&[u8], usize, &[u8]); 2] = [
     ),
 ];
 
-fn try_large(rt: &HostRuntime, row: &(&[u8], usize, &[u8])) -> Result<(), Fail> {
+fn try_large(
+    rt: &impl Abort,
+    alloc: Global,
+    row: &(&[u8], usize, &[u8]),
+) -> Result<(), Fail> {
     let (front, zeros, replies) = row;
-    try_zeros(rt, rt.alloc(), front, *zeros, replies)
+    try_zeros(rt, alloc, front, *zeros, replies)
 }
 
 #[test]
 fn blobs_have_a_limit(rt: HostRuntime) -> Result<(), Fail> {
-    try_large(&rt, &LARGE[0])
+    try_large(&rt, rt.alloc(), &LARGE[0])
 }
 
 #[test]
 fn chunks_have_the_same_limit(rt: HostRuntime) -> Result<(), Fail> {
-    try_large(&rt, &LARGE[1])
+    try_large(&rt, rt.alloc(), &LARGE[1])
 }
 
 #[test]
