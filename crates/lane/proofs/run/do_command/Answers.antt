@@ -1,16 +1,16 @@
 use Rattle.std.proofs.Common.{sym, subst, ◌∙◌}
 use Rattle.store_history.specs.Acts.{IsWellFormed}
 use Rattle.store_history.proofs.Ending.{is_formed}
-use Rattle.lane.specs.Acting.{IsNoEnd}
-use Rattle.lane.proofs.Acting.{no_end}
+use Rattle.lane.specs.Acting.{HasReply}
+use Rattle.lane.proofs.Acting.{replied}
 use Rattle.lane.proofs.Doing.{does_plain, is_none_by}
 use Rattle.lane.proofs.run.do_command.Goals as goal
 
 pub ask-requires-clause-formed : goal.ask-requires-clause-formed
 ask-requires-clause-formed g c = subst IsWellFormed (sym c.act_of.ensures) (is_formed c.args.command c.requires.other)
 
-pub ask-requires-clause-no_end : goal.ask-requires-clause-no_end
-ask-requires-clause-no_end g c = subst IsNoEnd (sym c.act_of.ensures) (no_end c.args.command)
+pub ask-requires-clause-replied : goal.ask-requires-clause-replied
+ask-requires-clause-replied g c = subst HasReply (sym c.act_of.ensures) (replied c.args.command)
 
 pub returns-clause-does : goal.returns-clause-does
 returns-clause-does g c = λ first began.
