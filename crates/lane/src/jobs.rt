@@ -26,8 +26,9 @@ fn next_act(alloc: Global, job: &Job) -> Option<Act>
 {
     match job.next(alloc) {
         Ok(Some(Step::Command(command))) => Some(act_of(command)),
+        Ok(Some(_)) => Some(Act::Short),
         Ok(None) => None,
-        Ok(Some(_)) | Err(_) => Some(Act::Short),
+        Err(_) => Some(Act::Short),
     }
 }
 
