@@ -2,6 +2,7 @@
 
 ghost use Rattle.std.specs.Prelude.{◌≡◌, ◌<◌, IfNone, IfSome, Some, true, false};
 ghost use Rattle.wire_commands.specs.HasText.{ReplyHasText};
+ghost use Rattle.wire_commands.specs.declared.command.Command.TheVariants.{Gc};
 ghost use Rattle.core_state.specs.Collectors.{steps_left};
 ghost use Rattle.core_state.specs.Reserved.{Reserved};
 ghost use Rattle.lane.specs.Acting.{LeavesReserve};
@@ -16,34 +17,36 @@ use port_traits::Clock;
 use shared_store::apply;
 use std::alloc::Global;
 use store_types::MEMORY_KIND;
-use wire_commands::{Command, Reply};
+use wire_commands::Reply;
 
 /// Does the next act of the lane's open collector. Some is what its end replies. Want of memory is no end: the act behind it is
 /// the end, which tells it.
 ///
-/// `last` is set where an entry of the lane's reserve held that want.
+/// `is_last` is set where an entry of the lane's reserve held that want.
 fn pass<D: Disk, E, C: Clock>(
     core: &mut Core<D, E, C>,
     alloc: Global,
     lane: u32,
-    last: &mut bool,
+    is_last: &mut bool,
 ) -> Option<Reply>
     requires lane { lane < 64 }
-    requires sweeps { IsSweeping core.old lane last.old }
-    ensures passed { CoreHasPassed D.Disk C.Clock core.old core.new lane last.old last.new result }
+    requires sweeps { IsSweeping core.old lane is_last.old }
+    ensures passed { CoreHasPassed D.Disk C.Clock core.old core.new lane is_last.old is_last.new result }
     ensures text { IfSome result ReplyHasText }
-    ensures room { LeavesSweep core.new lane last.new result }
+    ensures room { LeavesSweep core.new lane is_last.new result }
     // the next act is nearer to the end
     ensures further { IfNone result (steps_left core.new.collector < steps_left core.old.collector) }
     ensures remote { core.new.remote ≡ core.old.remote }
-    ensures entered { HasEntered D.Disk core.old core.new lane ((last.old ≡ false) × (last.new ≡ true)) }
+    ensures entered { HasEntered D.Disk core.old core.new lane ((is_last.old ≡ false) × (is_last.new ≡ true)) }
 {
-    let answer = apply(core, alloc, lane, Act::Step);
-    *last = answer.last || *last;
-    if answer.entry.kind == MEMORY_KIND {
+    let Answer {
+        entry, reply, last, ..
+    } = apply(core, alloc, lane, Act::Step);
+    *is_last = last || *is_last;
+    if entry.kind == MEMORY_KIND {
         return None;
     }
-    answer.reply
+    reply
 }
 
 /// Does all acts of the lane's open collector, and tells what its end replies.
@@ -71,7 +74,7 @@ fn sweep<D: Disk, E, C: Clock>(core: &mut Core<D, E, C>, alloc: Global, lane: u3
 pub fn collect<D: Disk, E, C: Clock>(core: &mut Core<D, E, C>, alloc: Global, lane: u32) -> Told
     requires lane { lane < 64 }
     requires room { Reserved core.old lane }
-    ensures does { CoreDoes D.Disk C.Clock core.old core.new lane Command.Gc result }
+    ensures does { CoreDoes D.Disk C.Clock core.old core.new lane Gc result }
     ensures text { ReplyHasText result.reply }
     ensures room { LeavesReserve core.old core.new lane result.last }
     ensures remote { core.new.remote ≡ core.old.remote }
