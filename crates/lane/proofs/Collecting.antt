@@ -11,11 +11,11 @@ use Rattle.store_history.specs.declared.act.Act.TheVariants as acts
 use Rattle.store_history.specs.declared.act.Answer.{Answer}
 use Rattle.store_history.specs.declared.act.Event.{Event}
 use Rattle.store_history.specs.Acts.{class_of}
-use Rattle.store_history.specs.History.{kind, reply}
+use Rattle.store_history.specs.History.{kind, lane, reply}
 use Rattle.store_history.specs.LaneRun.{Position, next_at, tells, wants, heard_at, heard, may_want_at}
 use Rattle.store_history.specs.Seats.{AreOf}
 use Rattle.store_history.specs.SoFar.{goes_further, Follows, Leads}
-use Rattle.store_history.proofs.Collecting.{flag, follows_step, leads_start, leads_gc}
+use Rattle.store_history.proofs.Collecting.{follows_step, leads_start, leads_gc, leads_close}
 use Rattle.store_history.proofs.Ending.{next_shut, next_collecting}
 use Rattle.store_history.proofs.Growing.{leads_more}
 use Rattle.store_history.proofs.Longer.{of_more}
@@ -28,6 +28,9 @@ use Rattle.lane.specs.Fronts.{is_unserved}
 use Rattle.lane.specs.Ran.{with_events}
 use Rattle.lane.proofs.Doing.{leads_then, of_both}
 use Rattle.lane.proofs.Stepping.{job_short}
+
+abbrev flag : Answer → Option Bool → ℕ → Position → Position
+flag a o n q = record q { is_short = wants n o; is_spent = a.last || q.is_spent }
 
 -- ---- a SYNC for which memory was wanting
 
@@ -90,3 +93,121 @@ heard_want p b a r on says two =
     ∙ ap (λ (x : Option Reply). flag a p.collecting (a.entry).kind (heard_at p (a.entry).kind x (collecting b))) says
     ∙ ap (λ (o : Option Bool). flag a o (a.entry).kind (heard_at p (a.entry).kind (Some r) (collecting b))) on
     ∙ ap (λ n. flag a (Some b) n (heard_at p n (Some r) (collecting b))) two
+
+-- ---- its acts so far
+
+false_true : false ≡ true → ⊥
+false_true e = cc
+
+pub swept_none : (before : History → Type 0) (k : ℕ) → HasSwept before before k false
+swept_none before k = record {
+  events = [];
+  is_cut = false;
+  is_short = false;
+  history = λ h at. subst (λ es. before (with_events h es)) (sym (append-nil h.events)) at;
+  lanes = tt;
+  leads = λ p left. refl;
+  cut = λ last. absurd (false_true last);
+}
+
+-- where this act's entry was not the reserve's, one before it was
+last_before : (a b now : Bool) → (a ≡ true → ⊥) → now ≡ (a || b) → now ≡ true → b ≡ true
+last_before true b now none is last = absurd (none refl)
+last_before false b now none is last = sym is ∙ last
+
+some_reply : (o : Option Reply) → IsSome o → (r : Reply) × (o ≡ Some r)
+some_reply None some = cc
+some_reply (Some r) some = (r, refl)
+
+swept_by : (before between after : History → Type 0) (k : ℕ) (is_last now_last cut short : Bool) → (s : HasSwept before between k is_last) → (x : HasPassed between after k is_last now_last None)
+    → ((p : Position) (left : List ℕ) → Leads (sweeping_at p left false false false) (s.events ++ x.event ∷ []) (sweeping_at p left cut short ((x.event.answer).last || is_last)))
+    → (now_last ≡ true → cut ≡ true) → HasSwept before after k now_last
+swept_by before between after k is_last now_last cut short s x led is_cut = record {
+  events = s.events ++ x.event ∷ [];
+  is_cut = cut;
+  is_short = short;
+  history = λ h at. subst (λ es. after (with_events h es)) (append_assoc h.events s.events (x.event ∷ [])) (x.history (with_events h (h.events ++ s.events)) (s.history h at));
+  lanes = of_more k s.events x.event s.lanes x.lane_is;
+  leads = λ p left. subst (λ b. Leads (sweeping_at p left false false false) (s.events ++ x.event ∷ []) (sweeping_at p left cut short b)) (sym x.last) (led p left);
+  cut = is_cut;
+}
+
+-- one more, behind which the collector is still open
+pub swept_more : (before between after : History → Type 0) (k : ℕ) (is_last now_last : Bool) → HasSwept before between k is_last → HasPassed between after k is_last now_last None
+    → HasSwept before after k now_last
+swept_more before between after k is_last now_last s x = by_reply x.tells
+  where
+    at : Position → List ℕ → Position
+    at p left = sweeping_at p left s.is_cut s.is_short is_last
+
+    heard_led : (p : Position) (left : List ℕ) → Leads (sweeping_at p left false false false) (s.events ++ x.event ∷ []) (heard (at p left) x.event.answer)
+    heard_led p left = leads_more s.events (sweeping_at p left false false false) (at p left) x.event (s.leads p left) (follows_step (at p left) s.is_cut x.event refl x.asks)
+
+    by_reply : TellsEnd x.event None → HasSwept before after k now_last
+    by_reply (inl pass) = swept_by before between after k is_last now_last s.is_cut (wants (kind x.event) (Some s.is_cut)) s x
+        (λ p left. subst (λ q. Leads (sweeping_at p left false false false) (s.events ++ x.event ∷ []) q) (heard_pass (at p left) s.is_cut x.event.answer refl pass.1) (heard_led p left))
+        (λ last. s.cut (last_before (x.event.answer).last is_last now_last (λ is. pass.0 (x.want is)) x.last last))
+    by_reply (inr want) = let r = some_reply (reply x.event) want.1 in
+        swept_by before between after k is_last now_last true (wants 2 (Some s.is_cut)) s x
+        (λ p left. subst (λ q. Leads (sweeping_at p left false false false) (s.events ++ x.event ∷ []) q) (heard_want (at p left) s.is_cut x.event.answer r.0 refl r.1 want.0) (heard_led p left))
+        (λ last. refl)
+
+-- its end
+pub swept_ends : (before between after : History → Type 0) (k : ℕ) (is_last : Bool) (told : Told) → HasSwept before between k is_last → HasPassed between after k is_last told.last (Some told.reply)
+    → Sweeps before after k told
+swept_ends before between after k is_last told s x = record {
+  events = s.events ++ x.event ∷ [];
+  is_short = s.is_cut;
+  history = λ h at. subst (λ es. after (with_events h es)) (append_assoc h.events s.events (x.event ∷ [])) (x.history (with_events h (h.events ++ s.events)) (s.history h at));
+  lanes = of_more k s.events x.event s.lanes x.lane_is;
+  leads = λ p left shut. let start = sweeping_at p left false false false in
+      let q = sweeping_at p left s.is_cut s.is_short is_last in
+      subst (λ o. Leads start (s.events ++ x.event ∷ []) (record p { left = left; job = None; collecting = o; is_short = s.is_cut; is_spent = told.last; told = p.told ++ told.reply ∷ [] })) (sym shut)
+      (subst (λ b. Leads start (s.events ++ x.event ∷ []) (record p { left = left; job = None; collecting = None; is_short = s.is_cut; is_spent = b; told = p.told ++ told.reply ∷ [] })) (sym x.last)
+      (leads_close s.events start q s.is_cut x.event told.reply (s.leads p left) refl x.asks (x.tells).1 (x.tells).0));
+  short = λ last. s.cut (last_before (x.event.answer).last is_last told.last (λ is. no_want (eq-eqb (kind x.event) 2 (x.want is))) x.last last);
+}
+  where
+    no_want : ((kind x.event) == 2) ≡ true → ⊥
+    no_want is = false_true (sym (x.tells).0 ∙ is)
+
+-- ---- from its GC
+
+-- the lane's collector has opened
+pub record HasOpened (before after : History → Type 0) (k : ℕ) : Type 0 where
+  pub event : Event
+  pub asks : event.act ≡ acts.Start
+  pub lane_is : lane event ≡ k
+  pub none : reply event ≡ None
+  pub kind_is : kind event ≡ 3
+  pub last : (event.answer).last ≡ false
+  pub history : (h : History) → before h → after (then_event h event)
+
+pub does_opened : (before between after : History → Type 0) (k : ℕ) (told : Told) → HasOpened before between k → Sweeps between after k told → Does before after k (command_next commands.Gc) told
+unfolding command_next
+does_opened before between after k told o s = let v = o.event in record {
+  events = v ∷ s.events;
+  is_short = s.is_short;
+  history = λ h at. subst (λ es. after (with_events h es)) (append_assoc h.events (v ∷ []) s.events) (s.history (then_event h v) (o.history h at));
+  lanes = (o.lane_is, s.lanes);
+  leads = λ p left is.
+      leads_then (v ∷ []) s.events p (sweeping_at p left false false false) (answered p left told.reply s.is_short told.last)
+      (subst (λ b. Leads p (v ∷ []) (sweeping_at p left false false b)) (or_false p (v.answer).last is.on ∙ o.last)
+      (leads_start [] p p left v refl is.on is.next o.asks o.none o.kind_is))
+      (s.leads p left (next_shut p (collect left) is.next refl));
+  short = s.short;
+}
+
+-- or its start was told something
+pub does_told : (before after : History → Type 0) (k : ℕ) (told : Told) → Did before after k acts.Start told → Does before after k (command_next commands.Gc) told
+unfolding command_next
+does_told before after k told d = let v = d.event in record {
+  events = v ∷ [];
+  is_short = kind v == 2;
+  history = d.history;
+  lanes = (d.lane_is, tt);
+  leads = λ p left is.
+      subst (λ b. Leads p (v ∷ []) (answered p left told.reply (kind v == 2) b)) (or_false p (v.answer).last is.on ∙ d.last)
+      (leads_gc [] p p left v told.reply refl is.on is.next d.asks d.tells);
+  short = λ last. eq-eqb (kind v) 2 (d.kind_is (inr last));
+}

@@ -45,7 +45,7 @@ LeavesSweep core k is_last (Some r) = CanEnd core k × (is_last ≡ false → Re
 
 -- the reply of its end; want of memory before it is told by the end
 abbrev pub TellsEnd : Event → Option Reply → Type 0
-TellsEnd v None = (reply v ≡ None) ⊎ ((kind v ≡ 2) × IsSome (reply v))
+TellsEnd v None = ((kind v ≡ 2 → ⊥) × (reply v ≡ None)) ⊎ ((kind v ≡ 2) × IsSome (reply v))
 TellsEnd v (Some r) = ((kind v == 2) ≡ false) × (reply v ≡ Some r)
 
 -- One act of the lane's collector was entered.
