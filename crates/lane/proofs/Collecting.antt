@@ -120,7 +120,7 @@ some_reply None some = cc
 some_reply (Some r) some = (r, refl)
 
 swept_by : (before between after : History → Type 0) (k : ℕ) (is_last now_last cut short : Bool) → (s : HasSwept before between k is_last) → (x : HasPassed between after k is_last now_last None)
-    → ((p : Position) (left : List ℕ) → Leads (sweeping_at p left false false false) (s.events ++ x.event ∷ []) (sweeping_at p left cut short ((x.event.answer).last || is_last)))
+    → ((p : Position) (left : List ℕ) → Leads (sweeping_at p left false false false) (s.events ++ x.event ∷ []) (sweeping_at p left cut short (((x.event).answer).last || is_last)))
     → (now_last ≡ true → cut ≡ true) → HasSwept before after k now_last
 swept_by before between after k is_last now_last cut short s x led is_cut = record {
   events = s.events ++ x.event ∷ [];
@@ -140,16 +140,16 @@ swept_more before between after k is_last now_last s x = by_reply x.tells
     at : Position → List ℕ → Position
     at p left = sweeping_at p left s.is_cut s.is_short is_last
 
-    heard_led : (p : Position) (left : List ℕ) → Leads (sweeping_at p left false false false) (s.events ++ x.event ∷ []) (heard (at p left) x.event.answer)
+    heard_led : (p : Position) (left : List ℕ) → Leads (sweeping_at p left false false false) (s.events ++ x.event ∷ []) (heard (at p left) ((x.event).answer))
     heard_led p left = leads_more s.events (sweeping_at p left false false false) (at p left) x.event (s.leads p left) (follows_step (at p left) s.is_cut x.event refl x.asks)
 
     by_reply : TellsEnd x.event None → HasSwept before after k now_last
     by_reply (inl pass) = swept_by before between after k is_last now_last s.is_cut (wants (kind x.event) (Some s.is_cut)) s x
-        (λ p left. subst (λ q. Leads (sweeping_at p left false false false) (s.events ++ x.event ∷ []) q) (heard_pass (at p left) s.is_cut x.event.answer refl pass.1) (heard_led p left))
-        (λ last. s.cut (last_before (x.event.answer).last is_last now_last (λ is. pass.0 (x.want is)) x.last last))
+        (λ p left. subst (λ q. Leads (sweeping_at p left false false false) (s.events ++ x.event ∷ []) q) (heard_pass (at p left) s.is_cut ((x.event).answer) refl pass.1) (heard_led p left))
+        (λ last. s.cut (last_before ((x.event).answer).last is_last now_last (λ is. pass.0 (x.want is)) x.last last))
     by_reply (inr want) = let r = some_reply (reply x.event) want.1 in
         swept_by before between after k is_last now_last true (wants 2 (Some s.is_cut)) s x
-        (λ p left. subst (λ q. Leads (sweeping_at p left false false false) (s.events ++ x.event ∷ []) q) (heard_want (at p left) s.is_cut x.event.answer r.0 refl r.1 want.0) (heard_led p left))
+        (λ p left. subst (λ q. Leads (sweeping_at p left false false false) (s.events ++ x.event ∷ []) q) (heard_want (at p left) s.is_cut ((x.event).answer) r.0 refl r.1 want.0) (heard_led p left))
         (λ last. refl)
 
 -- its end
@@ -165,7 +165,7 @@ swept_ends before between after k is_last told s x = record {
       subst (λ o. Leads start (s.events ++ x.event ∷ []) (record p { left = left; job = None; collecting = o; is_short = s.is_cut; is_spent = told.last; told = p.told ++ told.reply ∷ [] })) (sym shut)
       (subst (λ b. Leads start (s.events ++ x.event ∷ []) (record p { left = left; job = None; collecting = None; is_short = s.is_cut; is_spent = b; told = p.told ++ told.reply ∷ [] })) (sym x.last)
       (leads_close s.events start q s.is_cut x.event told.reply (s.leads p left) refl x.asks (x.tells).1 (x.tells).0));
-  short = λ last. s.cut (last_before (x.event.answer).last is_last told.last (λ is. no_want (eq-eqb (kind x.event) 2 (x.want is))) x.last last);
+  short = λ last. s.cut (last_before ((x.event).answer).last is_last told.last (λ is. no_want (eq-eqb (kind x.event) 2 (x.want is))) x.last last);
 }
   where
     no_want : ((kind x.event) == 2) ≡ true → ⊥

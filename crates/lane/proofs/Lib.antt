@@ -5,6 +5,7 @@ pub mod Replies
 pub mod Doing
 pub mod Stepping
 pub mod Collecting
+pub mod Sweeping
 pub mod Caused
 pub mod Entries
 pub mod Turning
