@@ -1,6 +1,6 @@
 -- GC on a lane: its collector's acts, and where they lead. And commands that no lane serves.
 use Rattle.std.proofs.Common.{◌≡◌, ◌≤◌, ◌<◌, ◌+◌, ◌⊎◌, inl, inr, ℕ, Bool, true, false, ◌||◌, ◌==◌, List, [], ◌∷◌, ◌++◌, Option, Some, None, IsSome, if◌then◌else◌, refl, sym, ap, subst, ◌∙◌, arith, append-nil, append_assoc}
-use Rattle.std.proofs.lemmas.Bool.{eq-eqb}
+use Rattle.std.proofs.lemmas.Bool.{eq-eqb, eqb-true}
 use Rattle.store_types.specs.declared.refusal.Refusal.TheVariants.{NoMemory}
 use Rattle.wire_commands.specs.declared.command.Command.{Command}
 use Rattle.wire_commands.specs.declared.command.Command.TheVariants as commands
@@ -19,6 +19,7 @@ use Rattle.store_history.proofs.Collecting.{follows_step, leads_start, leads_gc,
 use Rattle.store_history.proofs.Ending.{next_shut, next_collecting}
 use Rattle.store_history.proofs.Growing.{leads_more}
 use Rattle.store_history.proofs.Longer.{of_more}
+use Rattle.core_state.specs.Answers.{IsToldBut}
 use Rattle.core_state.specs.History.{History, then_event}
 use Rattle.lane.specs.declared.acts.Told.{Told}
 use Rattle.lane.specs.Acting.{Did, MayTell}
@@ -170,6 +171,25 @@ swept_ends before between after k is_last told s x = record {
   where
     no_want : ((kind x.event) == 2) ≡ true → ⊥
     no_want is = false_true (sym (x.tells).0 ∙ is)
+
+-- ---- by what was told
+
+-- memory was wanting, which the end tells
+pub want_told : (v : Event) → IsToldBut 1 v.answer → kind v ≡ 2 → TellsEnd v None
+want_told v (inl pass) two = let one = pass.0 in absurd (omega (arith, one, two))
+want_told v (inr end) two = inr (two, end.1)
+
+-- or the end's reply, where there is one
+pub end_told : (v : Event) → (kind v ≡ 2 → ⊥) → TellsEnd v (reply v)
+end_told v other = by_reply (reply v) refl
+  where
+    by_kind : (b : Bool) → (kind v == 2) ≡ b → (kind v == 2) ≡ false
+    by_kind false is = is
+    by_kind true is = absurd (other (eqb-true (kind v) 2 is))
+
+    by_reply : (o : Option Reply) → reply v ≡ o → TellsEnd v o
+    by_reply None is = inl (other, is)
+    by_reply (Some r) is = (by_kind (kind v == 2) refl, is)
 
 -- ---- from its GC
 

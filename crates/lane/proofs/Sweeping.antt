@@ -1,9 +1,10 @@
 -- What a lane holds in reserve while its collector is open.
 use Rattle.disk_trait.specs.declared.disk.Disk.{Ghosts}
-use Rattle.std.specs.Prelude.{slice_index_or, IsSomeAnd}
-use Rattle.std.proofs.Common.{◌≡◌, ◌≤◌, ◌<◌, ◌+◌, ◌⊎◌, inl, inr, ℕ, Bool, true, false, ◌&&◌, ◌||◌, ◌==◌, List, Option, Some, None, Ok, is_some, refl, sym, ap, subst, ◌∙◌, arith}
+use Rattle.std.specs.Prelude.{slice_index_or, IsSomeAnd, IfNone}
+use Rattle.std.proofs.Common.{◌≡◌, ◌≤◌, ◌<◌, ◌+◌, ◌⊎◌, inl, inr, ℕ, Bool, true, false, ◌&&◌, ◌||◌, ◌==◌, List, Option, Some, None, Ok, IsSome, is_some, refl, sym, ap, subst, ◌∙◌, arith}
 use Rattle.std.proofs.lemmas.Bool.{eq-eqb, eqb-true, eqb-false}
 use Rattle.gc_plan.specs.Plan.{left_of}
+use Rattle.wire_commands.specs.declared.reply.Reply.{Reply}
 use Rattle.store_history.specs.declared.act.Act.TheVariants as acts
 use Rattle.store_history.specs.declared.act.Answer.{Answer}
 use Rattle.core_state.specs.declared.collector.Collector.{Collector}
@@ -12,14 +13,16 @@ use Rattle.core_state.specs.declared.kept.Session.{Session}
 use Rattle.core_state.specs.declared.kept.Session.TheVariants.{Idle, Writer, Reader}
 use Rattle.core_state.specs.declared.parts.Parts.{Parts}
 use Rattle.core_state.specs.declared.state.Core.{Core}
+use Rattle.core_state.specs.Answers.{IsToldBut}
 use Rattle.core_state.specs.Closing.{closes_by, end_entries, is_closing}
 use Rattle.core_state.specs.Collectors.{is_cut, is_on, steps_if, steps_left}
 use Rattle.core_state.specs.Entering.{held_by}
 use Rattle.core_state.specs.Passes.{StepLeaves, stays_open}
-use Rattle.core_state.specs.Reserved.{CanEnd, KeepsReserve, Reserved, StepKeeps}
+use Rattle.core_state.specs.Reserved.{CanEnd, HasRoom, KeepsReserve, Reserved, StepKeeps}
 use Rattle.core_state.specs.Wanted.{session_at}
 use Rattle.core_collect.specs.Starting.{IsNewCollector, StartTells, start_told}
-use Rattle.lane.specs.Collecting.{held_open, IsSweeping}
+use Rattle.lane.specs.Collecting.{held_open, IsSweeping, LeavesSweep}
+use Rattle.lane.proofs.Acting.{none_some}
 
 true_false : true ≡ false → ⊥
 true_false e = cc
@@ -84,14 +87,14 @@ still_held : {D E C : Type 0} (old new : Core D E C) (k : ℕ) (answer : Answer)
 still_held old new k answer keeps whole held goes = by_last answer.last refl goes
   where
     by_count : (b : Bool) → ((held_by new.journal k + 1) == held_by old.journal k) ≡ b → answer.last ≡ false → (answer.entry).kind ≡ 2 → 3 ≤ held_by new.journal k
-    by_count true is none two = absurd (true_false (sym (keeps.spent.1 (two, eqb-true (held_by new.journal k + 1) (held_by old.journal k) is)) ∙ none))
+    by_count true is none two = absurd (true_false (sym ((keeps.spent).1 (two, eqb-true (held_by new.journal k + 1) (held_by old.journal k) is)) ∙ none))
     by_count false is none two =
         let ne : (held_by new.journal k + 1) ≡ held_by old.journal k → ⊥ = eqb-false (held_by new.journal k + 1) (held_by old.journal k) is in
         let one = keeps.one in
         omega (arith, one, held)
 
     by_last : (b : Bool) → answer.last ≡ b → ((answer.entry).kind ≡ 1) ⊎ ((answer.entry).kind ≡ 2) → held_open b ≤ held_by new.journal k
-    by_last true last g = let one = (keeps.spent.0 last).1 in omega (arith, one, held)
+    by_last true last g = let one = ((keeps.spent).0 last).1 in omega (arith, one, held)
     by_last false none (inl is) = keeps.filled whole (λ two. omega (arith, is, two))
     by_last false none (inr two) = by_count ((held_by new.journal k + 1) == held_by old.journal k) refl none two
 
@@ -138,3 +141,55 @@ sweep_over old new k is_last now_last answer s keeps same is = (by_last is_last 
     whole : (b : Bool) → b ≡ false → held_open b ≤ held_by old.journal k → Reserved new k
     whole true none held = absurd (true_false none)
     whole false none held = let one = keeps.one in omega (arith, few, one, held)
+
+-- ---- by what was told
+
+some_reply : (o : Option Reply) → IsSome o → (r : Reply) × (o ≡ Some r)
+some_reply None some = cc
+some_reply (Some r) some = (r, refl)
+
+pub pass_leaves : {D E C : Type 0} (d : Ghosts D) (old new : Core D E C) (k : ℕ) (is_last now_last : Bool) (answer : Answer) → IsSweeping old k is_last
+    → StepKeeps old new k answer → StepLeaves d old new k answer → (new.parts).sessions.items ≡ (old.parts).sessions.items
+    → ((answer.entry).kind ≡ 2 → is_cut k new.collector ≡ true) → (answer.last ≡ true → (answer.entry).kind ≡ 2)
+    → IsToldBut 1 answer → now_last ≡ (answer.last || is_last) → LeavesSweep new k now_last answer.reply
+pass_leaves d old new k is_last now_last answer s keeps leaves same cut want told is = by_told told
+  where
+    by_told : IsToldBut 1 answer → LeavesSweep new k now_last answer.reply
+    by_told (inl pass) = subst (λ o. LeavesSweep new k now_last o) (sym pass.1) (stays_sweeping d old new k is_last now_last answer s keeps leaves same cut want (inl pass.0) is)
+    by_told (inr end) = let r = some_reply answer.reply end.1 in
+        subst (λ o. LeavesSweep new k now_last o) (sym r.1) (sweep_over old new k is_last now_last answer s keeps same is)
+
+pub pass_further : {D E C : Type 0} (d : Ghosts D) (old new : Core D E C) (k : ℕ) (answer : Answer) → StepLeaves d old new k answer → is_on k old.collector ≡ true
+    → IsToldBut 1 answer → IfNone answer.reply (steps_left new.collector < steps_left old.collector)
+pass_further d old new k answer leaves on told = by_told told
+  where
+    by_told : IsToldBut 1 answer → IfNone answer.reply (steps_left new.collector < steps_left old.collector)
+    by_told (inl pass) = subst (λ o. IfNone o (steps_left new.collector < steps_left old.collector)) (sym pass.1) (leaves.further on (inl pass.0))
+    by_told (inr end) = let r = some_reply answer.reply end.1 in
+        subst (λ o. IfNone o (steps_left new.collector < steps_left old.collector)) (sym r.1) tt
+
+-- an entry of the reserve held a want of memory in this act
+pub new_want : (a b : Bool) → b ≡ false → (a || b) ≡ true → a ≡ true
+new_want true b none is = refl
+new_want false b none is = absurd (true_false (sym is ∙ none))
+
+pub start_kind : (answer : Answer) → IsToldBut 3 answer → answer.reply ≡ None → (answer.entry).kind ≡ 3
+start_kind answer (inl open) none = open.0
+start_kind answer (inr told) none = absurd (none_some answer.reply none told.1)
+
+pub start_last : (answer : Answer) → (answer.last ≡ true → (answer.entry).kind ≡ 2) → (answer.entry).kind ≡ 3 → answer.last ≡ false
+start_last answer want three = by_last answer.last refl
+  where
+    by_last : (b : Bool) → answer.last ≡ b → answer.last ≡ false
+    by_last false is = is
+    by_last true is = let two = want is in absurd (omega (arith, two, three))
+
+-- so it did in this act or before
+pub want_before : (before now : Bool) → now ≡ true → (before ≡ true) ⊎ ((before ≡ false) × (now ≡ true))
+want_before true now is = inl refl
+want_before false now is = inr (refl, is)
+
+-- an entry is to be had
+pub sweep_room : {D E C : Type 0} (core : Core D E C) (k : ℕ) (is_last : Bool) → IsSweeping core k is_last → HasRoom core k
+sweep_room core k true s = let held = s.held in inr (omega (arith, held))
+sweep_room core k false s = let held = s.held in inr (omega (arith, held))
