@@ -21,6 +21,8 @@ use Rattle.core_state.specs.Passes.{StepLeaves, stays_open}
 use Rattle.core_state.specs.Reserved.{CanEnd, HasRoom, KeepsReserve, Reserved, StepKeeps}
 use Rattle.core_state.specs.Wanted.{session_at}
 use Rattle.core_collect.specs.Starting.{IsNewCollector, StartTells, start_told}
+use Rattle.lane.specs.declared.acts.Told.{Told}
+use Rattle.lane.specs.Acting.{IsWant}
 use Rattle.lane.specs.Collecting.{held_open, IsSweeping, LeavesSweep}
 use Rattle.lane.proofs.Acting.{none_some}
 
@@ -193,3 +195,7 @@ want_before false now is = inr (refl, is)
 pub sweep_room : {D E C : Type 0} (core : Core D E C) (k : ℕ) (is_last : Bool) → IsSweeping core k is_last → HasRoom core k
 sweep_room core k true s = let held = s.held in inr (omega (arith, held))
 sweep_room core k false s = let held = s.held in inr (omega (arith, held))
+
+pub start_want : (told : Told) (kind : ℕ) → (told.last ≡ true → kind ≡ 2) → IsWant acts.Start told → kind ≡ 2
+start_want told kind want (inl is) = cc
+start_want told kind want (inr is) = want is
