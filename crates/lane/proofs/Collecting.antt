@@ -53,7 +53,8 @@ or_false p b is = ap (λ x. b || x) is ∙ last b
     last true = refl
     last false = refl
 
-does_sync : (before after : History → Type 0) (k : ℕ) (group : List ℕ) (told : Told) → Did before after k acts.Short told → Does before after k (λ left. sync group left) told
+does_sync : (before after : History → Type 0) (k : ℕ) (group : List ℕ) (told : Told) → Did before after k acts.Short told → Does before after k (command_next (commands.Sync group)) told
+unfolding command_next
 does_sync before after k group told d = let v = d.event in record {
   events = v ∷ [];
   is_short = kind v == 2;

@@ -1,5 +1,5 @@
 -- The acts of a lane's collector, one after another.
-use Rattle.std.specs.Prelude.{ℕ, ◌≡◌, ◌≤◌, ◌⊎◌, ◌==◌, ◌||◌, Bool, true, false, List, ◌++◌, Option, Some, None, IsSome}
+use Rattle.std.specs.Prelude.{ℕ, ◌≡◌, ◌≤◌, ◌<◌, ◌⊎◌, ◌==◌, ◌||◌, Bool, true, false, List, ◌++◌, Option, Some, None, IsSome}
 use Rattle.disk_trait.specs.declared.disk.Disk.{Ghosts}
 use Rattle.port_traits.specs.declared.clock.Clock as clocks
 use Rattle.wire_commands.specs.declared.reply.Reply.{Reply}
@@ -9,13 +9,14 @@ use Rattle.store_history.specs.History.{kind, lane, reply}
 use Rattle.store_history.specs.LaneRun.{Position}
 use Rattle.store_history.specs.Seats.{AreOf}
 use Rattle.store_history.specs.SoFar.{Leads}
-use Rattle.core_state.specs.Collectors.{is_cut, is_on}
+use Rattle.core_state.specs.Collectors.{is_cut, is_on, steps_left}
 use Rattle.core_state.specs.Entering.{held_by}
 use Rattle.core_state.specs.History.{History, then_event}
 use Rattle.core_state.specs.Records.{Reaches}
 use Rattle.core_state.specs.Reserved.{CanEnd, Reserved}
 use Rattle.core_state.specs.Wanted.{session_at}
 use Rattle.core_state.specs.declared.kept.Session.TheVariants.{Idle}
+use Rattle.core_state.specs.declared.collector.Collector.{Collector}
 use Rattle.core_state.specs.declared.state.Core.{Core}
 use Rattle.lane.specs.declared.acts.Told.{Told}
 use Rattle.lane.specs.Doing.{answered}
@@ -42,6 +43,14 @@ LeavesSweep core k is_last None = IsSweeping core k is_last
 LeavesSweep core k is_last (Some r) = CanEnd core k × (is_last ≡ false → Reserved core k)
 
 -- ---- one act
+
+-- fewer acts are to come until its end
+abbrev pub IsNearer : Option Collector → Option Collector → Type 0
+IsNearer old new = steps_left new < steps_left old
+
+-- an entry of the reserve held a want of memory in this act, and in none before
+abbrev pub IsSet : Bool → Bool → Type 0
+IsSet before now = (before ≡ false) × (now ≡ true)
 
 -- the reply of its end; want of memory before it is told by the end
 abbrev pub TellsEnd : Event → Option Reply → Type 0

@@ -3,10 +3,9 @@
 ghost use Rattle.std.specs.Prelude.{◌≡◌, ◌<◌, IfNone, IfSome, Some, true, false};
 ghost use Rattle.wire_commands.specs.HasText.{ReplyHasText};
 ghost use Rattle.wire_commands.specs.declared.command.Command.TheVariants.{Gc};
-ghost use Rattle.core_state.specs.Collectors.{steps_left};
 ghost use Rattle.core_state.specs.Reserved.{Reserved};
 ghost use Rattle.lane.specs.Acting.{LeavesReserve};
-ghost use Rattle.lane.specs.Collecting.{CoreHasPassed, CoreSweeps, IsSweeping, LeavesSweep};
+ghost use Rattle.lane.specs.Collecting.{CoreHasPassed, CoreSweeps, IsNearer, IsSet, IsSweeping, LeavesSweep};
 ghost use Rattle.lane.specs.Doing.{CoreDoes};
 ghost use Rattle.lane.specs.Entries.{HasEntered};
 
@@ -31,13 +30,14 @@ fn pass<D: Disk, E, C: Clock>(
 ) -> Option<Reply>
     requires lane { lane < 64 }
     requires sweeps { IsSweeping core.old lane is_last.old }
-    ensures passed { CoreHasPassed D.Disk C.Clock core.old core.new lane is_last.old is_last.new result }
+    ensures passed { CoreHasPassed D.Disk C.Clock core.old core.new lane
+        is_last.old is_last.new result }
     ensures text { IfSome result ReplyHasText }
     ensures room { LeavesSweep core.new lane is_last.new result }
     // the next act is nearer to the end
-    ensures further { IfNone result (steps_left core.new.collector < steps_left core.old.collector) }
+    ensures further { IfNone result (IsNearer core.old.collector core.new.collector) }
     ensures remote { core.new.remote ≡ core.old.remote }
-    ensures entered { HasEntered D.Disk core.old core.new lane ((is_last.old ≡ false) × (is_last.new ≡ true)) }
+    ensures entered { HasEntered D.Disk core.old core.new lane (IsSet is_last.old is_last.new) }
 {
     let Answer {
         entry, reply, last, ..
