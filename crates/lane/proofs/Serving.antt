@@ -207,6 +207,9 @@ front_first n (inputs.next c left) = command_first c left
 front_first n (inputs.over_limit m) = tt
 front_first n inputs.no_command = tt
 
+not_open : (b : Bool) → None ≡ Some b → ⊥
+not_open b h = cc
+
 heard_short : (p : Position) (a : Answer) (r : Reply) → p.collecting ≡ None → p.job ≡ None → Goes (next_at p) → a.reply ≡ Some r → r ≡ Refused NoMemory → (a.entry).kind ≡ 2
     → IsHeardShort p (heard p a) r
 heard_short p a r shut off goes says want two =
@@ -223,10 +226,7 @@ heard_short p a r shut off goes says want two =
         subst (λ q. IsHeardShort p q r) (sym (heard_job p j left a r is says))
         (over_told p left (take j r) r ((a.entry).kind == 2) (a.last || p.is_spent) shut (ap (take j) want ∙ first ∙ ap over (sym want)) flag)
     by_next (broken refusal) is g first = told_short p (heard p a) [] r true true shut refl (heard_broken p refusal a r is says two)
-    by_next (collecting b) is g first = absurd (not_open (sym (open_is p ∙ shut) ∙ ap open_at is))
-      where
-        not_open : None ≡ Some b → ⊥
-        not_open h = cc
+    by_next (collecting b) is g first = absurd (not_open b (sym (open_is p ∙ shut) ∙ ap open_at is))
     by_next bye is g first = absurd g
     by_next end is g first = absurd g
 
