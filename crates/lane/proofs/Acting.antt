@@ -26,36 +26,42 @@ use Rattle.core_state.specs.Records.{FitsKind, AreKept}
 use Rattle.core_state.specs.Closing.{is_closing}
 use Rattle.core_state.specs.Reserved.{Keeps, KeepsReserve}
 use Rattle.lane.specs.declared.acts.Told.{Told}
-use Rattle.lane.specs.Acting.{IsNoEnd, IsWant, IsRefused, MayTell, LeavesReserve, short_ending}
+use Rattle.lane.specs.Acting.{HasReply, IsWant, IsRefused, MayTell, LeavesReserve, short_ending}
 
--- ---- acts other than a lane's end
+-- ---- acts that have a reply
 
-pub no_end : (c : Command) → IsNoEnd (act_of_command c)
-no_end (commands.Chunk digest blob) = tt
-no_end (commands.Blob file blob) = tt
-no_end (commands.Prune group keep dry) = tt
-no_end c = tt
+pub replied : (c : Command) → HasReply (act_of_command c)
+replied (commands.Chunk digest blob) = tt
+replied (commands.Blob file blob) = tt
+replied (commands.Prune group keep dry) = tt
+replied c = tt
 
-pub step_no_end : (s : Step) → IsNoEnd (act_of_step s)
-step_no_end (steps.Command c) = no_end c
+pub step_replied : (s : Step) → HasReply (act_of_step s)
+step_replied (steps.Command c) = replied c
+step_replied (steps.ReadFile name offset) = tt
+step_replied (steps.ReadChunk name entry) = tt
 
-pub is_told : (a : Act) (x : Answer) → IsNoEnd a → IsTold a x → IsSome x.reply
+pub is_told : (a : Act) (x : Answer) → HasReply a → IsTold a x → IsSome x.reply
 is_told (acts.Plain c) x h told = told
 is_told (acts.JobGroup c) x h told = told
 is_told (acts.Blob name checked) x h told = told
 is_told (acts.Chunk digest checked) x h told = told
+is_told acts.Start x h told = absurd h
+is_told acts.Step x h told = absurd h
 is_told acts.Short x h told = told
 is_told acts.End x h told = absurd h
 
-pub keeps : {D E C : Type 0} (a : Act) (old new : Core D E C) (k : ℕ) (x : Answer) → IsNoEnd a → Keeps a old new k x → KeepsReserve old new k (is_closing old k a) x
+pub keeps : {D E C : Type 0} (a : Act) (old new : Core D E C) (k : ℕ) (x : Answer) → HasReply a → Keeps a old new k x → KeepsReserve old new k (is_closing old k a) x
 keeps (acts.Plain c) old new k x h kept = kept
 keeps (acts.JobGroup c) old new k x h kept = kept
 keeps (acts.Blob name checked) old new k x h kept = kept
 keeps (acts.Chunk digest checked) old new k x h kept = kept
+keeps acts.Start old new k x h kept = absurd h
+keeps acts.Step old new k x h kept = absurd h
 keeps acts.Short old new k x h kept = kept
 keeps acts.End old new k x h kept = absurd h
 
-pub leaves : {D E C : Type 0} (a : Act) (old new : Core D E C) (k : ℕ) (x : Answer) → IsNoEnd a → Keeps a old new k x → LeavesReserve old new k x.last
+pub leaves : {D E C : Type 0} (a : Act) (old new : Core D E C) (k : ℕ) (x : Answer) → HasReply a → Keeps a old new k x → LeavesReserve old new k x.last
 leaves a old new k x h kept = let r = keeps a old new k x h kept in record { left = r.left; kept = r.kept }
 
 pub none_some : (o : Option Reply) → o ≡ None → IsSome o → ⊥
@@ -64,11 +70,13 @@ none_some (Some r) is some = cc
 
 -- ---- what is told
 
-caused : {D E C : Type 0} (d : Ghosts D) (a : Act) (old new : Core D E C) (x : Answer) → IsNoEnd a → IsCaused d old new a x → HasCause d old new a x
+caused : {D E C : Type 0} (d : Ghosts D) (a : Act) (old new : Core D E C) (x : Answer) → HasReply a → IsCaused d old new a x → HasCause d old new a x
 caused d (acts.Plain c) old new x h cause = cause
 caused d (acts.JobGroup c) old new x h cause = cause
 caused d (acts.Blob name checked) old new x h cause = cause
 caused d (acts.Chunk digest checked) old new x h cause = cause
+caused d acts.Start old new x h cause = absurd h
+caused d acts.Step old new x h cause = absurd h
 caused d acts.Short old new x h cause = short cause.0 cause.1
 caused d acts.End old new x h cause = absurd h
 
@@ -98,9 +106,9 @@ may_reply d old new a x r (short is told) tells = inr (as_refused r _ (same_repl
 may_reply d old new a x r (failed before is told first rose) tells = inr (as_refused r _ (same_reply x.reply r _ tells told))
 may_reply d old new a x r (halted place before is told) tells = inr (as_refused r _ (same_reply x.reply r _ tells told))
 
-pub may_tell : {D E C : Type 0} (d : Ghosts D) (old new : Core D E C) (a : Act) (x : Answer) (told : Told) → IsNoEnd a → IsCaused d old new a x
+pub may_tell : {D E C : Type 0} (d : Ghosts D) (old new : Core D E C) (a : Act) (x : Answer) (told : Told) → HasReply a → IsCaused d old new a x
     → x.reply ≡ Some told.reply → (IsWant a told → (x.entry).kind ≡ 2) → MayTell a told
-may_tell d old new a x told no_end cause tells two = let has = caused d a old new x no_end cause in record {
+may_tell d old new a x told replied cause tells two = let has = caused d a old new x replied cause in record {
   reply_is = may_reply d old new a x told.reply has tells;
   want = λ wants. want_reply d old new a x told.reply has tells (two wants);
 }

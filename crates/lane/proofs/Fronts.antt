@@ -1,5 +1,5 @@
 -- What stands at the front, by the frame there.
-use Rattle.std.proofs.Common.{◌≡◌, ◌≢◌, ℕ, ◌+◌, ◌<◌, ◌≤◌, ◌^◌, Bool, true, false, ◌&&◌, List, [], ◌∷◌, ◌++◌, length, take, drop, Option, Some, None, IsSome, refl, sym, ap, subst, ◌∙◌, arith, nat_le}
+use Rattle.std.proofs.Common.{◌≡◌, ◌≢◌, ℕ, ◌+◌, ◌<◌, ◌≤◌, ◌^◌, Bool, true, false, ◌&&◌, List, [], ◌∷◌, ◌++◌, length, take, drop, Some, None, refl, sym, ap, subst, ◌∙◌, arith, nat_le}
 use Rattle.std.specs.Int.{w32, from_le_bytes}
 use Rattle.std.proofs.lemmas.Bool.Decides.{nat_tests}
 use Rattle.std.proofs.lemmas.List.{length-take, length-append, length-drop, take-append-le}
@@ -15,11 +15,9 @@ use Rattle.wire_commands.specs.HasText.{ReplyHasText}
 use Rattle.wire_commands.specs.Inputs.{front, cut_front, body_front}
 use Rattle.wire_commands.specs.RefusalText.{refusal_text}
 use Rattle.wire_commands.specs.ReplyText.{reply_text}
-use Rattle.store_model.specs.Job.{Asking}
-use Rattle.store_model.specs.Jobs.{job_of}
 use Rattle.store_model.specs.Lanes.{bye, broken, front_next, command_next}
 use Rattle.store_history.specs.LaneRun.{may_want}
-use Rattle.lane.specs.Fronts.{next_in, IsCommandAhead, IsLastAhead, IsAhead, IsFrontSize, ahead_of}
+use Rattle.lane.specs.Fronts.{IsJobs, next_in, IsCommandAhead, IsLastAhead, IsAhead, IsFrontSize, ahead_of}
 
 -- ---- replies with a spelling
 
@@ -88,9 +86,14 @@ prune_two : (body group : List ℕ) (keep : Keep) (dry : Bool) → body ≡ comm
 unfolding command_text
 prune_two body group keep dry is = let size = ap length is in omega (arith, size)
 
-none_some : (o : Option Asking) → o ≡ None → IsSome o → ⊥
-none_some None is some = cc
-none_some (Some j) is some = cc
+-- so has a command of one text, behind its code
+verify_two : (body snapshot : List ℕ) → body ≡ command_text (commands.Verify snapshot) → 2 ≤ length body
+unfolding command_text
+verify_two body snapshot is = let size = ap length is in omega (arith, size)
+
+sync_two : (body group : List ℕ) → body ≡ command_text (commands.Sync group) → 2 ≤ length body
+unfolding command_text
+sync_two body group is = let size = ap length is in omega (arith, size)
 
 pub command_ahead : (t : Tail) (body rest : List ℕ) (c : Command) → cut t.bytes ≡ whole body rest → command_of body ≡ Some c → body ≡ command_text c → IsAhead t (ahead_of c)
 unfolding front_next
@@ -102,7 +105,7 @@ command_ahead t body rest c is some spelled = by_command c (next_is t (whole bod
     past : advanced t ≡ record { offset = t.offset + (4 + length body); bytes = rest }
     past = advanced_is t body rest is
 
-    other : (d : Command) → next_in t ≡ command_next d rest → d ≢ commands.Bye → (IsSome (job_of d) → 2 ≤ length body) → IsCommandAhead t d
+    other : (d : Command) → next_in t ≡ command_next d rest → d ≢ commands.Bye → (IsJobs d → 2 ≤ length body) → IsCommandAhead t d
     other d next ne two = record {
       next = next ∙ ap (λ (s : Tail). command_next d s.bytes) (sym past);
       other = ne;
@@ -112,31 +115,34 @@ command_ahead t body rest c is some spelled = by_command c (next_is t (whole bod
     }
 
     -- no job's
-    alone : (d : Command) → next_in t ≡ command_next d rest → d ≢ commands.Bye → job_of d ≡ None → IsCommandAhead t d
-    alone d next ne none = other d next ne (λ job. absurd (none_some (job_of d) none job))
+    alone : (d : Command) → next_in t ≡ command_next d rest → d ≢ commands.Bye → (IsJobs d → ⊥) → IsCommandAhead t d
+    alone d next ne none = other d next ne (λ job. absurd (none job))
 
     by_command : (d : Command) → next_in t ≡ command_next d rest → body ≡ command_text d → IsAhead t (ahead_of d)
     by_command commands.Bye next text = record { next = next ∙ next_bye rest; seen = seen }
     by_command (commands.Prune group keep dry) next text = other (commands.Prune group keep dry) next (λ h. cc) (λ job. prune_two body group keep dry text)
-    by_command (commands.OpenWriter snapshot) next text = alone (commands.OpenWriter snapshot) next (λ h. cc) refl
-    by_command (commands.Previous file offset) next text = alone (commands.Previous file offset) next (λ h. cc) refl
-    by_command (commands.NewFixed file size chunk_size) next text = alone (commands.NewFixed file size chunk_size) next (λ h. cc) refl
-    by_command (commands.NewDynamic file) next text = alone (commands.NewDynamic file) next (λ h. cc) refl
-    by_command (commands.Chunk digest blob) next text = alone (commands.Chunk digest blob) next (λ h. cc) refl
-    by_command (commands.Append number entries) next text = alone (commands.Append number entries) next (λ h. cc) refl
-    by_command (commands.CloseIndex number count size csum) next text = alone (commands.CloseIndex number count size csum) next (λ h. cc) refl
-    by_command (commands.Blob file blob) next text = alone (commands.Blob file blob) next (λ h. cc) refl
-    by_command commands.Finish next text = alone commands.Finish next (λ h. cc) refl
-    by_command commands.Abort next text = alone commands.Abort next (λ h. cc) refl
-    by_command (commands.OpenReader snapshot) next text = alone (commands.OpenReader snapshot) next (λ h. cc) refl
-    by_command (commands.Download file offset) next text = alone (commands.Download file offset) next (λ h. cc) refl
-    by_command (commands.GetChunk digest) next text = alone (commands.GetChunk digest) next (λ h. cc) refl
-    by_command (commands.Range file offset len) next text = alone (commands.Range file offset len) next (λ h. cc) refl
-    by_command commands.CloseReader next text = alone commands.CloseReader next (λ h. cc) refl
-    by_command (commands.List after) next text = alone (commands.List after) next (λ h. cc) refl
-    by_command (commands.Files snapshot) next text = alone (commands.Files snapshot) next (λ h. cc) refl
-    by_command (commands.Forget snapshot) next text = alone (commands.Forget snapshot) next (λ h. cc) refl
-    by_command (commands.Group group) next text = alone (commands.Group group) next (λ h. cc) refl
+    by_command (commands.Verify snapshot) next text = other (commands.Verify snapshot) next (λ h. cc) (λ job. verify_two body snapshot text)
+    by_command (commands.Sync group) next text = other (commands.Sync group) next (λ h. cc) (λ job. sync_two body group text)
+    by_command commands.Gc next text = alone commands.Gc next (λ h. cc) (λ job. job)
+    by_command (commands.OpenWriter snapshot) next text = alone (commands.OpenWriter snapshot) next (λ h. cc) (λ job. job)
+    by_command (commands.Previous file offset) next text = alone (commands.Previous file offset) next (λ h. cc) (λ job. job)
+    by_command (commands.NewFixed file size chunk_size) next text = alone (commands.NewFixed file size chunk_size) next (λ h. cc) (λ job. job)
+    by_command (commands.NewDynamic file) next text = alone (commands.NewDynamic file) next (λ h. cc) (λ job. job)
+    by_command (commands.Chunk digest blob) next text = alone (commands.Chunk digest blob) next (λ h. cc) (λ job. job)
+    by_command (commands.Append number entries) next text = alone (commands.Append number entries) next (λ h. cc) (λ job. job)
+    by_command (commands.CloseIndex number count size csum) next text = alone (commands.CloseIndex number count size csum) next (λ h. cc) (λ job. job)
+    by_command (commands.Blob file blob) next text = alone (commands.Blob file blob) next (λ h. cc) (λ job. job)
+    by_command commands.Finish next text = alone commands.Finish next (λ h. cc) (λ job. job)
+    by_command commands.Abort next text = alone commands.Abort next (λ h. cc) (λ job. job)
+    by_command (commands.OpenReader snapshot) next text = alone (commands.OpenReader snapshot) next (λ h. cc) (λ job. job)
+    by_command (commands.Download file offset) next text = alone (commands.Download file offset) next (λ h. cc) (λ job. job)
+    by_command (commands.GetChunk digest) next text = alone (commands.GetChunk digest) next (λ h. cc) (λ job. job)
+    by_command (commands.Range file offset len) next text = alone (commands.Range file offset len) next (λ h. cc) (λ job. job)
+    by_command commands.CloseReader next text = alone commands.CloseReader next (λ h. cc) (λ job. job)
+    by_command (commands.List after) next text = alone (commands.List after) next (λ h. cc) (λ job. job)
+    by_command (commands.Files snapshot) next text = alone (commands.Files snapshot) next (λ h. cc) (λ job. job)
+    by_command (commands.Forget snapshot) next text = alone (commands.Forget snapshot) next (λ h. cc) (λ job. job)
+    by_command (commands.Group group) next text = alone (commands.Group group) next (λ h. cc) (λ job. job)
 
 -- ---- past a frame
 

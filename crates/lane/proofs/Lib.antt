@@ -4,6 +4,8 @@ pub mod Acting
 pub mod Replies
 pub mod Doing
 pub mod Stepping
+pub mod Collecting
+pub mod Sweeping
 pub mod Caused
 pub mod Entries
 pub mod Turning

@@ -21,6 +21,8 @@ use Rattle.lane.specs.Stepping.{IsActOf}
 
 refused_replies : (s : Step) (r : Reply) → IsRefused r → IsReplyTo s r
 refused_replies (steps.Command c) (replies.Refused refusal) h = (tt, tt)
+refused_replies (steps.ReadFile name offset) (replies.Refused refusal) h = tt
+refused_replies (steps.ReadChunk name entry) (replies.Refused refusal) h = tt
 refused_replies s r h = absurd h
 
 within : (n : ℕ) → nat_le n group_limit ≡ true → n ≤ group_limit
@@ -41,6 +43,7 @@ step_replies : (j : Asking) (r : Reply) → IsBegun (asking j) → IsTrue (may_a
 step_replies (grouping (commands.Prune group keep dry) k d) r begun may = prune_replies group keep dry r may
 step_replies (grouping c keep dry) r begun may = absurd begun
 step_replies (forgetting before snapshot later) r begun may = forget_replies snapshot r may
+step_replies j r begun may = absurd begun
 
 short_no_answer : (r : Reply) → IsTrue (may_answer acts.Short r) → ⊥
 short_no_answer r may = cc

@@ -1,26 +1,31 @@
 -- What a lane did so far, after one command or job more, or want of memory.
-use Rattle.std.proofs.Common.{◌≡◌, ℕ, ◌+◌, Bool, true, false, ◌||◌, List, [], ◌∷◌, ◌++◌, length, Option, Some, None, inl, refl, sym, ap, subst, ◌∙◌, arith, ◌==◌, append-nil, append_assoc}
+use Rattle.std.proofs.Common.{◌≡◌, ℕ, ◌+◌, ◌-◌, Bool, true, false, ◌||◌, List, [], ◌∷◌, ◌++◌, length, Option, Some, None, inl, refl, sym, ap, subst, ◌∙◌, arith, ◌==◌, append-nil, append_assoc}
 use Rattle.std.proofs.lemmas.Bool.{eq-eqb}
 use Rattle.std.proofs.lemmas.List.{length-append}
 use Rattle.store_types.specs.declared.refusal.Refusal.TheVariants.{NoMemory}
 use Rattle.port_traits.specs.Bytes.{TakesFrom, WritesCounted}
 use Rattle.wire_frames.specs.Frames.{Tail, short, cut, advanced}
 use Rattle.wire_commands.specs.declared.command.Command.{Command}
+use Rattle.wire_commands.specs.declared.command.Command.TheVariants as commands
 use Rattle.wire_commands.specs.declared.reply.Reply.{Reply}
 use Rattle.wire_commands.specs.declared.reply.Reply.TheVariants.{Refused}
+use Rattle.wire_commands.specs.Inputs as inputs
+use Rattle.wire_commands.specs.Inputs.{InputFront, front}
 use Rattle.store_model.specs.declared.ending.Ending.{Ending}
 use Rattle.store_model.specs.declared.ending.Ending.TheVariants as endings
-use Rattle.store_model.specs.Job.{Job, over}
+use Rattle.store_model.specs.Job.{grouping, opening, Job, over}
 use Rattle.store_model.specs.Jobs.{take}
-use Rattle.store_model.specs.Lanes.{Next, job_step, plain, bye, broken, end, command_next}
+use Rattle.store_model.specs.Lanes.{Next, job_step, plain, sync, collect, collecting, bye, broken, end, front_next, command_next}
 use Rattle.store_history.specs.declared.act.Answer.{Answer}
 use Rattle.store_history.specs.declared.act.Event.{Event}
 use Rattle.store_history.specs.LaneRun.{Position, begin, text, next_at, heard, may_want, EndsSo, Runs}
 use Rattle.store_history.specs.SoFar.{Leads}
-use Rattle.store_history.proofs.Ending.{heard_plain, heard_broken, short_runs}
+use Rattle.store_history.proofs.Collecting.{heard_gc}
+use Rattle.store_history.proofs.Ending.{next_is, heard_plain, heard_broken, short_runs}
 use Rattle.store_history.proofs.Growing.{leads_runs}
 use Rattle.store_history.proofs.Jobs.{at_job, at_job_over, heard_job}
 use Rattle.store_history.proofs.Longer.{of_more}
+use Rattle.store_history.proofs.Placed.{open_at, open_is}
 use Rattle.store_history.proofs.Wanting.{Goes, want_goes, wants_frame}
 use Rattle.core_state.specs.History.{History}
 use Rattle.lane.specs.declared.acts.Told.{Told}
@@ -34,8 +39,9 @@ use Rattle.lane.specs.Ran.{with_events, Took, ReadsOut}
 use Rattle.lane.specs.Taking.{TakesInVain}
 use Rattle.lane.specs.Turns.{HasDone}
 use Rattle.lane.proofs.Doing.{of_both, leads_then, step_is_job}
+use Rattle.lane.proofs.Collecting.{heard_sync}
 use Rattle.lane.proofs.Fronts.{part_wants}
-use Rattle.lane.proofs.Stepping.{want_over}
+use Rattle.lane.proofs.Stepping.{EndsByWant, want_first}
 use Rattle.lane.proofs.Turning.{nothing_taken, at_next, gave_more, taken_on, leads_further, no_words}
 
 -- ---- a command, or a job
@@ -47,7 +53,7 @@ at_command : (stands : History → Type 0) (start : Start) (k : ℕ) (left taken
 at_command stands start k left taken tail size given c s ahead = let p = position s.input tail.bytes s.is_short s.told in record {
   on = refl;
   next = at_next stands start k left taken tail size given s ∙ ahead.next;
-  wants = λ step. wants_frame p (ahead.wants (step_is_job c (advanced tail).bytes step));
+  wants = λ step. wants_frame p refl (ahead.wants (step_is_job c (advanced tail).bytes step));
 }
 
 -- the position behind it
@@ -143,6 +149,7 @@ command_stops before after start k left taken taken' tail size size' given given
       runs = λ f vs more. leads_runs f (s.events ++ d.events) vs (begin s.input) p more refl (led_on before after start k left taken tail size given c told s ahead d);
       on = refl;
       off = refl;
+      shut = refl;
       size_is = s.size_is ∙ sym same;
       took = calm.took;
       gave = gave_more start.taken taken taken' given given' s.told told.reply (gave_all e) s.gave g.gave;
@@ -156,29 +163,72 @@ command_stops before after start k left taken taken' tail size size' given given
 record IsHeardShort (p q : Position) (r : Reply) : Type 0 where
   pub on : q.is_over ≡ p.is_over
   pub off : q.job ≡ None
+  pub shut : q.collecting ≡ None
   pub told : q.told ≡ p.told ++ r ∷ []
   pub is_short : q.is_short ≡ true
 
-over_told : (p : Position) (left : List ℕ) (job : Job) (r : Reply) (s b : Bool) → job ≡ over r → s ≡ true → IsHeardShort p (at_job p left job s b) r
-over_told p left job r s b is flag =
+over_told : (p : Position) (left : List ℕ) (job : Job) (r : Reply) (s b : Bool) → p.collecting ≡ None → job ≡ over r → s ≡ true → IsHeardShort p (at_job p left job s b) r
+over_told p left job r s b shut is flag =
     let h = ap (λ j. at_job p left j s b) is ∙ at_job_over p left r s b in
-    record { on = ap (λ (q : Position). q.is_over) h; off = ap (λ (q : Position). q.job) h; told = ap (λ (q : Position). q.told) h; is_short = ap (λ (q : Position). q.is_short) h ∙ flag }
+    record {
+      on = ap (λ (q : Position). q.is_over) h;
+      off = ap (λ (q : Position). q.job) h;
+      shut = ap (λ (q : Position). q.collecting) h ∙ shut;
+      told = ap (λ (q : Position). q.told) h;
+      is_short = ap (λ (q : Position). q.is_short) h ∙ flag;
+    }
 
-heard_short : (p : Position) (a : Answer) (r : Reply) → Goes (next_at p) → a.reply ≡ Some r → r ≡ Refused NoMemory → (a.entry).kind ≡ 2 → IsHeardShort p (heard p a) r
-heard_short p a r goes says want two = by_next (next_at p) refl goes
+-- it was heard as a reply with this left of the input
+told_short : (p q : Position) (left : List ℕ) (r : Reply) (s b : Bool) → p.collecting ≡ None → s ≡ true
+    → q ≡ record p { left = left; job = None; is_short = s; is_spent = b; told = p.told ++ r ∷ [] } → IsHeardShort p q r
+told_short p q left r s b shut flag h = record {
+  on = ap (λ (x : Position). x.is_over) h;
+  off = ap (λ (x : Position). x.job) h;
+  shut = ap (λ (x : Position). x.collecting) h ∙ shut;
+  told = ap (λ (x : Position). x.told) h;
+  is_short = ap (λ (x : Position). x.is_short) h ∙ flag;
+}
+
+-- the job that a command begins ends by want of memory
+abbrev FirstNext : Next → Type 0
+FirstNext (job_step j left) = EndsByWant j
+FirstNext n = Unit {0}
+
+command_first : (c : Command) (left : List ℕ) → FirstNext (command_next c left)
+unfolding command_next
+command_first (commands.Prune group keep dry) left = want_first (commands.Prune group keep dry) (grouping (commands.Prune group keep dry) keep dry) refl
+command_first (commands.Verify snapshot) left = want_first (commands.Verify snapshot) (opening snapshot) refl
+command_first c left = tt
+
+front_first : (n : ℕ) (f : InputFront) → FirstNext (front_next n f)
+unfolding front_next
+front_first n inputs.nothing = tt
+front_first n (inputs.next c left) = command_first c left
+front_first n (inputs.over_limit m) = tt
+front_first n inputs.no_command = tt
+
+not_open : (b : Bool) → None ≡ Some b → ⊥
+not_open b h = cc
+
+heard_short : (p : Position) (a : Answer) (r : Reply) → p.collecting ≡ None → p.job ≡ None → Goes (next_at p) → a.reply ≡ Some r → r ≡ Refused NoMemory → (a.entry).kind ≡ 2
+    → IsHeardShort p (heard p a) r
+heard_short p a r shut off goes says want two =
+    by_next (next_at p) refl goes (subst FirstNext (sym (next_is p (front p.left) shut off refl)) (front_first (p.size - length p.left) (front p.left)))
   where
-    by_next : (n : Next) → next_at p ≡ n → Goes n → IsHeardShort p (heard p a) r
-    by_next (plain c left) is g =
-        let h = heard_plain p c left a r is says in
-        record { on = ap (λ (q : Position). q.is_over) h; off = ap (λ (q : Position). q.job) h; told = ap (λ (q : Position). q.told) h; is_short = ap (λ (q : Position). q.is_short) h ∙ eq-eqb (a.entry).kind 2 two }
-    by_next (job_step j left) is g =
+    flag : ((a.entry).kind == 2) ≡ true
+    flag = eq-eqb (a.entry).kind 2 two
+
+    by_next : (n : Next) → next_at p ≡ n → Goes n → FirstNext n → IsHeardShort p (heard p a) r
+    by_next (plain c left) is g first = told_short p (heard p a) left r ((a.entry).kind == 2) (a.last || p.is_spent) shut flag (heard_plain p c left a r is says)
+    by_next (sync group left) is g first = told_short p (heard p a) left r ((a.entry).kind == 2) (a.last || p.is_spent) shut flag (heard_sync p group left a r is says)
+    by_next (collect left) is g first = told_short p (heard p a) left r ((a.entry).kind == 2) (a.last || p.is_spent) shut flag (heard_gc p left a r is says)
+    by_next (job_step j left) is g first =
         subst (λ q. IsHeardShort p q r) (sym (heard_job p j left a r is says))
-        (over_told p left (take j r) r ((a.entry).kind == 2) (a.last || p.is_spent) (ap (take j) want ∙ want_over j ∙ ap over (sym want)) (eq-eqb (a.entry).kind 2 two))
-    by_next (broken refusal) is g =
-        let h = heard_broken p refusal a r is says two in
-        record { on = ap (λ (q : Position). q.is_over) h; off = ap (λ (q : Position). q.job) h; told = ap (λ (q : Position). q.told) h; is_short = ap (λ (q : Position). q.is_short) h }
-    by_next bye is g = absurd g
-    by_next end is g = absurd g
+        (over_told p left (take j r) r ((a.entry).kind == 2) (a.last || p.is_spent) shut (ap (take j) want ∙ first ∙ ap over (sym want)) flag)
+    by_next (broken refusal) is g first = told_short p (heard p a) [] r true true shut refl (heard_broken p refusal a r is says two)
+    by_next (collecting b) is g first = absurd (not_open b (sym (open_is p ∙ shut) ∙ ap open_at is))
+    by_next bye is g first = absurd g
+    by_next end is g first = absurd g
 
 short_so : (e : Ending) (o : Option Ending) (q : Position) (is_last : Bool) → e ≡ short_ending o → IsEndedBy is_last o → q.is_short ≡ true → EndsSo e q (next_at q)
 short_so e None q is_last is by short_is = subst (λ x. EndsSo x q (next_at q)) (sym is) short_is
@@ -208,7 +258,7 @@ short_stops before after start k left left' taken taken' tail size size' given g
     let v = d.event in
     let q = heard p v.answer in
     let all = taken_on start.left left left' s.input piece s.took took in
-    let h = heard_short p v.answer r (want_goes p (wants_frame p wants)) d.tells ((answers.tells).want (inl refl)) (d.kind_is (inl refl)) in
+    let h = heard_short p v.answer r refl refl (want_goes p (wants_frame p refl wants)) d.tells ((answers.tells).want (inl refl)) (d.kind_is (inl refl)) in
     let one = short_one e answers.stop (answers.told).last answers.ending_is g.ended in
     let calm = quiet e q start.left left' input (s.events ++ v ∷ []) one.0 all in
     record {
@@ -219,9 +269,10 @@ short_stops before after start k left left' taken taken' tail size size' given g
       lanes = of_more k s.events v s.lanes d.lane_is;
       runs = λ f vs told runs. subst (λ es. Runs f (begin input) es told) (sym (append_assoc s.events (v ∷ []) vs))
           (leads_runs f s.events (v ∷ vs) (begin input) p told refl (leads_further s.input tail.bytes piece s.is_short s.told s.events s.leads)
-          (short_runs f p v vs told refl refl wants d.asks runs));
+          (short_runs f p v vs told refl refl refl wants d.asks runs));
       on = h.on;
       off = h.off;
+      shut = h.shut;
       size_is = omega (arith, length-append s.input piece, s.size_is, more);
       took = calm.took;
       gave = subst (λ ts. WritesCounted start.taken taken' 0 given' (text ts) (gave_all e)) (sym h.told)

@@ -13,7 +13,7 @@ use Rattle.wire_commands.specs.ReplyText.{reply_text}
 use Rattle.wire_commands.specs.Inputs.{front, cut_front}
 use Rattle.store_model.specs.declared.ending.Ending.{Ending}
 use Rattle.store_model.specs.declared.ending.Ending.TheVariants as endings
-use Rattle.store_model.specs.Lanes.{Next, job_step, plain, bye, broken, end, front_next}
+use Rattle.store_model.specs.Lanes.{Next, job_step, plain, sync, collect, collecting, bye, broken, end, front_next}
 use Rattle.store_model.specs.Weave.{is_replied}
 use Rattle.store_history.specs.declared.act.Event.{Event}
 use Rattle.store_history.specs.LaneRun.{Position, begin, text, next_at, last_words, EndsSo}
@@ -125,9 +125,9 @@ here : (stands : History → Type 0) (start : Start) (k : ℕ) (left taken : Opt
     → HasServed stands start k left taken tail size given → Position
 here stands start k left taken tail size given s = position s.input tail.bytes s.is_short s.told
 
-next_here : (tail : Tail) (p : Position) → p.job ≡ None → p.left ≡ tail.bytes → p.size ≡ tail.offset + length tail.bytes → next_at p ≡ next_in tail
-next_here tail p off left size =
-    next_is p (front p.left) off refl
+next_here : (tail : Tail) (p : Position) → p.collecting ≡ None → p.job ≡ None → p.left ≡ tail.bytes → p.size ≡ tail.offset + length tail.bytes → next_at p ≡ next_in tail
+next_here tail p shut off left size =
+    next_is p (front p.left) shut off refl
     ∙ ap (λ n. front_next n (front p.left)) (let e = ap length left in let at : p.size - length p.left ≡ tail.offset = omega arith in at)
     ∙ ap (λ xs. front_next tail.offset (front xs)) left
 
@@ -139,16 +139,25 @@ silent endings.NoMemory p bye h = refl
 silent endings.NoMemory p (broken r) h = refl
 silent endings.NoMemory p (plain c left) h = refl
 silent endings.NoMemory p (job_step j left) h = refl
+silent endings.NoMemory p (sync group left) h = refl
+silent endings.NoMemory p (collect left) h = refl
+silent endings.NoMemory p (collecting b) h = refl
 silent endings.NoMemory p end h = refl
 silent endings.SourceFault p bye h = refl
 silent endings.SourceFault p (broken r) h = refl
 silent endings.SourceFault p (plain c left) h = refl
 silent endings.SourceFault p (job_step j left) h = refl
+silent endings.SourceFault p (sync group left) h = refl
+silent endings.SourceFault p (collect left) h = refl
+silent endings.SourceFault p (collecting b) h = refl
 silent endings.SourceFault p end h = refl
 silent endings.SourceTooLong p bye h = refl
 silent endings.SourceTooLong p (broken r) h = refl
 silent endings.SourceTooLong p (plain c left) h = refl
 silent endings.SourceTooLong p (job_step j left) h = refl
+silent endings.SourceTooLong p (sync group left) h = refl
+silent endings.SourceTooLong p (collect left) h = refl
+silent endings.SourceTooLong p (collecting b) h = refl
 silent endings.SourceTooLong p end h = refl
 silent endings.Clean p n h = cc
 silent (endings.Broken place) p n h = cc
@@ -173,6 +182,7 @@ stopped stands start k left left' taken tail size given e words s all took so sa
   runs = λ f vs told. leads_runs f s.events vs (begin s.input) (position s.input tail.bytes s.is_short s.told) told refl s.leads;
   on = refl;
   off = refl;
+  shut = refl;
   size_is = s.size_is;
   took = took;
   gave = subst (λ b. WritesCounted start.taken taken 0 given (text s.told) b) (sym all) s.gave;
@@ -184,7 +194,7 @@ stopped stands start k left left' taken tail size given e words s all took so sa
 pub at_next : (stands : History → Type 0) (start : Start) (k : ℕ) (left taken : Option (List ℕ)) (tail : Tail) (size given : ℕ)
     → (s : HasServed stands start k left taken tail size given) → next_at (position s.input tail.bytes s.is_short s.told) ≡ next_in tail
 at_next stands start k left taken tail size given s =
-    next_here tail (position s.input tail.bytes s.is_short s.told) refl refl (s.size_is ∙ sym s.held)
+    next_here tail (position s.input tail.bytes s.is_short s.told) refl refl refl (s.size_is ∙ sym s.held)
 
 bye_words : (p : Position) (n : Next) → n ≡ bye → (last_words endings.Clean p n).told ≡ p.told ++ Done ∷ []
 unfolding last_words
@@ -240,7 +250,7 @@ pub end_stops : (stands : History → Type 0) (start : Start) (k : ℕ) (left le
     → HasStopped stands start k left' taken size given endings.Clean None
 end_stops stands start k left left' taken tail size given s all took none =
     let p = position s.input tail.bytes s.is_short s.told in
-    let next = next_end p refl all in
+    let next = next_end p refl refl all in
     stopped stands start k left left' taken tail size given endings.Clean None s refl
     (subst (λ xs. TakesFrom start.left left' xs) (append-nil s.input) (taken_on start.left left left' s.input [] s.took took))
     (subst (λ n. EndsSo endings.Clean p n) (sym next) refl)

@@ -22,9 +22,12 @@ use Rattle.core_state.specs.Records.{Reaches}
 use Rattle.core_state.specs.History.{History, then_event}
 use Rattle.lane.specs.declared.acts.Told.{Told}
 
-abbrev pub IsNoEnd : Act → Type 0
-IsNoEnd acts.End = ⊥
-IsNoEnd a = Unit {0}
+-- an act that has a reply, whatever comes: neither a collector's nor a lane's end
+abbrev pub HasReply : Act → Type 0
+HasReply acts.Start = ⊥
+HasReply acts.Step = ⊥
+HasReply acts.End = ⊥
+HasReply a = Unit {0}
 
 -- ---- an act
 

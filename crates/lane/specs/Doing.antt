@@ -4,7 +4,7 @@ use Rattle.disk_trait.specs.declared.disk.Disk.{Ghosts}
 use Rattle.port_traits.specs.declared.clock.Clock as clocks
 use Rattle.wire_commands.specs.declared.command.Command.{Command}
 use Rattle.wire_commands.specs.declared.reply.Reply.{Reply}
-use Rattle.store_model.specs.Lanes.{Next, command_next, job_step}
+use Rattle.store_model.specs.Lanes.{Next, command_next, job_step, sync}
 use Rattle.store_history.specs.declared.act.Event.{Event}
 use Rattle.store_history.specs.LaneRun.{Position, next_at, may_want_at}
 use Rattle.store_history.specs.Seats.{AreOf}
@@ -15,11 +15,13 @@ use Rattle.core_state.specs.declared.state.Core.{Core}
 use Rattle.lane.specs.declared.acts.Told.{Told}
 use Rattle.lane.specs.Ran.{with_events}
 
+-- a step of a job, or a SYNC that has not begun
 abbrev pub IsStep : Next → Type 0
 IsStep (job_step j left) = Unit {0}
+IsStep (sync group left) = Unit {0}
 IsStep n = ⊥
 
--- This is next on a lane whose answers so far weren't the last. Where it is a job's step, memory may be wanting.
+-- This is next on a lane whose answers so far weren't the last. Where it is such a step, memory may be wanting.
 pub record IsNext (n : Next) (p : Position) : Type 0 where
   pub on : p.is_spent ≡ false
   pub next : next_at p ≡ n

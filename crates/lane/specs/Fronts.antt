@@ -1,5 +1,5 @@
 -- What stands at the front of what a lane took of its input.
-use Rattle.std.specs.Prelude.{ℕ, ◌≡◌, ◌≢◌, ◌+◌, ◌<◌, true, List, length, Result, Err, IsOk, IsSome, MatchResult}
+use Rattle.std.specs.Prelude.{ℕ, ◌≡◌, ◌≢◌, ◌+◌, ◌<◌, Bool, true, false, List, length, Result, Err, IsOk, MatchResult}
 use Rattle.wire_frames.specs.Frames.{Tail, short, cut, advanced, whole}
 use Rattle.store_types.specs.declared.names.Digest32.{Digest32}
 use Rattle.store_types.specs.declared.refusal.Refusal.{Refusal}
@@ -9,11 +9,37 @@ use Rattle.wire_commands.specs.declared.command.Command.{Command}
 use Rattle.wire_commands.specs.declared.command.Command.TheVariants as commands
 use Rattle.wire_commands.specs.declared.reply.Reply.TheVariants.{Refused}
 use Rattle.store_model.specs.ArchiveSteps.{check_chunk}
-use Rattle.store_model.specs.Jobs.{job_of}
 use Rattle.store_model.specs.Lanes.{Next, bye, broken, front_next, command_next}
 use Rattle.store_history.specs.LaneRun.{may_want}
 use Rattle.lane.specs.declared.commands.Ahead.{Ahead}
 use Rattle.lane.specs.declared.commands.Ahead.TheVariants as aheads
+
+-- ---- which commands a lane serves by more than one act
+
+-- a PRUNE
+abbrev pub is_prune : Command → Bool
+is_prune (commands.Prune group keep dry) = true
+is_prune c = false
+
+-- a GC
+abbrev pub is_gc : Command → Bool
+is_gc commands.Gc = true
+is_gc c = false
+
+-- a VERIFY or a SYNC: memory is wanting for it
+abbrev pub is_unserved : Command → Bool
+is_unserved (commands.Verify snapshot) = true
+is_unserved (commands.Sync group) = true
+is_unserved c = false
+
+-- a job's command
+abbrev pub IsJobs : Command → Type 0
+IsJobs (commands.Prune group keep dry) = Unit {0}
+IsJobs (commands.Verify snapshot) = Unit {0}
+IsJobs (commands.Sync group) = Unit {0}
+IsJobs c = ⊥
+
+-- ---- the front
 
 -- what is next, by the bytes that aren't answered yet
 abbrev pub next_in : Tail → Next
@@ -23,7 +49,7 @@ next_in t = front_next t.offset (front t.bytes)
 pub record IsCommandAhead (t : Tail) (c : Command) : Type 0 where
   pub next : next_in t ≡ command_next c (advanced t).bytes
   pub other : c ≢ commands.Bye
-  pub wants : IsSome (job_of c) → may_want t.bytes ≡ true
+  pub wants : IsJobs c → may_want t.bytes ≡ true
   pub behind : t.offset < (advanced t).offset
   pub rest : (advanced t).offset + length (advanced t).bytes ≡ t.offset + length t.bytes
 

@@ -6,6 +6,7 @@ pub mod Acting
 pub mod Ran
 pub mod Doing
 pub mod Stepping
+pub mod Collecting
 pub mod Progress
 pub mod Closing
 pub mod Turns

@@ -31,6 +31,7 @@ IsNextAct job (Some act) = IsActOf job act
 -- nothing was told between these positions of a lane
 pub record TellsNothing (p q : Position) : Type 0 where
   pub size : q.size ≡ p.size
+  pub collecting : q.collecting ≡ p.collecting
   pub told : q.told ≡ p.told
   pub is_over : q.is_over ≡ p.is_over
 
@@ -54,8 +55,9 @@ pub record KeepsGoing {D E C : Type 0} (old new : Core D E C) (k : ℕ) (job : J
   pub over : is_last ≡ true → IsNone (next job)
   pub same : new.remote ≡ old.remote
 
--- a job ends: each step leaves it with less than this
+-- a PRUNE ends: each step leaves it with less than this
 abbrev pub rank : Job → ℕ
 rank (over report) = 0
 rank (asking (grouping c keep dry)) = 2 ^ 16 + 1
 rank (asking (forgetting before snapshot later)) = 1 + length later
+rank (asking j) = 0

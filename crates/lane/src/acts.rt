@@ -4,7 +4,7 @@ ghost use Rattle.std.specs.Prelude.{◌≡◌, ◌<◌};
 ghost use Rattle.wire_commands.specs.HasText.{ReplyHasText};
 ghost use Rattle.store_history.specs.Acts.{IsWellFormed};
 ghost use Rattle.core_state.specs.Reserved.{Reserved};
-ghost use Rattle.lane.specs.Acting.{IsNoEnd, IsWant, CoreDid, GivesTo, LeavesReserve, MayTell};
+ghost use Rattle.lane.specs.Acting.{HasReply, IsWant, CoreDid, GivesTo, LeavesReserve, MayTell};
 ghost use Rattle.lane.specs.Causes.{SinkHasCauses};
 ghost use Rattle.lane.specs.Entries.{HasEntered};
 
@@ -24,7 +24,7 @@ pub struct Told {
     pub last: bool,
 }
 
-/// Does an act that is no lane's end.
+/// Does an act that has a reply in any case: neither a collector's nor a lane's end.
 pub fn ask<D: Disk, E, C: Clock>(
     core: &mut Core<D, E, C>,
     alloc: Global,
@@ -34,7 +34,7 @@ pub fn ask<D: Disk, E, C: Clock>(
     requires lane { lane < 64 }
     requires room { Reserved core.old lane }
     requires formed { IsWellFormed act }
-    requires no_end { IsNoEnd act }
+    requires replied { HasReply act }
     ensures did { CoreDid D.Disk C.Clock core.old core.new lane act result }
     ensures tells { MayTell act result }
     ensures text { ReplyHasText result.reply }

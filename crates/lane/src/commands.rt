@@ -1,11 +1,10 @@
 //! What stands next in a lane's input, and the act that it asks for.
 
-ghost use Rattle.std.specs.Prelude.{◌≡◌, Err, is_some};
+ghost use Rattle.std.specs.Prelude.{◌≡◌, Err};
 ghost use Rattle.wire_frames.specs.Frames.{Tail, cut, too_long};
 ghost use Rattle.store_model.specs.ArchiveSteps.{check_chunk as piece_of};
-ghost use Rattle.store_model.specs.Jobs.{job_of};
 ghost use Rattle.store_history.specs.Acts.{check_blob, checked_by, act_of_command};
-ghost use Rattle.lane.specs.Fronts.{IsAhead, IsAheadAs, TestsChunk, ahead_of};
+ghost use Rattle.lane.specs.Fronts.{IsAhead, IsAheadAs, TestsChunk, ahead_of, is_gc, is_prune, is_unserved};
 
 use blob_codec::decode;
 use core_state::Act;
@@ -106,11 +105,25 @@ fn check_chunk(digest: Digest32, blob: Bytes) -> Result<Bytes, Refusal>
     }
 }
 
-/// The command is a job's.
-pub fn is_job(command: &Command) -> bool
-    ensures { result ≡ is_some (job_of command.now) }
+/// The command is a PRUNE, whose job has steps.
+pub fn is_prune(command: &Command) -> bool
+    ensures { result ≡ is_prune command.now }
 {
     matches!(command, Command::Prune { .. })
+}
+
+/// The command is a GC.
+pub fn is_gc(command: &Command) -> bool
+    ensures { result ≡ is_gc command.now }
+{
+    matches!(command, Command::Gc)
+}
+
+/// The command is one of those that no lane serves: memory is wanting for it.
+pub fn is_unserved(command: &Command) -> bool
+    ensures { result ≡ is_unserved command.now }
+{
+    matches!(command, Command::Verify { .. } | Command::Sync { .. })
 }
 
 /// The act for a command, or for the first step of a job's. An upload is checked here, and not in the act. Its bytes are

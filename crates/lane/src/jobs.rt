@@ -1,8 +1,8 @@
 //! The jobs of a lane: all steps of one, from its command to its report.
 
-ghost use Rattle.std.specs.Prelude.{◌≡◌, ◌<◌, IsSome, true};
+ghost use Rattle.std.specs.Prelude.{◌≡◌, ◌<◌, true};
 ghost use Rattle.wire_commands.specs.HasText.{ReplyHasText};
-ghost use Rattle.store_model.specs.Jobs.{job_of};
+ghost use Rattle.store_history.specs.Acts.{IsPrune};
 ghost use Rattle.core_state.specs.Reserved.{Reserved};
 ghost use Rattle.lane.specs.Acting.{LeavesReserve};
 ghost use Rattle.lane.specs.Doing.{CoreDoes};
@@ -19,18 +19,20 @@ use std::alloc::Global;
 use store_model::Step;
 use wire_commands::Command;
 
-/// The act for what a job asks next, or want of memory for it. None is where the job is over.
+/// The act for what a job asks next, or want of memory for it. A read that is no command is no act: memory is wanting for it.
+/// None is where the job is over.
 fn next_act(alloc: Global, job: &Job) -> Option<Act>
     ensures { IsNextAct job.now result }
 {
     match job.next(alloc) {
         Ok(Some(Step::Command(command))) => Some(act_of(command)),
+        Ok(Some(_)) => Some(Act::Short),
         Ok(None) => None,
         Err(_) => Some(Act::Short),
     }
 }
 
-/// Does a job, from its command to its report. Its steps are not told. Want of memory for one of them is entered, and the
+/// Does the job of a PRUNE, from its command to its report. Its steps are not told. Want of memory for one of them is entered, and the
 /// job takes it for that step's reply.
 pub fn do_job<D: Disk, E, C: Clock>(
     core: &mut Core<D, E, C>,
@@ -40,7 +42,7 @@ pub fn do_job<D: Disk, E, C: Clock>(
 ) -> Told
     requires lane { lane < 64 }
     requires room { Reserved core.old lane }
-    requires job { IsSome (job_of command.now) }
+    requires job { IsPrune command.now }
     ensures does { CoreDoes D.Disk C.Clock core.old core.new lane command.now result }
     ensures text { ReplyHasText result.reply }
     ensures room { LeavesReserve core.old core.new lane result.last }

@@ -2,6 +2,7 @@
 #![tactic(auto)]
 
 mod acts;
+mod collecting;
 mod commands;
 mod ending;
 mod input;

@@ -14,7 +14,8 @@ ghost use Rattle.lane.specs.Turns.{CoreGoesOn, HasEnded, IsEndedByMemory, IsFurt
 ghost use Rattle.wire_frames.specs.Frames.{short, cut};
 
 use crate::acts::{Told, ask};
-use crate::commands::{Ahead, act_of, is_job, read_front};
+use crate::collecting::collect;
+use crate::commands::{Ahead, act_of, is_gc, is_prune, is_unserved, read_front};
 use crate::ending::{Last, close};
 use crate::input::{Input, Taken};
 use crate::jobs::do_job;
@@ -200,7 +201,7 @@ fn serve<D: Disk, E, C: Clock, S: Source, K: Sink, G: Gate>(
     Some(untold(ending?))
 }
 
-/// Does a command, or the whole job of one.
+/// Does a command, or the whole job or collection of one.
 fn do_command<D: Disk, E, C: Clock>(
     core: &mut Core<D, E, C>,
     alloc: Global,
@@ -216,8 +217,14 @@ fn do_command<D: Disk, E, C: Clock>(
     ensures remote { core.new.remote ≡ core.old.remote }
     ensures entered { HasEntered D.Disk core.old core.new lane (result.last ≡ true) }
 {
-    if is_job(&command) {
+    if is_prune(&command) {
         return do_job(core, alloc, lane, &command);
+    }
+    if is_gc(&command) {
+        return collect(core, alloc, lane);
+    }
+    if is_unserved(&command) {
+        return ask(core, alloc, lane, Act::Short);
     }
     ask(core, alloc, lane, act_of(command))
 }

@@ -7,7 +7,7 @@ use Rattle.store_types.specs.Chain.Refusing.{◌>>=◌, if_none}
 use Rattle.store_model.specs.Store.{session, want_idle}
 use Rattle.store_model.specs.Lanes.{Collecting, collects}
 use Rattle.store_model.specs.Weave.{want_collector}
-use Rattle.store_history.specs.Acts.{Class, stepping, starting, sweeping, wanting, ending}
+use Rattle.store_history.specs.Acts.{Class, sweeping}
 use Rattle.store_history.specs.History.{World, open_on, new_collecting, cut_on, closed_on, halted_on}
 use Rattle.store_history.specs.Legal.{may_open}
 

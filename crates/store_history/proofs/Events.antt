@@ -20,7 +20,7 @@ use Rattle.store_model.specs.declared.step.Step.TheVariants as steps
 use Rattle.store_model.specs.Job.{Asking, step_of, Job}
 use Rattle.store_model.specs.Jobs.{job_of, take as job_take}
 use Rattle.store_model.specs.JobSteps.{step_outcome}
-use Rattle.store_model.specs.Lanes.{Collecting, Lane, Run, Next, job_step, plain, sync, collect, collecting, bye, broken, end, lane_at, with_lane, lane_next, front_next, command_next, next_of}
+use Rattle.store_model.specs.Lanes.{Collecting, Lane, Run, Next, job_step, plain, sync, collect, collecting, bye, broken, end, with_lane, lane_next, front_next, command_next, next_of}
 use Rattle.store_model.specs.Weave.{with_store, tell, go_on, answer_job, answer, want_collector, open_collector, close_collector, collected, stepped, passed, short, opens, closes, told_fault, fault_refusal, first_fault, faulted, is_cut_off, ends, ended_with, end_session, unread, is_replied, may_leave_unread, entered, known}
 use Rattle.store_history.specs.declared.act.Act.{Act}
 use Rattle.store_history.specs.declared.act.Act.TheVariants as acts
@@ -29,7 +29,7 @@ use Rattle.store_history.specs.declared.act.Event.{Event}
 use Rattle.blob_codec.specs.Blob.{data_of}
 use Rattle.store_types.specs.declared.refusal.Refusal.TheVariants.{BadBlob}
 use Rattle.store_history.specs.Acts.{act_of_command, act_of_step, check_blob, Class, stepping, starting, sweeping, wanting, ending, class_of}
-use Rattle.store_history.specs.History.{World, open_on, new_collecting, cut_on, closed_on, halted_on, data_in, act_outcome, moved, EntryKind, kind_of, step_kind, pass_kind, short_kind, start_kind, close_kind, fault_kind, end_kind, remote_kind, no_kind, lane, moment, kind, reply}
+use Rattle.store_history.specs.History.{World, open_on, new_collecting, cut_on, halted_on, data_in, act_outcome, moved, EntryKind, kind_of, step_kind, pass_kind, short_kind, start_kind, close_kind, fault_kind, end_kind, remote_kind, no_kind, lane, moment, kind, reply}
 use Rattle.store_history.specs.Legal.{Right, Says, Refuses, Reports, may_open, collecting_on}
 use Rattle.store_history.specs.LaneRun.{blank, Position, lane_of, next_at, tells, goes_on, used_up, heard_at, heard, heard_as, last_words, end_faulted, end_heard, position_after, Asks, may_want_at, EndsSo, Does}
 use Rattle.store_history.proofs.Checking.{chunk_checked}

@@ -19,7 +19,7 @@ use Rattle.store_history.specs.declared.act.Answer.{Answer}
 use Rattle.store_history.specs.declared.act.Event.{Event}
 use Rattle.store_history.specs.Acts.{Class, stepping, starting, sweeping, wanting, ending, class_of}
 use Rattle.store_history.specs.History.{World, open_on, act_outcome, moved, EntryKind, kind_of, step_kind, pass_kind, short_kind, start_kind, close_kind, fault_kind, end_kind, remote_kind, no_kind}
-use Rattle.store_history.specs.Legal.{Right, Reports, may_open, collecting_on}
+use Rattle.store_history.specs.Legal.{Right, Reports, collecting_on}
 use Rattle.store_history.specs.LaneRun.{Position, next_at, tells, goes_on, used_up, heard_at, heard, heard_as, last_words, end_faulted, end_heard, Asks, Does}
 use Rattle.store_history.proofs.Collectors.{some_none, open_new, cut_none, cut_some, closed_none, closed_some, halted_none, other_none, new_other, cut_other, closed_other, halted_other, may_open_none}
 use Rattle.store_history.proofs.Events.{IsStepping, FitsNext, asks_class, IsPlainNext, next_plain, right_start, right_close, report_is}

@@ -138,23 +138,40 @@ front_goes m (b ∷ bytes) h =
 
 pub want_goes : (p : Position) → may_want_at p ≡ true → Goes (next_at p)
 unfolding next_at lane_next may_want_at
-want_goes p h = by_job p.job h
+want_goes p h = by_collecting p.collecting h
   where
     by_job : (o : Option Asking) → (is_some o || may_want p.left) ≡ true
         → Goes (elim o [ None ↦ front_next (p.size - length p.left) (front p.left) | Some j ↦ job_step j p.left ])
     by_job None h = front_goes (p.size - length p.left) p.left h
     by_job (Some j) h = tt
 
--- where it may be wanting for a frame
-pub wants_frame : (p : Position) → may_want p.left ≡ true → may_want_at p ≡ true
+    by_collecting : (c : Option Bool) → (is_none c && (is_some p.job || may_want p.left)) ≡ true
+        → Goes (elim c [
+          | None ↦ elim p.job [ None ↦ front_next (p.size - length p.left) (front p.left) | Some j ↦ job_step j p.left ]
+          | Some is_short ↦ collecting is_short
+        ])
+    by_collecting None h = by_job p.job h
+    by_collecting (Some is_short) h = tt
+
+-- and the lane's collector is not open
+pub want_shut : (p : Position) → may_want_at p ≡ true → p.collecting ≡ None
 unfolding may_want_at
-wants_frame p h = by_job p.job
+want_shut p h = by_collecting p.collecting h
+  where
+    by_collecting : (c : Option Bool) → (is_none c && (is_some p.job || may_want p.left)) ≡ true → c ≡ None
+    by_collecting None h = refl
+    by_collecting (Some is_short) h = cc
+
+-- where it may be wanting for a frame
+pub wants_frame : (p : Position) → p.collecting ≡ None → may_want p.left ≡ true → may_want_at p ≡ true
+unfolding may_want_at
+wants_frame p shut h = ap (λ c. is_none c && (is_some p.job || may_want p.left)) shut ∙ by_job p.job
   where
     by_job : (o : Option Asking) → (is_some o || may_want p.left) ≡ true
     by_job None = h
     by_job (Some j) = refl
 
 -- and where a job is open
-pub wants_open : (p : Position) (j : Asking) → p.job ≡ Some j → may_want_at p ≡ true
+pub wants_open : (p : Position) (j : Asking) → p.collecting ≡ None → p.job ≡ Some j → may_want_at p ≡ true
 unfolding may_want_at
-wants_open p j is = ap (λ o. is_some o || may_want p.left) is
+wants_open p j shut is = ap (λ c. is_none c && (is_some p.job || may_want p.left)) shut ∙ ap (λ o. is_some o || may_want p.left) is

@@ -21,11 +21,11 @@ returns-clause-did g c = λ first began. record {
 }
 
 pub returns-clause-tells : goal.returns-clause-tells
-returns-clause-tells g c = may_tell g.D.Disk c.args.core.now c.apply-reply.new.core c.args.act c.apply-reply.result (record { reply = c.in-Some.reply; last = (c.apply-reply.result).last }) c.requires.no_end (c.apply-reply.ensures.applies).cause c.in-Some.is
+returns-clause-tells g c = may_tell g.D.Disk c.args.core.now c.apply-reply.new.core c.args.act c.apply-reply.result (record { reply = c.in-Some.reply; last = (c.apply-reply.result).last }) c.requires.replied (c.apply-reply.ensures.applies).cause c.in-Some.is
     (want_kind c.args.act c.apply-reply.result (record { reply = c.in-Some.reply; last = (c.apply-reply.result).last }) c.apply-reply.ensures.short ((c.apply-reply.ensures.applies).answers).last refl)
 
 pub returns-clause-room : goal.returns-clause-room
-returns-clause-room g c = leaves c.args.act c.args.core.now _ c.args.lane c.apply-reply.result c.requires.no_end (c.apply-reply.ensures.keeps).reserve
+returns-clause-room g c = leaves c.args.act c.args.core.now _ c.args.lane c.apply-reply.result c.requires.replied (c.apply-reply.ensures.keeps).reserve
 
 pub returns-clause-entered : goal.returns-clause-entered
 returns-clause-entered g c = one_entered g.D.Disk _ _ c.args.lane c.apply-reply.result _ (c.apply-reply.ensures.applies).answers

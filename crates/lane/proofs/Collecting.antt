@@ -1,0 +1,234 @@
+-- GC on a lane: its collector's acts, and where they lead. And commands that no lane serves.
+use Rattle.std.proofs.Common.{◌≡◌, ◌≤◌, ◌<◌, ◌+◌, ◌⊎◌, inl, inr, ℕ, Bool, true, false, ◌||◌, ◌==◌, List, [], ◌∷◌, ◌++◌, Option, Some, None, IsSome, if◌then◌else◌, refl, sym, ap, subst, ◌∙◌, arith, append-nil, append_assoc}
+use Rattle.std.proofs.lemmas.Bool.{eq-eqb, eqb-true}
+use Rattle.store_types.specs.declared.refusal.Refusal.TheVariants.{NoMemory}
+use Rattle.wire_commands.specs.declared.command.Command.{Command}
+use Rattle.wire_commands.specs.declared.command.Command.TheVariants as commands
+use Rattle.wire_commands.specs.declared.reply.Reply.{Reply}
+use Rattle.wire_commands.specs.declared.reply.Reply.TheVariants.{Refused}
+use Rattle.store_model.specs.Lanes.{sync, collect, collecting, command_next}
+use Rattle.store_history.specs.declared.act.Act.TheVariants as acts
+use Rattle.store_history.specs.declared.act.Answer.{Answer}
+use Rattle.store_history.specs.declared.act.Event.{Event}
+use Rattle.store_history.specs.Acts.{class_of}
+use Rattle.store_history.specs.History.{kind, lane, reply}
+use Rattle.store_history.specs.LaneRun.{Position, next_at, tells, wants, heard_at, heard, may_want_at}
+use Rattle.store_history.specs.Seats.{AreOf}
+use Rattle.store_history.specs.SoFar.{goes_further, Follows, Leads}
+use Rattle.store_history.proofs.Collecting.{follows_step, leads_start, leads_gc, leads_close}
+use Rattle.store_history.proofs.Ending.{next_shut, next_collecting}
+use Rattle.store_history.proofs.Growing.{leads_more}
+use Rattle.store_history.proofs.Longer.{of_more}
+use Rattle.core_state.specs.Answers.{IsToldBut}
+use Rattle.core_state.specs.History.{History, then_event}
+use Rattle.lane.specs.declared.acts.Told.{Told}
+use Rattle.lane.specs.Acting.{Did, MayTell}
+use Rattle.lane.specs.Collecting.{TellsEnd, HasPassed, sweeping_at, HasSwept, Sweeps}
+use Rattle.lane.specs.Doing.{IsNext, answered, Does}
+use Rattle.lane.specs.Fronts.{is_unserved}
+use Rattle.lane.specs.Ran.{with_events}
+use Rattle.lane.proofs.Doing.{leads_then, of_both}
+use Rattle.lane.proofs.Stepping.{job_short}
+
+abbrev flag : Answer → Option Bool → ℕ → Position → Position
+flag a o n q = record q { is_short = wants n o; is_spent = a.last || q.is_spent }
+
+-- ---- a SYNC for which memory was wanting
+
+pub heard_sync : (p : Position) (group left : List ℕ) (a : Answer) (r : Reply) → next_at p ≡ sync group left → a.reply ≡ Some r
+    → heard p a ≡ record p { left = left; job = None; is_short = (a.entry).kind == 2; is_spent = a.last || p.is_spent; told = p.told ++ r ∷ [] }
+unfolding heard heard_at
+heard_sync p group left a r is says =
+    ap (λ x. flag a p.collecting (a.entry).kind (heard_at p (a.entry).kind a.reply x)) is
+    ∙ ap (λ (x : Option Reply). flag a p.collecting (a.entry).kind (heard_at p (a.entry).kind x (sync group left))) says
+    ∙ ap (λ (o : Option Bool). flag a o (a.entry).kind (heard_at p (a.entry).kind (Some r) (sync group left))) (next_shut p (sync group left) is refl)
+
+follows_sync : (p : Position) (group left : List ℕ) (v : Event) → p.is_spent ≡ false → next_at p ≡ sync group left → may_want_at p ≡ true → v.act ≡ acts.Short → Follows (class_of v.act) p v
+follows_sync p group left v on is may asks = subst (λ c. Follows c p v) (sym (ap class_of asks)) (on, may, ap goes_further is)
+
+or_false : (p : Position) (b : Bool) → p.is_spent ≡ false → (b || p.is_spent) ≡ b
+or_false p b is = ap (λ x. b || x) is ∙ last b
+  where
+    last : (b : Bool) → (b || false) ≡ b
+    last true = refl
+    last false = refl
+
+does_sync : (before after : History → Type 0) (k : ℕ) (group : List ℕ) (told : Told) → Did before after k acts.Short told → Does before after k (command_next (commands.Sync group)) told
+unfolding command_next
+does_sync before after k group told d = let v = d.event in record {
+  events = v ∷ [];
+  is_short = kind v == 2;
+  history = d.history;
+  lanes = (d.lane_is, tt);
+  leads = λ p left is.
+      subst (λ b. Leads p (v ∷ []) (answered p left told.reply (kind v == 2) b)) (or_false p (v.answer).last is.on ∙ d.last)
+      (subst (λ x. Leads p (v ∷ []) x) (heard_sync p group left v.answer told.reply is.next d.tells)
+      (leads_more [] p p v refl (follows_sync p group left v is.on is.next (is.wants tt) d.asks)));
+  short = λ last. eq-eqb (kind v) 2 (d.kind_is (inr last));
+}
+
+-- a command that no lane serves is told want of memory
+pub does_unserved : (before after : History → Type 0) (k : ℕ) (c : Command) (told : Told) → is_unserved c ≡ true → Did before after k acts.Short told → MayTell acts.Short told
+    → Does before after k (command_next c) told
+unfolding command_next
+does_unserved before after k (commands.Verify snapshot) told is d tells = job_short before after k (commands.Verify snapshot) told refl d tells
+does_unserved before after k (commands.Sync group) told is d tells = does_sync before after k group told d
+does_unserved before after k c told is d tells = cc
+
+-- ---- what an answer leaves of an open collector
+
+-- one without a reply
+heard_pass : (p : Position) (b : Bool) (a : Answer) → p.collecting ≡ Some b → a.reply ≡ None
+    → heard p a ≡ record p { is_short = wants (a.entry).kind (Some b); is_spent = a.last || p.is_spent }
+unfolding heard heard_at
+heard_pass p b a on none =
+    ap (λ x. flag a p.collecting (a.entry).kind (heard_at p (a.entry).kind a.reply x)) (next_collecting p b on)
+    ∙ ap (λ (x : Option Reply). flag a p.collecting (a.entry).kind (heard_at p (a.entry).kind x (collecting b))) none
+    ∙ ap (λ (o : Option Bool). flag a o (a.entry).kind p) on
+
+-- want of memory
+heard_want : (p : Position) (b : Bool) (a : Answer) (r : Reply) → p.collecting ≡ Some b → a.reply ≡ Some r → (a.entry).kind ≡ 2
+    → heard p a ≡ record p { collecting = Some true; is_short = wants 2 (Some b); is_spent = a.last || p.is_spent }
+unfolding heard heard_at
+heard_want p b a r on says two =
+    ap (λ x. flag a p.collecting (a.entry).kind (heard_at p (a.entry).kind a.reply x)) (next_collecting p b on)
+    ∙ ap (λ (x : Option Reply). flag a p.collecting (a.entry).kind (heard_at p (a.entry).kind x (collecting b))) says
+    ∙ ap (λ (o : Option Bool). flag a o (a.entry).kind (heard_at p (a.entry).kind (Some r) (collecting b))) on
+    ∙ ap (λ n. flag a (Some b) n (heard_at p n (Some r) (collecting b))) two
+
+-- ---- its acts so far
+
+false_true : false ≡ true → ⊥
+false_true e = cc
+
+pub swept_none : (before : History → Type 0) (k : ℕ) → HasSwept before before k false
+swept_none before k = record {
+  events = [];
+  is_cut = false;
+  is_short = false;
+  history = λ h at. subst (λ es. before (with_events h es)) (sym (append-nil h.events)) at;
+  lanes = tt;
+  leads = λ p left. refl;
+  cut = λ last. absurd (false_true last);
+}
+
+-- where this act's entry was not the reserve's, one before it was
+last_before : (a b now : Bool) → (a ≡ true → ⊥) → now ≡ (a || b) → now ≡ true → b ≡ true
+last_before true b now none is last = absurd (none refl)
+last_before false b now none is last = sym is ∙ last
+
+some_reply : (o : Option Reply) → IsSome o → (r : Reply) × (o ≡ Some r)
+some_reply None some = cc
+some_reply (Some r) some = (r, refl)
+
+swept_by : (before between after : History → Type 0) (k : ℕ) (is_last now_last cut short : Bool) → (s : HasSwept before between k is_last) → (x : HasPassed between after k is_last now_last None)
+    → ((p : Position) (left : List ℕ) → Leads (sweeping_at p left false false false) (s.events ++ x.event ∷ []) (sweeping_at p left cut short (((x.event).answer).last || is_last)))
+    → (now_last ≡ true → cut ≡ true) → HasSwept before after k now_last
+swept_by before between after k is_last now_last cut short s x led is_cut = record {
+  events = s.events ++ x.event ∷ [];
+  is_cut = cut;
+  is_short = short;
+  history = λ h at. subst (λ es. after (with_events h es)) (append_assoc h.events s.events (x.event ∷ [])) (x.history (with_events h (h.events ++ s.events)) (s.history h at));
+  lanes = of_more k s.events x.event s.lanes x.lane_is;
+  leads = λ p left. subst (λ b. Leads (sweeping_at p left false false false) (s.events ++ x.event ∷ []) (sweeping_at p left cut short b)) (sym x.last) (led p left);
+  cut = is_cut;
+}
+
+-- one more, behind which the collector is still open
+pub swept_more : (before between after : History → Type 0) (k : ℕ) (is_last now_last : Bool) → HasSwept before between k is_last → HasPassed between after k is_last now_last None
+    → HasSwept before after k now_last
+swept_more before between after k is_last now_last s x = by_reply x.tells
+  where
+    at : Position → List ℕ → Position
+    at p left = sweeping_at p left s.is_cut s.is_short is_last
+
+    heard_led : (p : Position) (left : List ℕ) → Leads (sweeping_at p left false false false) (s.events ++ x.event ∷ []) (heard (at p left) ((x.event).answer))
+    heard_led p left = leads_more s.events (sweeping_at p left false false false) (at p left) x.event (s.leads p left) (follows_step (at p left) s.is_cut x.event refl x.asks)
+
+    by_reply : TellsEnd x.event None → HasSwept before after k now_last
+    by_reply (inl pass) = swept_by before between after k is_last now_last s.is_cut (wants (kind x.event) (Some s.is_cut)) s x
+        (λ p left. subst (λ q. Leads (sweeping_at p left false false false) (s.events ++ x.event ∷ []) q) (heard_pass (at p left) s.is_cut ((x.event).answer) refl pass.1) (heard_led p left))
+        (λ last. s.cut (last_before ((x.event).answer).last is_last now_last (λ is. pass.0 (x.want is)) x.last last))
+    by_reply (inr want) = let r = some_reply (reply x.event) want.1 in
+        swept_by before between after k is_last now_last true (wants 2 (Some s.is_cut)) s x
+        (λ p left. subst (λ q. Leads (sweeping_at p left false false false) (s.events ++ x.event ∷ []) q) (heard_want (at p left) s.is_cut ((x.event).answer) r.0 refl r.1 want.0) (heard_led p left))
+        (λ last. refl)
+
+-- its end
+pub swept_ends : (before between after : History → Type 0) (k : ℕ) (is_last : Bool) (told : Told) → HasSwept before between k is_last → HasPassed between after k is_last told.last (Some told.reply)
+    → Sweeps before after k told
+swept_ends before between after k is_last told s x = record {
+  events = s.events ++ x.event ∷ [];
+  is_short = s.is_cut;
+  history = λ h at. subst (λ es. after (with_events h es)) (append_assoc h.events s.events (x.event ∷ [])) (x.history (with_events h (h.events ++ s.events)) (s.history h at));
+  lanes = of_more k s.events x.event s.lanes x.lane_is;
+  leads = λ p left shut. let start = sweeping_at p left false false false in
+      let q = sweeping_at p left s.is_cut s.is_short is_last in
+      subst (λ o. Leads start (s.events ++ x.event ∷ []) (record p { left = left; job = None; collecting = o; is_short = s.is_cut; is_spent = told.last; told = p.told ++ told.reply ∷ [] })) (sym shut)
+      (subst (λ b. Leads start (s.events ++ x.event ∷ []) (record p { left = left; job = None; collecting = None; is_short = s.is_cut; is_spent = b; told = p.told ++ told.reply ∷ [] })) (sym x.last)
+      (leads_close s.events start q s.is_cut x.event told.reply (s.leads p left) refl x.asks (x.tells).1 (x.tells).0));
+  short = λ last. s.cut (last_before ((x.event).answer).last is_last told.last (λ is. no_want (eq-eqb (kind x.event) 2 (x.want is))) x.last last);
+}
+  where
+    no_want : ((kind x.event) == 2) ≡ true → ⊥
+    no_want is = false_true (sym (x.tells).0 ∙ is)
+
+-- ---- by what was told
+
+-- memory was wanting, which the end tells
+pub want_told : (v : Event) → IsToldBut 1 v.answer → kind v ≡ 2 → TellsEnd v None
+want_told v (inl pass) two = let one = pass.0 in absurd (omega (arith, one, two))
+want_told v (inr end) two = inr (two, end.1)
+
+-- or the end's reply, where there is one
+pub end_told : (v : Event) → (kind v ≡ 2 → ⊥) → TellsEnd v (reply v)
+end_told v other = by_reply (reply v) refl
+  where
+    by_kind : (b : Bool) → (kind v == 2) ≡ b → (kind v == 2) ≡ false
+    by_kind false is = is
+    by_kind true is = absurd (other (eqb-true (kind v) 2 is))
+
+    by_reply : (o : Option Reply) → reply v ≡ o → TellsEnd v o
+    by_reply None is = inl (other, is)
+    by_reply (Some r) is = (by_kind (kind v == 2) refl, is)
+
+-- ---- from its GC
+
+-- the lane's collector has opened
+pub record HasOpened (before after : History → Type 0) (k : ℕ) : Type 0 where
+  pub event : Event
+  pub asks : event.act ≡ acts.Start
+  pub lane_is : lane event ≡ k
+  pub none : reply event ≡ None
+  pub kind_is : kind event ≡ 3
+  pub last : (event.answer).last ≡ false
+  pub history : (h : History) → before h → after (then_event h event)
+
+pub does_opened : (before between after : History → Type 0) (k : ℕ) (told : Told) → HasOpened before between k → Sweeps between after k told → Does before after k (command_next commands.Gc) told
+unfolding command_next
+does_opened before between after k told o s = let v = o.event in record {
+  events = v ∷ s.events;
+  is_short = s.is_short;
+  history = λ h at. subst (λ es. after (with_events h es)) (append_assoc h.events (v ∷ []) s.events) (s.history (then_event h v) (o.history h at));
+  lanes = (o.lane_is, s.lanes);
+  leads = λ p left is.
+      leads_then (v ∷ []) s.events p (sweeping_at p left false false false) (answered p left told.reply s.is_short told.last)
+      (subst (λ b. Leads p (v ∷ []) (sweeping_at p left false false b)) (or_false p (v.answer).last is.on ∙ o.last)
+      (leads_start [] p p left v refl is.on is.next o.asks o.none o.kind_is))
+      (s.leads p left (next_shut p (collect left) is.next refl));
+  short = s.short;
+}
+
+-- or its start was told something
+pub does_told : (before after : History → Type 0) (k : ℕ) (told : Told) → Did before after k acts.Start told → Does before after k (command_next commands.Gc) told
+unfolding command_next
+does_told before after k told d = let v = d.event in record {
+  events = v ∷ [];
+  is_short = kind v == 2;
+  history = d.history;
+  lanes = (d.lane_is, tt);
+  leads = λ p left is.
+      subst (λ b. Leads p (v ∷ []) (answered p left told.reply (kind v == 2) b)) (or_false p (v.answer).last is.on ∙ d.last)
+      (leads_gc [] p p left v told.reply refl is.on is.next d.asks d.tells);
+  short = λ last. eq-eqb (kind v) 2 (d.kind_is (inr last));
+}
