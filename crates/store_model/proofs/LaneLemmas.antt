@@ -105,19 +105,19 @@ closes_act r k end h = refl
 module _ (r : Run) (k : ℕ) (left : List ℕ) where
   pub gc_opens : want_collector r k ≡ Ok tt → opens r k (collect left) ≡ Some (open_collector r k left)
   unfolding opens
-  gc_opens h = rw h refl
+  gc_opens h = rw (opens, h) refl
 
   pub gc_is_not_refused : (moment : ℕ) → want_collector r k ≡ Ok tt → stepped r k moment (collect left) ≡ None
   unfolding stepped
-  gc_is_not_refused moment h = rw h refl
+  gc_is_not_refused moment h = rw (stepped, h) refl
 
   pub gc_is_refused : (moment : ℕ) (refusal : Refusal) → want_collector r k ≡ Err refusal → stepped r k moment (collect left) ≡ Some (tell r k left (Refused refusal))
   unfolding stepped
-  gc_is_refused moment refusal h = rw h refl
+  gc_is_refused moment refusal h = rw (stepped, h) refl
 
   pub gc_opens_none : (refusal : Refusal) → want_collector r k ≡ Err refusal → opens r k (collect left) ≡ None
   unfolding opens
-  gc_opens_none refusal h = rw h refl
+  gc_opens_none refusal h = rw (opens, h) refl
 
 -- ---- an entry, by its kind
 
