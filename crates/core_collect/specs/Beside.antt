@@ -10,7 +10,7 @@ use Rattle.store_model.specs.Store.{Store}
 use Rattle.store_history.specs.LastTouches.{LastTouches, SameTouches, is_one_of, touched}
 use Rattle.store_upkeep.specs.Laws.{Lists}
 use Rattle.store_upkeep.specs.Safety.{IsNeeded}
-use Rattle.store_upkeep.specs.Sweeping.{Sweep, Swept, chunks, next_marks, next_taken, without}
+use Rattle.store_history.specs.Sweeping.{Sweep, Swept, chunks, next_marks, next_taken, without}
 use Rattle.core_state.specs.declared.collector.Collector.{Collector}
 use Rattle.core_state.specs.declared.parts.Parts.{Parts}
 use Rattle.core_state.specs.declared.upkeep.Upkeep.{Upkeep}

@@ -13,7 +13,7 @@ use Rattle.gc_plan.specs.Plan.{Plan, left_of, mark_limit, next_index, next_mark,
 use Rattle.gc_plan.specs.declared.IndexAt.{IndexAt}
 use Rattle.snapshot_files.specs.Indexes.{index_at}
 use Rattle.store_model.specs.Store.{Store}
-use Rattle.store_upkeep.specs.Sweeping.{Sweep, Unmarked}
+use Rattle.store_history.specs.Sweeping.{Sweep, Unmarked}
 use Rattle.core_state.specs.declared.collector.Collector.{Collector}
 use Rattle.core_state.specs.declared.kept.Listed.{Listed}
 use Rattle.core_state.specs.declared.parts.Parts.{Parts}

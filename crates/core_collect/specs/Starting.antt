@@ -9,7 +9,7 @@ use Rattle.wire_commands.specs.declared.reply.Reply.TheVariants.{Refused}
 use Rattle.gc_plan.specs.Plan.{begun}
 use Rattle.gc_plan.specs.declared.IndexAt.{IndexAt}
 use Rattle.store_history.specs.declared.act.Answer.{Answer}
-use Rattle.store_upkeep.specs.Sweeping.{earlier}
+use Rattle.store_history.specs.Sweeping.{earlier}
 use Rattle.core_state.specs.declared.collector.Collector.{Collector}
 use Rattle.core_state.specs.declared.entering.Place.{Place}
 use Rattle.core_state.specs.declared.kept.Listed.{Listed}

@@ -29,7 +29,7 @@ use Rattle.opening_files.proofs.Leavers.{chunk_stays}
 use Rattle.store_history.specs.History.{Opening}
 use Rattle.store_history.specs.Saved.{book_in, book_name, saved_book}
 use Rattle.store_history.specs.LastTouches.{SameTouches, is_one_of, touches_at_opening}
-use Rattle.store_upkeep.specs.Sweeping.{swept_all}
+use Rattle.store_history.specs.Sweeping.{swept_all}
 use Rattle.store_history.proofs.Naming.{book_apart}
 use Rattle.core_state.specs.declared.state.Core.{Core}
 use Rattle.core_state.specs.declared.upkeep.Upkeep.{Upkeep}

@@ -40,8 +40,8 @@ use Rattle.store_history.specs.History.{World, act_outcome, after as world_after
 use Rattle.store_history.specs.Legal.{Right}
 use Rattle.store_history.specs.LastTouches.{LastTouches, SameTouches, dated, is_one_of, touches_by_entry, touched_by}
 use Rattle.store_history.proofs.Checking.{checked_digest}
-use Rattle.store_upkeep.specs.Sweeping.{Swept, swept_after, swept_at}
-use Rattle.store_upkeep.proofs.Longer.{is_swept_longer, swept_longer}
+use Rattle.store_history.specs.Sweeping.{Swept, swept_after, swept_at}
+use Rattle.store_history.proofs.SweptLonger.{is_swept_longer, swept_longer}
 use Rattle.core_state.specs.declared.state.Core.{Core}
 use Rattle.core_state.specs.Answers.{HasCause, IsAnswered, IsCaused, done, short, failed, halted, fault_after}
 use Rattle.core_state.specs.Applies.{ActKeeps, IsClearFor}

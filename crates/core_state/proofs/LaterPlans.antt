@@ -33,8 +33,8 @@ use Rattle.store_history.specs.declared.act.Event.{Event}
 use Rattle.store_history.specs.Acts.{Class, IsWellFormed, stepping, starting, sweeping, wanting, ending, class_of}
 use Rattle.store_history.specs.History.{World, act_outcome, after, kind, kind_of, moved, opened, reply as reply_of}
 use Rattle.store_history.specs.Legal.{Right}
-use Rattle.store_upkeep.specs.Sweeping.{Sweep, Swept, Unmarked, forgets, names_key, spared, swept_after, swept_by, while_open}
-use Rattle.store_upkeep.proofs.Longer.{swept_longer}
+use Rattle.store_history.specs.Sweeping.{Sweep, Swept, Unmarked, forgets, names_key, spared, swept_after, swept_by, while_open}
+use Rattle.store_history.proofs.SweptLonger.{swept_longer}
 use Rattle.core_state.specs.declared.collector.Collector.{Collector}
 use Rattle.core_state.specs.declared.kept.Kept.{Kept}
 use Rattle.core_state.specs.declared.kept.Listed.{Listed}

@@ -13,7 +13,7 @@ use Rattle.store_model.specs.Store.{insert_snapshot, snapshot_named, without_sna
 use Rattle.snapshot_files.proofs.Removals.{named-without}
 use Rattle.gc_plan.specs.Plan.{Plan, Stage, marking, sweeping, next_index}
 use Rattle.gc_plan.specs.declared.IndexAt.{IndexAt}
-use Rattle.store_upkeep.specs.Sweeping.{Sweep, Unmarked, unmarked_of}
+use Rattle.store_history.specs.Sweeping.{Sweep, Unmarked, unmarked_of}
 use Rattle.core_state.specs.declared.collector.Collector.{Collector}
 use Rattle.core_state.specs.declared.kept.Kept.{Kept}
 use Rattle.core_state.specs.declared.kept.Listed.{Listed}

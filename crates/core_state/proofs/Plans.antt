@@ -9,7 +9,7 @@ use Rattle.store_files.specs.Archive.{Snapshot}
 use Rattle.store_model.specs.Store.{insert_snapshot, without_snapshot}
 use Rattle.gc_plan.specs.Plan.{Stage, marking, sweeping, next_index}
 use Rattle.gc_plan.specs.declared.IndexAt.{IndexAt}
-use Rattle.store_upkeep.specs.Sweeping.{Sweep, Unmarked}
+use Rattle.store_history.specs.Sweeping.{Sweep, Unmarked}
 use Rattle.core_state.specs.declared.collector.Collector.{Collector}
 use Rattle.core_state.specs.declared.kept.Kept.{Kept}
 use Rattle.core_state.specs.declared.kept.Listed.{Listed}

@@ -8,7 +8,7 @@ use Rattle.store_history.specs.declared.act.Event.{Event}
 use Rattle.store_history.specs.Acts.{Class, stepping, starting, sweeping, wanting, ending, class_of}
 use Rattle.store_history.specs.History.{World, EntryKind, kind, kind_of, moment, start_kind}
 use Rattle.store_history.specs.LastTouches.{LastTouches, SameTouches, is_one_of, touched, touches_after}
-use Rattle.store_upkeep.specs.Sweeping.{FitsSweep, Sweep, Swept, is_pass, marks_in, passing, sweep_of, swept_after, taken_in, without}
+use Rattle.store_history.specs.Sweeping.{FitsSweep, Sweep, Swept, is_pass, marks_in, passing, sweep_of, swept_after, taken_in, without}
 use Rattle.core_state.specs.Commands.{is_step}
 
 pub no_sweep : (act : Act) → is_step act ≡ false → class_of act ≡ sweeping → ⊥

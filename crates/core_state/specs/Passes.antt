@@ -12,7 +12,7 @@ use Rattle.gc_plan.specs.Plan.{mark_limit}
 use Rattle.store_history.specs.LastTouches.{LastTouches, SameTouches, dated, touched}
 use Rattle.store_history.specs.Saved.{book_name}
 use Rattle.store_history.specs.declared.act.Answer.{Answer}
-use Rattle.store_upkeep.specs.Sweeping.{without}
+use Rattle.store_history.specs.Sweeping.{without}
 use Rattle.core_state.specs.declared.collector.Collector.{Collector}
 use Rattle.core_state.specs.declared.state.Core.{Core}
 use Rattle.core_state.specs.Changes.{Change, LeavesChange, after, drops, installs, stays}

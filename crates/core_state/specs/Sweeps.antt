@@ -6,7 +6,7 @@ use Rattle.store_types.specs.declared.names.SnapshotKey.{SnapshotKey}
 use Rattle.store_files.specs.Archive.{File, Snapshot, file_named}
 use Rattle.gc_plan.specs.Plan.{Stage, marking, sweeping, next_index}
 use Rattle.gc_plan.specs.declared.IndexAt.{IndexAt}
-use Rattle.store_upkeep.specs.Sweeping.{Sweep, Unmarked, digests_of, unmarked_of}
+use Rattle.store_history.specs.Sweeping.{Sweep, Unmarked, digests_of, unmarked_of}
 use Rattle.core_state.specs.declared.collector.Collector.{Collector}
 use Rattle.core_state.specs.declared.kept.Kept.{Kept}
 use Rattle.core_state.specs.declared.kept.Listed.{Listed}

@@ -17,5 +17,6 @@ pub mod Prefixes
 pub mod Alone
 pub mod Lasting
 pub mod LastTouches
+pub mod SweptLonger
 pub mod Naming
 mod Examples

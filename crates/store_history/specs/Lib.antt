@@ -7,5 +7,6 @@ pub mod Woven
 pub mod CrashPoints
 pub mod Seats
 pub mod LastTouches
+pub mod Sweeping
 pub mod Saved
 pub mod Touches

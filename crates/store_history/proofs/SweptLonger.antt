@@ -4,8 +4,8 @@ use Rattle.store_files.specs.Archive.{Snapshot}
 use Rattle.store_history.specs.declared.act.Event.{Event}
 use Rattle.store_history.specs.Acts.{class_of}
 use Rattle.store_history.specs.History.{World, Opening, opened, after, after_all, lane, kind, kind_of, reply}
-use Rattle.store_upkeep.specs.Laws.{swept, world}
-use Rattle.store_upkeep.specs.Sweeping.{FitsSweep, IsSwept, Swept, swept_after, swept_all, swept_at}
+use Rattle.store_history.specs.Sweeping.{swept, world}
+use Rattle.store_history.specs.Sweeping.{FitsSweep, IsSwept, Swept, swept_after, swept_all, swept_at}
 
 swept_more : (R : Option (List Snapshot)) (w : World) (s : Swept) (es : List Event) (e : Event)
     → swept_all R w s (es ++ e ∷ []) ≡ swept_after R (after_all R w es) (swept_all R w s es) e

@@ -1,0 +1,58 @@
+//! What holds of the sweeps of every history.
+
+ghost use Rattle.store_upkeep.specs.Laws.{CountsAreOne, EndsAreReported, HistoriesAreSafe, LastTouchesStay, ListsChunks, NeededIsThere, OnlyVisitsTake, TakenIsNotNeeded, ThereOrSent, WholeSweepsLeaveRight};
+
+/// In a legal history, at each place: no running writer began before the cutoff of an open sweep; what it sent was
+/// touched since it began; what finished snapshots have was touched at the cutoff or later, or is still to be marked;
+/// and each base, and each reader's snapshot, is finished.
+pub fn histories_are_safe()
+    ensures { HistoriesAreSafe }
+{}
+
+/// A chunk that a visit takes out is of no finished snapshot, and no running writer may append it.
+pub fn taken_chunks_are_not_needed()
+    ensures { TakenIsNotNeeded }
+{}
+
+/// The chunks of finished snapshots, and those that running writers may append, are there, where those of the snapshots
+/// at opening were.
+pub fn needed_chunks_are_there()
+    ensures { NeededIsThere }
+{}
+
+/// Only a visit takes a chunk out.
+pub fn only_visits_take()
+    ensures { OnlyVisitsTake }
+{}
+
+/// When a whole sweep ends, the chunks that are there are exactly those, of the ones that were there at its start or were
+/// sent since, whose last touch is not before its cutoff; and it has counted those that it took out.
+pub fn whole_sweeps_leave_right()
+    ensures { WholeSweepsLeaveRight }
+{}
+
+/// Had none been taken out, a chunk would be there that was there at first or was sent since, and no other.
+pub fn there_or_sent()
+    ensures { ThereOrSent }
+{}
+
+/// The last touch of a chunk that is there is as though none had ever been taken out.
+pub fn last_touches_stay()
+    ensures { LastTouchesStay }
+{}
+
+/// A collector that ends without want of memory or a fault has swept the whole, and replies its start, its cutoff, how many
+/// chunks that are there are used and how many pending, and how many it took out.
+pub fn ends_are_reported()
+    ensures { EndsAreReported }
+{}
+
+/// The chunks that a collector lists, and counts for its report, are those that are there, each once.
+pub fn chunks_are_listed()
+    ensures { ListsChunks }
+{}
+
+/// However they are listed, as many are used and as many pending.
+pub fn counts_are_one()
+    ensures { CountsAreOne }
+{}
