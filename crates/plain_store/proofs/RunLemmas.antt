@@ -196,12 +196,12 @@ module _ (r : Run) (k : ℕ) (within : k < length r.lanes) (n : Next) (is : show
   unfolding stepped
   collect_refused moment left shown refusal after refused tells =
       ap (stepped r k moment) (sym is ∙ shown)
-      ∙ rw refused (ap (λ (x : Run). Some x) (sym (told_anyway r k within n left (Refused refusal)) ∙ sym tells))
+      ∙ rw (stepped, refused) (ap (λ (x : Run). Some x) (sym (told_anyway r k within n left (Refused refusal)) ∙ sym tells))
 
   -- or its collector opens
   pub collect_opens : (left : List ℕ) → shown_next n ≡ model.collect left → want_collector r k ≡ Ok tt → opens r k (next_of r k) ≡ Some (open_collector r k left)
   unfolding opens
-  collect_opens left shown may = ap (opens r k) (sym is ∙ shown) ∙ rw may refl
+  collect_opens left shown may = ap (opens r k) (sym is ∙ shown) ∙ rw (opens, may) refl
 
   -- a refusal of a job's step
   job_refused : (refusal : Refusal) (a : Asking) (left : List ℕ) (j : Job) (after : Run) → j ≡ take a (Refused refusal) → after ≡ go_on (run_left n r k) k left j
