@@ -11,6 +11,7 @@ use Rattle.wire_commands.specs.declared.reply.Reply.{Reply}
 use Rattle.wire_commands.specs.declared.reply.Reply.TheVariants.{Refused}
 use Rattle.store_model.specs.declared.ending.Ending.{Ending}
 use Rattle.store_model.specs.Lanes as model
+use Rattle.store_model.proofs.LaneLemmas.{is_act, lane_no_act, closes_act, passed_act}
 use Rattle.store_model.specs.Job.{Asking, step_of, Job, over, asking}
 use Rattle.store_model.specs.Jobs.{take}
 use Rattle.store_model.specs.JobSteps.{step_outcome}
@@ -122,9 +123,9 @@ module _ (r : Run) (k : ℕ) where
       by_job End lane h = refl
 
   -- a lane's end, where a job is open
-  pub ends_open : (ending : Ending) → is_some (lane_at r k).job ≡ true → ends r k ending (next_of r k) ≡ unread r k ending
-  unfolding ends next_of lane_next
-  ends_open ending there = by_job (lane_at r k) (lane_at r k).job refl there
+  pub ends_open : (ending : Ending) → IsApart r k → is_some (lane_at r k).job ≡ true → ends r k ending (next_of r k) ≡ unread r k ending
+  unfolding ends lane_next
+  ends_open ending apart there = ap (ends r k ending) (next_apart r k apart) ∙ by_job (lane_at r k) (lane_at r k).job refl there
     where
       by_job : (lane : Lane) (o : Option Asking) → lane.job ≡ o → is_some o ≡ true → ends r k ending (lane_next lane) ≡ unread r k ending
       by_job lane None is h = cc
@@ -242,6 +243,9 @@ module _ (r : Run) (k : ℕ) (within : k < length r.lanes) (n : Next) (is : show
 pub differs : (a b : ℕ) → a ≢ b → (a == b) ≡ false
 differs a b ne = elim (eqb_tells a b) [ inl p ↦ absurd (ne p.1) | inr p ↦ p.0 ]
 
+abbrev no_run : Option Run
+no_run = None
+
 module _ (E : Endings) (r : Run) (place : ℕ) (e : Entry) (later : List Entry) where
   pub entered_0 : e.kind ≡ 0 → entered E r place e later ≡ stepped r e.lane e.moment (next_of r e.lane)
   unfolding entered
@@ -271,14 +275,23 @@ module _ (E : Endings) (r : Run) (place : ℕ) (e : Entry) (later : List Entry) 
   unfolding entered
   entered_6 h = rw h refl
 
-  pub not_entered : e.kind ≢ 0 → e.kind ≢ 2 → e.kind ≢ 5 → e.kind ≢ 6 → entered E r place e later ≡ None
+  none_either : (b c : Bool) → cond b (no_run) (cond c (no_run) (no_run)) ≡ no_run
+  none_either true c = refl
+  none_either false true = refl
+  none_either false false = refl
+
+  pub not_entered : IsApart r e.lane → e.kind ≢ 0 → e.kind ≢ 2 → e.kind ≢ 3 → e.kind ≢ 5 → e.kind ≢ 6 → entered E r place e later ≡ None
   unfolding entered
-  not_entered zero two five six =
+  not_entered apart zero two three five six =
       let no_0 = differs e.kind 0 zero in
       let no_2 = differs e.kind 2 two in
+      let no_3 = differs e.kind 3 three in
       let no_5 = differs e.kind 5 five in
       let no_6 = differs e.kind 6 six in
-      rw (no_0, no_2, no_5, no_6) refl
+      let no_act = ap is_act (next_apart r e.lane apart) ∙ lane_no_act (lane_at r e.lane) in
+      let passes = passed_act r (next_of r e.lane) no_act in
+      let closes = closes_act r e.lane (next_of r e.lane) no_act in
+      rw (no_0, no_2, no_3, no_5, no_6, passes, closes) (none_either (e.kind == 1) (e.kind == 4))
 
 -- the place of the first fault
 first_kept : (place : ℕ) (first : Option ℕ) → Some (unwrap_or first place) ≡ first_fault place first

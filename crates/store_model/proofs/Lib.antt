@@ -8,6 +8,7 @@ mod AdminExamples
 mod LoadExamples
 pub mod Paths
 pub mod Finding
+pub mod LaneLemmas
 pub mod Insertions
 pub mod FileInsertions
 pub mod StandsLemmas
