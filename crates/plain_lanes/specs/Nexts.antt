@@ -10,7 +10,7 @@ use Rattle.store_model.specs.Lanes.{Lane}
 use Rattle.plain_lanes.specs.declared.next.Front.{Front}
 use Rattle.plain_lanes.specs.declared.next.Front.TheVariants.{Short, TooLong, Whole}
 use Rattle.plain_lanes.specs.declared.next.Next.{Next}
-use Rattle.plain_lanes.specs.declared.next.Next.TheVariants.{Job, Plain, Bye, Broken, End}
+use Rattle.plain_lanes.specs.declared.next.Next.TheVariants.{Job, Plain, Collect, Bye, Broken, End}
 
 abbrev pub shown_front : Front → frames.Front
 shown_front Short = frames.short
@@ -20,6 +20,7 @@ shown_front (Whole body rest) = frames.whole body.now rest.now
 abbrev pub shown_next : Next → model.Next
 shown_next (Job a left) = model.job_step a left.now
 shown_next (Plain c left) = model.plain c left.now
+shown_next (Collect left) = model.collect left.now
 shown_next Bye = model.bye
 shown_next (Broken refusal) = model.broken refusal
 shown_next End = model.end

@@ -90,12 +90,28 @@ impl<'a> Lane<'a> {
         Ok(())
     }
 
+    /// One more reply, with no job open and as much left of the input as before.
+    pub fn tell_here(&mut self, alloc: Global, reply: &Reply) -> Result<(), AllocError>
+        requires { ReplyHasText reply.now }
+        ensures { OnOk result (self.new ≡ said reply.now (record self.old { job = None })) }
+    {
+        let left = self.left;
+        self.tell(alloc, left, reply)
+    }
+
     /// The job is open, with this left of the input.
     pub fn set_job(&mut self, left: &'a [u8], asking: Asking)
         ensures { self.new ≡ record self.old { left = left.now; job = Some asking } }
     {
         self.left = left;
         self.job = Some(asking);
+    }
+
+    /// This is left of the input.
+    pub fn set_left(&mut self, left: &'a [u8])
+        ensures { self.new ≡ record self.old { left = left.now } }
+    {
+        self.left = left;
     }
 
     /// How many bytes of replies there are.

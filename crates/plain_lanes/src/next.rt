@@ -29,6 +29,8 @@ pub enum Next<'a> {
     Job(Asking, &'a [u8]),
     /// A command that is no job's.
     Plain(Command, &'a [u8]),
+    /// GC.
+    Collect(&'a [u8]),
     Bye,
     /// Something that is no command, and how it is refused.
     Broken(Refusal),
@@ -62,6 +64,7 @@ fn command_next(command: Command, left: &[u8]) -> Next<'_>
 {
     match command {
         Command::Bye => Next::Bye,
+        Command::Gc => Next::Collect(left),
         other => match Asking::start(other) {
             Ok(asking) => Next::Job(asking, left),
             Err(command) => Next::Plain(command, left),

@@ -1,6 +1,6 @@
 -- What one entry of an order does.
-use Rattle.std.proofs.Common.{◌≡◌, ◌≢◌, ℕ, ◌<◌, Bool, true, false, List, [], length, get_or, inl, inr, None, Some, unwrap_or, refl, sym, ap, subst, ◌∙◌}
-use Rattle.std.specs.Prelude.{◌==◌, Option, is_some}
+use Rattle.std.proofs.Common.{◌≡◌, ◌≢◌, ℕ, ◌<◌, Bool, true, false, cond, List, [], length, get_or, inl, inr, None, Some, unwrap_or, refl, sym, ap, subst, ◌∙◌}
+use Rattle.std.specs.Prelude.{◌==◌, Option, is_some, Ok, Err}
 use Rattle.std.proofs.lemmas.Bool.Decides.{eqb_tells}
 use Rattle.std.proofs.lemmas.List.{get_or_default, get_or-set_same, set-get_or, set-set}
 use Rattle.store_types.specs.declared.order.Entry.{Entry}
@@ -11,22 +11,83 @@ use Rattle.wire_commands.specs.declared.reply.Reply.{Reply}
 use Rattle.wire_commands.specs.declared.reply.Reply.TheVariants.{Refused}
 use Rattle.store_model.specs.declared.ending.Ending.{Ending}
 use Rattle.store_model.specs.Lanes as model
+use Rattle.store_model.proofs.LaneLemmas.{is_act, lane_no_act, closes_act, passed_act}
 use Rattle.store_model.specs.Job.{Asking, step_of, Job, over, asking}
 use Rattle.store_model.specs.Jobs.{take}
 use Rattle.store_model.specs.JobSteps.{step_outcome}
 use Rattle.store_model.specs.Steps.{answered, step}
 use Rattle.store_model.specs.Store.{Store}
-use Rattle.store_model.specs.Lanes.{Lane, Run, new_lane, lane_at, with_lane, say, lane_next, next_of}
-use Rattle.store_model.specs.Weave.{Endings, tell, go_on, stepped, short, told_fault, fault_refusal, first_fault, is_cut_off, faulted, is_replied, end_session, ended_with, unread, ends, entered, with_store, answer, answer_job}
+use Rattle.store_model.specs.Lanes.{Lane, Collecting, Run, new_lane, lane_at, with_lane, say, collects, lane_next, next_beside, next_of}
+use Rattle.store_model.specs.Weave.{Endings, tell, go_on, stepped, short, told_fault, fault_refusal, first_fault, is_cut_off, faulted, is_replied, end_session, ended_with, unread, ends, entered, with_store, answer, answer_job, want_collector, open_collector, close_collector, collected, opens, closes, passed}
 use Rattle.plain_lanes.specs.declared.next.Next.{Next}
 use Rattle.plain_lanes.specs.declared.next.Next.TheVariants as nexts
-use Rattle.plain_lanes.specs.declared.next.Next.TheVariants.{Plain, Bye, Broken, End}
+use Rattle.plain_lanes.specs.declared.next.Next.TheVariants.{Plain, Collect, Bye, Broken, End}
 use Rattle.plain_lanes.specs.Nexts.{shown_next, left_by}
-use Rattle.plain_store.specs.Runs.{run_left, Enters}
+use Rattle.plain_store.specs.Runs.{run_left, Enters, own_of, IsApart}
 
 -- what the code finds at a lane
 pub at_lane : (r : Run) (k : ℕ) (found : Lane) → k < length r.lanes → found ≡ get_or r.lanes k found → found ≡ lane_at r k
 at_lane r k found within is = is ∙ get_or_default r.lanes k found (new_lane []) within
+
+-- ---- the open collector
+
+beside_apart : (o : Option Collecting) (k : ℕ) (lane : Lane) → own_of o k ≡ None → next_beside o k lane ≡ lane_next lane
+unfolding next_beside
+beside_apart None k lane h = refl
+beside_apart (Some c) k lane h = by_lane (c.lane == k) h
+  where
+    by_lane : (b : Bool) → cond b (Some c.is_short) None ≡ None → cond b (model.collecting c.is_short) (lane_next lane) ≡ lane_next lane
+    by_lane true h = cc
+    by_lane false h = refl
+
+-- no collector of the lane is open
+pub next_apart : (r : Run) (k : ℕ) → IsApart r k → next_of r k ≡ lane_next (lane_at r k)
+unfolding next_of
+next_apart r k h = beside_apart r.collecting k (lane_at r k) h
+
+beside_own : (o : Option Collecting) (k : ℕ) (lane : Lane) (is_short : Bool) → own_of o k ≡ Some is_short → next_beside o k lane ≡ model.collecting is_short
+unfolding next_beside
+beside_own None k lane is_short h = cc
+beside_own (Some c) k lane is_short h = by_lane (c.lane == k) h
+  where
+    by_lane : (b : Bool) → cond b (Some c.is_short) None ≡ Some is_short → cond b (model.collecting c.is_short) (lane_next lane) ≡ model.collecting is_short
+    by_lane true h = cc
+    by_lane false h = cc
+
+-- the lane's own is
+pub next_own : (r : Run) (k : ℕ) (is_short : Bool) → own_of r.collecting k ≡ Some is_short → next_of r k ≡ model.collecting is_short
+unfolding next_of
+next_own r k is_short h = beside_own r.collecting k (lane_at r k) is_short h
+
+pub collects_apart : (o : Option Collecting) (k : ℕ) → own_of o k ≡ None → collects k o ≡ false
+collects_apart None k h = refl
+collects_apart (Some c) k h = by_lane (c.lane == k) h
+  where
+    by_lane : (b : Bool) → cond b (Some c.is_short) None ≡ None → b ≡ false
+    by_lane true h = cc
+    by_lane false h = refl
+
+-- what an entry does there
+module _ (r : Run) (k : ℕ) (is_short : Bool) (own : own_of r.collecting k ≡ Some is_short) where
+  pub own_passes : passed r (next_of r k) ≡ Some r
+  unfolding passed
+  own_passes = ap (passed r) (next_own r k is_short own)
+
+  pub own_short : short r k (next_of r k) ≡ Some (record r { collecting = Some (record { lane = k; is_short = true }) })
+  unfolding short
+  own_short = ap (short r k) (next_own r k is_short own)
+
+  pub own_closes : closes r k (next_of r k) ≡ Some (close_collector r k (collected is_short))
+  unfolding closes
+  own_closes = ap (closes r k) (next_own r k is_short own)
+
+  pub own_fault : (refusal : Refusal) → told_fault r k refusal (next_of r k) ≡ close_collector r k (Refused refusal)
+  unfolding told_fault
+  own_fault refusal = ap (told_fault r k refusal) (next_own r k is_short own)
+
+  pub own_ends : (ending : Ending) → ends r k ending (next_of r k) ≡ unread (record r { collecting = None }) k ending
+  unfolding ends
+  own_ends ending = ap (ends r k ending) (next_own r k is_short own)
 
 -- ---- what stands next
 
@@ -36,6 +97,7 @@ with_job lane left j = record lane { left = left; job = j }
 job_given : (n : Next) (lane : Lane) (left : List ℕ) (j : Option Asking) → with_job (left_by n lane) left j ≡ with_job lane left j
 job_given (nexts.Job a rest) lane left j = refl
 job_given (Plain c rest) lane left j = refl
+job_given (Collect rest) lane left j = refl
 job_given Bye lane left j = refl
 job_given (Broken refusal) lane left j = refl
 job_given End lane left j = refl
@@ -55,14 +117,15 @@ module _ (r : Run) (k : ℕ) where
       by_job : (n : Next) (lane : Lane) → is_some lane.job ≡ false → left_by n lane ≡ lane
       by_job (nexts.Job a left) lane h = no_job lane lane.job refl h
       by_job (Plain c left) lane h = refl
+      by_job (Collect left) lane h = refl
       by_job Bye lane h = refl
       by_job (Broken refusal) lane h = refl
       by_job End lane h = refl
 
   -- a lane's end, where a job is open
-  pub ends_open : (ending : Ending) → is_some (lane_at r k).job ≡ true → ends r k ending (next_of r k) ≡ unread r k ending
-  unfolding ends next_of lane_next
-  ends_open ending there = by_job (lane_at r k) (lane_at r k).job refl there
+  pub ends_open : (ending : Ending) → IsApart r k → is_some (lane_at r k).job ≡ true → ends r k ending (next_of r k) ≡ unread r k ending
+  unfolding ends lane_next
+  ends_open ending apart there = ap (ends r k ending) (next_apart r k apart) ∙ by_job (lane_at r k) (lane_at r k).job refl there
     where
       by_job : (lane : Lane) (o : Option Asking) → lane.job ≡ o → is_some o ≡ true → ends r k ending (lane_next lane) ≡ unread r k ending
       by_job lane None is h = cc
@@ -128,6 +191,19 @@ module _ (r : Run) (k : ℕ) (within : k < length r.lanes) (n : Next) (is : show
       ∙ ap (λ x. Some (answer r k left x)) (sym done)
       ∙ ap (λ (x : Run). Some x) (sym (told_anyway (with_store r s) k within n left reply) ∙ sym (tells ∙ ap (λ (x : Run). tell x k left reply) stored))
 
+  -- a GC is refused
+  pub collect_refused : (moment : ℕ) (left : List ℕ) → shown_next n ≡ model.collect left → (refusal : Refusal) (after : Run)
+      → want_collector r k ≡ Err refusal → after ≡ tell (run_left n r k) k left (Refused refusal) → stepped r k moment (next_of r k) ≡ Some after
+  unfolding stepped
+  collect_refused moment left shown refusal after refused tells =
+      ap (stepped r k moment) (sym is ∙ shown)
+      ∙ rw (stepped, refused) (ap (λ (x : Run). Some x) (sym (told_anyway r k within n left (Refused refusal)) ∙ sym tells))
+
+  -- or its collector opens
+  pub collect_opens : (left : List ℕ) → shown_next n ≡ model.collect left → want_collector r k ≡ Ok tt → opens r k (next_of r k) ≡ Some (open_collector r k left)
+  unfolding opens
+  collect_opens left shown may = ap (opens r k) (sym is ∙ shown) ∙ rw (opens, may) refl
+
   -- a refusal of a job's step
   job_refused : (refusal : Refusal) (a : Asking) (left : List ℕ) (j : Job) (after : Run) → j ≡ take a (Refused refusal) → after ≡ go_on (run_left n r k) k left j
       → go_on r k left (take a (Refused refusal)) ≡ after
@@ -167,10 +243,25 @@ module _ (r : Run) (k : ℕ) (within : k < length r.lanes) (n : Next) (is : show
 pub differs : (a b : ℕ) → a ≢ b → (a == b) ≡ false
 differs a b ne = elim (eqb_tells a b) [ inl p ↦ absurd (ne p.1) | inr p ↦ p.0 ]
 
+abbrev no_run : Option Run
+no_run = None
+
 module _ (E : Endings) (r : Run) (place : ℕ) (e : Entry) (later : List Entry) where
   pub entered_0 : e.kind ≡ 0 → entered E r place e later ≡ stepped r e.lane e.moment (next_of r e.lane)
   unfolding entered
   entered_0 h = rw h refl
+
+  pub entered_1 : e.kind ≡ 1 → entered E r place e later ≡ passed r (next_of r e.lane)
+  unfolding entered
+  entered_1 h = rw h refl
+
+  pub entered_3 : e.kind ≡ 3 → entered E r place e later ≡ opens r e.lane (next_of r e.lane)
+  unfolding entered
+  entered_3 h = rw h refl
+
+  pub entered_4 : e.kind ≡ 4 → entered E r place e later ≡ closes r e.lane (next_of r e.lane)
+  unfolding entered
+  entered_4 h = rw h refl
 
   pub entered_2 : e.kind ≡ 2 → entered E r place e later ≡ short r e.lane (next_of r e.lane)
   unfolding entered
@@ -184,14 +275,23 @@ module _ (E : Endings) (r : Run) (place : ℕ) (e : Entry) (later : List Entry) 
   unfolding entered
   entered_6 h = rw h refl
 
-  pub not_entered : e.kind ≢ 0 → e.kind ≢ 2 → e.kind ≢ 5 → e.kind ≢ 6 → entered E r place e later ≡ None
+  none_either : (b c : Bool) → cond b (no_run) (cond c (no_run) (no_run)) ≡ no_run
+  none_either true c = refl
+  none_either false true = refl
+  none_either false false = refl
+
+  pub not_entered : IsApart r e.lane → e.kind ≢ 0 → e.kind ≢ 2 → e.kind ≢ 3 → e.kind ≢ 5 → e.kind ≢ 6 → entered E r place e later ≡ None
   unfolding entered
-  not_entered zero two five six =
+  not_entered apart zero two three five six =
       let no_0 = differs e.kind 0 zero in
       let no_2 = differs e.kind 2 two in
+      let no_3 = differs e.kind 3 three in
       let no_5 = differs e.kind 5 five in
       let no_6 = differs e.kind 6 six in
-      rw (no_0, no_2, no_5, no_6) refl
+      let no_act = ap is_act (next_apart r e.lane apart) ∙ lane_no_act (lane_at r e.lane) in
+      let passes = passed_act r (next_of r e.lane) no_act in
+      let closes = closes_act r e.lane (next_of r e.lane) no_act in
+      rw (no_0, no_2, no_3, no_5, no_6, passes, closes) (none_either (e.kind == 1) (e.kind == 4))
 
 -- the place of the first fault
 first_kept : (place : ℕ) (first : Option ℕ) → Some (unwrap_or first place) ≡ first_fault place first

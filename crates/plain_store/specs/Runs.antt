@@ -1,11 +1,11 @@
 -- What an entry leaves of a run.
-use Rattle.std.specs.Prelude.{◌≡◌, ℕ, Bool, true, false, List, Option, Some, None, option_map, Result, IfOk}
+use Rattle.std.specs.Prelude.{◌≡◌, ℕ, Bool, true, false, List, ◌==◌, if◌then◌else◌, Option, Some, None, option_map, Result, IfOk}
 use Rattle.store_types.specs.declared.order.Entry.{Entry}
 use Rattle.store_types.specs.declared.refusal.Refusal.{Refusal}
 use Rattle.store_model.specs.declared.ending.Ending.{Ending}
-use Rattle.store_model.specs.Lanes.{Run, lane_at, with_lane, new_run, next_of}
+use Rattle.store_model.specs.Lanes.{Collecting, Run, lane_at, with_lane, new_run, next_of}
 use Rattle.store_model.specs.Store.{Store}
-use Rattle.store_model.specs.Weave.{Misfit, Woven, ends, entered, faulted, short, stepped, told_fault, weave}
+use Rattle.store_model.specs.Weave.{Misfit, Woven, ends, entered, faulted, opens, short, stepped, told_fault, weave}
 use Rattle.plain_lanes.specs.declared.next.Next.{Next}
 use Rattle.plain_lanes.specs.Nexts.{left_by}
 
@@ -18,6 +18,18 @@ abbrev pub Enters : Run → Run → Bool → Option Run → Type 0
 Enters old new true entered = entered ≡ Some new
 Enters old new false entered = (entered ≡ None) × (new ≡ old)
 
+-- whether memory was wanting since the lane's own collector opened, where it is open
+abbrev pub own_of : Option Collecting → ℕ → Option Bool
+own_of None k = None
+own_of (Some c) k = if c.lane == k then Some c.is_short else None
+
+abbrev pub own_collector : Run → ℕ → Option Bool
+own_collector r k = own_of r.collecting k
+
+-- no collector of the lane is open
+abbrev pub IsApart : Run → ℕ → Type 0
+IsApart r k = own_collector r k ≡ None
+
 -- ---- an entry of a lane, by what stands next there
 
 -- where memory is not wanting, it tells whether the entry fits
@@ -26,6 +38,9 @@ EntersBy old new entered result = IfOk result (λ fits. Enters old new fits ente
 
 abbrev pub stepped_at : Run → ℕ → ℕ → Option Run
 stepped_at r lane moment = stepped r lane moment (next_of r lane)
+
+abbrev pub opens_at : Run → ℕ → Option Run
+opens_at r lane = opens r lane (next_of r lane)
 
 abbrev pub short_at : Run → ℕ → Option Run
 short_at r lane = short r lane (next_of r lane)

@@ -197,6 +197,7 @@ impl Plain {
             Command::Prune { group, keep, .. } => {
                 self.prune_group(alloc, lane, group.as_slice(), keep)
             }
+            Command::Verify { .. } | Command::Sync { .. } | Command::Gc => Ok(Reply::Done),
             Command::Group { group } => self.group(alloc, group.as_slice()),
             Command::Bye => {
                 self.end(lane);

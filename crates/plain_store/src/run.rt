@@ -1,14 +1,14 @@
 //! The plain store and the lanes, as an order goes on.
 
-ghost use Rattle.std.specs.Prelude.{◌≡◌, ◌<◌, ◌≤◌, ◌==◌, length, option_map, is_some, IfOk, OnOk};
+ghost use Rattle.std.specs.Prelude.{◌≡◌, ◌<◌, ◌≤◌, ◌==◌, List, length, option_map, is_some, Some, None, IfOk, IfErr, OnOk};
 ghost use Rattle.std.specs.List.{find};
 ghost use Rattle.store_types.specs.Times.{last_moment};
 ghost use Rattle.wire_commands.specs.HasText.{FitsRefusal, ReplyHasText};
 ghost use Rattle.store_model.specs.Lanes.{lane_at, next_of};
-ghost use Rattle.store_model.specs.Weave.{tell as told, go_on as gone_on, end_session as without_session, fault_refusal as refusal_of, is_end as is_an_end, is_cut_off as cuts_off, is_replied as has_reply, may_leave_unread as may_stop, ended_with as after_end, unread as after_unread};
+ghost use Rattle.store_model.specs.Weave.{tell as told, go_on as gone_on, end_session as without_session, fault_refusal as refusal_of, is_end as is_an_end, is_cut_off as cuts_off, is_replied as has_reply, may_leave_unread as may_stop, want_collector as wants_collector, open_collector as opened, close_collector as closed_by, collected as collected_by, ended_with as after_end, unread as after_unread};
 ghost use Rattle.plain_lanes.specs.Jobs.{shown_job, IsSpelledJob};
 ghost use Rattle.plain_lanes.specs.Nexts.{shown_next, IsFitNext};
-ghost use Rattle.plain_store.specs.Runs.{run_left, Enters, EntersBy, EntersEntry, ends_at, fault_at, faulted_at, short_at, stepped_at};
+ghost use Rattle.plain_store.specs.Runs.{run_left, Enters, EntersBy, EntersEntry, IsApart, own_collector as own_open, ends_at, fault_at, faulted_at, opens_at, short_at, stepped_at};
 
 use crate::plain::Plain;
 use plain_lanes::{Job, Lane, Next};
@@ -18,12 +18,28 @@ use store_model::Ending;
 use store_types::{Entry, Refusal};
 use wire_commands::Reply;
 
-/// The store, the remote where there is one, the lanes, and the place of the first fault.
+/// The lane whose collector is open, and whether memory was wanting since it opened.
+#[derive(Drop)]
+pub struct Collecting {
+    pub lane: u32,
+    pub is_short: bool,
+}
+
+impl Model for Collecting {
+    ghost use Rattle.store_model.specs.Lanes as model;
+
+    ghost Value = { model.Collecting };
+
+    ghost view = { λ c. record { lane = c.lane; is_short = c.is_short } };
+}
+
+/// The store, the remote where there is one, the lanes, the open collector, and the place of the first fault.
 #[derive(Drop)]
 pub struct Run<'a> {
     pub store: Plain,
     pub remote: Option<&'a Plain>,
     pub lanes: Vec<Lane<'a>>,
+    pub collecting: Option<Collecting>,
     pub fault: Option<u64>,
 }
 
@@ -37,6 +53,7 @@ impl<'a> Model for Run<'a> {
       store = r.store;
       remote = option_map (λ p. p.now.snapshots) r.remote;
       lanes = r.lanes.items;
+      collecting = r.collecting;
       fault = r.fault;
     } };
 }
@@ -77,6 +94,23 @@ fn is_replied(ending: Ending) -> bool
     )
 }
 
+/// What a collector replies as it closes.
+fn collected(is_short: bool) -> Reply
+    ensures reply { result ≡ collected_by is_short }
+    ensures spelled { ReplyHasText result }
+{
+    if is_short {
+        return Reply::Refused(Refusal::NoMemory);
+    }
+    Reply::Collected {
+        start: 0,
+        cutoff: 0,
+        used: 0,
+        pending: 0,
+        removed: 0,
+    }
+}
+
 fn may_leave_unread(ending: Ending) -> bool
     ensures { result ≡ may_stop ending }
 {
@@ -92,9 +126,22 @@ impl<'a> Run<'a> {
         self.lanes[lane as usize].has_job()
     }
 
-    /// What stands next on the lane. A job is taken out of it.
+    /// Whether memory was wanting since the lane's own collector opened, where it is open.
+    fn own_collector(&self, lane: u32) -> Option<bool>
+        ensures { result ≡ own_open self.now lane }
+    {
+        let open = self.collecting.as_ref()?;
+        if open.lane == lane {
+            Some(open.is_short)
+        } else {
+            None
+        }
+    }
+
+    /// What stands next on a lane whose collector is not open. A job is taken out of it.
     fn take_next(&mut self, alloc: Global, lane: u32) -> Result<Next<'a>, AllocError>
-        requires { lane < length self.old.lanes }
+        requires lane { lane < length self.old.lanes }
+        requires apart { IsApart self.old lane }
         ensures next { IfOk result (λ n. shown_next n ≡ next_of self.old lane) }
         ensures fits { IfOk result IsFitNext }
         ensures left { IfOk result (λ n. self.new ≡ run_left n self.old lane) }
@@ -156,12 +203,57 @@ impl<'a> Run<'a> {
         self.store.end(lane);
     }
 
-    /// Kind 0: the next command, or the next step of the lane's job. Whether there is one.
+    /// A collector may open on the lane: it has no session, and no collector is open.
+    #[tactic(auto, unfolding(store_model::specs::Weave::want_collector))]
+    fn want_collector(&self, lane: u32) -> Result<(), Refusal>
+        requires { lane < 64 }
+        ensures fits { IfErr result FitsRefusal }
+        ensures test { result ≡ wants_collector self.now lane }
+    {
+        let held = self.store.held(lane);
+        if let Err(refusal) = held.want_idle() {
+            return Err(refusal);
+        }
+        match &self.collecting {
+            None => Ok(()),
+            Some(open) => Err(Refusal::CollectorBusy { lane: open.lane }),
+        }
+    }
+
+    /// The lane's collector opens, with this left of the lane's input.
+    fn open_collector(&mut self, lane: u32, left: &'a [u8])
+        requires { lane < length self.old.lanes }
+        ensures opened { self.new ≡ opened self.old lane left.now }
+        ensures lanes { length self.new.lanes ≡ length self.old.lanes }
+    {
+        let own = &mut self.lanes[lane as usize];
+        own.set_left(left);
+        self.collecting = Some(Collecting {
+            lane,
+            is_short: false,
+        });
+    }
+
+    /// The lane's collector closes, with this reply.
+    fn close_collector(&mut self, alloc: Global, lane: u32, reply: &Reply) -> Result<(), AllocError>
+        requires lane { lane < length self.old.lanes }
+        requires spelled { ReplyHasText reply.now }
+        ensures closed { OnOk result (self.new ≡ closed_by self.old lane reply.now) }
+        ensures lanes { OnOk result (length self.new.lanes ≡ length self.old.lanes) }
+    {
+        self.collecting = None;
+        let own = &mut self.lanes[lane as usize];
+        own.tell_here(alloc, reply)?;
+        Ok(())
+    }
+
+    /// Kind 0: the next command, or the next step of the lane's job; of a GC its refusal. Whether there is one.
     #[tactic(auto, unfolding(store_model::specs::Weave::stepped))]
     fn stepped(&mut self, alloc: Global, lane: u32, moment: u64) -> Result<bool, AllocError>
         requires lane { lane < length self.old.lanes }
         requires lanes { length self.old.lanes ≤ 64 }
         requires moment { moment ≤ last_moment }
+        requires apart { IsApart self.old lane }
         ensures enters { EntersBy self.old self.new (stepped_at self.old lane moment) result }
         ensures lanes { OnOk result (length self.new.lanes ≡ length self.old.lanes) }
     {
@@ -177,14 +269,44 @@ impl<'a> Run<'a> {
                 self.tell(alloc, lane, left, &reply)?;
                 Ok(true)
             }
+            Next::Collect(left) => match self.want_collector(lane) {
+                Ok(()) => Ok(false),
+                Err(refusal) => {
+                    self.tell(alloc, lane, left, &Reply::Refused(refusal))?;
+                    Ok(true)
+                }
+            },
             _ => Ok(false),
         }
+    }
+
+    /// Kind 3: the lane's collector opens. Whether it may.
+    #[tactic(auto, unfolding(store_model::specs::Weave::opens))]
+    fn opens(&mut self, alloc: Global, lane: u32) -> Result<bool, AllocError>
+        requires lane { lane < length self.old.lanes }
+        requires lanes { length self.old.lanes ≤ 64 }
+        requires apart { IsApart self.old lane }
+        ensures enters { EntersBy self.old self.new (opens_at self.old lane) result }
+        ensures lanes { OnOk result (length self.new.lanes ≡ length self.old.lanes) }
+    {
+        if self.has_job(lane) {
+            return Ok(false);
+        }
+        let Next::Collect(left) = self.take_next(alloc, lane)? else {
+            return Ok(false);
+        };
+        let may = self.want_collector(lane).is_ok();
+        if may {
+            self.open_collector(lane, left);
+        }
+        Ok(may)
     }
 
     /// Kind 2: memory is wanting for what stands next. Whether something does.
     #[tactic(auto, unfolding(store_model::specs::Weave::short), using(crate::proofs::Spelled::refusal_spelled))]
     fn short(&mut self, alloc: Global, lane: u32) -> Result<bool, AllocError>
-        requires { lane < length self.old.lanes }
+        requires lane { lane < length self.old.lanes }
+        requires apart { IsApart self.old lane }
         ensures enters { EntersBy self.old self.new (short_at self.old lane) result }
         ensures lanes { OnOk result (length self.new.lanes ≡ length self.old.lanes) }
     {
@@ -195,7 +317,7 @@ impl<'a> Run<'a> {
                 self.go_on(alloc, lane, left, job)?;
                 Ok(true)
             }
-            Next::Plain(_, left) => {
+            Next::Plain(_, left) | Next::Collect(left) => {
                 self.tell(alloc, lane, left, &reply)?;
                 Ok(true)
             }
@@ -212,6 +334,7 @@ impl<'a> Run<'a> {
     fn tell_fault(&mut self, alloc: Global, lane: u32, refusal: Refusal) -> Result<(), AllocError>
         requires lane { lane < length self.old.lanes }
         requires fits { FitsRefusal refusal }
+        requires apart { IsApart self.old lane }
         ensures told { OnOk result (self.new ≡ fault_at self.old lane refusal) }
         ensures lanes { OnOk result (length self.new.lanes ≡ length self.old.lanes) }
     {
@@ -221,14 +344,15 @@ impl<'a> Run<'a> {
                 let job = asking.take(alloc, reply)?;
                 self.go_on(alloc, lane, left, job)
             }
-            Next::Plain(_, left) => self.tell(alloc, lane, left, &reply),
+            Next::Plain(_, left) | Next::Collect(left) => self.tell(alloc, lane, left, &reply),
             _ => Ok(()),
         }
     }
 
-    /// Want of memory ended the lane, with no job open, and its end comes next.
+    /// Want of memory ended the lane, with no job and no collector of it open, and its end comes next.
     fn is_cut_off(&self, lane: u32, ending: Ending, later: &[Entry]) -> bool
-        requires { lane < length self.now.lanes }
+        requires lane { lane < length self.now.lanes }
+        requires apart { IsApart self.now lane }
         ensures { result ≡ cuts_off self.now lane ending later.now }
     {
         match ending {
@@ -246,7 +370,8 @@ impl<'a> Run<'a> {
         ending: Ending,
         later: &[Entry],
     ) -> Result<(), AllocError>
-        requires { lane < length self.old.lanes }
+        requires lane { lane < length self.old.lanes }
+        requires apart { IsApart self.old lane }
         ensures told { OnOk result (self.new ≡ faulted_at self.old lane place ending later.now) }
         ensures lanes { OnOk result (length self.new.lanes ≡ length self.old.lanes) }
     {
@@ -300,6 +425,7 @@ impl<'a> Run<'a> {
     fn ends(&mut self, alloc: Global, lane: u32, ending: Ending) -> Result<bool, AllocError>
         requires lane { lane < length self.old.lanes }
         requires lanes { length self.old.lanes ≤ 64 }
+        requires apart { IsApart self.old lane }
         ensures enters { EntersBy self.old self.new (ends_at self.old lane ending) result }
         ensures lanes { OnOk result (length self.new.lanes ≡ length self.old.lanes) }
     {
@@ -319,8 +445,66 @@ impl<'a> Run<'a> {
                 self.end_session(lane);
                 Ok(true)
             }
-            Next::Job(_, _) | Next::Plain(_, _) => Ok(self.end_unread(lane, ending)),
+            Next::Job(_, _) | Next::Plain(_, _) | Next::Collect(_) => {
+                Ok(self.end_unread(lane, ending))
+            }
         }
+    }
+
+    /// Takes one entry of a lane whose collector is open. Whether it fits.
+    fn enter_open(
+        &mut self,
+        alloc: Global,
+        place: u64,
+        entry: &Entry,
+        ending: Ending,
+        is_short: bool,
+    ) -> Result<bool, AllocError>
+        requires lane { entry.now.lane < length self.old.lanes }
+        requires lanes { length self.old.lanes ≤ 64 }
+        requires open { own_open self.old entry.now.lane ≡ Some is_short }
+        ensures enters { (later : List Entry) → EntersEntry self.old self.new ending place entry.now later result }
+        ensures lanes { OnOk result (length self.new.lanes ≡ length self.old.lanes) }
+    {
+        let lane = entry.lane;
+        match entry.kind {
+            1 => Ok(true),
+            2 => {
+                self.collecting = Some(Collecting {
+                    lane,
+                    is_short: true,
+                });
+                Ok(true)
+            }
+            4 => {
+                self.close_collector(alloc, lane, &collected(is_short))?;
+                Ok(true)
+            }
+            5 => {
+                let first = self.fault;
+                let reply = Reply::Refused(fault_refusal(first));
+                self.close_collector(alloc, lane, &reply)?;
+                self.fault = Some(first.unwrap_or(place));
+                Ok(true)
+            }
+            6 => Ok(self.end_open(lane, ending)),
+            _ => Ok(false),
+        }
+    }
+
+    /// The lane's end closes its collector, where the lane's ending may leave commands unread. Whether it may.
+    #[tactic(auto, unfolding(store_model::specs::Weave::unread))]
+    fn end_open(&mut self, lane: u32, ending: Ending) -> bool
+        requires { lane < 64 }
+        ensures enters { Enters self.old self.new result (after_unread (record self.old { collecting = None }) lane ending) }
+        ensures lanes { length self.new.lanes ≡ length self.old.lanes }
+    {
+        let may = may_leave_unread(ending);
+        if may {
+            self.collecting = None;
+            self.end_session(lane);
+        }
+        may
     }
 
     /// Takes one entry of the order, behind which these come. Whether it fits.
@@ -339,9 +523,13 @@ impl<'a> Run<'a> {
         ensures lanes { OnOk result (length self.new.lanes ≡ length self.old.lanes) }
     {
         let lane = entry.lane;
+        if let Some(is_short) = self.own_collector(lane) {
+            return self.enter_open(alloc, place, entry, ending, is_short);
+        }
         match entry.kind {
             0 => self.stepped(alloc, lane, entry.moment),
             2 => self.short(alloc, lane),
+            3 => self.opens(alloc, lane),
             5 => {
                 self.faulted(alloc, lane, place, ending, later)?;
                 Ok(true)

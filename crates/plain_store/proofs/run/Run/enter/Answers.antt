@@ -3,7 +3,7 @@ use Rattle.std.specs.Prelude.{IfOk}
 use Rattle.store_model.specs.Lanes.{Run}
 use Rattle.store_model.specs.Weave.{Endings}
 use Rattle.plain_store.specs.Runs.{Enters}
-use Rattle.plain_store.proofs.RunLemmas.{entered_0, entered_2, entered_5, entered_6, not_entered}
+use Rattle.plain_store.proofs.RunLemmas.{entered_0, entered_2, entered_3, entered_5, entered_6, not_entered}
 use Rattle.plain_store.proofs.run.Run.enter.Goals as goal
 
 pub returns-in-0-clause-enters : goal.returns-in-0-clause-enters

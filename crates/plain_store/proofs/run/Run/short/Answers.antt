@@ -24,5 +24,5 @@ returns-in_ok-go_on-in-Job-clause-enters c =
     let n = c.in_ok-asking.field-0 in
     let left = c.in-Job.left.now in
     let job = shown_job c.in_ok-job-in-Job.job in
-    short_job r k c.requires n c.in_ok-asking.ensures.next c.in-Job.asking left (ap shown_next c.in-Job.is) job c.go_on.new.self c.in_ok-job-in-Job.ensures.job
+    short_job r k c.requires.lane n c.in_ok-asking.ensures.next c.in-Job.asking left (ap shown_next c.in-Job.is) job c.go_on.new.self c.in_ok-job-in-Job.ensures.job
     (c.in_ok-go_on-in-Job.ensures.goes ∙ ap (λ (x : Run). go_on x k left job) c.in_ok-asking.ensures.left)

@@ -21,7 +21,7 @@ returns-in-Job-clause-enters c =
     let left = c.in-Job.left.now in
     let inside = c.self.inside in
     let s = c.do_step.new.self in
-    let told : Run = record { store = s; remote = option_map (λ p. p.now.snapshots) inside.remote; lanes = inside.lanes.items; fault = inside.fault } in
+    let told : Run = record { store = s; remote = option_map (λ p. p.now.snapshots) inside.remote; lanes = inside.lanes.items; collecting = inside.collecting; fault = inside.fault } in
     let before = c.self.view_is ∙ c.in_ok-asking.ensures.left in
     let stored : inside.store ≡ r.store = ap (λ (x : Run). x.store) before in
     let done = c.in_ok-reply-in-Job.ensures.step ∙ ap (λ x. answered x (step_outcome x k moment (step_of a))) stored in
@@ -39,7 +39,7 @@ returns-in-Plain-clause-enters c =
     let left = c.in-Plain.left.now in
     let inside = c.self-in-Plain.inside in
     let s = c.step.new.self in
-    let told : Run = record { store = s; remote = option_map (λ p. p.now.snapshots) inside.remote; lanes = inside.lanes.items; fault = inside.fault } in
+    let told : Run = record { store = s; remote = option_map (λ p. p.now.snapshots) inside.remote; lanes = inside.lanes.items; collecting = inside.collecting; fault = inside.fault } in
     let before = c.self-in-Plain.view_is ∙ c.in_ok-asking.ensures.left in
     let stored : inside.store ≡ r.store = ap (λ (x : Run). x.store) before in
     let done = c.in_ok-reply-in-Plain.ensures.step ∙ ap (λ x. step x k moment command) stored in
