@@ -5,7 +5,7 @@ ghost use Rattle.wire_frames.specs.Frames.{frame};
 ghost use Rattle.wire_commands.specs.ReplyText.{reply_text};
 ghost use Rattle.wire_commands.specs.HasText.{ReplyHasText};
 ghost use Rattle.store_model.specs.Lanes.{new_lane, say as said, lane_next};
-ghost use Rattle.plain_lanes.specs.Nexts.{shown_next, left_by, IsFitNext};
+ghost use Rattle.plain_lanes.specs.Nexts.{shown_next, left_by, is_sync_next, IsFitNext};
 
 use crate::job::Asking;
 use crate::next::{Next, next_at};
@@ -76,6 +76,18 @@ impl<'a> Lane<'a> {
         }
         let offset = self.size.saturating_sub(self.left.len());
         next_at(alloc, offset as u64, self.left)
+    }
+
+    /// Whether a SYNC stands next, begun or not.
+    pub fn next_is_sync(&self, alloc: Global) -> Result<bool, AllocError>
+        ensures { IfOk result (λ is_one. is_one ≡ is_sync_next (lane_next self.now)) }
+    {
+        if let Some(asking) = &self.job {
+            return Ok(asking.is_sync());
+        }
+        let offset = self.size.saturating_sub(self.left.len());
+        let next = next_at(alloc, offset as u64, self.left)?;
+        Ok(next.is_sync())
     }
 
     /// One more reply, with this left of the input and no job open.

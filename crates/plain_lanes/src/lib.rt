@@ -10,4 +10,4 @@ mod prune;
 
 pub use job::{Asking, Job};
 pub use lane::Lane;
-pub use next::Next;
+pub use next::{Ahead, Next};

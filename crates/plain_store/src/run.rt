@@ -5,13 +5,14 @@ ghost use Rattle.std.specs.List.{find};
 ghost use Rattle.store_types.specs.Times.{last_moment};
 ghost use Rattle.wire_commands.specs.HasText.{FitsRefusal, ReplyHasText};
 ghost use Rattle.store_model.specs.Lanes.{lane_at, next_of};
-ghost use Rattle.store_model.specs.Weave.{tell as told, go_on as gone_on, end_session as without_session, fault_refusal as refusal_of, is_end as is_an_end, is_cut_off as cuts_off, is_replied as has_reply, may_leave_unread as may_stop, want_collector as wants_collector, open_collector as opened, close_collector as closed_by, collected as collected_by, ended_with as after_end, unread as after_unread};
+ghost use Rattle.store_model.specs.Weave.{tell as told, go_on as gone_on, end_session as without_session, fault_refusal as refusal_of, is_end as is_an_end, is_cut_off as cuts_off, is_replied as has_reply, may_leave_unread as may_stop, want_collector as wants_collector, open_collector as opened, close_collector as closed_by, collected as collected_by, ended_with as after_end, unread as after_unread, begin_sync as begun_sync};
 ghost use Rattle.plain_lanes.specs.Jobs.{shown_job, IsSpelledJob};
-ghost use Rattle.plain_lanes.specs.Nexts.{shown_next, IsFitNext};
-ghost use Rattle.plain_store.specs.Runs.{run_left, Enters, EntersBy, EntersEntry, IsApart, own_collector as own_open, ends_at, fault_at, faulted_at, opens_at, short_at, stepped_at};
+ghost use Rattle.plain_lanes.specs.Nexts.{shown_next, is_sync_next, IsFitAhead, IsFitNext};
+ghost use Rattle.plain_store.specs.Runs.{run_left, Enters, EntersBy, EntersEntry, IsApart, own_collector as own_open, begun_at, end_open_at, ends_at, fault_at, fault_open_at, faulted_at, opened_at, opens_at, passed_at, refused_at, remote_failed_at, short_at, short_open, stepped_at};
 
 use crate::plain::Plain;
-use plain_lanes::{Job, Lane, Next};
+use plain_lanes::{Ahead, Job, Lane, Next, next_snapshot};
+use plain_sessions::Stop;
 use std::alloc::{AllocError, Global};
 use std::marker::Model;
 use store_model::Ending;
@@ -152,6 +153,15 @@ impl<'a> Run<'a> {
         Ok(next)
     }
 
+    /// Whether a SYNC stands next on a lane whose collector is not open.
+    fn next_is_sync(&self, alloc: Global, lane: u32) -> Result<bool, AllocError>
+        requires lane { lane < length self.now.lanes }
+        requires apart { IsApart self.now lane }
+        ensures { IfOk result (λ is_one. is_one ≡ is_sync_next (next_of self.now lane)) }
+    {
+        self.lanes[lane as usize].next_is_sync(alloc)
+    }
+
     /// The lane's reply, with this left of its input and no job open.
     fn tell(
         &mut self,
@@ -247,6 +257,85 @@ impl<'a> Run<'a> {
         Ok(())
     }
 
+    /// A GC is refused, unless its collector may open. Whether it is.
+    #[tactic(auto, using(crate::proofs::Spelled::refusal_spelled))]
+    fn refuse_collector(
+        &mut self,
+        alloc: Global,
+        lane: u32,
+        left: &'a [u8],
+    ) -> Result<bool, AllocError>
+        requires lane { lane < length self.old.lanes }
+        requires lanes { length self.old.lanes ≤ 64 }
+        ensures enters { EntersBy self.old self.new (refused_at self.old lane left.now) result }
+        ensures lanes { OnOk result (length self.new.lanes ≡ length self.old.lanes) }
+    {
+        match self.want_collector(lane) {
+            Ok(()) => Ok(false),
+            Err(refusal) => {
+                self.tell(alloc, lane, left, &Reply::Refused(refusal))?;
+                Ok(true)
+            }
+        }
+    }
+
+    /// A SYNC's first step: which of the remote's snapshots it pulls, or its refusal.
+    #[tactic(auto, unfolding(store_model::specs::Weave::begin_sync), using(crate::proofs::Spelled::refusal_spelled))]
+    fn begin_sync(
+        &mut self,
+        alloc: Global,
+        lane: u32,
+        group: &[u8],
+        left: &'a [u8],
+    ) -> Result<(), AllocError>
+        requires lane { lane < length self.old.lanes }
+        requires lanes { length self.old.lanes ≤ 64 }
+        ensures begun { OnOk result (self.new ≡ begun_sync self.old lane group.now left.now) }
+        ensures lanes { OnOk result (length self.new.lanes ≡ length self.old.lanes) }
+    {
+        match self.store.to_pull(alloc, lane, group, self.remote) {
+            Ok(snapshots) => {
+                let job = next_snapshot(Vec::new(alloc), snapshots);
+                self.go_on(alloc, lane, left, job)
+            }
+            Err(Stop::Refused(refusal)) => {
+                self.tell(alloc, lane, left, &Reply::Refused(refusal))
+            }
+            Err(Stop::NoMemory) => Err(AllocError),
+        }
+    }
+
+    /// Does a command that asks for no step of a job. Whether there is anything to do: of a GC only its refusal is.
+    #[tactic(auto, unfolding(store_model::specs::Weave::stepped))]
+    fn begin_command(
+        &mut self,
+        alloc: Global,
+        lane: u32,
+        moment: u64,
+        ahead: Ahead,
+        left: &'a [u8],
+    ) -> Result<bool, AllocError>
+        requires lane { lane < length self.old.lanes }
+        requires lanes { length self.old.lanes ≤ 64 }
+        requires moment { moment ≤ last_moment }
+        requires fits { IsFitAhead ahead }
+        ensures enters { EntersBy self.old self.new (begun_at self.old lane moment ahead left.now) result }
+        ensures lanes { OnOk result (length self.new.lanes ≡ length self.old.lanes) }
+    {
+        match ahead {
+            Ahead::Plain(command) => {
+                let reply = self.store.step(alloc, lane, moment, &command)?;
+                self.tell(alloc, lane, left, &reply)?;
+                Ok(true)
+            }
+            Ahead::Sync(group) => {
+                self.begin_sync(alloc, lane, group.as_slice(), left)?;
+                Ok(true)
+            }
+            Ahead::Collect => self.refuse_collector(alloc, lane, left),
+        }
+    }
+
     /// Kind 0: the next command, or the next step of the lane's job; of a GC its refusal. Whether there is one.
     #[tactic(auto, unfolding(store_model::specs::Weave::stepped))]
     fn stepped(&mut self, alloc: Global, lane: u32, moment: u64) -> Result<bool, AllocError>
@@ -264,24 +353,37 @@ impl<'a> Run<'a> {
                 self.go_on(alloc, lane, left, job)?;
                 Ok(true)
             }
-            Next::Plain(command, left) => {
-                let reply = self.store.step(alloc, lane, moment, &command)?;
-                self.tell(alloc, lane, left, &reply)?;
-                Ok(true)
-            }
-            Next::Collect(left) => match self.want_collector(lane) {
-                Ok(()) => Ok(false),
-                Err(refusal) => {
-                    self.tell(alloc, lane, left, &Reply::Refused(refusal))?;
-                    Ok(true)
-                }
-            },
+            Next::Command(ahead, left) => self.begin_command(alloc, lane, moment, ahead, left),
             _ => Ok(false),
         }
     }
 
+    /// Kind 1: a read of the remote for a SYNC, which changes nothing. Whether a SYNC stands next.
+    fn passed(&self, alloc: Global, lane: u32) -> Result<bool, AllocError>
+        requires lane { lane < length self.now.lanes }
+        requires apart { IsApart self.now lane }
+        ensures { EntersBy self.now self.now (passed_at self.now lane) result }
+    {
+        self.next_is_sync(alloc, lane)
+    }
+
+    /// The lane's collector opens where it may, with this left of the lane's input. Whether it does.
+    fn open_allowed(&mut self, lane: u32, left: &'a [u8]) -> bool
+        requires lane { lane < length self.old.lanes }
+        requires lanes { length self.old.lanes ≤ 64 }
+        ensures enters { Enters self.old self.new result (opened_at self.old lane left.now) }
+        ensures lanes { length self.new.lanes ≡ length self.old.lanes }
+    {
+        match self.want_collector(lane) {
+            Ok(()) => {
+                self.open_collector(lane, left);
+                true
+            }
+            Err(_) => false,
+        }
+    }
+
     /// Kind 3: the lane's collector opens. Whether it may.
-    #[tactic(auto, unfolding(store_model::specs::Weave::opens))]
     fn opens(&mut self, alloc: Global, lane: u32) -> Result<bool, AllocError>
         requires lane { lane < length self.old.lanes }
         requires lanes { length self.old.lanes ≤ 64 }
@@ -292,14 +394,11 @@ impl<'a> Run<'a> {
         if self.has_job(lane) {
             return Ok(false);
         }
-        let Next::Collect(left) = self.take_next(alloc, lane)? else {
+        let next = self.take_next(alloc, lane)?;
+        let Some(left) = next.into_collect() else {
             return Ok(false);
         };
-        let may = self.want_collector(lane).is_ok();
-        if may {
-            self.open_collector(lane, left);
-        }
-        Ok(may)
+        Ok(self.open_allowed(lane, left))
     }
 
     /// Kind 2: memory is wanting for what stands next. Whether something does.
@@ -317,7 +416,7 @@ impl<'a> Run<'a> {
                 self.go_on(alloc, lane, left, job)?;
                 Ok(true)
             }
-            Next::Plain(_, left) | Next::Collect(left) => {
+            Next::Command(_, left) => {
                 self.tell(alloc, lane, left, &reply)?;
                 Ok(true)
             }
@@ -329,7 +428,7 @@ impl<'a> Run<'a> {
         }
     }
 
-    /// A fault of the disk is told of a command or a step, and not of a lane's end.
+    /// A fault is told of a command or a step, and not of a lane's end.
     #[tactic(auto, unfolding(store_model::specs::Weave::told_fault), using(crate::proofs::Spelled::refusal_spelled))]
     fn tell_fault(&mut self, alloc: Global, lane: u32, refusal: Refusal) -> Result<(), AllocError>
         requires lane { lane < length self.old.lanes }
@@ -344,12 +443,27 @@ impl<'a> Run<'a> {
                 let job = asking.take(alloc, reply)?;
                 self.go_on(alloc, lane, left, job)
             }
-            Next::Plain(_, left) | Next::Collect(left) => self.tell(alloc, lane, left, &reply),
+            Next::Command(_, left) => self.tell(alloc, lane, left, &reply),
             _ => Ok(()),
         }
     }
 
+    /// Kind 7: a read of the remote failed, for a SYNC. Whether a SYNC stands next.
+    fn remote_failed(&mut self, alloc: Global, lane: u32) -> Result<bool, AllocError>
+        requires lane { lane < length self.old.lanes }
+        requires apart { IsApart self.old lane }
+        ensures enters { EntersBy self.old self.new (remote_failed_at self.old lane) result }
+        ensures lanes { OnOk result (length self.new.lanes ≡ length self.old.lanes) }
+    {
+        if !self.next_is_sync(alloc, lane)? {
+            return Ok(false);
+        }
+        self.tell_fault(alloc, lane, Refusal::RemoteFault)?;
+        Ok(true)
+    }
+
     /// Want of memory ended the lane, with no job and no collector of it open, and its end comes next.
+    #[tactic(auto, using(crate::proofs::RunLemmas::collects_apart))]
     fn is_cut_off(&self, lane: u32, ending: Ending, later: &[Entry]) -> bool
         requires lane { lane < length self.now.lanes }
         requires apart { IsApart self.now lane }
@@ -445,10 +559,48 @@ impl<'a> Run<'a> {
                 self.end_session(lane);
                 Ok(true)
             }
-            Next::Job(_, _) | Next::Plain(_, _) | Next::Collect(_) => {
-                Ok(self.end_unread(lane, ending))
-            }
+            Next::Job(_, _) | Next::Command(_, _) => Ok(self.end_unread(lane, ending)),
         }
+    }
+
+    /// Memory is wanting for the lane's open collector.
+    fn be_short(&mut self, lane: u32)
+        ensures short { self.new ≡ short_open self.old lane }
+        ensures lanes { length self.new.lanes ≡ length self.old.lanes }
+    {
+        self.collecting = Some(Collecting {
+            lane,
+            is_short: true,
+        });
+    }
+
+    /// A fault of the disk closes the lane's collector, which is refused with it.
+    #[tactic(auto, using(crate::proofs::Spelled::refusal_spelled))]
+    fn fault_open(&mut self, alloc: Global, lane: u32, place: u64) -> Result<(), AllocError>
+        requires lane { lane < length self.old.lanes }
+        ensures told { OnOk result (self.new ≡ fault_open_at self.old lane place) }
+        ensures lanes { OnOk result (length self.new.lanes ≡ length self.old.lanes) }
+    {
+        let first = self.fault;
+        let reply = Reply::Refused(fault_refusal(first));
+        self.close_collector(alloc, lane, &reply)?;
+        self.fault = Some(first.unwrap_or(place));
+        Ok(())
+    }
+
+    /// The lane's end closes its collector, where the lane's ending may leave commands unread. Whether it may.
+    #[tactic(auto, unfolding(store_model::specs::Weave::unread))]
+    fn end_open(&mut self, lane: u32, ending: Ending) -> bool
+        requires { lane < 64 }
+        ensures enters { Enters self.old self.new result (end_open_at self.old lane ending) }
+        ensures lanes { length self.new.lanes ≡ length self.old.lanes }
+    {
+        let may = may_leave_unread(ending);
+        if may {
+            self.collecting = None;
+            self.end_session(lane);
+        }
+        may
     }
 
     /// Takes one entry of a lane whose collector is open. Whether it fits.
@@ -470,10 +622,7 @@ impl<'a> Run<'a> {
         match entry.kind {
             1 => Ok(true),
             2 => {
-                self.collecting = Some(Collecting {
-                    lane,
-                    is_short: true,
-                });
+                self.be_short(lane);
                 Ok(true)
             }
             4 => {
@@ -481,30 +630,12 @@ impl<'a> Run<'a> {
                 Ok(true)
             }
             5 => {
-                let first = self.fault;
-                let reply = Reply::Refused(fault_refusal(first));
-                self.close_collector(alloc, lane, &reply)?;
-                self.fault = Some(first.unwrap_or(place));
+                self.fault_open(alloc, lane, place)?;
                 Ok(true)
             }
             6 => Ok(self.end_open(lane, ending)),
             _ => Ok(false),
         }
-    }
-
-    /// The lane's end closes its collector, where the lane's ending may leave commands unread. Whether it may.
-    #[tactic(auto, unfolding(store_model::specs::Weave::unread))]
-    fn end_open(&mut self, lane: u32, ending: Ending) -> bool
-        requires { lane < 64 }
-        ensures enters { Enters self.old self.new result (after_unread (record self.old { collecting = None }) lane ending) }
-        ensures lanes { length self.new.lanes ≡ length self.old.lanes }
-    {
-        let may = may_leave_unread(ending);
-        if may {
-            self.collecting = None;
-            self.end_session(lane);
-        }
-        may
     }
 
     /// Takes one entry of the order, behind which these come. Whether it fits.
@@ -528,6 +659,7 @@ impl<'a> Run<'a> {
         }
         match entry.kind {
             0 => self.stepped(alloc, lane, entry.moment),
+            1 => self.passed(alloc, lane),
             2 => self.short(alloc, lane),
             3 => self.opens(alloc, lane),
             5 => {
@@ -535,6 +667,7 @@ impl<'a> Run<'a> {
                 Ok(true)
             }
             6 => self.ends(alloc, lane, ending),
+            7 => self.remote_failed(alloc, lane),
             _ => Ok(false),
         }
     }
