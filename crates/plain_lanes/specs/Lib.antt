@@ -1,3 +1,6 @@
+pub mod Closes
+pub mod Visits
+pub mod Pulls
 pub mod Stages
 pub mod Jobs
 pub mod Nexts

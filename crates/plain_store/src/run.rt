@@ -11,7 +11,7 @@ ghost use Rattle.plain_lanes.specs.Nexts.{shown_next, is_sync_next, IsFitAhead, 
 ghost use Rattle.plain_store.specs.Runs.{run_left, Enters, EntersBy, EntersEntry, IsApart, own_collector as own_open, begun_at, end_open_at, ends_at, fault_at, fault_open_at, faulted_at, opened_at, opens_at, passed_at, refused_at, remote_failed_at, short_at, short_open, stepped_at};
 
 use crate::plain::Plain;
-use plain_lanes::{Ahead, Job, Lane, Next, next_snapshot};
+use plain_lanes::{Ahead, Job, Lane, Next, pull_all};
 use plain_sessions::Stop;
 use std::alloc::{AllocError, Global};
 use std::marker::Model;
@@ -295,7 +295,7 @@ impl<'a> Run<'a> {
     {
         match self.store.to_pull(alloc, lane, group, self.remote) {
             Ok(snapshots) => {
-                let job = next_snapshot(Vec::new(alloc), snapshots);
+                let job = pull_all(alloc, snapshots);
                 self.go_on(alloc, lane, left, job)
             }
             Err(Stop::Refused(refusal)) => {

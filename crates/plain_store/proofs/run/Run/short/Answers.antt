@@ -5,11 +5,12 @@ use Rattle.store_model.specs.Weave.{go_on}
 use Rattle.plain_lanes.specs.Jobs.{shown_job}
 use Rattle.plain_lanes.specs.Nexts.{shown_next}
 use Rattle.plain_store.proofs.Spelled.{refusal_spelled}
+use Rattle.plain_store.proofs.JobLemmas.{fits_refused}
 use Rattle.plain_store.proofs.RunLemmas.{takes_job, short_job, short_command}
 use Rattle.plain_store.proofs.run.Run.short.Goals as goal
 
 pub take-requires : goal.take-requires
-take-requires c = (refusal_spelled NoMemory tt, tt)
+take-requires c = fits_refused c.in-Job.asking NoMemory (refusal_spelled NoMemory tt)
 
 pub tell-requires-clause-spelled : goal.tell-requires-clause-spelled
 tell-requires-clause-spelled c = refusal_spelled NoMemory tt

@@ -4,8 +4,13 @@ use Rattle.store_model.specs.Lanes.{Run}
 use Rattle.store_model.specs.Weave.{go_on}
 use Rattle.plain_lanes.specs.Jobs.{shown_job}
 use Rattle.plain_lanes.specs.Nexts.{shown_next}
+use Rattle.plain_store.proofs.Spelled.{refusal_spelled}
+use Rattle.plain_store.proofs.JobLemmas.{fits_refused}
 use Rattle.plain_store.proofs.RunLemmas.{takes_job, fault_of_job, fault_of_command}
 use Rattle.plain_store.proofs.run.Run.tell_fault.Goals as goal
+
+pub take-requires : goal.take-requires
+take-requires c = fits_refused c.in-Job.asking c.args.refusal (refusal_spelled c.args.refusal c.requires.fits)
 
 pub returns-in_ok-job-in-Job-clause-told : goal.returns-in_ok-job-in-Job-clause-told
 returns-in_ok-job-in-Job-clause-told c =
