@@ -8,6 +8,7 @@ use Rattle.std.proofs.lemmas.List.{get_or_default, get_or-set_same, set-get_or, 
 use Rattle.store_types.specs.declared.order.Entry.{Entry}
 use Rattle.store_types.specs.declared.refusal.Refusal.{Refusal}
 use Rattle.store_types.specs.declared.refusal.Refusal.TheVariants.{NoMemory, RemoteFault}
+use Rattle.store_files.specs.Archive.{Snapshot}
 use Rattle.wire_commands.specs.declared.command.Command.{Command}
 use Rattle.wire_commands.specs.declared.reply.Reply.{Reply}
 use Rattle.wire_commands.specs.declared.reply.Reply.TheVariants.{Refused}
@@ -17,6 +18,7 @@ use Rattle.store_model.specs.Lanes as model
 use Rattle.store_model.proofs.LaneLemmas.{is_act, lane_no_act, closes_act}
 use Rattle.store_model.specs.Job.{Asking, step_of, is_sync, Job, over, asking}
 use Rattle.store_model.specs.Jobs.{take}
+use Rattle.store_model.specs.SyncJob.{to_pull, next_snapshot}
 use Rattle.store_model.specs.JobSteps.{step_outcome}
 use Rattle.store_model.specs.Steps.{answered, step}
 use Rattle.store_model.specs.Store.{Store}
@@ -266,6 +268,16 @@ module _ (r : Run) (k moment : ℕ) (left : List ℕ) where
   pub sync_begun : (group : List ℕ) (after : Run) → after ≡ begin_sync r k group left → stepped r k moment (model.sync group left) ≡ Some after
   unfolding stepped
   sync_begun group after begins = ap (λ (x : Run). Some x) (sym begins)
+
+-- a SYNC's first step
+module _ (r : Run) (k : ℕ) (group left : List ℕ) where
+  pub pulls_begun : (xs : List Snapshot) → to_pull r.remote r.store k group ≡ Ok xs → go_on r k left (next_snapshot [] xs) ≡ begin_sync r k group left
+  unfolding begin_sync
+  pulls_begun xs h = rw (begin_sync, h) refl
+
+  pub pulls_refused : (refusal : Refusal) → to_pull r.remote r.store k group ≡ Err refusal → tell r k left (Refused refusal) ≡ begin_sync r k group left
+  unfolding begin_sync
+  pulls_refused refusal h = rw (begin_sync, h) refl
 
 -- ---- GC
 
