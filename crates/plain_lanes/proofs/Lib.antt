@@ -4,3 +4,4 @@ pub mod EndingLemmas
 pub mod JudgingLemmas
 pub mod VerifyLemmas
 pub mod SyncLemmas
+pub mod UploadLemmas

@@ -19,7 +19,7 @@ pub use archive::{Archive, Layout};
 pub use blob::BlobData;
 pub use file::{Content, File, file_named, insert_file, manifest_data};
 pub use key::PlainKey;
-pub use listing::{files_reply, keys_reply, list_reply};
+pub use listing::{facts_in, files_reply, keys_reply, list_reply};
 pub use loading::read_snapshots;
 pub use pulling::{later_than, members, newest_told};
 pub use snapshot::{

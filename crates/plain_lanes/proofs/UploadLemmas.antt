@@ -1,0 +1,69 @@
+-- The commands by which a SYNC uploads a snapshot, one by one.
+use Rattle.std.proofs.Common.{◌≡◌, ℕ, zero, suc, ◌+◌, ◌≤◌, ◌<◌, Bool, true, false, not, cond, List, [], ◌∷◌, ◌++◌, map, length, get_or, take, drop, drop-cons, add-one, Some, None, refl, sym, ap, ◌∙◌, arith, append_assoc, append-nil, length-drop}
+use Rattle.std.specs.List.{list_any, filter_map, cons_option}
+use Rattle.std.specs.Str.{bytes_eq}
+use Rattle.std.proofs.lemmas.List.{map-append, take_more, drop_all}
+use Rattle.sha2.specs.Sha256.{sha256}
+use Rattle.store_types.specs.declared.append.AppendEntry.{AppendEntry}
+use Rattle.store_types.specs.declared.names.Digest32.{Digest32}
+use Rattle.store_files.specs.Archive.{Archive, Content, archive, blob, File, digest_of, pieces_of}
+use Rattle.wire_commands.specs.declared.command.Command.{Command}
+use Rattle.wire_commands.specs.declared.command.Command.TheVariants.{Append}
+use Rattle.store_model.specs.SyncJob.{has_digest_of, unsent, entries_from, appends, file_commands, archive_commands, new_index, uploads}
+use Rattle.plain_lanes.specs.Uploading.{is_sent, unsent_by, chunk_of, close_of, archive_commands_by, file_commands_by, uploads_by}
+
+-- ---- by digests, as by pieces
+
+sent_same : (p : List ℕ) (sent : List (List ℕ)) → is_sent p (map digest_of sent) ≡ list_any (has_digest_of p) sent
+sent_same p [] = refl
+sent_same p (q ∷ qs) = ap (λ b. cond (bytes_eq (sha256 q) (sha256 p)) true b) (sent_same p qs)
+
+unsent_same : (sent pieces : List (List ℕ)) → unsent_by (map digest_of sent) pieces ≡ unsent sent pieces
+unsent_same sent [] = refl
+unsent_same sent (p ∷ ps) =
+    ap (λ b. cond b (unsent_by (map digest_of sent) ps) (p ∷ unsent_by (map digest_of (p ∷ sent)) ps)) (sent_same p sent)
+    ∙ ap (λ l. cond (list_any (has_digest_of p) sent) l (p ∷ unsent_by (map digest_of (p ∷ sent)) ps)) (unsent_same sent ps)
+    ∙ ap (λ l. cond (list_any (has_digest_of p) sent) (unsent sent ps) (p ∷ l)) (unsent_same (p ∷ sent) ps)
+
+file_same : (sent : List (List ℕ)) (name : List ℕ) (content : Content) → file_commands_by (map digest_of sent) name content ≡ file_commands sent name content
+unfolding file_commands
+file_same sent name (archive a) =
+    ap (λ l. new_index a.layout name ∷ map chunk_of l ++ appends (length a.pieces) (entries_from 0 a.pieces) ++ close_of a ∷ []) (unsent_same sent a.pieces)
+file_same sent name (blob bytes) = refl
+
+uploads_from : (sent : List (List ℕ)) (files : List File) → uploads_by (map digest_of sent) files ≡ uploads sent files
+unfolding uploads
+uploads_from sent [] = refl
+uploads_from sent (f ∷ fs) =
+    ap (λ l. l ++ uploads_by (map digest_of (pieces_of f.content) ++ map digest_of sent) fs) (file_same sent f.name f.content)
+    ∙ ap (λ l. file_commands sent f.name f.content ++ l)
+    (ap (λ ds. uploads_by ds fs) (sym (map-append digest_of (pieces_of f.content) sent)) ∙ uploads_from (pieces_of f.content ++ sent) fs)
+
+pub uploads_same : (files : List File) → uploads_by [] files ≡ uploads [] files
+uploads_same files = uploads_from [] files
+
+-- ---- from a place on
+
+pub from_place : {A : Type 0} (xs : List A) (i : ℕ) (x : A) → i < length xs → x ≡ get_or xs i x → drop i xs ≡ x ∷ drop (i + 1) xs
+from_place xs i x below is =
+    drop-cons xs i x below ∙ ap (λ y. y ∷ drop (suc i) xs) (sym is) ∙ ap (λ k. x ∷ drop k xs) (sym (add-one i))
+
+-- ---- APPENDs
+
+enough : (n m : ℕ) (xs : List AppendEntry) → length xs ≤ n → length xs ≤ m → appends n xs ≡ appends m xs
+unfolding appends
+enough zero zero xs h k = refl
+enough zero (suc m) [] h k = refl
+enough zero (suc m) (e ∷ es) h k = absurd (omega arith)
+enough (suc n) zero [] h k = refl
+enough (suc n) zero (e ∷ es) h k = absurd (omega arith)
+enough (suc n) (suc m) [] h k = refl
+enough (suc n) (suc m) (e ∷ es) h k =
+    ap (λ l. Append 0 (take 4096 (e ∷ es)) ∷ l) (enough n m (drop 4096 (e ∷ es)) (omega (arith, h, length-drop 4096 (e ∷ es))) (omega (arith, k, length-drop 4096 (e ∷ es))))
+
+-- the first of them, and those that are left
+pub append_first : (xs : List AppendEntry) → 0 < length xs → appends (length xs) xs ≡ Append 0 (take 4096 xs) ∷ appends (length (drop 4096 xs)) (drop 4096 xs)
+unfolding appends
+append_first [] h = absurd (omega arith)
+append_first (e ∷ es) h =
+    ap (λ l. Append 0 (take 4096 (e ∷ es)) ∷ l) (enough (length es) (length (drop 4096 (e ∷ es))) (drop 4096 (e ∷ es)) (omega (arith, length-drop 4096 (e ∷ es))) (omega arith))
