@@ -1,8 +1,9 @@
 -- The commands by which a SYNC uploads a snapshot, one by one.
-use Rattle.std.proofs.Common.{◌≡◌, ℕ, zero, suc, ◌+◌, ◌≤◌, ◌<◌, Bool, true, false, not, cond, List, [], ◌∷◌, ◌++◌, map, length, get_or, take, drop, drop-cons, add-one, Some, None, refl, sym, ap, ◌∙◌, arith, append_assoc, append-nil, length-drop}
-use Rattle.std.specs.List.{list_any, filter_map, cons_option}
+use Rattle.std.proofs.Common.{◌≡◌, ℕ, zero, suc, ◌+◌, ◌≤◌, ◌<◌, Bool, true, false, cond, List, [], ◌∷◌, ◌++◌, map, length, get_or, take, drop, drop-cons, add-one, refl, sym, ap, ◌∙◌, arith, append_assoc, length-drop}
+use Rattle.std.specs.List.{list_any}
 use Rattle.std.specs.Str.{bytes_eq}
-use Rattle.std.proofs.lemmas.List.{map-append, take_more, drop_all}
+use Rattle.std.specs.Prelude.{min}
+use Rattle.std.proofs.lemmas.List.{map-append, take_min, drop_min}
 use Rattle.sha2.specs.Sha256.{sha256}
 use Rattle.store_types.specs.declared.append.AppendEntry.{AppendEntry}
 use Rattle.store_types.specs.declared.names.Digest32.{Digest32}
@@ -67,3 +68,61 @@ unfolding appends
 append_first [] h = absurd (omega arith)
 append_first (e ∷ es) h =
     ap (λ l. Append 0 (take 4096 (e ∷ es)) ∷ l) (enough (length es) (length (drop 4096 (e ∷ es))) (drop 4096 (e ∷ es)) (omega (arith, length-drop 4096 (e ∷ es))) (omega arith))
+
+-- ---- command by command
+
+module _ (sent : List Digest32) (commands : List Command) (p : List ℕ) (pieces rest : List (List ℕ)) (next : pieces ≡ p ∷ rest) where
+  abbrev with_chunks : List Command → List Digest32 → List (List ℕ) → List Command
+  with_chunks before ds ps = before ++ map chunk_of (unsent_by ds ps)
+
+  abbrev by_test : Bool → List Command
+  by_test b = commands ++ map chunk_of (cond b (unsent_by sent rest) (p ∷ unsent_by (digest_of p ∷ sent) rest))
+
+  pub chunk_pushed : (new : List Command) (more : List Digest32) → is_sent p sent ≡ false → new ≡ commands ++ chunk_of p ∷ [] → more ≡ digest_of p ∷ sent
+      → with_chunks new more rest ≡ with_chunks commands sent pieces
+  chunk_pushed new more h pushed is =
+      ap (λ cs. with_chunks cs more rest) pushed ∙ append_assoc commands (chunk_of p ∷ []) (map chunk_of (unsent_by more rest))
+      ∙ ap (λ ds. commands ++ chunk_of p ∷ map chunk_of (unsent_by ds rest)) is
+      ∙ sym (ap (with_chunks commands sent) next ∙ ap by_test h)
+
+  pub chunk_kept : is_sent p sent ≡ true → with_chunks commands sent rest ≡ with_chunks commands sent pieces
+  chunk_kept h = sym (ap (with_chunks commands sent) next ∙ ap by_test h)
+
+pub entry_pushed : (entries new : List AppendEntry) (e : AppendEntry) (offset further : ℕ) (p : List ℕ) (pieces rest : List (List ℕ)) → pieces ≡ p ∷ rest
+    → new ≡ entries ++ e ∷ [] → e ≡ record { digest = digest_of p; offset = offset } → further ≡ offset + length p
+    → new ++ entries_from further rest ≡ entries ++ entries_from offset pieces
+entry_pushed entries new e offset further p pieces rest next pushed own is =
+    ap (λ es. es ++ entries_from further rest) pushed ∙ append_assoc entries (e ∷ []) (entries_from further rest)
+    ∙ ap (λ n. entries ++ e ∷ entries_from n rest) is
+    ∙ ap (λ (x : AppendEntry). entries ++ x ∷ entries_from (offset + length p) rest) own
+    ∙ sym (ap (λ ps. entries ++ entries_from offset ps) next)
+
+pub append_pushed : (commands new : List Command) (left part later : List AppendEntry) (n : ℕ) → 0 < length left → n ≡ min (length left) 4096
+    → part ≡ take n left → later ≡ drop n left → new ≡ commands ++ Append 0 part ∷ []
+    → new ++ appends (length later) later ≡ commands ++ appends (length left) left
+append_pushed commands new left part later n some is front back pushed =
+    let turned : n ≡ min 4096 (length left) = omega (arith, is) in
+    let first = front ∙ ap (λ k. take k left) turned ∙ take_min 4096 left in
+    let others = back ∙ ap (λ k. drop k left) turned ∙ drop_min 4096 left in
+    ap (λ cs. cs ++ appends (length later) later) pushed ∙ append_assoc commands (Append 0 part ∷ []) (appends (length later) later)
+    ∙ ap (λ es. commands ++ Append 0 es ∷ appends (length later) later) first
+    ∙ ap (λ es. commands ++ Append 0 (take 4096 left) ∷ appends (length es) es) others
+    ∙ sym (ap (λ cs. commands ++ cs) (append_first left some))
+
+pub file_pushed : (commands new : List Command) (sent more : List Digest32) (f : File) (files rest : List File) → files ≡ f ∷ rest
+    → new ≡ commands ++ file_commands_by sent f.name f.content → more ≡ map digest_of (pieces_of f.content) ++ sent
+    → new ++ uploads_by more rest ≡ commands ++ uploads_by sent files
+file_pushed commands new sent more f files rest next pushed is =
+    ap (λ cs. cs ++ uploads_by more rest) pushed ∙ append_assoc commands (file_commands_by sent f.name f.content) (uploads_by more rest)
+    ∙ ap (λ ds. commands ++ file_commands_by sent f.name f.content ++ uploads_by ds rest) is
+    ∙ sym (ap (λ fs. commands ++ uploads_by sent fs) next)
+
+-- an archive's, in four parts
+pub archive_pushed : (commands one two three four : List Command) (begin close : Command) (chunks appended : List Command)
+    → one ≡ commands ++ begin ∷ [] → two ≡ one ++ chunks → three ≡ two ++ appended → four ≡ three ++ close ∷ []
+    → four ≡ commands ++ begin ∷ chunks ++ appended ++ close ∷ []
+archive_pushed commands one two three four begin close chunks appended first second third fourth =
+    fourth ∙ ap (λ l. l ++ close ∷ []) (third ∙ ap (λ l. l ++ appended) (second ∙ ap (λ l. l ++ chunks) first))
+    ∙ append_assoc ((commands ++ begin ∷ []) ++ chunks) appended (close ∷ [])
+    ∙ append_assoc (commands ++ begin ∷ []) chunks (appended ++ close ∷ [])
+    ∙ append_assoc commands (begin ∷ []) (chunks ++ appended ++ close ∷ [])
