@@ -1,4 +1,6 @@
-use Rattle.std.proofs.Common.{◌≡◌, sym, ap, ◌∙◌}
+use Rattle.std.proofs.Common.{◌≡◌, sym, ap, subst, ◌∙◌, arith}
+use Rattle.std.proofs.lemmas.List.Elements.{All-nil, All-same}
+use Rattle.wire_commands.specs.HasText.{FitsFaultRow, FitsFileRow, ReplyHasText}
 use Rattle.store_model.specs.Job.{closing}
 use Rattle.store_model.specs.VerifyJob.{begun, listed, next_file}
 use Rattle.plain_lanes.specs.Closes.{ended_by}
@@ -15,3 +17,12 @@ returns-in-Ok-clause-job c =
 pub returns-in-Err-clause-job : goal.returns-in-Err-clause-job
 returns-in-Err-clause-job c =
     c.ended.ensures.job ∙ ap (ended_by closing) c.in-Err.ensures.1 ∙ listed_not c.args.snapshot c.args.reply c.in-Err.ensures.0
+
+pub invariant_of-visit : goal.invariant_of-visit
+invariant_of-visit c =
+    let told = subst ReplyHasText c.in-Ok.ensures c.requires in
+    record {
+      few = omega arith;
+      spelled = All-nil FitsFaultRow;
+      listed = All-same FitsFileRow c.into_vec.result.items c.in-Ok.rows c.into_vec.ensures (told.0).1;
+    }

@@ -1,7 +1,10 @@
 use Rattle.std.proofs.Common.{◌≡◌, List, length, sym, ap, subst, ◌∙◌, arith}
 use Rattle.wire_commands.specs.declared.rows.FaultRow.{FaultRow}
 use Rattle.wire_commands.specs.declared.reply.Reply.TheVariants.{Verified}
-use Rattle.wire_commands.specs.HasText.{ReplyHasText}
+use Rattle.wire_commands.specs.declared.rows.FileRow.{FileRow}
+use Rattle.wire_commands.specs.HasText.{FitsFileRow, ReplyHasText}
+use Rattle.std.specs.Prelude.{All}
+use Rattle.std.proofs.lemmas.List.Elements.{All-head, All-tail, All-same}
 use Rattle.store_model.specs.Job.{asking, closing}
 use Rattle.plain_lanes.specs.Visits.{shown_visit}
 use Rattle.plain_lanes.proofs.VerifyLemmas.{verified_spelled, next_none, next_some}
@@ -23,3 +26,21 @@ pub returns-clause-job : goal.returns-clause-job
 returns-clause-job c =
     let v = c.args.visit in
     next_some (shown_visit v) v.later.items c.pop_front.new.self.items c.in-Some.row c.in-Some.ensures.items
+
+pub invariant_of-visit : goal.invariant_of-visit
+invariant_of-visit c =
+    let v = c.args.visit in
+    let row = c.in-Some.row in
+    let rest = c.pop_front.new.self.items in
+    record {
+      few = v.few;
+      spelled = v.spelled;
+      listed = All-tail FitsFileRow row rest (All-same FitsFileRow _ v.later.items (sym c.in-Some.ensures.items) v.listed);
+    }
+
+pub invariant_of-result : goal.invariant_of-result
+invariant_of-result c =
+    let v = c.args.visit in
+    let row = c.in-Some.row in
+    let rest = c.pop_front.new.self.items in
+    All-head FitsFileRow row rest (All-same FitsFileRow _ v.later.items (sym c.in-Some.ensures.items) v.listed)
