@@ -1,9 +1,9 @@
 -- The commands by which a SYNC uploads a snapshot, one by one.
-use Rattle.std.proofs.Common.{◌≡◌, ℕ, zero, suc, ◌+◌, ◌≤◌, ◌<◌, Bool, true, false, cond, List, [], ◌∷◌, ◌++◌, map, length, get_or, take, drop, drop-cons, add-one, refl, sym, ap, ◌∙◌, arith, append_assoc, length-drop}
+use Rattle.std.proofs.Common.{◌≡◌, ℕ, zero, suc, ◌+◌, ◌≤◌, ◌<◌, Bool, true, false, cond, List, [], ◌∷◌, ◌++◌, map, length, get_or, take, drop, drop-cons, add-one, refl, sym, ap, ◌∙◌, arith, append_assoc, append-nil, length-drop}
 use Rattle.std.specs.List.{list_any}
 use Rattle.std.specs.Str.{bytes_eq}
 use Rattle.std.specs.Prelude.{min}
-use Rattle.std.proofs.lemmas.List.{map-append, take_min, drop_min}
+use Rattle.std.proofs.lemmas.List.{map-append, take_min, drop_min, drop_all}
 use Rattle.sha2.specs.Sha256.{sha256}
 use Rattle.store_types.specs.declared.append.AppendEntry.{AppendEntry}
 use Rattle.store_types.specs.declared.names.Digest32.{Digest32}
@@ -11,7 +11,7 @@ use Rattle.store_files.specs.Archive.{Archive, Content, archive, blob, File, dig
 use Rattle.wire_commands.specs.declared.command.Command.{Command}
 use Rattle.wire_commands.specs.declared.command.Command.TheVariants.{Append}
 use Rattle.store_model.specs.SyncJob.{has_digest_of, unsent, entries_from, appends, file_commands, archive_commands, new_index, uploads}
-use Rattle.plain_lanes.specs.Uploading.{is_sent, unsent_by, chunk_of, close_of, archive_commands_by, file_commands_by, uploads_by}
+use Rattle.plain_lanes.specs.Uploading.{is_sent, unsent_by, sent_after, chunk_of, close_of, archive_commands_by, file_commands_by, uploads_by}
 
 -- ---- by digests, as by pieces
 
@@ -71,22 +71,26 @@ append_first (e ∷ es) h =
 
 -- ---- command by command
 
-module _ (sent : List Digest32) (commands : List Command) (p : List ℕ) (pieces rest : List (List ℕ)) (next : pieces ≡ p ∷ rest) where
-  abbrev with_chunks : List Command → List Digest32 → List (List ℕ) → List Command
-  with_chunks before ds ps = before ++ map chunk_of (unsent_by ds ps)
+-- all is done
+pub all_done : {A B : Type 0} (f : List A → List B) (before r : List B) (xs : List A) (n : ℕ) → f [] ≡ [] → length xs ≤ n → before ++ f (drop n xs) ≡ r → before ≡ r
+all_done f before r xs n none le h = sym (append-nil before) ∙ sym (ap (λ l. before ++ l) (ap f (drop_all n xs le) ∙ none)) ∙ h
 
-  abbrev by_test : Bool → List Command
-  by_test b = commands ++ map chunk_of (cond b (unsent_by sent rest) (p ∷ unsent_by (digest_of p ∷ sent) rest))
+chunk_more : (sent : List Digest32) (p : List ℕ) (ps : List (List ℕ)) → unsent_by sent (p ∷ ps) ≡ unsent_by sent (p ∷ []) ++ unsent_by (sent_after p sent) ps
+chunk_more sent p ps = by_test (is_sent p sent)
+  where
+    by_test : (b : Bool) → cond b (unsent_by sent ps) (p ∷ unsent_by (digest_of p ∷ sent) ps) ≡ cond b [] (p ∷ []) ++ unsent_by (cond b sent (digest_of p ∷ sent)) ps
+    by_test true = refl
+    by_test false = refl
 
-  pub chunk_pushed : (new : List Command) (more : List Digest32) → is_sent p sent ≡ false → new ≡ commands ++ chunk_of p ∷ [] → more ≡ digest_of p ∷ sent
-      → with_chunks new more rest ≡ with_chunks commands sent pieces
-  chunk_pushed new more h pushed is =
-      ap (λ cs. with_chunks cs more rest) pushed ∙ append_assoc commands (chunk_of p ∷ []) (map chunk_of (unsent_by more rest))
-      ∙ ap (λ ds. commands ++ chunk_of p ∷ map chunk_of (unsent_by ds rest)) is
-      ∙ sym (ap (with_chunks commands sent) next ∙ ap by_test h)
-
-  pub chunk_kept : is_sent p sent ≡ true → with_chunks commands sent rest ≡ with_chunks commands sent pieces
-  chunk_kept h = sym (ap (with_chunks commands sent) next ∙ ap by_test h)
+pub chunk_pushed : (commands new : List Command) (sent more : List Digest32) (p : List ℕ) (pieces rest : List (List ℕ)) → pieces ≡ p ∷ rest
+    → new ≡ commands ++ map chunk_of (unsent_by sent (p ∷ [])) → more ≡ sent_after p sent
+    → new ++ map chunk_of (unsent_by more rest) ≡ commands ++ map chunk_of (unsent_by sent pieces)
+chunk_pushed commands new sent more p pieces rest next pushed is =
+    let one = map chunk_of (unsent_by sent (p ∷ [])) in
+    ap (λ cs. cs ++ map chunk_of (unsent_by more rest)) pushed ∙ append_assoc commands one (map chunk_of (unsent_by more rest))
+    ∙ ap (λ ds. commands ++ one ++ map chunk_of (unsent_by ds rest)) is
+    ∙ ap (λ cs. commands ++ cs) (sym (map-append chunk_of (unsent_by sent (p ∷ [])) (unsent_by (sent_after p sent) rest)) ∙ ap (map chunk_of) (sym (chunk_more sent p rest)))
+    ∙ sym (ap (λ ps. commands ++ map chunk_of (unsent_by sent ps)) next)
 
 pub entry_pushed : (entries new : List AppendEntry) (e : AppendEntry) (offset further : ℕ) (p : List ℕ) (pieces rest : List (List ℕ)) → pieces ≡ p ∷ rest
     → new ≡ entries ++ e ∷ [] → e ≡ record { digest = digest_of p; offset = offset } → further ≡ offset + length p
@@ -126,3 +130,8 @@ archive_pushed commands one two three four begin close chunks appended first sec
     ∙ append_assoc ((commands ++ begin ∷ []) ++ chunks) appended (close ∷ [])
     ∙ append_assoc (commands ++ begin ∷ []) chunks (appended ++ close ∷ [])
     ∙ append_assoc commands (begin ∷ []) (chunks ++ appended ++ close ∷ [])
+
+pub appends_done : (before r : List Command) (left : List AppendEntry) → length left ≡ 0 → before ++ appends (length left) left ≡ r → before ≡ r
+unfolding appends
+appends_done before r [] none h = sym (append-nil before) ∙ h
+appends_done before r (e ∷ es) none h = absurd (omega arith)

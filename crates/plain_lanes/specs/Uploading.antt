@@ -17,6 +17,9 @@ abbrev pub unsent_by : List Digest32 → List (List ℕ) → List (List ℕ)
 unsent_by sent [] = []
 unsent_by sent (p ∷ ps) = if is_sent p sent then unsent_by sent ps else p ∷ unsent_by (digest_of p ∷ sent) ps
 
+abbrev pub sent_after : List ℕ → List Digest32 → List Digest32
+sent_after p sent = if is_sent p sent then sent else digest_of p ∷ sent
+
 abbrev pub chunk_of : List ℕ → Command
 chunk_of p = Chunk (digest_of p) (blobs.blob p)
 

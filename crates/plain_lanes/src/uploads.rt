@@ -7,7 +7,7 @@ ghost use Rattle.manifest.specs.Views.{fact_view};
 ghost use Rattle.store_types.specs.FileNames.{manifest_name};
 ghost use Rattle.store_model.specs.SyncJob.{appends, entries_from, new_index, text_of as text_in, commands_of as commands_for, listed_files as files_listed};
 ghost use Rattle.plain_snapshots.specs.Shown.{shown_layout};
-ghost use Rattle.plain_lanes.specs.Uploading.{is_sent as was_sent, chunk_of, close_of, unsent_by, archive_commands_by, file_commands_by, uploads_by};
+ghost use Rattle.plain_lanes.specs.Uploading.{is_sent as was_sent, chunk_of, close_of, unsent_by, sent_after, archive_commands_by, file_commands_by, uploads_by};
 
 use plain_snapshots::{Archive, BlobData, Content, File, Layout, Snapshot, facts_in, file_named};
 use sha2::{Digest, Sha256};
@@ -51,6 +51,24 @@ fn chunk(alloc: Global, piece: &BlobData) -> Result<Command, AllocError>
     })
 }
 
+/// The upload of a piece, unless its digest is sent.
+fn push_chunk(
+    alloc: Global,
+    commands: &mut Vec<Command>,
+    sent: &mut Vec<Digest32>,
+    piece: &BlobData,
+) -> Result<(), AllocError>
+    ensures commands { OnOk result (commands.new.items ≡ commands.old.items ++ map chunk_of (unsent_by sent.old.items (piece.now ∷ []))) }
+    ensures sent { OnOk result (sent.new.items ≡ sent_after piece.now sent.old.items) }
+{
+    if is_sent(piece, sent) {
+        return Ok(());
+    }
+    commands.push(chunk(alloc, piece)?)?;
+    sent.insert(0, Digest32(Sha256::digest(piece.as_slice())))?;
+    Ok(())
+}
+
 /// The uploads of the pieces whose digests are not sent, each at its first use.
 fn push_chunks(
     alloc: Global,
@@ -62,10 +80,7 @@ fn push_chunks(
 {
     let mut sent = Vec::from_slice(alloc, sent)?;
     for piece in pieces {
-        if !is_sent(piece, &sent) {
-            commands.push(chunk(alloc, piece)?)?;
-            sent.insert(0, Digest32(Sha256::digest(piece.as_slice())))?;
-        }
+        push_chunk(alloc, commands, &mut sent, piece)?;
     }
     Ok(())
 }
