@@ -114,7 +114,7 @@ impl Asking {
         ensures { result ≡ is_of_sync self.now }
     {
         matches!(
-            self.stage,
+            &self.stage,
             Stage::Beginning { .. } | Stage::Sending { .. } | Stage::Aborting { .. }
         )
     }
