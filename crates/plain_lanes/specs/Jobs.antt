@@ -1,5 +1,5 @@
 -- What a job takes and leaves.
-use Rattle.std.specs.Prelude.{◌≤◌, length, Option, Some, None}
+use Rattle.std.specs.Prelude.{◌≡◌, ◌≤◌, length, Option, Some, None, Result, IfOk}
 use Rattle.store_types.specs.declared.refusal.Refusal.TheVariants.{SnapshotBusy, NoSnapshot}
 use Rattle.wire_commands.specs.declared.command.Command.TheVariants.{Prune}
 use Rattle.wire_commands.specs.declared.rows.PruneMark.{PruneMark}
@@ -14,6 +14,10 @@ use Rattle.plain_lanes.specs.declared.job.Job.TheVariants.{Over, Asking}
 abbrev pub shown_job : Job → model.Job
 shown_job (Over reply) = model.over reply
 shown_job (Asking a) = model.asking a
+
+-- where memory is not wanting, it is this job
+abbrev pub GivesJob : {E : Type 0} → Result Job E → model.Job → Type 0
+GivesJob result job = IfOk result (λ given. shown_job given ≡ job)
 
 -- what a job reports has a text
 abbrev pub IsSpelledJob : Job → Type 0

@@ -1,5 +1,6 @@
 -- The commands by which a SYNC uploads a snapshot, by the digests that were sent.
-use Rattle.std.specs.Prelude.{ℕ, Bool, List, [], ◌∷◌, ◌++◌, map, length, if◌then◌else◌}
+use Rattle.std.specs.Prelude.{◌≡◌, ℕ, Bool, List, [], ◌∷◌, ◌++◌, map, length, Result, OnOk, Vec, if◌then◌else◌}
+use Rattle.std.specs.declared.alloc.Global.{Global}
 use Rattle.std.specs.List.{list_any}
 use Rattle.std.specs.Str.{bytes_eq}
 use Rattle.sha2.specs.Sha256.{sha256}
@@ -9,6 +10,10 @@ use Rattle.store_files.specs.Archive.{Archive, Content, archive, blob, File, dig
 use Rattle.wire_commands.specs.declared.command.Command.{Command}
 use Rattle.wire_commands.specs.declared.command.Command.TheVariants.{Chunk, CloseIndex, Blob}
 use Rattle.store_model.specs.SyncJob.{entries_from, appends, new_index}
+
+-- where memory is not wanting, these commands come behind those before
+abbrev pub Pushes : {A E : Type 0} → Vec Command Global → Vec Command Global → List Command → Result A E → Type 0
+Pushes old new more result = OnOk result (new.items ≡ old.items ++ more)
 
 abbrev pub is_sent : List ℕ → List Digest32 → Bool
 is_sent p sent = list_any (λ d. bytes_eq d.0 (sha256 p)) sent

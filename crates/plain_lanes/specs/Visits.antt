@@ -1,5 +1,5 @@
 -- What a VERIFY makes of the replies to its steps.
-use Rattle.std.specs.Prelude.{ℕ, ◌+◌, Bool, true, false, List, [], ◌∷◌, ◌++◌, Option, Some, None}
+use Rattle.std.specs.Prelude.{◌≡◌, ℕ, ◌+◌, Bool, true, false, List, [], ◌∷◌, ◌++◌, Option, Some, None, Result, IfOk, MatchResult}
 use Rattle.std.specs.Option.{option_or}
 use Rattle.store_types.specs.declared.names.Digest32.{Digest32}
 use Rattle.store_types.specs.declared.refusal.Refusal.TheVariants.{Damaged, Unreadable}
@@ -27,6 +27,13 @@ shown_visit v = record {
 
 abbrev pub shown_judged : Judged → verify.Judged
 shown_judged j = record { fault = j.fault; bytes = j.bytes; digests = j.digests.items }
+
+-- where memory is not wanting, this is what the file says
+abbrev pub GivesJudged : {E : Type 0} → Result Judged E → verify.Judged → Type 0
+GivesJudged result judged = IfOk result (λ given. shown_judged given ≡ judged)
+
+abbrev pub GivesVisit : {E : Type 0} → Result Visit E → model.Visit → Type 0
+GivesVisit result visit = IfOk result (λ given. shown_visit given ≡ visit)
 
 -- the faults behind that of one more file
 abbrev pub with_faults : FileRow → Option FileFault → List FaultRow → List FaultRow
@@ -59,6 +66,10 @@ abbrev pub unreadable_told : Reply → Bool
 unreadable_told (Refused (Unreadable name)) = true
 unreadable_told _ = false
 
+-- what a reply of one kind gives, or the reply back where it is of another
+abbrev pub GivesOrBack : {A : Type 0} → (A → Reply) → (Reply → Bool) → Reply → Result A Reply → Type 0
+GivesOrBack made is_one reply result = MatchResult result (λ given. reply ≡ made given) (λ back. (is_one reply ≡ false) × (back ≡ reply))
+
 -- the fault of a file that a refusal tells
 abbrev pub fault_told : Reply → Option FileFault
 fault_told (Refused (Damaged asked found)) = Some (faults.Damaged asked)
@@ -75,6 +86,10 @@ abbrev pub chunk_judged : Reply → Digest32 → Option (Option FileFault)
 chunk_judged (Data bytes) d = Some (verify.chunk_fault d bytes)
 chunk_judged (Refused (Damaged asked found)) d = Some (Some (faults.Damaged d))
 chunk_judged _ d = None
+
+abbrev pub JudgesChunk : Reply → Digest32 → Result (Option FileFault) Reply → Type 0
+JudgesChunk reply d result =
+    MatchResult result (λ fault. chunk_judged reply d ≡ Some fault) (λ back. (chunk_judged reply d ≡ None) × (back ≡ reply))
 
 -- ---- the job, by a reply that gives nothing of what was read
 

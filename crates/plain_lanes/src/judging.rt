@@ -3,7 +3,7 @@
 ghost use Rattle.std.specs.Prelude.{◌≡◌, map, IfOk, IfSome};
 ghost use Rattle.wire_commands.specs.HasText.{FitsFileFault};
 ghost use Rattle.store_model.specs.VerifyJob as model;
-ghost use Rattle.plain_lanes.specs.Visits.{shown_judged};
+ghost use Rattle.plain_lanes.specs.Visits.{shown_judged, GivesJudged};
 
 use crate::asked::file_name;
 use blob_codec::decode;
@@ -67,7 +67,7 @@ fn dynamic_digests(alloc: Global, view: &DynamicView) -> Result<Vec<Digest32>, A
 
 #[tactic(auto, unfolding(store_model::specs::VerifyJob::fixed_judged))]
 fn fixed_judged(alloc: Global, row: &FileRow, bytes: &[u8]) -> Result<Judged, AllocError>
-    ensures judged { IfOk result (λ judged. shown_judged judged ≡ model.fixed_judged row.now bytes.now) }
+    ensures judged { GivesJudged result (model.fixed_judged row.now bytes.now) }
     ensures fits { IfOk result (λ judged. IfSome judged.fault FitsFileFault) }
 {
     let Ok(view) = FixedView::open_on(bytes) else {
@@ -83,7 +83,7 @@ fn fixed_judged(alloc: Global, row: &FileRow, bytes: &[u8]) -> Result<Judged, Al
 
 #[tactic(auto, unfolding(store_model::specs::VerifyJob::dynamic_judged), using(crate::proofs::JudgingLemmas::last_same))]
 fn dynamic_judged(alloc: Global, row: &FileRow, bytes: &[u8]) -> Result<Judged, AllocError>
-    ensures judged { IfOk result (λ judged. shown_judged judged ≡ model.dynamic_judged row.now bytes.now) }
+    ensures judged { GivesJudged result (model.dynamic_judged row.now bytes.now) }
     ensures fits { IfOk result (λ judged. IfSome judged.fault FitsFileFault) }
 {
     let Ok(view) = DynamicView::open_on(bytes) else {
@@ -143,7 +143,7 @@ fn blob_judged(
     row: &FileRow,
     bytes: &[u8],
 ) -> Result<Judged, AllocError>
-    ensures judged { IfOk result (λ judged. shown_judged judged ≡ model.blob_judged snapshot.now row.now bytes.now) }
+    ensures judged { GivesJudged result (model.blob_judged snapshot.now row.now bytes.now) }
     ensures fits { IfOk result (λ judged. IfSome judged.fault FitsFileFault) }
 {
     if let Some(fault) = compared(row, bytes.len() as u64, &Sha256::digest(bytes)) {
@@ -161,7 +161,7 @@ pub fn judged(
     row: &FileRow,
     bytes: &[u8],
 ) -> Result<Judged, AllocError>
-    ensures judged { IfOk result (λ judged. shown_judged judged ≡ model.judged snapshot.now row.now bytes.now) }
+    ensures judged { GivesJudged result (model.judged snapshot.now row.now bytes.now) }
     ensures fits { IfOk result (λ judged. IfSome judged.fault FitsFileFault) }
 {
     let name = file_name(alloc, row.file.as_slice())?;

@@ -4,7 +4,7 @@ ghost use Rattle.std.specs.Prelude.{◌≡◌, ◌<◌, ◌++◌, ◌∷◌, [],
 ghost use Rattle.store_types.specs.Names.{key_text};
 ghost use Rattle.wire_commands.specs.HasText.{IsText, ReplyHasText};
 ghost use Rattle.store_model.specs.SyncJob as model;
-ghost use Rattle.plain_lanes.specs.Jobs.{shown_job, IsSpelledJob};
+ghost use Rattle.plain_lanes.specs.Jobs.{shown_job, GivesJob, IsSpelledJob};
 ghost use Rattle.plain_lanes.specs.Closes.{is_refused as has_refusal};
 ghost use Rattle.plain_lanes.specs.Pulls.{shown_pull, is_base as tells_base};
 
@@ -72,7 +72,7 @@ fn next_command(
     pull: Pull,
     commands: VecDeque<Command>,
 ) -> Result<Job, AllocError>
-    ensures job { IfOk result (λ job. shown_job job ≡ model.next_command (shown_pull pull) commands.items) }
+    ensures job { GivesJob result (model.next_command (shown_pull pull) commands.items) }
     ensures spelled { IfOk result IsSpelledJob }
 {
     let mut later = commands;
@@ -102,7 +102,7 @@ fn is_base(reply: &Reply) -> bool
 /// The job after the reply to OPEN_WRITER.
 pub fn begun(alloc: Global, pull: Pull, reply: Reply) -> Result<Job, AllocError>
     requires { ReplyHasText reply }
-    ensures job { IfOk result (λ job. shown_job job ≡ model.begun (shown_pull pull) reply) }
+    ensures job { GivesJob result (model.begun (shown_pull pull) reply) }
     ensures spelled { IfOk result IsSpelledJob }
 {
     if !is_base(&reply) {
@@ -120,7 +120,7 @@ pub fn replied(
     reply: Reply,
 ) -> Result<Job, AllocError>
     requires { ReplyHasText reply }
-    ensures job { IfOk result (λ job. shown_job job ≡ model.replied (shown_pull pull) later.items reply) }
+    ensures job { GivesJob result (model.replied (shown_pull pull) later.items reply) }
     ensures spelled { IfOk result IsSpelledJob }
 {
     if is_refused(&reply) {

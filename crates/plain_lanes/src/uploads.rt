@@ -7,7 +7,7 @@ ghost use Rattle.manifest.specs.Views.{fact_view};
 ghost use Rattle.store_types.specs.FileNames.{manifest_name};
 ghost use Rattle.store_model.specs.SyncJob.{appends, entries_from, new_index, text_of as text_in, commands_of as commands_for, listed_files as files_listed};
 ghost use Rattle.plain_snapshots.specs.Shown.{shown_layout};
-ghost use Rattle.plain_lanes.specs.Uploading.{is_sent as was_sent, chunk_of, close_of, unsent_by, sent_after, archive_commands_by, file_commands_by, uploads_by};
+ghost use Rattle.plain_lanes.specs.Uploading.{Pushes, is_sent as was_sent, chunk_of, close_of, unsent_by, sent_after, archive_commands_by, file_commands_by, uploads_by};
 
 use plain_snapshots::{Archive, BlobData, Content, File, Layout, Snapshot, facts_in, file_named};
 use sha2::{Digest, Sha256};
@@ -58,7 +58,7 @@ fn push_chunk(
     sent: &mut Vec<Digest32>,
     piece: &BlobData,
 ) -> Result<(), AllocError>
-    ensures commands { OnOk result (commands.new.items ≡ commands.old.items ++ map chunk_of (unsent_by sent.old.items (piece.now ∷ []))) }
+    ensures commands { Pushes commands.old commands.new (map chunk_of (unsent_by sent.old.items (piece.now ∷ []))) result }
     ensures sent { OnOk result (sent.new.items ≡ sent_after piece.now sent.old.items) }
 {
     if is_sent(piece, sent) {
@@ -76,7 +76,7 @@ fn push_chunks(
     sent: &[Digest32],
     pieces: &[BlobData],
 ) -> Result<(), AllocError>
-    ensures { OnOk result (commands.new.items ≡ commands.old.items ++ map chunk_of (unsent_by sent.now pieces.now)) }
+    ensures { Pushes commands.old commands.new (map chunk_of (unsent_by sent.now pieces.now)) result }
 {
     let mut sent = Vec::from_slice(alloc, sent)?;
     for piece in pieces {
@@ -108,7 +108,7 @@ fn push_appends(
     commands: &mut Vec<Command>,
     entries: &[AppendEntry],
 ) -> Result<(), AllocError>
-    ensures { OnOk result (commands.new.items ≡ commands.old.items ++ appends (length entries.now) entries.now) }
+    ensures { Pushes commands.old commands.new (appends (length entries.now) entries.now) result }
 {
     let mut left = entries;
     while !left.is_empty() {
@@ -141,7 +141,7 @@ fn push_archive(
     name: &[u8],
     archive: &Archive,
 ) -> Result<(), AllocError>
-    ensures { OnOk result (commands.new.items ≡ commands.old.items ++ archive_commands_by sent.now name.now archive.now) }
+    ensures { Pushes commands.old commands.new (archive_commands_by sent.now name.now archive.now) result }
 {
     commands.push(begins(alloc, archive.layout, name)?)?;
     push_chunks(alloc, commands, sent, &archive.pieces)?;
@@ -159,7 +159,7 @@ fn push_file(
     sent: &[Digest32],
     file: &File,
 ) -> Result<(), AllocError>
-    ensures { OnOk result (commands.new.items ≡ commands.old.items ++ file_commands_by sent.now file.now.name file.now.content) }
+    ensures { Pushes commands.old commands.new (file_commands_by sent.now file.now.name file.now.content) result }
 {
     let name = file.name.as_slice();
     match &file.content {

@@ -1,12 +1,12 @@
 //! VERIFY: each file of a snapshot is read, and each chunk that its indexes name.
 
-ghost use Rattle.std.specs.Prelude.{◌≡◌, ◌+◌, ◌≤◌, false, length, Some, None, All, IfOk, IfSome, MatchResult};
+ghost use Rattle.std.specs.Prelude.{◌≡◌, ◌+◌, ◌≤◌, length, All, IfOk, IfSome};
 ghost use Rattle.std.specs.Option.{option_or};
 ghost use Rattle.wire_commands.specs.HasText.{FitsFaultRow, FitsFileFault, FitsFileRow, ReplyHasText};
 ghost use Rattle.wire_commands.specs.declared.reply.Reply.TheVariants as replies;
 ghost use Rattle.store_model.specs.VerifyJob as model;
-ghost use Rattle.plain_lanes.specs.Jobs.{shown_job, IsSpelledJob};
-ghost use Rattle.plain_lanes.specs.Visits.{shown_visit, shown_judged, is_done as tells_done, is_part, is_files, is_data, fault_told as told_of, chunk_told as told_of_chunk, unreadable_told, chunk_judged, with_faults, counted_of, read_by, checked_by};
+ghost use Rattle.plain_lanes.specs.Jobs.{shown_job, GivesJob, IsSpelledJob};
+ghost use Rattle.plain_lanes.specs.Visits.{GivesOrBack, GivesVisit, JudgesChunk, shown_visit, shown_judged, is_done as tells_done, is_part, is_files, is_data, fault_told as told_of, chunk_told as told_of_chunk, unreadable_told, with_faults, counted_of, read_by, checked_by};
 
 use crate::ending::{Close, asked, ended};
 use crate::job::{Asking, Job, Stage};
@@ -92,7 +92,7 @@ fn file_done(
 ) -> Result<Job, AllocError>
     requires row { FitsFileRow row }
     requires fault { IfSome fault FitsFileFault }
-    ensures job { IfOk result (λ job. shown_job job ≡ model.file_done (shown_visit visit) row fault) }
+    ensures job { GivesJob result (model.file_done (shown_visit visit) row fault) }
     ensures spelled { IfOk result IsSpelledJob }
 {
     let Visit {
@@ -125,7 +125,7 @@ fn next_chunk(
 ) -> Result<Job, AllocError>
     requires row { FitsFileRow row }
     requires fault { IfSome fault FitsFileFault }
-    ensures job { IfOk result (λ job. shown_job job ≡ model.next_chunk (shown_visit visit) row fault place digests.items) }
+    ensures job { GivesJob result (model.next_chunk (shown_visit visit) row fault place digests.items) }
     ensures spelled { IfOk result IsSpelledJob }
 {
     let mut later = digests;
@@ -145,7 +145,7 @@ fn next_chunk(
 
 /// So many more entries, with so many bytes together. More than a `u64` counts no memory holds.
 fn counted(visit: Visit, entries: u64, bytes: u64) -> Result<Visit, AllocError>
-    ensures visit { IfOk result (λ after. shown_visit after ≡ counted_of (shown_visit visit) entries bytes) }
+    ensures visit { GivesVisit result (counted_of (shown_visit visit) entries bytes) }
 {
     let Visit {
         snapshot,
@@ -174,7 +174,7 @@ fn file_read(
 ) -> Result<Job, AllocError>
     requires row { FitsFileRow row }
     requires fault { IfSome judged.fault FitsFileFault }
-    ensures job { IfOk result (λ job. shown_job job ≡ model.file_read (shown_visit visit) row (shown_judged judged)) }
+    ensures job { GivesJob result (model.file_read (shown_visit visit) row (shown_judged judged)) }
     ensures spelled { IfOk result IsSpelledJob }
 {
     let Judged {
@@ -196,7 +196,7 @@ fn is_done(reply: &Reply) -> bool
 
 /// The files that a reply tells, or the reply back.
 fn files_in(reply: Reply) -> Result<Rows<FileRow>, Reply>
-    ensures { MatchResult result (λ rows. reply ≡ replies.Files rows) (λ back. (is_files reply ≡ false) × (back ≡ reply)) }
+    ensures { GivesOrBack (λ rows. replies.Files rows) is_files reply result }
 {
     match reply {
         Reply::Files(rows) => Ok(rows),
@@ -206,7 +206,7 @@ fn files_in(reply: Reply) -> Result<Rows<FileRow>, Reply>
 
 /// The size of a file and a part of it, or the reply back.
 fn part_in(reply: Reply) -> Result<(u64, Bytes), Reply>
-    ensures { MatchResult result (λ part. reply ≡ replies.Part part.0 part.1) (λ back. (is_part reply ≡ false) × (back ≡ reply)) }
+    ensures { GivesOrBack (λ part. replies.Part part.0 part.1) is_part reply result }
 {
     match reply {
         Reply::Part { total, bytes } => Ok((total, bytes)),
@@ -216,7 +216,7 @@ fn part_in(reply: Reply) -> Result<(u64, Bytes), Reply>
 
 /// The bytes that a reply gives, or the reply back.
 fn data_in(reply: Reply) -> Result<Bytes, Reply>
-    ensures { MatchResult result (λ bytes. reply ≡ replies.Data bytes) (λ back. (is_data reply ≡ false) × (back ≡ reply)) }
+    ensures { GivesOrBack (λ bytes. replies.Data bytes) is_data reply result }
 {
     match reply {
         Reply::Data(bytes) => Ok(bytes),
@@ -282,7 +282,7 @@ fn part_read(
     total: u64,
 ) -> Result<Job, AllocError>
     requires { FitsFileRow row }
-    ensures job { IfOk result (λ job. shown_job job ≡ model.part_read (shown_visit visit) row bytes.items total) }
+    ensures job { GivesJob result (model.part_read (shown_visit visit) row bytes.items total) }
     ensures spelled { IfOk result IsSpelledJob }
 {
     if (bytes.len() as u64) < total {
@@ -302,7 +302,7 @@ fn unread(
 ) -> Result<Job, AllocError>
     requires row { FitsFileRow row }
     requires reply { ReplyHasText reply }
-    ensures job { IfOk result (λ job. shown_job job ≡ read_by (shown_visit visit) row reply) }
+    ensures job { GivesJob result (read_by (shown_visit visit) row reply) }
     ensures spelled { IfOk result IsSpelledJob }
 {
     let Some(fault) = fault_told(&reply) else {
@@ -321,7 +321,7 @@ pub fn read_part(
 ) -> Result<Job, AllocError>
     requires row { FitsFileRow row }
     requires reply { ReplyHasText reply }
-    ensures job { IfOk result (λ job. shown_job job ≡ model.read_part (shown_visit visit) row bytes.items reply) }
+    ensures job { GivesJob result (model.read_part (shown_visit visit) row bytes.items reply) }
     ensures spelled { IfOk result IsSpelledJob }
 {
     match part_in(reply) {
@@ -375,7 +375,7 @@ fn unchecked(
     requires row { FitsFileRow row }
     requires fault { IfSome fault FitsFileFault }
     requires reply { ReplyHasText reply }
-    ensures job { IfOk result (λ job. shown_job job ≡ checked_by (shown_visit visit) row fault reply) }
+    ensures job { GivesJob result (checked_by (shown_visit visit) row fault reply) }
     ensures spelled { IfOk result IsSpelledJob }
 {
     if is_unreadable(&reply) {
@@ -388,7 +388,7 @@ fn unchecked(
 /// The fault that the reply to the read of a chunk tells, where the file goes on: the reply back where it does not.
 fn chunk_in(reply: Reply, digest: &Digest32) -> Result<Option<FileFault>, Reply>
     requires { ReplyHasText reply }
-    ensures fault { MatchResult result (λ fault. chunk_judged reply digest.now ≡ Some fault) (λ back. (chunk_judged reply digest.now ≡ None) × (back ≡ reply)) }
+    ensures fault { JudgesChunk reply digest.now result }
     ensures fits { IfOk result (λ fault. IfSome fault FitsFileFault) }
 {
     let reply = match data_in(reply) {
@@ -415,7 +415,7 @@ pub fn checked(
     requires row { FitsFileRow row }
     requires fault { IfSome fault FitsFileFault }
     requires reply { ReplyHasText reply }
-    ensures job { IfOk result (λ job. shown_job job ≡ model.checked (shown_visit visit) row fault place digest later.items reply) }
+    ensures job { GivesJob result (model.checked (shown_visit visit) row fault place digest later.items reply) }
     ensures spelled { IfOk result IsSpelledJob }
 {
     match chunk_in(reply, &digest) {
