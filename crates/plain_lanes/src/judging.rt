@@ -155,7 +155,7 @@ fn blob_judged(
 
 /// What a whole file says, of the snapshot with this text.
 #[tactic(auto, unfolding(store_model::specs::VerifyJob::judged))]
-pub fn judged(
+pub fn judge(
     alloc: Global,
     snapshot: &[u8],
     row: &FileRow,

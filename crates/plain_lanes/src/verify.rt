@@ -10,7 +10,7 @@ ghost use Rattle.plain_lanes.specs.Visits.{GivesOrBack, GivesVisit, JudgesChunk,
 
 use crate::ending::{Close, asked, ended};
 use crate::job::{Asking, Job, Stage};
-use crate::judging::{Judged, chunk_fault, judged};
+use crate::judging::{Judged, chunk_fault, judge};
 use crate::visit::Visit;
 use std::alloc::{AllocError, Global};
 use std::collections::VecDeque;
@@ -289,7 +289,7 @@ fn part_read(
         let stage = Stage::Reading { visit, row, bytes };
         return Ok(Job::Asking(Asking { stage }));
     }
-    let judged = judged(alloc, visit.snapshot.as_slice(), &row, &bytes)?;
+    let judged = judge(alloc, visit.snapshot.as_slice(), &row, &bytes)?;
     file_read(alloc, visit, row, judged)
 }
 
