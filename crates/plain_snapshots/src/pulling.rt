@@ -1,10 +1,10 @@
 //! The snapshots of a group, and those of them that a SYNC pulls.
 
-ghost use Rattle.std.specs.Prelude.{◌≡◌, filter, map, option_map, take, None, IfOk};
+ghost use Rattle.std.specs.Prelude.{◌≡◌, map, option_map, None, IfOk};
 ghost use Rattle.std.specs.List.{last_or};
-ghost use Rattle.store_model.specs.Stands.{group_limit};
 ghost use Rattle.store_model.specs.Store.{in_group};
 ghost use Rattle.store_model.specs.SyncJob.{is_later as comes_later};
+ghost use Rattle.plain_snapshots.specs.Pulling.{newest_of, shown_newest, later_of};
 
 use crate::key::PlainKey;
 use crate::snapshot::Snapshot;
@@ -40,14 +40,14 @@ fn last_key(snapshots: &[Snapshot]) -> Option<&PlainKey>
 
 /// The newest of a group's snapshots that GROUP tells.
 pub fn newest_told(members: &[Snapshot]) -> Option<&PlainKey>
-    ensures { option_map (λ key. key.now) result ≡ last_or None (take group_limit (map (λ x. x.key) members.now)) }
+    ensures { shown_newest result ≡ newest_of members.now }
 {
     last_key(&members[..members.len().min(GROUP_LIMIT)])
 }
 
 /// The snapshot is later than this one, where there is one.
 fn is_later(newest: Option<&PlainKey>, snapshot: &Snapshot) -> bool
-    ensures { result ≡ comes_later (option_map (λ key. key.now) newest.entry) snapshot.now }
+    ensures { result ≡ comes_later (shown_newest newest.entry) snapshot.now }
 {
     match newest {
         None => true,
@@ -61,7 +61,7 @@ pub fn later_than(
     newest: Option<&PlainKey>,
     members: &[Snapshot],
 ) -> Result<Vec<Snapshot>, AllocError>
-    ensures { IfOk result (λ later. later.items ≡ filter (comes_later (option_map (λ key. key.now) newest.entry)) members.now) }
+    ensures { IfOk result (λ later. later.items ≡ later_of newest.entry members.now) }
 {
     let mut later = Vec::new(alloc);
     for snapshot in members {

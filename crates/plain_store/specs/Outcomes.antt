@@ -1,5 +1,6 @@
 -- What a step leaves, by what it answers.
-use Rattle.std.specs.Prelude.{◌≡◌, ℕ, List, Option, option_map, Result, Ok, Err, MatchResult}
+use Rattle.std.specs.Prelude.{◌≡◌, ℕ, List, Option, option_map, Result, Ok, Err, MatchResult, Vec}
+use Rattle.std.specs.declared.alloc.Global.{Global}
 use Rattle.store_types.specs.declared.names.Digest32.{Digest32}
 use Rattle.store_types.specs.declared.refusal.Refusal.{Refusal}
 use Rattle.store_files.specs.Archive.{Snapshot}
@@ -16,7 +17,7 @@ use Rattle.plain_sessions.specs.declared.changes.Change.{Change}
 use Rattle.plain_sessions.specs.Changes.{changed_in}
 use Rattle.plain_sessions.specs.declared.stop.Stop.{Stop}
 use Rattle.plain_sessions.specs.declared.stop.Stop.TheVariants.{Refused, NoMemory}
-use Rattle.plain_sessions.specs.Outcomes.{IsFitRefusal}
+use Rattle.plain_sessions.specs.Outcomes.{Gives, IsFitRefusal}
 
 -- the reply and the store after are the outcome's; a refusal is the outcome's and changes nothing, and so does want of memory
 abbrev pub Does : Store → Store → Result Reply Stop → Outcome → Type 0
@@ -60,5 +61,5 @@ abbrev pub job_done : Store → ℕ → ℕ → Asking → Store × Reply
 job_done s lane moment job = step_done s lane moment (step_of job)
 
 -- what a SYNC pulls from another store, where there is one
-abbrev pub pulls : {R : Type 0} → Option R → (R → Store) → Store → ℕ → List ℕ → Result (List Snapshot) Refusal
-pulls remote shown s lane group = to_pull (option_map (λ p. (shown p).snapshots) remote) s lane group
+abbrev pub Pulls : {R : Type 0} → Option R → (R → Store) → Store → ℕ → List ℕ → Result (Vec Snapshot Global) Stop → Type 0
+Pulls remote shown s lane group result = Gives (λ found. found.items) result (to_pull (option_map (λ p. (shown p).snapshots) remote) s lane group)

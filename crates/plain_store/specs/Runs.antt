@@ -45,6 +45,9 @@ stepped_at r lane moment = stepped r lane moment (next_of r lane)
 abbrev pub begun_at : Run → ℕ → ℕ → Ahead → List ℕ → Option Run
 begun_at r lane moment ahead left = stepped r lane moment (shown_ahead ahead left)
 
+abbrev pub BeginsBy : {E : Type 0} → Run → Run → ℕ → ℕ → Ahead → List ℕ → Result Bool E → Type 0
+BeginsBy old new lane moment ahead left result = EntersBy old new (begun_at old lane moment ahead left) result
+
 -- a GC that is refused
 abbrev pub refused_at : Run → ℕ → List ℕ → Option Run
 refused_at r lane left = elim (want_collector r lane) [ Ok may ↦ None | Err refusal ↦ Some (tell r lane left (Refused refusal)) ]
@@ -88,6 +91,10 @@ end_open_at r lane ending = unread (record r { collecting = None }) lane ending
 -- the entry at a place, whose lane has this ending
 abbrev pub EntersEntry : {E : Type 0} → Run → Run → Ending → ℕ → Entry → List Entry → Result Bool E → Type 0
 EntersEntry old new ending place entry later result = EntersBy old new (entered (λ _ _. ending) old place entry later) result
+
+-- the same, whatever comes behind it
+abbrev pub EntersOpen : {E : Type 0} → Run → Run → Ending → ℕ → Entry → Result Bool E → Type 0
+EntersOpen old new ending place entry result = (later : List Entry) → EntersEntry old new ending place entry later result
 
 -- ---- a run as a whole
 

@@ -4,7 +4,7 @@ ghost use Rattle.std.specs.Prelude.{◌≡◌, ◌<◌, ◌≤◌, IfOk, OnOk, O
 ghost use Rattle.store_types.specs.Times.{last_moment};
 ghost use Rattle.wire_commands.specs.HasText.{ReplyHasText};
 ghost use Rattle.store_model.specs.Store.{session as session_at, with_session, ended};
-ghost use Rattle.store_model.specs.JobSteps.{step_outcome as outcome_of_step};
+ghost use Rattle.store_model.specs.JobSteps.{step_outcome as by_step};
 ghost use Rattle.store_model.specs.Steps.{step as stepped, outcome as outcome_of};
 ghost use Rattle.plain_sessions.specs.Sessions.{shown_held};
 ghost use Rattle.plain_sessions.specs.Changes.{FitsSession};
@@ -142,7 +142,7 @@ impl Plain {
     ) -> Result<Reply, Stop>
         requires lane { lane < 64 }
         requires moment { moment ≤ last_moment }
-        ensures does { Does self.old self.new result (outcome_of_step self.old lane moment step.now) }
+        ensures does { Does self.old self.new result (by_step self.old lane moment step.now) }
         ensures spelled { IsSpelled result }
     {
         match step {

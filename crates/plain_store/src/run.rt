@@ -1,6 +1,6 @@
 //! The plain store and the lanes, as an order goes on.
 
-ghost use Rattle.std.specs.Prelude.{◌≡◌, ◌<◌, ◌≤◌, ◌==◌, List, length, option_map, is_some, Some, None, IfOk, IfErr, OnOk};
+ghost use Rattle.std.specs.Prelude.{◌≡◌, ◌<◌, ◌≤◌, ◌==◌, length, option_map, is_some, Some, None, IfOk, IfErr, OnOk};
 ghost use Rattle.std.specs.List.{find};
 ghost use Rattle.store_types.specs.Times.{last_moment};
 ghost use Rattle.wire_commands.specs.HasText.{FitsRefusal, ReplyHasText};
@@ -8,7 +8,7 @@ ghost use Rattle.store_model.specs.Lanes.{lane_at, next_of};
 ghost use Rattle.store_model.specs.Weave.{tell as told, go_on as gone_on, end_session as without_session, fault_refusal as refusal_of, is_end as is_an_end, is_cut_off as cuts_off, is_replied as has_reply, may_leave_unread as may_stop, want_collector as wants_collector, open_collector as opened, close_collector as closed_by, collected as collected_by, ended_with as after_end, unread as after_unread, begin_sync as begun_sync};
 ghost use Rattle.plain_lanes.specs.Jobs.{shown_job, IsSpelledJob};
 ghost use Rattle.plain_lanes.specs.Nexts.{shown_next, is_sync_next, IsFitAhead, IsFitNext};
-ghost use Rattle.plain_store.specs.Runs.{run_left, Enters, EntersBy, EntersEntry, IsApart, own_collector as own_open, begun_at, end_open_at, ends_at, fault_at, fault_open_at, faulted_at, opened_at, opens_at, passed_at, refused_at, remote_failed_at, short_at, short_open, stepped_at};
+ghost use Rattle.plain_store.specs.Runs.{run_left, BeginsBy, Enters, EntersBy, EntersEntry, EntersOpen, IsApart, own_collector as own_open, end_open_at, ends_at, fault_at, fault_open_at, faulted_at, opened_at, opens_at, passed_at, refused_at, remote_failed_at, short_at, short_open, stepped_at};
 
 use crate::plain::Plain;
 use plain_lanes::{Ahead, Job, Lane, Next, pull_all};
@@ -319,7 +319,7 @@ impl<'a> Run<'a> {
         requires lanes { length self.old.lanes ≤ 64 }
         requires moment { moment ≤ last_moment }
         requires fits { IsFitAhead ahead }
-        ensures enters { EntersBy self.old self.new (begun_at self.old lane moment ahead left.now) result }
+        ensures enters { BeginsBy self.old self.new lane moment ahead left.now result }
         ensures lanes { OnOk result (length self.new.lanes ≡ length self.old.lanes) }
     {
         match ahead {
@@ -615,7 +615,7 @@ impl<'a> Run<'a> {
         requires lane { entry.now.lane < length self.old.lanes }
         requires lanes { length self.old.lanes ≤ 64 }
         requires open { own_open self.old entry.now.lane ≡ Some is_short }
-        ensures enters { (later : List Entry) → EntersEntry self.old self.new ending place entry.now later result }
+        ensures enters { EntersOpen self.old self.new ending place entry.now result }
         ensures lanes { OnOk result (length self.new.lanes ≡ length self.old.lanes) }
     {
         let lane = entry.lane;

@@ -1,8 +1,8 @@
 //! What a SYNC pulls.
 
-ghost use Rattle.std.specs.Prelude.{◌≡◌, ◌<◌, option_map};
-ghost use Rattle.plain_sessions.specs.Outcomes.{Gives, IsFitRefusal};
-ghost use Rattle.plain_store.specs.Outcomes.{pulls};
+ghost use Rattle.std.specs.Prelude.{◌<◌};
+ghost use Rattle.plain_sessions.specs.Outcomes.{IsFitRefusal};
+ghost use Rattle.plain_store.specs.Outcomes.{Pulls};
 
 use crate::plain::Plain;
 use plain_sessions::Stop;
@@ -21,7 +21,7 @@ impl Plain {
     ) -> Result<Vec<Snapshot>, Stop>
         requires { lane < 64 }
         ensures fits { IsFitRefusal result }
-        ensures gives { Gives (λ found. found.items) result (pulls remote.entry (λ p. p.now) self.now lane group.now) }
+        ensures gives { Pulls remote.entry (λ p. p.now) self.now lane group.now result }
     {
         self.held(lane).want_idle()?;
         let Ok(group) = GroupKey::parse(alloc, group)? else {
