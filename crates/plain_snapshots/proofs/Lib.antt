@@ -7,4 +7,4 @@ pub mod Headers
 pub mod Sorting
 pub mod RowTexts
 pub mod Telling
-pub mod Pulling
+pub mod PullLemmas

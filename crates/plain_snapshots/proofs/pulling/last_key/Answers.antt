@@ -1,6 +1,6 @@
 use Rattle.std.proofs.Common.{ap, ◌∙◌, Some, arith}
 use Rattle.store_files.specs.Archive.{Snapshot}
-use Rattle.plain_snapshots.proofs.Pulling.{last_more}
+use Rattle.plain_snapshots.proofs.PullLemmas.{last_more}
 use Rattle.plain_snapshots.proofs.pulling.last_key.Goals as goal
 
 pub loop-snapshot-preserved : goal.loop-snapshot-preserved

@@ -1,7 +1,7 @@
 use Rattle.std.proofs.Common.{◌∙◌, arith, sym, ap}
 use Rattle.std.specs.Prelude.{option_map}
 use Rattle.store_model.specs.SyncJob.{is_later}
-use Rattle.plain_snapshots.proofs.Pulling.{kept_more, kept_still}
+use Rattle.plain_snapshots.proofs.PullLemmas.{kept_more, kept_still}
 use Rattle.plain_snapshots.proofs.pulling.later_than.Goals as goal
 use Rattle.plain_snapshots.proofs.pulling.later_than.Goals.{then-is_later+in_ok-push, else-is_later}
 

@@ -3,7 +3,7 @@ use Rattle.std.proofs.lemmas.Bool.{cond-true, cond-false}
 use Rattle.std.proofs.lemmas.List.{take_more}
 use Rattle.store_files.specs.Archive.{Snapshot}
 use Rattle.plain_snapshots.proofs.Order.{is_in}
-use Rattle.plain_snapshots.proofs.Pulling.{kept_more, kept_still}
+use Rattle.plain_snapshots.proofs.PullLemmas.{kept_more, kept_still}
 use Rattle.plain_snapshots.proofs.pulling.members.Goals as goal
 use Rattle.plain_snapshots.proofs.pulling.members.Goals.{then-is_of+in_ok-push, else-is_of}
 

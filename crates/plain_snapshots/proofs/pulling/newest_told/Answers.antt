@@ -1,7 +1,7 @@
 use Rattle.std.proofs.Common.{◌≡◌, ap, ◌∙◌, None, take, length, arith}
 use Rattle.std.specs.Prelude.{min}
 use Rattle.std.proofs.lemmas.List.{take_min}
-use Rattle.plain_snapshots.proofs.Pulling.{key_of_last, first_told}
+use Rattle.plain_snapshots.proofs.PullLemmas.{key_of_last, first_told}
 use Rattle.plain_snapshots.proofs.pulling.newest_told.Goals as goal
 
 pub returns : goal.returns

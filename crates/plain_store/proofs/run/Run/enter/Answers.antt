@@ -6,6 +6,9 @@ use Rattle.plain_store.specs.Runs.{Enters}
 use Rattle.plain_store.proofs.RunLemmas.{entered_0, entered_1, entered_2, entered_3, entered_5, entered_6, entered_7, not_entered}
 use Rattle.plain_store.proofs.run.Run.enter.Goals as goal
 
+pub returns-in-Some-clause-enters : goal.returns-in-Some-clause-enters
+returns-in-Some-clause-enters c = c.enter_open.ensures.enters c.args.later.now
+
 pub returns-in-0-clause-enters : goal.returns-in-0-clause-enters
 returns-in-0-clause-enters c =
     let r = c.args.self.now in
