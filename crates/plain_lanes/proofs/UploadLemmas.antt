@@ -7,10 +7,11 @@ use Rattle.std.proofs.lemmas.List.{map-append, take_min, drop_min, drop_all}
 use Rattle.sha2.specs.Sha256.{sha256}
 use Rattle.store_types.specs.declared.append.AppendEntry.{AppendEntry}
 use Rattle.store_types.specs.declared.names.Digest32.{Digest32}
-use Rattle.store_files.specs.Archive.{Archive, Content, archive, blob, File, digest_of, pieces_of}
+use Rattle.store_types.specs.FileNames.{manifest_name}
+use Rattle.store_files.specs.Archive.{Archive, Content, archive, blob, File, Snapshot, digest_of, pieces_of, file_named}
 use Rattle.wire_commands.specs.declared.command.Command.{Command}
-use Rattle.wire_commands.specs.declared.command.Command.TheVariants.{Append}
-use Rattle.store_model.specs.SyncJob.{has_digest_of, unsent, entries_from, appends, file_commands, archive_commands, new_index, uploads}
+use Rattle.wire_commands.specs.declared.command.Command.TheVariants.{Append, Blob, Finish}
+use Rattle.store_model.specs.SyncJob.{has_digest_of, unsent, entries_from, appends, file_commands, archive_commands, new_index, uploads, listed_files, text_of, commands_of}
 use Rattle.plain_lanes.specs.Uploading.{is_sent, unsent_by, sent_after, chunk_of, close_of, archive_commands_by, file_commands_by, uploads_by}
 
 -- ---- by digests, as by pieces
@@ -135,3 +136,13 @@ pub appends_done : (before r : List Command) (left : List AppendEntry) → lengt
 unfolding appends
 appends_done before r [] none h = sym (append-nil before) ∙ h
 appends_done before r (e ∷ es) none h = absurd (omega arith)
+
+-- behind the files come the manifest and FINISH
+pub all_pushed : (x : Snapshot) (files : List File) (cs one two : List Command) (name contents : List ℕ) → files ≡ listed_files x → cs ≡ uploads_by [] files
+    → one ≡ cs ++ Blob name contents ∷ [] → two ≡ one ++ Finish ∷ [] → name ≡ manifest_name → contents ≡ text_of (file_named manifest_name x.files) → two ≡ commands_of x
+unfolding commands_of
+all_pushed x files cs one two name contents listed made first second named told =
+    second ∙ ap (λ l. l ++ Finish ∷ []) first ∙ append_assoc cs (Blob name contents ∷ []) (Finish ∷ [])
+    ∙ ap (λ l. l ++ Blob name contents ∷ Finish ∷ []) (made ∙ ap (uploads_by []) listed ∙ uploads_same (listed_files x))
+    ∙ ap (λ n. uploads [] (listed_files x) ++ Blob n contents ∷ Finish ∷ []) named
+    ∙ ap (λ t. uploads [] (listed_files x) ++ Blob manifest_name t ∷ Finish ∷ []) told

@@ -227,7 +227,6 @@ fn manifest_text(alloc: Global, snapshot: &Snapshot) -> Result<Vec<u8>, AllocErr
 }
 
 /// Behind OPEN_WRITER: the files, then the manifest and FINISH.
-#[tactic(auto, unfolding(store_model::specs::SyncJob::commands_of))]
 pub fn commands_of(alloc: Global, snapshot: &Snapshot) -> Result<VecDeque<Command>, AllocError>
     ensures { IfOk result (λ commands. commands.items ≡ commands_for snapshot.now) }
 {
