@@ -129,7 +129,7 @@ fn blob_fault(
     let Ok(contents) = decode(bytes) else {
         return Ok(Some(FileFault::Unreadable));
     };
-    if name == b"index.json.blob" {
+    if name == b"index.json.blob".as_slice() {
         manifest_fault(alloc, snapshot, contents)
     } else {
         Ok(None)
