@@ -3,7 +3,9 @@ use Rattle.std.proofs.Common.{◌≡◌, ℕ, ◌*◌, ◌≤◌, true, false, L
 use Rattle.std.specs.Prelude.{◌+◌, ◌<◌, ◌^◌, All}
 use Rattle.std.specs.List.{flat_map}
 use Rattle.std.specs.Option.{option_or}
-use Rattle.std.proofs.lemmas.List.Elements.{All-head, All-tail}
+use Rattle.std.specs.Prelude.{nat_lt}
+use Rattle.std.proofs.lemmas.Bool.{and_parts, ltb-true, eqb-true}
+use Rattle.std.proofs.lemmas.List.Elements.{All-nil, All-cons, All-head, All-tail}
 use Rattle.store_types.specs.declared.names.Digest32.{Digest32}
 use Rattle.store_types.specs.declared.refusal.Refusal.{Refusal}
 use Rattle.store_types.specs.declared.refusal.Refusal.TheVariants.{Damaged, Unreadable}
@@ -18,6 +20,7 @@ use Rattle.wire_commands.specs.HasText.{FitsFileFault, FitsFaultRow, ReplyHasTex
 use Rattle.store_model.specs.Job.{Visit, Job, over, asking, listing, reading, closing}
 use Rattle.store_model.specs.VerifyJob.{next_file, file_done, next_chunk, with_fault, tally, opened, begun, listed, part_read, read_part, chunk_fault, checked}
 use Rattle.plain_lanes.specs.Closes.{ended_by}
+use Rattle.plain_lanes.specs.FaultRows.{fault_fits, IsFitRow}
 use Rattle.plain_lanes.specs.Visits.{is_done, is_files, is_part, fault_told, unreadable_told, chunk_judged, with_faults, read_by, checked_by}
 
 -- ---- the report
@@ -33,6 +36,17 @@ rows_short (r ∷ rs) fit =
     let first = All-head FitsFaultRow r rs fit in
     let rest = rows_short rs (All-tail FitsFaultRow r rs fit) in
     simp length-append (omega (arith, first.0, fault_short r.fault first.1, rest))
+
+-- the test's rows
+fault_of_test : (f : FileFault) → fault_fits f ≡ true → FitsFileFault f
+fault_of_test (faults.Damaged d) h = eqb-true (length d.0) 32 h
+fault_of_test f h = tt
+
+pub rows_of_test : (rows : List FaultRow) → All IsFitRow rows → All FitsFaultRow rows
+rows_of_test [] fit = All-nil FitsFaultRow
+rows_of_test (r ∷ rs) fit =
+    let parts = and_parts (nat_lt (length r.file) 256) (fault_fits r.fault) (All-head IsFitRow r rs fit) in
+    All-cons FitsFaultRow r rs (ltb-true (length r.file) 256 parts.0, fault_of_test r.fault parts.1) (rows_of_test rs (All-tail IsFitRow r rs fit))
 
 pub verified_spelled : (files entries bytes : ℕ) (rows : List FaultRow) → files < 256 → entries < 2 ^ 64 → bytes < 2 ^ 64 → length rows ≤ files → All FitsFaultRow rows
     → ReplyHasText (Verified files entries bytes rows)

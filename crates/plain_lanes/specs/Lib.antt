@@ -1,3 +1,4 @@
+pub mod FaultRows
 pub mod Closes
 pub mod Visits
 pub mod Pulls

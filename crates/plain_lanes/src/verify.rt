@@ -2,9 +2,10 @@
 
 ghost use Rattle.std.specs.Prelude.{◌≡◌, ◌+◌, ◌≤◌, length, All, IfOk, IfSome};
 ghost use Rattle.std.specs.Option.{option_or};
-ghost use Rattle.wire_commands.specs.HasText.{FitsFaultRow, FitsFileFault, FitsFileRow, ReplyHasText};
+ghost use Rattle.wire_commands.specs.HasText.{FitsFileFault, FitsFileRow, ReplyHasText};
 ghost use Rattle.wire_commands.specs.declared.reply.Reply.TheVariants as replies;
 ghost use Rattle.store_model.specs.VerifyJob as model;
+ghost use Rattle.plain_lanes.specs.FaultRows.{IsFitRow};
 ghost use Rattle.plain_lanes.specs.Jobs.{shown_job, GivesJob, IsSpelledJob};
 ghost use Rattle.plain_lanes.specs.Visits.{GivesOrBack, GivesVisit, JudgesChunk, shown_visit, shown_judged, is_done as tells_done, is_part, is_files, is_data, fault_told as told_of, chunk_told as told_of_chunk, unreadable_told, with_faults, counted_of, read_by, checked_by};
 
@@ -65,10 +66,10 @@ fn push_fault(
 ) -> Result<Vec<FaultRow>, AllocError>
     requires row { FitsFileRow row }
     requires fault { IfSome fault FitsFileFault }
-    requires faults { All FitsFaultRow faults.items }
+    requires faults { All IsFitRow faults.items }
     ensures faults { IfOk result (λ after. after.items ≡ with_faults row fault faults.items) }
     ensures count { IfOk result (λ after. length after.items ≤ length faults.items + 1) }
-    ensures spelled { IfOk result (λ after. All FitsFaultRow after.items) }
+    ensures spelled { IfOk result (λ after. All IsFitRow after.items) }
 {
     let Some(fault) = fault else {
         return Ok(faults);

@@ -1,7 +1,8 @@
 //! What a VERIFY has read so far.
 
 ghost use Rattle.std.specs.Prelude.{◌≤◌, length, All};
-ghost use Rattle.wire_commands.specs.HasText.{FitsFaultRow, FitsFileRow};
+ghost use Rattle.wire_commands.specs.HasText.{FitsFileRow};
+ghost use Rattle.plain_lanes.specs.FaultRows.{IsFitRow};
 
 use std::collections::VecDeque;
 use store_types::Bytes;
@@ -18,6 +19,6 @@ pub struct Visit {
     pub faults: Vec<FaultRow>,
     pub later: VecDeque<FileRow>,
     ghost few: { length faults.items ≤ files },
-    ghost spelled: { All FitsFaultRow faults.items },
+    ghost spelled: { All IsFitRow faults.items },
     ghost listed: { All FitsFileRow later.items },
 }

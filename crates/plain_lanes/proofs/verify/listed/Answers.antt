@@ -1,6 +1,7 @@
 use Rattle.std.proofs.Common.{◌≡◌, sym, ap, subst, ◌∙◌, arith}
 use Rattle.std.proofs.lemmas.List.Elements.{All-nil, All-same}
-use Rattle.wire_commands.specs.HasText.{FitsFaultRow, FitsFileRow, ReplyHasText}
+use Rattle.wire_commands.specs.HasText.{FitsFileRow, ReplyHasText}
+use Rattle.plain_lanes.specs.FaultRows.{IsFitRow}
 use Rattle.store_model.specs.Job.{closing}
 use Rattle.store_model.specs.VerifyJob.{begun, listed, next_file}
 use Rattle.plain_lanes.specs.Closes.{ended_by}
@@ -23,6 +24,6 @@ invariant_of-visit c =
     let told = subst ReplyHasText c.in-Ok.ensures c.requires in
     record {
       few = omega arith;
-      spelled = All-nil FitsFaultRow;
+      spelled = All-nil IsFitRow;
       listed = All-same FitsFileRow c.into_vec.result.items c.in-Ok.rows c.into_vec.ensures (told.0).1;
     }

@@ -7,14 +7,14 @@ use Rattle.std.specs.Prelude.{All}
 use Rattle.std.proofs.lemmas.List.Elements.{All-head, All-tail, All-same}
 use Rattle.store_model.specs.Job.{asking, closing}
 use Rattle.plain_lanes.specs.Visits.{shown_visit}
-use Rattle.plain_lanes.proofs.VerifyLemmas.{verified_spelled, next_none, next_some}
+use Rattle.plain_lanes.proofs.VerifyLemmas.{rows_of_test, verified_spelled, next_none, next_some}
 use Rattle.plain_lanes.proofs.verify.next_file.Goals as goal
 
 pub asked-requires : goal.asked-requires
 asked-requires c =
     let v = c.args.visit in
     subst (λ (rows : List FaultRow). ReplyHasText (Verified v.files v.entries v.bytes rows)) (sym c.from_vec.ensures)
-    (verified_spelled v.files v.entries v.bytes v.faults.items (omega arith) (omega arith) (omega arith) v.few v.spelled)
+    (verified_spelled v.files v.entries v.bytes v.faults.items (omega arith) (omega arith) (omega arith) v.few (rows_of_test v.faults.items v.spelled))
 
 pub returns-in_default-clause-job : goal.returns-in_default-clause-job
 returns-in_default-clause-job c =
