@@ -175,16 +175,16 @@ pub fn judge(
 }
 
 /// The bytes are the blob of a piece with this digest, or the chunk is damaged.
-pub fn chunk_fault(digest: &Digest32, bytes: &[u8]) -> Option<FileFault>
-    ensures fault { result ≡ model.chunk_fault digest.now bytes.now }
+pub fn chunk_fault(digest: Digest32, bytes: &[u8]) -> Option<FileFault>
+    ensures fault { result ≡ model.chunk_fault digest bytes.now }
     ensures fits { IfSome result FitsFileFault }
 {
     let Ok(piece) = decode(bytes) else {
-        return Some(FileFault::Damaged(*digest));
+        return Some(FileFault::Damaged(digest));
     };
     if Sha256::digest(piece) == digest.0 {
         None
     } else {
-        Some(FileFault::Damaged(*digest))
+        Some(FileFault::Damaged(digest))
     }
 }

@@ -60,7 +60,7 @@ impl<'a> Next<'a> {
 
     /// What is left of the input behind a GC, where this is one.
     pub fn into_collect(self) -> Option<&'a [u8]>
-        ensures { option_map (λ left. left.now) result ≡ left_of_collect (shown_next self) }
+        ensures { option_map (λ left. left.now) result ≡ left_of_collect (shown_next self.entry) }
     {
         match self {
             Next::Command(Ahead::Collect, left) => Some(left),

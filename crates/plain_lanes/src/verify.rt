@@ -349,12 +349,12 @@ fn first_fault(fault: Option<FileFault>, other: Option<FileFault>) -> Option<Fil
 }
 
 /// The fault of a chunk of this digest that a refusal of its read tells.
-fn chunk_told(reply: &Reply, digest: &Digest32) -> Option<FileFault>
-    ensures fault { result ≡ told_of_chunk reply.now digest.now }
+fn chunk_told(reply: &Reply, digest: Digest32) -> Option<FileFault>
+    ensures fault { result ≡ told_of_chunk reply.now digest }
     ensures fits { IfSome result FitsFileFault }
 {
     match reply {
-        Reply::Refused(Refusal::Damaged { .. }) => Some(FileFault::Damaged(*digest)),
+        Reply::Refused(Refusal::Damaged { .. }) => Some(FileFault::Damaged(digest)),
         _ => None,
     }
 }
@@ -387,9 +387,9 @@ fn unchecked(
 }
 
 /// The fault that the reply to the read of a chunk tells, where the file goes on: the reply back where it does not.
-fn chunk_in(reply: Reply, digest: &Digest32) -> Result<Option<FileFault>, Reply>
+fn chunk_in(reply: Reply, digest: Digest32) -> Result<Option<FileFault>, Reply>
     requires { ReplyHasText reply }
-    ensures fault { JudgesChunk reply digest.now result }
+    ensures fault { JudgesChunk reply digest result }
     ensures fits { IfOk result (λ fault. IfSome fault FitsFileFault) }
 {
     let reply = match data_in(reply) {
@@ -419,7 +419,7 @@ pub fn checked(
     ensures job { GivesJob result (model.checked (shown_visit visit) row fault place digest later.items reply) }
     ensures spelled { IfOk result IsSpelledJob }
 {
-    match chunk_in(reply, &digest) {
+    match chunk_in(reply, digest) {
         Ok(found) => {
             let place = place.checked_add(1).ok_or(AllocError)?;
             let fault = first_fault(fault, found);
