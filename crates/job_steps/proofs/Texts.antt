@@ -102,6 +102,7 @@ asked_in_text : (a : Asking) (reply : Reply) → IsReplyTo (step_of a) reply →
 unfolding take
 asked_in_text (grouping c keep dry) reply form ends spelled = grouped_in_text keep dry reply form.1 spelled
 asked_in_text (forgetting before snapshot later) reply form ends spelled = forgot_in_text before snapshot later reply ends spelled
+asked_in_text a reply form ends spelled = absurd ends
 
 pub taken_in_text : (job : Job) (reply : Reply) → IfSome (next job) (λ step. IsReplyTo step reply) → EndsInText job → ReplyHasText reply → EndsInText (take_more job reply)
 taken_in_text (over report) reply form ends spelled = ends

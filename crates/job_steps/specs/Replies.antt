@@ -18,3 +18,5 @@ EndsInText (over report) = ReplyHasText report
 EndsInText (asking (grouping c keep dry)) = ⊤
 EndsInText (asking (forgetting before snapshot later)) =
     (length before + length later < 4096) × All FitsPruneRow before × IsText snapshot × All FitsPruneRow later
+-- there are no other jobs here
+EndsInText _ = ⊥

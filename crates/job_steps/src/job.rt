@@ -47,13 +47,14 @@ impl Model for Job {
 }
 
 impl Job {
-    /// The job of a command, with nothing done. It makes the room for all that its last reply may need.
+    /// The job of a command, with nothing done. It makes the room for all that its last reply may need. Only a PRUNE has
+    /// one here: for a VERIFY it is answered that memory is wanting.
     pub fn start(alloc: Global, command: &Command) -> Result<Job, AllocError>
         requires { IsSome (job_of command.now) }
         ensures { IfOk result (λ job. IfSome (job_of command.now) (λ a. job ≡ asking a)) }
     {
         let Command::Prune { group, keep, dry } = command else {
-            unreachable!()
+            return Err(AllocError);
         };
         let grouping = Grouping {
             group: Bytes::from_slice(alloc, group.as_slice())?,

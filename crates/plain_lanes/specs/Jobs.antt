@@ -1,14 +1,12 @@
 -- What a job takes and leaves.
-use Rattle.std.specs.Prelude.{◌≤◌, length, Option, Some, None}
+use Rattle.std.specs.Prelude.{◌≡◌, ◌≤◌, length, Option, Some, None, Result, IfOk}
 use Rattle.store_types.specs.declared.refusal.Refusal.TheVariants.{SnapshotBusy, NoSnapshot}
-use Rattle.wire_commands.specs.declared.command.Command.TheVariants.{Prune, Forget}
+use Rattle.wire_commands.specs.declared.command.Command.TheVariants.{Prune}
 use Rattle.wire_commands.specs.declared.rows.PruneMark.{PruneMark}
 use Rattle.wire_commands.specs.declared.rows.PruneMark.TheVariants.{Removed, Held, Gone}
 use Rattle.wire_commands.specs.declared.reply.Reply.{Reply}
 use Rattle.wire_commands.specs.declared.reply.Reply.TheVariants.{Done, Keys, Refused}
 use Rattle.wire_commands.specs.HasText.{ReplyHasText}
-use Rattle.store_model.specs.declared.step.Step.{Step}
-use Rattle.store_model.specs.declared.step.Step.TheVariants as steps
 use Rattle.store_model.specs.Job as model
 use Rattle.plain_lanes.specs.declared.job.Job.{Job}
 use Rattle.plain_lanes.specs.declared.job.Job.TheVariants.{Over, Asking}
@@ -17,25 +15,28 @@ abbrev pub shown_job : Job → model.Job
 shown_job (Over reply) = model.over reply
 shown_job (Asking a) = model.asking a
 
+-- where memory is not wanting, it is this job
+abbrev pub GivesJob : {E : Type 0} → Result Job E → model.Job → Type 0
+GivesJob result job = IfOk result (λ given. shown_job given ≡ job)
+
 -- what a job reports has a text
 abbrev pub IsSpelledJob : Job → Type 0
 IsSpelledJob (Over reply) = ReplyHasText reply
 IsSpelledJob (Asking a) = Unit {0}
-
--- a step that jobs ask
-abbrev pub IsJobStep : Step → Type 0
-IsJobStep (steps.Command (Prune group keep dry)) = Unit {0}
-IsJobStep (steps.Command (Forget snapshot)) = Unit {0}
-IsJobStep _ = ⊥
 
 -- no more snapshots than GROUP tells
 abbrev pub IsFew : Reply → Type 0
 IsFew (Keys snapshots) = length snapshots ≤ 4096
 IsFew _ = Unit {0}
 
--- a reply that a job takes
+-- a reply that a PRUNE takes
 abbrev pub FitsTaken : Reply → Type 0
 FitsTaken reply = ReplyHasText reply × IsFew reply
+
+-- a reply that a job takes
+abbrev pub FitsAsked : model.Asking → Reply → Type 0
+FitsAsked (model.grouping (Prune group keep dry) counts whole) reply = FitsTaken reply
+FitsAsked _ reply = ReplyHasText reply
 
 -- what the reply to a FORGET tells of the snapshot, unless it ends the job
 abbrev pub mark_told : Reply → Option PruneMark

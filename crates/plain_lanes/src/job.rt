@@ -1,17 +1,23 @@
 //! Jobs: what one asks next, by the replies to its steps so far.
 
 ghost use Rattle.std.specs.Prelude.{◌≡◌, MatchResult, Some, None, IfOk};
-ghost use Rattle.store_model.specs.Job.{step_of};
+ghost use Rattle.store_model.specs.Job.{step_of, is_sync as is_of_sync};
 ghost use Rattle.store_model.specs.Jobs.{job_of, take as taken};
-ghost use Rattle.plain_lanes.specs.Jobs.{shown_job, FitsTaken, IsSpelledJob, IsJobStep};
+ghost use Rattle.plain_lanes.specs.Jobs.{shown_job, FitsAsked, IsSpelledJob};
 
+use crate::asked::{chunk_step, copied, file_step};
+use crate::ending::{Close, closed};
 use crate::prune;
+use crate::pull::Pull;
+use crate::sync;
+use crate::verify;
+use crate::visit::Visit;
 use std::alloc::{AllocError, Global};
 use std::collections::VecDeque;
 use std::marker::Model;
 use store_model::Step;
-use store_types::{Bytes, Keep};
-use wire_commands::{Command, PruneRow, Reply};
+use store_types::{Bytes, Digest32, Keep};
+use wire_commands::{Command, FileFault, FileRow, PruneRow, Reply};
 
 /// Where a job is that asks for a step.
 #[derive(Drop)]
@@ -28,6 +34,37 @@ pub(crate) enum Stage {
         snapshot: Bytes,
         later: VecDeque<PruneRow>,
     },
+    /// VERIFY asks for a reader of this snapshot.
+    Opening { snapshot: Bytes },
+    /// VERIFY asks for the snapshot's files.
+    Listing { snapshot: Bytes },
+    /// VERIFY reads this file, behind these bytes of it.
+    Reading {
+        visit: Visit,
+        row: FileRow,
+        bytes: Vec<u8>,
+    },
+    /// VERIFY, with this file's fault so far, reads the chunk at a place, of this digest, before those of the others.
+    Checking {
+        visit: Visit,
+        row: FileRow,
+        fault: Option<FileFault>,
+        place: u32,
+        digest: Digest32,
+        later: VecDeque<Digest32>,
+    },
+    /// VERIFY closes its reader, and then this is its report.
+    Closing { report: Reply },
+    /// SYNC asks for a writer of its snapshot.
+    Beginning { pull: Pull },
+    /// SYNC asks for this command of its snapshot's, before the others.
+    Sending {
+        pull: Pull,
+        command: Command,
+        later: VecDeque<Command>,
+    },
+    /// SYNC ends its writer, and then this is its report.
+    Aborting { report: Reply },
 }
 
 /// A job that asks for a step.
@@ -56,7 +93,8 @@ pub enum Job {
 }
 
 impl Asking {
-    /// The job of a command, with nothing done. A command that is no job's comes back.
+    /// The job of a command, with nothing done. A command that is no job's comes back, and so does a SYNC, which is none
+    /// before its first step.
     pub fn start(command: Command) -> Result<Asking, Command>
         ensures { MatchResult result (λ a. job_of command ≡ Some a) (λ back. (job_of command ≡ None) × (back ≡ command)) }
     {
@@ -64,14 +102,26 @@ impl Asking {
             Command::Prune { group, keep, dry } => Ok(Asking {
                 stage: Stage::Grouping { group, keep, dry },
             }),
+            Command::Verify { snapshot } => Ok(Asking {
+                stage: Stage::Opening { snapshot },
+            }),
             other => Err(other),
         }
     }
 
+    /// A SYNC's.
+    pub fn is_sync(&self) -> bool
+        ensures { result ≡ is_of_sync self.now }
+    {
+        matches!(
+            &self.stage,
+            Stage::Beginning { .. } | Stage::Sending { .. } | Stage::Aborting { .. }
+        )
+    }
+
     /// The step that it asks.
     pub fn next(&self, alloc: Global) -> Result<Step, AllocError>
-        ensures step { IfOk result (λ step. step ≡ step_of self.now) }
-        ensures own { IfOk result IsJobStep }
+        ensures { IfOk result (λ step. step ≡ step_of self.now) }
     {
         match &self.stage {
             Stage::Grouping { group, keep, dry } => Ok(Step::Command(Command::Prune {
@@ -82,13 +132,29 @@ impl Asking {
             Stage::Forgetting { snapshot, .. } => Ok(Step::Command(Command::Forget {
                 snapshot: Bytes::from_slice(alloc, snapshot.as_slice())?,
             })),
+            Stage::Opening { snapshot } => Ok(Step::Command(Command::OpenReader {
+                snapshot: Bytes::from_slice(alloc, snapshot.as_slice())?,
+            })),
+            Stage::Listing { snapshot } => Ok(Step::Command(Command::Files {
+                snapshot: Bytes::from_slice(alloc, snapshot.as_slice())?,
+            })),
+            Stage::Reading { row, bytes, .. } => {
+                file_step(alloc, row.file.as_slice(), bytes.len() as u64)
+            }
+            Stage::Checking { row, place, .. } => chunk_step(alloc, row.file.as_slice(), *place),
+            Stage::Closing { .. } => Ok(Step::Command(Command::CloseReader)),
+            Stage::Beginning { pull } => Ok(Step::Command(Command::OpenWriter {
+                snapshot: pull.snapshot.key.text(alloc)?,
+            })),
+            Stage::Sending { command, .. } => Ok(Step::Command(copied(alloc, command)?)),
+            Stage::Aborting { .. } => Ok(Step::Command(Command::Abort)),
         }
     }
 
     /// The job after the reply to the step that it asked.
     #[tactic(auto, unfolding(store_model::specs::Jobs::take))]
     pub fn take(self, alloc: Global, reply: Reply) -> Result<Job, AllocError>
-        requires { FitsTaken reply }
+        requires { FitsAsked self reply }
         ensures job { IfOk result (λ job. shown_job job ≡ taken self reply) }
         ensures spelled { IfOk result IsSpelledJob }
     {
@@ -103,6 +169,27 @@ impl Asking {
                 snapshot,
                 later,
             } => prune::forgot(before, snapshot, later, reply),
+            Stage::Opening { snapshot } => Ok(verify::opened(snapshot, reply)),
+            Stage::Listing { snapshot } => Ok(verify::listed(alloc, snapshot, reply)),
+            Stage::Reading { visit, row, bytes } => {
+                verify::read_part(alloc, visit, row, bytes, reply)
+            }
+            Stage::Checking {
+                visit,
+                row,
+                fault,
+                place,
+                digest,
+                later,
+            } => verify::checked(alloc, visit, row, fault, place, digest, later, reply),
+            Stage::Closing { report } => Ok(closed(Close::Reader, report, reply)),
+            Stage::Beginning { pull } => sync::begun(alloc, pull, reply),
+            Stage::Sending {
+                pull,
+                command: _,
+                later,
+            } => sync::replied(alloc, pull, later, reply),
+            Stage::Aborting { report } => Ok(closed(Close::Writer, report, reply)),
         }
     }
 }

@@ -5,7 +5,7 @@ ghost use Rattle.wire_frames.specs.Frames.{frame};
 ghost use Rattle.wire_commands.specs.ReplyText.{reply_text};
 ghost use Rattle.wire_commands.specs.HasText.{ReplyHasText};
 ghost use Rattle.store_model.specs.Lanes.{new_lane, say as said, lane_next};
-ghost use Rattle.plain_lanes.specs.Nexts.{shown_next, left_by, IsFitNext};
+ghost use Rattle.plain_lanes.specs.Nexts.{shown_next, left_by, is_sync_next, IsFitNext};
 
 use crate::job::Asking;
 use crate::next::{Next, next_at};
@@ -78,6 +78,18 @@ impl<'a> Lane<'a> {
         next_at(alloc, offset as u64, self.left)
     }
 
+    /// Whether a SYNC stands next, begun or not.
+    pub fn next_is_sync(&self, alloc: Global) -> Result<bool, AllocError>
+        ensures { IfOk result (λ is_one. is_one ≡ is_sync_next (lane_next self.now)) }
+    {
+        if let Some(asking) = &self.job {
+            return Ok(asking.is_sync());
+        }
+        let offset = self.size.saturating_sub(self.left.len());
+        let next = next_at(alloc, offset as u64, self.left)?;
+        Ok(next.is_sync())
+    }
+
     /// One more reply, with this left of the input and no job open.
     pub fn tell(&mut self, alloc: Global, left: &'a [u8], reply: &Reply) -> Result<(), AllocError>
         requires { ReplyHasText reply.now }
@@ -90,12 +102,28 @@ impl<'a> Lane<'a> {
         Ok(())
     }
 
+    /// One more reply, with no job open and as much left of the input as before.
+    pub fn tell_here(&mut self, alloc: Global, reply: &Reply) -> Result<(), AllocError>
+        requires { ReplyHasText reply.now }
+        ensures { OnOk result (self.new ≡ said reply.now (record self.old { job = None })) }
+    {
+        let left = self.left;
+        self.tell(alloc, left, reply)
+    }
+
     /// The job is open, with this left of the input.
     pub fn set_job(&mut self, left: &'a [u8], asking: Asking)
         ensures { self.new ≡ record self.old { left = left.now; job = Some asking } }
     {
         self.left = left;
         self.job = Some(asking);
+    }
+
+    /// This is left of the input.
+    pub fn set_left(&mut self, left: &'a [u8])
+        ensures { self.new ≡ record self.old { left = left.now } }
+    {
+        self.left = left;
     }
 
     /// How many bytes of replies there are.

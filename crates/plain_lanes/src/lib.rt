@@ -3,11 +3,20 @@
 //! commands, the rule of what a prune keeps, and the definitions.
 #![tactic(auto)]
 
+mod asked;
+mod ending;
 mod job;
+mod judging;
 mod lane;
 mod next;
 mod prune;
+mod pull;
+mod sync;
+mod uploads;
+mod verify;
+mod visit;
 
 pub use job::{Asking, Job};
 pub use lane::Lane;
-pub use next::Next;
+pub use next::{Ahead, Next};
+pub use sync::pull_all;

@@ -1,14 +1,14 @@
 //! What stands next on a lane.
 
-ghost use Rattle.std.specs.Prelude.{◌≡◌, ◌-◌, length, IfOk};
+ghost use Rattle.std.specs.Prelude.{◌≡◌, ◌-◌, length, option_map, IfOk};
 ghost use Rattle.wire_frames.specs.Frames.{cut as cut_of};
 ghost use Rattle.wire_commands.specs.Inputs.{front};
 ghost use Rattle.store_model.specs.Lanes.{front_next, command_next as next_by};
-ghost use Rattle.plain_lanes.specs.Nexts.{shown_front, shown_next, IsFitNext};
+ghost use Rattle.plain_lanes.specs.Nexts.{shown_front, shown_next, is_sync_next, left_of_collect, IsFitNext};
 
 use crate::job::Asking;
 use std::alloc::{AllocError, Global};
-use store_types::Refusal;
+use store_types::{Bytes, Refusal};
 use wire_commands::Command;
 use wire_frames::BODY_LIMIT;
 
@@ -22,18 +22,51 @@ enum Front<'a> {
     Whole(&'a [u8], &'a [u8]),
 }
 
+/// A command that asks for no step of a job.
+#[derive(Drop)]
+pub enum Ahead {
+    /// A command that is no job's.
+    Plain(Command),
+    /// A SYNC of this group that has not begun.
+    Sync(Bytes),
+    /// GC.
+    Collect,
+}
+
 /// What stands next on a lane: a job's step or a command, with what is left of the input behind it, or the end.
 #[derive(Drop)]
 pub enum Next<'a> {
     /// A job, with nothing done or as it stood open.
     Job(Asking, &'a [u8]),
-    /// A command that is no job's.
-    Plain(Command, &'a [u8]),
+    Command(Ahead, &'a [u8]),
     Bye,
     /// Something that is no command, and how it is refused.
     Broken(Refusal),
     /// Nothing is left.
     End,
+}
+
+impl<'a> Next<'a> {
+    /// A SYNC, begun or not.
+    pub(crate) fn is_sync(&self) -> bool
+        ensures { result ≡ is_sync_next (shown_next self.now) }
+    {
+        match self {
+            Next::Job(asking, _) => asking.is_sync(),
+            Next::Command(ahead, _) => matches!(ahead, Ahead::Sync(_)),
+            _ => false,
+        }
+    }
+
+    /// What is left of the input behind a GC, where this is one.
+    pub fn into_collect(self) -> Option<&'a [u8]>
+        ensures { option_map (λ left. left.now) result ≡ left_of_collect (shown_next self.entry) }
+    {
+        match self {
+            Next::Command(Ahead::Collect, left) => Some(left),
+            _ => None,
+        }
+    }
 }
 
 #[tactic(auto, unfolding(wire_frames::specs::Frames::cut))]
@@ -62,9 +95,11 @@ fn command_next(command: Command, left: &[u8]) -> Next<'_>
 {
     match command {
         Command::Bye => Next::Bye,
+        Command::Gc => Next::Command(Ahead::Collect, left),
+        Command::Sync { group } => Next::Command(Ahead::Sync(group), left),
         other => match Asking::start(other) {
             Ok(asking) => Next::Job(asking, left),
-            Err(command) => Next::Plain(command, left),
+            Err(command) => Next::Command(Ahead::Plain(command), left),
         },
     }
 }

@@ -4,12 +4,14 @@ use Rattle.std.specs.List.{concat, find, flat_map}
 use Rattle.std.specs.Option.{option_or}
 use Rattle.std.proofs.lemmas.List.{append-nil, take_more, take_all, length-drop}
 use Rattle.std.proofs.lemmas.List.Folds.{concat-append, find-append}
+use Rattle.std.proofs.lemmas.Option.{slice_get_read, slice_get_past}
 use Rattle.blob_codec.specs.Blob.{blob, data_limit}
 use Rattle.store_types.specs.declared.refusal.Refusal.{Refusal}
-use Rattle.store_types.specs.declared.refusal.Refusal.TheVariants.{NotAllowed}
+use Rattle.store_types.specs.declared.refusal.Refusal.TheVariants.{NotAllowed, BadRange}
 use Rattle.store_files.specs.Archive.{File}
 use Rattle.store_model.specs.Store.{Reader}
 use Rattle.store_model.specs.ReaderSteps.{is_noted, pieces_at, want_range, range_of}
+use Rattle.plain_sessions.specs.Reading.{entry_blob}
 
 -- ---- the content of an archive
 
@@ -60,3 +62,12 @@ module _ (files : List File) (r : Reader) (name : List ℕ) (offset count : ℕ)
     pub range_goes : want_range (length (concat (pieces_at files name))) offset count ≡ Ok tt → range_of files r name offset count ≡ Ok (take count (drop offset (concat (pieces_at files name))))
     unfolding range_of
     range_goes h = rw (noted, h) refl
+
+-- ---- an entry of an index
+
+module _ (pieces : List (List ℕ)) (entry : ℕ) where
+  pub entry_beyond : length pieces ≤ entry → entry_blob pieces entry ≡ Err (BadRange (length pieces))
+  entry_beyond h = rw (slice_get_past pieces entry h) refl
+
+  pub entry_there : (piece bytes : List ℕ) → entry < length pieces → piece ≡ get_or pieces entry piece → bytes ≡ blob piece → entry_blob pieces entry ≡ Ok bytes
+  entry_there piece bytes h is text = rw (slice_get_read pieces (length pieces) entry piece refl h is, text) refl

@@ -1,8 +1,8 @@
 -- What a reader's commands answer.
-use Rattle.std.specs.Prelude.{ℕ, List, Result, Ok}
+use Rattle.std.specs.Prelude.{ℕ, List, length, slice_get, Result, Ok}
 use Rattle.store_types.specs.declared.names.Digest32.{Digest32}
 use Rattle.store_types.specs.declared.refusal.Refusal.{Refusal}
-use Rattle.store_types.specs.declared.refusal.Refusal.TheVariants.{NotAllowed}
+use Rattle.store_types.specs.declared.refusal.Refusal.TheVariants.{NotAllowed, BadRange}
 use Rattle.store_types.specs.Chain.Refusing.{◌>>=◌, or_else}
 use Rattle.blob_codec.specs.Blob as blobs
 use Rattle.store_files.specs.Archive.{File, piece_with}
@@ -13,4 +13,10 @@ use Rattle.store_model.specs.ReaderSteps.{noted_pieces}
 abbrev pub chunk_of : List File → Reader → Digest32 → Result (List ℕ) Refusal
 chunk_of files r digest = do
   piece ← or_else NotAllowed (piece_with digest (noted_pieces files r))
+  Ok (blobs.blob piece)
+
+-- the blob of the piece at an entry of an index
+abbrev pub entry_blob : List (List ℕ) → ℕ → Result (List ℕ) Refusal
+entry_blob pieces entry = do
+  piece ← or_else (BadRange (length pieces)) (slice_get pieces entry)
   Ok (blobs.blob piece)

@@ -20,7 +20,7 @@ mod writer;
 pub use archives::Begun;
 pub use changes::Change;
 pub use chunks::checked_piece;
-pub use reader::Reader;
+pub use reader::{Reader, blob_at};
 pub use session::{Held, Session, want_free, want_unheld};
 pub use stop::Stop;
 pub use writer::Writer;

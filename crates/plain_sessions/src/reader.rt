@@ -8,7 +8,7 @@ ghost use Rattle.wire_commands.specs.HasText.{FitsRefusal};
 ghost use Rattle.store_model.specs.ReaderSteps.{is_noted as has_noted, note as noted, pieces_at as pieces_named, noted_pieces, want_range as range_fits, range_of};
 ghost use Rattle.plain_snapshots.specs.Contents.{shown_content};
 ghost use Rattle.plain_sessions.specs.Outcomes.{Gives, IsFitRefusal};
-ghost use Rattle.plain_sessions.specs.Reading.{chunk_of};
+ghost use Rattle.plain_sessions.specs.Reading.{chunk_of, entry_blob};
 
 use crate::entries::piece_with;
 use crate::stop::Stop;
@@ -46,6 +46,21 @@ fn blob_of(alloc: Global, piece: &BlobData) -> Result<Bytes, AllocError>
     let _ = piece.as_slice();
     let text = piece.text(alloc)?;
     Ok(Bytes::from_vec(text))
+}
+
+/// The blob of the piece at an entry of an index.
+pub fn blob_at(alloc: Global, pieces: &[BlobData], entry: u32) -> Result<Bytes, Stop>
+    ensures fits { IsFitRefusal result }
+    ensures gives { Gives (λ b. b) result (entry_blob pieces.now entry) }
+    ensures short { IfOk result (λ b. length b ≤ 16_777_228) }
+{
+    let place = entry as usize;
+    if place >= pieces.len() {
+        return Err(Stop::Refused(Refusal::BadRange {
+            size: pieces.len() as u64,
+        }));
+    }
+    Ok(blob_of(alloc, &pieces[place])?)
 }
 
 /// A range that content of this size has, and that a reply holds.

@@ -7,3 +7,4 @@ pub mod Headers
 pub mod Sorting
 pub mod RowTexts
 pub mod Telling
+pub mod PullLemmas

@@ -2,3 +2,4 @@ pub mod Shown
 pub mod Contents
 pub mod Loading
 pub mod Rows
+pub mod Pulling

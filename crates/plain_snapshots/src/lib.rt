@@ -11,6 +11,7 @@ mod key;
 mod listing;
 mod loading;
 mod pieces;
+mod pulling;
 mod snapshot;
 mod stored;
 
@@ -18,8 +19,9 @@ pub use archive::{Archive, Layout};
 pub use blob::BlobData;
 pub use file::{Content, File, file_named, insert_file, manifest_data};
 pub use key::PlainKey;
-pub use listing::{files_reply, keys_reply, list_reply};
+pub use listing::{facts_in, files_reply, keys_reply, list_reply};
 pub use loading::read_snapshots;
+pub use pulling::{later_than, members, newest_told};
 pub use snapshot::{
     Snapshot, count_in, insert_snapshot, latest_in, remove_snapshot, snapshot_named,
 };

@@ -72,7 +72,7 @@ pub fn list_reply(
 }
 
 /// What the manifest among the files lists.
-fn facts_in(alloc: Global, files: &[File]) -> Result<Vec<FileFact>, AllocError>
+pub fn facts_in(alloc: Global, files: &[File]) -> Result<Vec<FileFact>, AllocError>
     ensures { IfOk result (λ facts. map fact_view facts.items ≡ facts_of files.now) }
 {
     let Some(contents) = manifest_data(files) else {

@@ -1,24 +1,24 @@
 -- What the steps of jobs are replied.
-use Rattle.std.proofs.Common.{◌≡◌, ℕ, Result, Ok, Err, sym, ap, subst}
+use Rattle.std.proofs.Common.{◌≡◌, ℕ, Bool, List, Result, Ok, Err, refl, sym, ap, subst}
 use Rattle.std.specs.Prelude.{IfOk}
-use Rattle.store_types.specs.declared.names.SnapshotKey.{SnapshotKey}
 use Rattle.store_types.specs.declared.names.GroupKey.{GroupKey}
+use Rattle.store_types.specs.declared.names.Keep.{Keep}
 use Rattle.store_types.specs.declared.refusal.Refusal.{Refusal}
 use Rattle.store_types.specs.declared.refusal.Refusal.TheVariants.{BadName, TooMany}
 use Rattle.store_types.specs.Chain.Refusing.{◌>>=◌, unless, or_else}
-use Rattle.store_types.specs.Names.{key_of, group_of}
-use Rattle.wire_commands.specs.declared.command.Command.TheVariants.{Prune, Forget}
+use Rattle.store_types.specs.Names.{group_of}
+use Rattle.wire_commands.specs.declared.command.Command.{Command}
+use Rattle.wire_commands.specs.declared.command.Command.TheVariants.{Prune}
 use Rattle.wire_commands.specs.declared.reply.Reply.{Reply}
-use Rattle.wire_commands.specs.declared.reply.Reply.TheVariants.{Done, Keys}
+use Rattle.wire_commands.specs.declared.reply.Reply.TheVariants.{Keys, Refused}
 use Rattle.wire_commands.specs.HasText.{ReplyHasText}
-use Rattle.store_model.specs.declared.step.Step.{Step}
-use Rattle.store_model.specs.declared.step.Step.TheVariants as steps
-use Rattle.store_model.specs.Store.{Store, Outcome, session, want_idle, without_snapshot}
-use Rattle.store_model.specs.AdminSteps.{want_free, forget, group_texts, counts_fit, prune_group}
-use Rattle.store_model.specs.Steps.{answered, outcome}
+use Rattle.store_model.specs.Store.{Store, Outcome, session, want_idle}
+use Rattle.store_model.specs.AdminSteps.{group_texts, counts_fit, prune_group}
+use Rattle.store_model.specs.Job.{Asking, grouping, step_of}
 use Rattle.store_model.specs.JobSteps.{step_outcome}
+use Rattle.store_model.specs.Steps.{answered, outcome}
 use Rattle.plain_snapshots.proofs.Telling.{few_texts}
-use Rattle.plain_lanes.specs.Jobs.{IsJobStep, IsFew, FitsTaken}
+use Rattle.plain_lanes.specs.Jobs.{IsFew, FitsAsked}
 
 module _ (s : Store) where
   few_keys : (a : Result (Unit {0}) Refusal) (b : Result GroupKey Refusal) (c : Result (Unit {0}) Refusal)
@@ -28,26 +28,36 @@ module _ (s : Store) where
   few_keys (Ok t) (Ok g) (Err r) = tt
   few_keys (Ok t) (Ok g) (Ok u) = few_texts g s.snapshots
 
-  few_done : (a : Result (Unit {0}) Refusal) (b : Result SnapshotKey Refusal) (c : SnapshotKey → Result (Unit {0}) Refusal)
-      → IsFew (answered s (a >>= λ _. b >>= λ key. c key >>= λ _. Ok (record s { snapshots = without_snapshot key s.snapshots }, Done))).1
-  few_done (Err r) b c = tt
-  few_done (Ok t) (Err r) c = tt
-  few_done (Ok t) (Ok key) c = by_last (c key)
-    where
-      by_last : (d : Result (Unit {0}) Refusal) → IsFew (answered s (d >>= λ _. Ok (record s { snapshots = without_snapshot key s.snapshots }, Done))).1
-      by_last (Err r) = tt
-      by_last (Ok u) = tt
+  -- a PRUNE's own command is told no more snapshots than a group has
+  few_told : (lane moment : ℕ) (group : List ℕ) (keep : Keep) (dry : Bool) → IsFew (answered s (outcome s lane moment (Prune group keep dry))).1
+  unfolding outcome prune_group
+  few_told lane moment group keep dry = few_keys (want_idle (session s lane)) (or_else BadName (group_of group)) (unless (TooMany 1000) (counts_fit keep))
 
-  -- a job's step is told no more snapshots than a group has
-  pub few_told : (lane moment : ℕ) (step : Step) → IsJobStep step → IsFew (answered s (step_outcome s lane moment step)).1
-  unfolding outcome prune_group forget
-  few_told lane moment (steps.Command (Prune group keep dry)) own =
-      few_keys (want_idle (session s lane)) (or_else BadName (group_of group)) (unless (TooMany 1000) (counts_fit keep))
-  few_told lane moment (steps.Command (Forget snapshot)) own = few_done (want_idle (session s lane)) (or_else BadName (key_of snapshot)) (want_free s)
-  few_told lane moment _ own = absurd own
+  module _ (after : Store) (lane moment : ℕ) (reply : Reply) (spelled : ReplyHasText reply) where
+    by_command : (c : Command) (counts : Keep) (whole : Bool) → (after, reply) ≡ answered s (outcome s lane moment c) → FitsAsked (grouping c counts whole) reply
+    by_command (Prune group keep dry) counts whole is = (spelled, subst IsFew (sym (ap (λ x. x.1) is)) (few_told lane moment group keep dry))
+    by_command c counts whole is = spelled
 
--- what an outcome is told by has a text, and is short where the outcome is
-pub fits_by : {E : Type 0} (result : Result Reply E) (s after : Store) (o : Outcome) → IfOk result ReplyHasText → IfOk result (λ reply. (after, reply) ≡ answered s o)
-    → IsFew (answered s o).1 → IfOk result FitsTaken
-fits_by (Ok reply) s after o spelled is few = (spelled, subst IsFew (sym (ap (λ x. x.1) is)) few)
-fits_by (Err e) s after o spelled is few = tt
+    by_asking : (a : Asking) → (after, reply) ≡ answered s (step_outcome s lane moment (step_of a)) → FitsAsked a reply
+    by_asking (grouping c counts whole) is = by_command c counts whole is
+    by_asking a is = spelled
+
+-- what a job's step is told by fits the job
+pub fits_by : {E : Type 0} (result : Result Reply E) (s after : Store) (lane moment : ℕ) (a : Asking) → IfOk result ReplyHasText
+    → IfOk result (λ reply. (after, reply) ≡ answered s (step_outcome s lane moment (step_of a))) → IfOk result (FitsAsked a)
+fits_by (Ok reply) s after lane moment a spelled is = by_asking s after lane moment reply spelled a is
+fits_by (Err e) s after lane moment a spelled is = tt
+
+-- and so does a refusal
+pub fits_refused : (a : Asking) (refusal : Refusal) → ReplyHasText (Refused refusal) → FitsAsked a (Refused refusal)
+fits_refused (grouping (Prune group keep dry) counts whole) refusal spelled = (spelled, tt)
+fits_refused (grouping c counts whole) refusal spelled = spelled
+fits_refused a refusal spelled = spelled
+
+-- ---- a step's answer is its outcome
+
+pub outcome_told : (s after : Store) (o : Outcome) (reply : Reply) → o ≡ Ok (after, reply) → (after, reply) ≡ answered s o
+outcome_told s after o reply e = rw e refl
+
+pub outcome_refused : (s after : Store) (o : Outcome) (r : Refusal) → o ≡ Err r → after ≡ s → (after, Refused r) ≡ answered s o
+outcome_refused s after o r e same = rw (e, same) refl

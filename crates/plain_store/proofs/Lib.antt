@@ -5,6 +5,7 @@ pub mod WriterLemmas
 pub mod ArchiveLemmas
 pub mod ReaderLemmas
 pub mod AdminLemmas
+pub mod SyncLemmas
 pub mod JobLemmas
 pub mod Answering
 pub mod RunLemmas

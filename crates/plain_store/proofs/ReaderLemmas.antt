@@ -1,20 +1,21 @@
 -- A reader's commands, by how their tests came out.
-use Rattle.std.proofs.Common.{◌≡◌, ℕ, true, false, List, [], Result, None, Some, Ok, Err, refl, sym, ap, ◌∙◌}
+use Rattle.std.proofs.Common.{◌≡◌, ℕ, true, false, List, [], length, Result, None, Some, Ok, Err, refl, sym, ap, ◌∙◌}
+use Rattle.std.specs.Prelude.{slice_get}
 use Rattle.std.proofs.lemmas.Bool.{or_parts}
 use Rattle.store_types.specs.declared.names.Digest32.{Digest32}
 use Rattle.store_types.specs.declared.names.SnapshotKey.{SnapshotKey}
 use Rattle.store_types.specs.declared.refusal.Refusal.{Refusal}
-use Rattle.store_types.specs.declared.refusal.Refusal.TheVariants.{BadName, NoSnapshot, NoFile, NotAllowed}
+use Rattle.store_types.specs.declared.refusal.Refusal.TheVariants.{BadName, NoSnapshot, NoFile, NotAllowed, BadRange}
 use Rattle.store_types.specs.Chain.Refusing.{◌>>=◌, or_else}
 use Rattle.store_types.specs.FileNames.{is_file_name, is_index_name, is_blob_name}
 use Rattle.store_types.specs.Names.{key_of}
 use Rattle.blob_codec.specs.Blob as blobs
-use Rattle.store_files.specs.Archive.{File, Snapshot, file_named, piece_with}
+use Rattle.store_files.specs.Archive.{File, Snapshot, file_named, pieces_of, piece_with}
 use Rattle.wire_commands.specs.declared.reply.Reply.{Reply}
 use Rattle.wire_commands.specs.declared.reply.Reply.TheVariants.{Done, Data}
 use Rattle.store_model.specs.Store.{Store, Reader, reader, session, with_session, want_reader, want_idle, snapshot_named, ended}
-use Rattle.store_model.specs.ReaderSteps.{open_reader, reader_files, note, download, noted_pieces, get_chunk, range_of, range, close_reader}
-use Rattle.plain_sessions.specs.Reading.{chunk_of}
+use Rattle.store_model.specs.ReaderSteps.{open_reader, reader_files, note, download, noted_pieces, get_chunk, range_of, range, read_file, read_chunk, close_reader}
+use Rattle.plain_sessions.specs.Reading.{chunk_of, entry_blob}
 use Rattle.plain_store.specs.Parts.{file_part}
 use Rattle.plain_store.proofs.PartLemmas.{part_in_row}
 
@@ -70,6 +71,58 @@ module _ (s : Store) (lane : ℕ) (name : List ℕ) (offset : ℕ) where
     pub downloads : (f : File) (reply : Reply) (after : Store) → file_part (reader_files s x) name offset ≡ Ok (f, reply)
         → after ≡ with_session s lane (reader (note name f.content x)) → download s lane name offset ≡ Ok (after, reply)
     downloads f reply after h is = tests_are ∙ ap (λ p. p >>= tells) h ∙ ap (λ a. Ok (a, reply)) (sym is)
+
+-- ---- a VERIFY's read of a file
+
+module _ (s : Store) (lane : ℕ) (name : List ℕ) (offset : ℕ) where
+  abbrev same_store : Store × Reply → Result (Store × Reply) Refusal
+  same_store given = Ok (s, given.1)
+
+  pub file_not_reader : (r : Refusal) → want_reader (session s lane) ≡ Err r → read_file s lane name offset ≡ Err r
+  unfolding read_file
+  file_not_reader r e = ap (λ d. d >>= same_store) (not_reader s lane name offset r e)
+
+  module _ (x : Reader) (e : want_reader (session s lane) ≡ Ok x) (good : is_file_name name ≡ true) where
+    pub file_refused : (r : Refusal) → file_part (reader_files s x) name offset ≡ Err r → read_file s lane name offset ≡ Err r
+    unfolding read_file
+    file_refused r h = ap (λ d. d >>= same_store) (no_part s lane name offset x e good r h)
+
+    pub file_given : (f : File) (reply : Reply) → file_part (reader_files s x) name offset ≡ Ok (f, reply) → read_file s lane name offset ≡ Ok (s, reply)
+    unfolding read_file
+    file_given f reply h = ap (λ d. d >>= same_store) (downloads s lane name offset x e good f reply _ h refl)
+
+-- ---- and of a chunk
+
+module _ (s : Store) (lane : ℕ) (name : List ℕ) (entry : ℕ) where
+  pub entry_not_reader : (r : Refusal) → want_reader (session s lane) ≡ Err r → read_chunk s lane name entry ≡ Err r
+  unfolding read_chunk
+  entry_not_reader r e = rw e refl
+
+  module _ (x : Reader) (e : want_reader (session s lane) ≡ Ok x) where
+    pub entry_no_index : is_index_name name ≡ false → read_chunk s lane name entry ≡ Err NoFile
+    unfolding read_chunk
+    entry_no_index bad = rw (e, bad) refl
+
+    pub entry_no_file : is_index_name name ≡ true → file_named name (reader_files s x) ≡ None → read_chunk s lane name entry ≡ Err NoFile
+    unfolding read_chunk
+    entry_no_file good none = rw (e, good, none) refl
+
+    module _ (f : File) (good : is_index_name name ≡ true) (there : file_named name (reader_files s x) ≡ Some f) where
+      entry_tests : read_chunk s lane name entry ≡ (entry_blob (pieces_of f.content) entry >>= λ bytes. Ok (s, Data bytes))
+      unfolding read_chunk
+      entry_tests = rw (e, good, there) (by_piece (or_else (BadRange (length (pieces_of f.content))) (slice_get (pieces_of f.content) entry)))
+        where
+          by_piece : (o : Result (List ℕ) Refusal)
+              → (o >>= λ piece. (let y : Result (Store × Reply) Refusal = Ok (s, Data (blobs.blob piece)) in y))
+              ≡ ((o >>= λ piece. (let y : Result (List ℕ) Refusal = Ok (blobs.blob piece) in y)) >>= λ bytes. (let z : Result (Store × Reply) Refusal = Ok (s, Data bytes) in z))
+          by_piece (Err r) = refl
+          by_piece (Ok piece) = refl
+
+      pub entry_refused : (r : Refusal) → entry_blob (pieces_of f.content) entry ≡ Err r → read_chunk s lane name entry ≡ Err r
+      entry_refused r h = entry_tests ∙ ap (λ p. p >>= λ bytes. Ok (s, Data bytes)) h
+
+      pub entry_given : (bytes : List ℕ) → entry_blob (pieces_of f.content) entry ≡ Ok bytes → read_chunk s lane name entry ≡ Ok (s, Data bytes)
+      entry_given bytes h = entry_tests ∙ ap (λ p. p >>= λ bytes. Ok (s, Data bytes)) h
 
 -- ---- GET_CHUNK
 

@@ -8,7 +8,7 @@ use Rattle.store_types.specs.declared.refusal.CloseFault.{CloseFault}
 use Rattle.store_types.specs.declared.refusal.CloseFault.TheVariants.{Count, Size, Csum, Rest}
 use Rattle.store_types.specs.declared.refusal.ChunkFault.{ChunkFault}
 use Rattle.store_types.specs.declared.refusal.ChunkFault.TheVariants.{Nothing, NotABlob, Other}
-use Rattle.wire_commands.specs.declared.reply.Reply.TheVariants.{Done, Base, Part, Data, Number, Refused}
+use Rattle.wire_commands.specs.declared.reply.Reply.TheVariants.{Done, Base, Part, Data, Number, Collected, Refused}
 use Rattle.wire_commands.specs.RefusalText.{blob_fault_text, close_fault_text, chunk_fault_text, refusal_text}
 use Rattle.wire_commands.specs.ReplyText.{reply_text}
 use Rattle.wire_commands.specs.HasText.{FitsCloseFault, FitsChunkFault, FitsRefusal, ReplyHasText}
@@ -34,6 +34,11 @@ data_spelled bytes few = (tt, omega arith)
 pub number_spelled : (n : ℕ) → n < 256 → ReplyHasText (Number n)
 unfolding reply_text
 number_spelled n h = (h, omega arith)
+
+-- five numbers, as a replay has them
+pub collected_spelled : ReplyHasText (Collected 0 0 0 0 0)
+unfolding reply_text
+collected_spelled = ((omega arith, omega arith, omega arith, omega arith, omega arith), omega arith)
 
 blob_fault_short : (f : BlobCause) → length (blob_fault_text f) ≤ 9
 blob_fault_short blobs.Short = omega arith

@@ -1,19 +1,23 @@
 -- What a step leaves, by what it answers.
-use Rattle.std.specs.Prelude.{◌≡◌, ℕ, List, Result, Ok, Err, MatchResult}
+use Rattle.std.specs.Prelude.{◌≡◌, ℕ, List, Option, option_map, Result, Ok, Err, MatchResult, Vec}
+use Rattle.std.specs.declared.alloc.Global.{Global}
 use Rattle.store_types.specs.declared.names.Digest32.{Digest32}
 use Rattle.store_types.specs.declared.refusal.Refusal.{Refusal}
+use Rattle.store_files.specs.Archive.{Snapshot}
 use Rattle.wire_commands.specs.declared.reply.Reply.{Reply}
 use Rattle.wire_commands.specs.HasText.{ReplyHasText}
+use Rattle.store_model.specs.declared.step.Step.{Step}
 use Rattle.store_model.specs.ArchiveSteps.{new_fixed, close_index}
 use Rattle.store_model.specs.Job.{Asking, step_of}
 use Rattle.store_model.specs.JobSteps.{step_outcome}
 use Rattle.store_model.specs.Steps.{answered}
+use Rattle.store_model.specs.SyncJob.{to_pull}
 use Rattle.store_model.specs.Store.{Store, Outcome, session, with_session}
 use Rattle.plain_sessions.specs.declared.changes.Change.{Change}
 use Rattle.plain_sessions.specs.Changes.{changed_in}
 use Rattle.plain_sessions.specs.declared.stop.Stop.{Stop}
 use Rattle.plain_sessions.specs.declared.stop.Stop.TheVariants.{Refused, NoMemory}
-use Rattle.plain_sessions.specs.Outcomes.{IsFitRefusal}
+use Rattle.plain_sessions.specs.Outcomes.{Gives, IsFitRefusal}
 
 -- the reply and the store after are the outcome's; a refusal is the outcome's and changes nothing, and so does want of memory
 abbrev pub Does : Store → Store → Result Reply Stop → Outcome → Type 0
@@ -48,6 +52,14 @@ Closes old new lane number count size csum result = Does old new result (close_i
 abbrev pub with_change : Store → ℕ → Change → Store
 with_change s lane change = with_session s lane (changed_in change (session s lane))
 
--- the store after the step that a job asks, and its reply
+-- the store after a step, and its reply
+abbrev pub step_done : Store → ℕ → ℕ → Step → Store × Reply
+step_done s lane moment asked = answered s (step_outcome s lane moment asked)
+
+-- the same of the step that a job asks
 abbrev pub job_done : Store → ℕ → ℕ → Asking → Store × Reply
-job_done s lane moment job = answered s (step_outcome s lane moment (step_of job))
+job_done s lane moment job = step_done s lane moment (step_of job)
+
+-- what a SYNC pulls from another store, where there is one
+abbrev pub Pulls : {R : Type 0} → Option R → (R → Store) → Store → ℕ → List ℕ → Result (Vec Snapshot Global) Stop → Type 0
+Pulls remote shown s lane group result = Gives (λ found. found.items) result (to_pull (option_map (λ p. (shown p).snapshots) remote) s lane group)

@@ -10,6 +10,7 @@ mod parts;
 mod plain;
 mod reader_steps;
 mod run;
+mod sync_steps;
 mod weave;
 mod writer_steps;
 

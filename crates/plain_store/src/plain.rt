@@ -4,12 +4,13 @@ ghost use Rattle.std.specs.Prelude.{◌≡◌, ◌<◌, ◌≤◌, IfOk, OnOk, O
 ghost use Rattle.store_types.specs.Times.{last_moment};
 ghost use Rattle.wire_commands.specs.HasText.{ReplyHasText};
 ghost use Rattle.store_model.specs.Store.{session as session_at, with_session, ended};
+ghost use Rattle.store_model.specs.JobSteps.{step_outcome as by_step};
 ghost use Rattle.store_model.specs.Steps.{step as stepped, outcome as outcome_of};
 ghost use Rattle.plain_sessions.specs.Sessions.{shown_held};
 ghost use Rattle.plain_sessions.specs.Changes.{FitsSession};
-ghost use Rattle.plain_lanes.specs.Jobs.{FitsTaken};
+ghost use Rattle.plain_lanes.specs.Jobs.{FitsAsked};
 ghost use Rattle.plain_lanes.specs.Nexts.{IsStep};
-ghost use Rattle.plain_store.specs.Outcomes.{Does, IsSpelled, job_done, with_change};
+ghost use Rattle.plain_store.specs.Outcomes.{Does, IsSpelled, job_done, step_done, with_change};
 
 use plain_lanes::Asking;
 use plain_sessions::{Change, Held, Session, Stop};
@@ -97,7 +98,6 @@ impl Plain {
     }
 
     /// Does the step that a lane's job asks, and gives its reply.
-    #[tactic(auto, unfolding(store_model::specs::Steps::step))]
     pub(crate) fn do_step(
         &mut self,
         alloc: Global,
@@ -108,11 +108,47 @@ impl Plain {
         requires lane { lane < 64 }
         requires moment { moment ≤ last_moment }
         ensures step { IfOk result (λ r. (self.new, r) ≡ job_done self.old lane moment asking.now) }
-        ensures fits { IfOk result FitsTaken }
+        ensures fits { IfOk result (FitsAsked asking.now) }
     {
-        match asking.next(alloc) {
-            Ok(Step::Command(command)) => self.answer(alloc, lane, moment, &command),
-            Err(error) => Err(error),
+        let step = asking.next(alloc)?;
+        self.answer_step(alloc, lane, moment, &step)
+    }
+
+    fn answer_step(
+        &mut self,
+        alloc: Global,
+        lane: u32,
+        moment: u64,
+        step: &Step,
+    ) -> Result<Reply, AllocError>
+        requires lane { lane < 64 }
+        requires moment { moment ≤ last_moment }
+        ensures step { IfOk result (λ r. (self.new, r) ≡ step_done self.old lane moment step.now) }
+        ensures spelled { IfOk result ReplyHasText }
+    {
+        match self.step_outcome(alloc, lane, moment, step) {
+            Ok(reply) => Ok(reply),
+            Err(Stop::Refused(refusal)) => Ok(Reply::Refused(refusal)),
+            Err(Stop::NoMemory) => Err(AllocError),
+        }
+    }
+
+    fn step_outcome(
+        &mut self,
+        alloc: Global,
+        lane: u32,
+        moment: u64,
+        step: &Step,
+    ) -> Result<Reply, Stop>
+        requires lane { lane < 64 }
+        requires moment { moment ≤ last_moment }
+        ensures does { Does self.old self.new result (by_step self.old lane moment step.now) }
+        ensures spelled { IsSpelled result }
+    {
+        match step {
+            Step::Command(command) => self.outcome(alloc, lane, moment, command),
+            Step::ReadFile { name, offset } => self.read_file(alloc, lane, name, *offset),
+            Step::ReadChunk { name, entry } => self.read_chunk(alloc, lane, name, *entry),
         }
     }
 
@@ -197,6 +233,7 @@ impl Plain {
             Command::Prune { group, keep, .. } => {
                 self.prune_group(alloc, lane, group.as_slice(), keep)
             }
+            Command::Verify { .. } | Command::Sync { .. } | Command::Gc => Ok(Reply::Done),
             Command::Group { group } => self.group(alloc, group.as_slice()),
             Command::Bye => {
                 self.end(lane);

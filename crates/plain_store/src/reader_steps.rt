@@ -1,12 +1,12 @@
 //! The commands of a reader.
 
 ghost use Rattle.std.specs.Prelude.{◌≡◌, ◌<◌};
-ghost use Rattle.store_model.specs.ReaderSteps.{reader_files, open_reader as opened, download as downloaded, get_chunk as chunk_given, range as range_given, close_reader as closed};
+ghost use Rattle.store_model.specs.ReaderSteps.{reader_files, open_reader as opened, download as downloaded, get_chunk as chunk_given, range as range_given, read_file as file_read, read_chunk as chunk_read, close_reader as closed};
 ghost use Rattle.plain_store.specs.Outcomes.{Answers, Does, IsSpelled};
 
 use crate::parts::part_in;
 use crate::plain::Plain;
-use plain_sessions::{Held, Reader, Stop};
+use plain_sessions::{Held, Reader, Stop, blob_at};
 use plain_snapshots::{File, PlainKey, file_named, snapshot_named};
 use std::alloc::Global;
 use store_types::{Digest32, FileName, Refusal};
@@ -110,6 +110,47 @@ impl Plain {
         }
         let bytes = r.range(alloc, files, &name, offset, length)?;
         Ok(Reply::Data(bytes))
+    }
+
+    /// VERIFY's read of a part of a file, which notes nothing.
+    pub(crate) fn read_file(
+        &self,
+        alloc: Global,
+        lane: u32,
+        name: &FileName,
+        offset: u64,
+    ) -> Result<Reply, Stop>
+        requires { lane < 64 }
+        ensures does { Answers self.now result (file_read self.now lane name.now offset) }
+        ensures spelled { IsSpelled result }
+    {
+        let r = self.held(lane).want_reader()?;
+        let _ = name.as_slice();
+        let read = part_in(alloc, self.reader_files(r), name, offset)?;
+        Ok(read.1)
+    }
+
+    /// VERIFY's read of the piece at an entry of an index: its blob.
+    pub(crate) fn read_chunk(
+        &self,
+        alloc: Global,
+        lane: u32,
+        name: &FileName,
+        entry: u32,
+    ) -> Result<Reply, Stop>
+        requires { lane < 64 }
+        ensures does { Answers self.now result (chunk_read self.now lane name.now entry) }
+        ensures spelled { IsSpelled result }
+    {
+        let r = self.held(lane).want_reader()?;
+        if !name.is_index() {
+            return Err(Stop::Refused(Refusal::NoFile));
+        }
+        let Some(file) = file_named(name.as_slice(), self.reader_files(r)) else {
+            return Err(Stop::Refused(Refusal::NoFile));
+        };
+        let blob = blob_at(alloc, file.content.pieces(), entry)?;
+        Ok(Reply::Data(blob))
     }
 
     /// CLOSE_READER: the reader ends.

@@ -1,29 +1,46 @@
 //! The plain store and the lanes, as an order goes on.
 
-ghost use Rattle.std.specs.Prelude.{◌≡◌, ◌<◌, ◌≤◌, ◌==◌, length, option_map, is_some, IfOk, OnOk};
+ghost use Rattle.std.specs.Prelude.{◌≡◌, ◌<◌, ◌≤◌, ◌==◌, length, option_map, is_some, Some, None, IfOk, IfErr, OnOk};
 ghost use Rattle.std.specs.List.{find};
 ghost use Rattle.store_types.specs.Times.{last_moment};
 ghost use Rattle.wire_commands.specs.HasText.{FitsRefusal, ReplyHasText};
 ghost use Rattle.store_model.specs.Lanes.{lane_at, next_of};
-ghost use Rattle.store_model.specs.Weave.{tell as told, go_on as gone_on, end_session as without_session, fault_refusal as refusal_of, is_end as is_an_end, is_cut_off as cuts_off, is_replied as has_reply, may_leave_unread as may_stop, ended_with as after_end, unread as after_unread};
+ghost use Rattle.store_model.specs.Weave.{tell as told, go_on as gone_on, end_session as without_session, fault_refusal as refusal_of, is_end as is_an_end, is_cut_off as cuts_off, is_replied as has_reply, may_leave_unread as may_stop, want_collector as wants_collector, open_collector as opened, close_collector as closed_by, collected as collected_by, ended_with as after_end, unread as after_unread, begin_sync as begun_sync};
 ghost use Rattle.plain_lanes.specs.Jobs.{shown_job, IsSpelledJob};
-ghost use Rattle.plain_lanes.specs.Nexts.{shown_next, IsFitNext};
-ghost use Rattle.plain_store.specs.Runs.{run_left, Enters, EntersBy, EntersEntry, ends_at, fault_at, faulted_at, short_at, stepped_at};
+ghost use Rattle.plain_lanes.specs.Nexts.{shown_next, is_sync_next, IsFitAhead, IsFitNext};
+ghost use Rattle.plain_store.specs.Runs.{run_left, BeginsBy, Enters, EntersBy, EntersEntry, EntersOpen, IsApart, own_collector as own_open, end_open_at, ends_at, fault_at, fault_open_at, faulted_at, opened_at, opens_at, passed_at, refused_at, remote_failed_at, short_at, short_open, stepped_at};
 
 use crate::plain::Plain;
-use plain_lanes::{Job, Lane, Next};
+use plain_lanes::{Ahead, Job, Lane, Next, pull_all};
+use plain_sessions::Stop;
 use std::alloc::{AllocError, Global};
 use std::marker::Model;
 use store_model::Ending;
 use store_types::{Entry, Refusal};
 use wire_commands::Reply;
 
-/// The store, the remote where there is one, the lanes, and the place of the first fault.
+/// The lane whose collector is open, and whether memory was wanting since it opened.
+#[derive(Drop)]
+pub struct Collecting {
+    pub lane: u32,
+    pub is_short: bool,
+}
+
+impl Model for Collecting {
+    ghost use Rattle.store_model.specs.Lanes as model;
+
+    ghost Value = { model.Collecting };
+
+    ghost view = { λ c. record { lane = c.lane; is_short = c.is_short } };
+}
+
+/// The store, the remote where there is one, the lanes, the open collector, and the place of the first fault.
 #[derive(Drop)]
 pub struct Run<'a> {
     pub store: Plain,
     pub remote: Option<&'a Plain>,
     pub lanes: Vec<Lane<'a>>,
+    pub collecting: Option<Collecting>,
     pub fault: Option<u64>,
 }
 
@@ -37,6 +54,7 @@ impl<'a> Model for Run<'a> {
       store = r.store;
       remote = option_map (λ p. p.now.snapshots) r.remote;
       lanes = r.lanes.items;
+      collecting = r.collecting;
       fault = r.fault;
     } };
 }
@@ -77,6 +95,23 @@ fn is_replied(ending: Ending) -> bool
     )
 }
 
+/// What a collector replies as it closes.
+fn collected(is_short: bool) -> Reply
+    ensures reply { result ≡ collected_by is_short }
+    ensures spelled { ReplyHasText result }
+{
+    if is_short {
+        return Reply::Refused(Refusal::NoMemory);
+    }
+    Reply::Collected {
+        start: 0,
+        cutoff: 0,
+        used: 0,
+        pending: 0,
+        removed: 0,
+    }
+}
+
 fn may_leave_unread(ending: Ending) -> bool
     ensures { result ≡ may_stop ending }
 {
@@ -92,9 +127,22 @@ impl<'a> Run<'a> {
         self.lanes[lane as usize].has_job()
     }
 
-    /// What stands next on the lane. A job is taken out of it.
+    /// Whether memory was wanting since the lane's own collector opened, where it is open.
+    fn own_collector(&self, lane: u32) -> Option<bool>
+        ensures { result ≡ own_open self.now lane }
+    {
+        let open = self.collecting.as_ref()?;
+        if open.lane == lane {
+            Some(open.is_short)
+        } else {
+            None
+        }
+    }
+
+    /// What stands next on a lane whose collector is not open. A job is taken out of it.
     fn take_next(&mut self, alloc: Global, lane: u32) -> Result<Next<'a>, AllocError>
-        requires { lane < length self.old.lanes }
+        requires lane { lane < length self.old.lanes }
+        requires apart { IsApart self.old lane }
         ensures next { IfOk result (λ n. shown_next n ≡ next_of self.old lane) }
         ensures fits { IfOk result IsFitNext }
         ensures left { IfOk result (λ n. self.new ≡ run_left n self.old lane) }
@@ -103,6 +151,15 @@ impl<'a> Run<'a> {
         let lane = &mut self.lanes[lane as usize];
         let next = lane.take_next(alloc)?;
         Ok(next)
+    }
+
+    /// Whether a SYNC stands next on a lane whose collector is not open.
+    fn next_is_sync(&self, alloc: Global, lane: u32) -> Result<bool, AllocError>
+        requires lane { lane < length self.now.lanes }
+        requires apart { IsApart self.now lane }
+        ensures { IfOk result (λ is_one. is_one ≡ is_sync_next (next_of self.now lane)) }
+    {
+        self.lanes[lane as usize].next_is_sync(alloc)
     }
 
     /// The lane's reply, with this left of its input and no job open.
@@ -156,12 +213,136 @@ impl<'a> Run<'a> {
         self.store.end(lane);
     }
 
-    /// Kind 0: the next command, or the next step of the lane's job. Whether there is one.
+    /// A collector may open on the lane: it has no session, and no collector is open.
+    #[tactic(auto, unfolding(store_model::specs::Weave::want_collector))]
+    fn want_collector(&self, lane: u32) -> Result<(), Refusal>
+        requires { lane < 64 }
+        ensures fits { IfErr result FitsRefusal }
+        ensures test { result ≡ wants_collector self.now lane }
+    {
+        let held = self.store.held(lane);
+        if let Err(refusal) = held.want_idle() {
+            return Err(refusal);
+        }
+        match &self.collecting {
+            None => Ok(()),
+            Some(open) => Err(Refusal::CollectorBusy { lane: open.lane }),
+        }
+    }
+
+    /// The lane's collector opens, with this left of the lane's input.
+    fn open_collector(&mut self, lane: u32, left: &'a [u8])
+        requires { lane < length self.old.lanes }
+        ensures opened { self.new ≡ opened self.old lane left.now }
+        ensures lanes { length self.new.lanes ≡ length self.old.lanes }
+    {
+        let own = &mut self.lanes[lane as usize];
+        own.set_left(left);
+        self.collecting = Some(Collecting {
+            lane,
+            is_short: false,
+        });
+    }
+
+    /// The lane's collector closes, with this reply.
+    fn close_collector(&mut self, alloc: Global, lane: u32, reply: &Reply) -> Result<(), AllocError>
+        requires lane { lane < length self.old.lanes }
+        requires spelled { ReplyHasText reply.now }
+        ensures closed { OnOk result (self.new ≡ closed_by self.old lane reply.now) }
+        ensures lanes { OnOk result (length self.new.lanes ≡ length self.old.lanes) }
+    {
+        self.collecting = None;
+        let own = &mut self.lanes[lane as usize];
+        own.tell_here(alloc, reply)?;
+        Ok(())
+    }
+
+    /// A GC is refused, unless its collector may open. Whether it is.
+    #[tactic(auto, using(crate::proofs::Spelled::refusal_spelled))]
+    fn refuse_collector(
+        &mut self,
+        alloc: Global,
+        lane: u32,
+        left: &'a [u8],
+    ) -> Result<bool, AllocError>
+        requires lane { lane < length self.old.lanes }
+        requires lanes { length self.old.lanes ≤ 64 }
+        ensures enters { EntersBy self.old self.new (refused_at self.old lane left.now) result }
+        ensures lanes { OnOk result (length self.new.lanes ≡ length self.old.lanes) }
+    {
+        match self.want_collector(lane) {
+            Ok(()) => Ok(false),
+            Err(refusal) => {
+                self.tell(alloc, lane, left, &Reply::Refused(refusal))?;
+                Ok(true)
+            }
+        }
+    }
+
+    /// A SYNC's first step: which of the remote's snapshots it pulls, or its refusal.
+    #[tactic(auto, unfolding(store_model::specs::Weave::begin_sync), using(crate::proofs::Spelled::refusal_spelled))]
+    fn begin_sync(
+        &mut self,
+        alloc: Global,
+        lane: u32,
+        group: &[u8],
+        left: &'a [u8],
+    ) -> Result<(), AllocError>
+        requires lane { lane < length self.old.lanes }
+        requires lanes { length self.old.lanes ≤ 64 }
+        ensures begun { OnOk result (self.new ≡ begun_sync self.old lane group.now left.now) }
+        ensures lanes { OnOk result (length self.new.lanes ≡ length self.old.lanes) }
+    {
+        match self.store.to_pull(alloc, lane, group, self.remote) {
+            Ok(snapshots) => {
+                let job = pull_all(alloc, snapshots);
+                self.go_on(alloc, lane, left, job)
+            }
+            Err(Stop::Refused(refusal)) => {
+                self.tell(alloc, lane, left, &Reply::Refused(refusal))
+            }
+            Err(Stop::NoMemory) => Err(AllocError),
+        }
+    }
+
+    /// Does a command that asks for no step of a job. Whether there is anything to do: of a GC only its refusal is.
+    #[tactic(auto, unfolding(store_model::specs::Weave::stepped))]
+    fn begin_command(
+        &mut self,
+        alloc: Global,
+        lane: u32,
+        moment: u64,
+        ahead: Ahead,
+        left: &'a [u8],
+    ) -> Result<bool, AllocError>
+        requires lane { lane < length self.old.lanes }
+        requires lanes { length self.old.lanes ≤ 64 }
+        requires moment { moment ≤ last_moment }
+        requires fits { IsFitAhead ahead }
+        ensures enters { BeginsBy self.old self.new lane moment ahead left.now result }
+        ensures lanes { OnOk result (length self.new.lanes ≡ length self.old.lanes) }
+    {
+        match ahead {
+            Ahead::Plain(command) => {
+                let reply = self.store.step(alloc, lane, moment, &command)?;
+                self.tell(alloc, lane, left, &reply)?;
+                Ok(true)
+            }
+            Ahead::Sync(group) => {
+                self.begin_sync(alloc, lane, group.as_slice(), left)?;
+                Ok(true)
+            }
+            Ahead::Collect => self.refuse_collector(alloc, lane, left),
+        }
+    }
+
+    /// Kind 0: the next command, or the next step of the lane's job; of a GC its refusal. Whether there is one.
     #[tactic(auto, unfolding(store_model::specs::Weave::stepped))]
     fn stepped(&mut self, alloc: Global, lane: u32, moment: u64) -> Result<bool, AllocError>
         requires lane { lane < length self.old.lanes }
         requires lanes { length self.old.lanes ≤ 64 }
         requires moment { moment ≤ last_moment }
+        requires apart { IsApart self.old lane }
         ensures enters { EntersBy self.old self.new (stepped_at self.old lane moment) result }
         ensures lanes { OnOk result (length self.new.lanes ≡ length self.old.lanes) }
     {
@@ -172,19 +353,59 @@ impl<'a> Run<'a> {
                 self.go_on(alloc, lane, left, job)?;
                 Ok(true)
             }
-            Next::Plain(command, left) => {
-                let reply = self.store.step(alloc, lane, moment, &command)?;
-                self.tell(alloc, lane, left, &reply)?;
-                Ok(true)
-            }
+            Next::Command(ahead, left) => self.begin_command(alloc, lane, moment, ahead, left),
             _ => Ok(false),
         }
+    }
+
+    /// Kind 1: a read of the remote for a SYNC, which changes nothing. Whether a SYNC stands next.
+    fn passed(&self, alloc: Global, lane: u32) -> Result<bool, AllocError>
+        requires lane { lane < length self.now.lanes }
+        requires apart { IsApart self.now lane }
+        ensures { EntersBy self.now self.now (passed_at self.now lane) result }
+    {
+        self.next_is_sync(alloc, lane)
+    }
+
+    /// The lane's collector opens where it may, with this left of the lane's input. Whether it does.
+    fn open_allowed(&mut self, lane: u32, left: &'a [u8]) -> bool
+        requires lane { lane < length self.old.lanes }
+        requires lanes { length self.old.lanes ≤ 64 }
+        ensures enters { Enters self.old self.new result (opened_at self.old lane left.now) }
+        ensures lanes { length self.new.lanes ≡ length self.old.lanes }
+    {
+        match self.want_collector(lane) {
+            Ok(()) => {
+                self.open_collector(lane, left);
+                true
+            }
+            Err(_) => false,
+        }
+    }
+
+    /// Kind 3: the lane's collector opens. Whether it may.
+    fn opens(&mut self, alloc: Global, lane: u32) -> Result<bool, AllocError>
+        requires lane { lane < length self.old.lanes }
+        requires lanes { length self.old.lanes ≤ 64 }
+        requires apart { IsApart self.old lane }
+        ensures enters { EntersBy self.old self.new (opens_at self.old lane) result }
+        ensures lanes { OnOk result (length self.new.lanes ≡ length self.old.lanes) }
+    {
+        if self.has_job(lane) {
+            return Ok(false);
+        }
+        let next = self.take_next(alloc, lane)?;
+        let Some(left) = next.into_collect() else {
+            return Ok(false);
+        };
+        Ok(self.open_allowed(lane, left))
     }
 
     /// Kind 2: memory is wanting for what stands next. Whether something does.
     #[tactic(auto, unfolding(store_model::specs::Weave::short), using(crate::proofs::Spelled::refusal_spelled))]
     fn short(&mut self, alloc: Global, lane: u32) -> Result<bool, AllocError>
-        requires { lane < length self.old.lanes }
+        requires lane { lane < length self.old.lanes }
+        requires apart { IsApart self.old lane }
         ensures enters { EntersBy self.old self.new (short_at self.old lane) result }
         ensures lanes { OnOk result (length self.new.lanes ≡ length self.old.lanes) }
     {
@@ -195,7 +416,7 @@ impl<'a> Run<'a> {
                 self.go_on(alloc, lane, left, job)?;
                 Ok(true)
             }
-            Next::Plain(_, left) => {
+            Next::Command(_, left) => {
                 self.tell(alloc, lane, left, &reply)?;
                 Ok(true)
             }
@@ -207,11 +428,12 @@ impl<'a> Run<'a> {
         }
     }
 
-    /// A fault of the disk is told of a command or a step, and not of a lane's end.
+    /// A fault is told of a command or a step, and not of a lane's end.
     #[tactic(auto, unfolding(store_model::specs::Weave::told_fault), using(crate::proofs::Spelled::refusal_spelled))]
     fn tell_fault(&mut self, alloc: Global, lane: u32, refusal: Refusal) -> Result<(), AllocError>
         requires lane { lane < length self.old.lanes }
         requires fits { FitsRefusal refusal }
+        requires apart { IsApart self.old lane }
         ensures told { OnOk result (self.new ≡ fault_at self.old lane refusal) }
         ensures lanes { OnOk result (length self.new.lanes ≡ length self.old.lanes) }
     {
@@ -221,14 +443,30 @@ impl<'a> Run<'a> {
                 let job = asking.take(alloc, reply)?;
                 self.go_on(alloc, lane, left, job)
             }
-            Next::Plain(_, left) => self.tell(alloc, lane, left, &reply),
+            Next::Command(_, left) => self.tell(alloc, lane, left, &reply),
             _ => Ok(()),
         }
     }
 
-    /// Want of memory ended the lane, with no job open, and its end comes next.
+    /// Kind 7: a read of the remote failed, for a SYNC. Whether a SYNC stands next.
+    fn remote_failed(&mut self, alloc: Global, lane: u32) -> Result<bool, AllocError>
+        requires lane { lane < length self.old.lanes }
+        requires apart { IsApart self.old lane }
+        ensures enters { EntersBy self.old self.new (remote_failed_at self.old lane) result }
+        ensures lanes { OnOk result (length self.new.lanes ≡ length self.old.lanes) }
+    {
+        if !self.next_is_sync(alloc, lane)? {
+            return Ok(false);
+        }
+        self.tell_fault(alloc, lane, Refusal::RemoteFault)?;
+        Ok(true)
+    }
+
+    /// Want of memory ended the lane, with no job and no collector of it open, and its end comes next.
+    #[tactic(auto, using(crate::proofs::RunLemmas::collects_apart))]
     fn is_cut_off(&self, lane: u32, ending: Ending, later: &[Entry]) -> bool
-        requires { lane < length self.now.lanes }
+        requires lane { lane < length self.now.lanes }
+        requires apart { IsApart self.now lane }
         ensures { result ≡ cuts_off self.now lane ending later.now }
     {
         match ending {
@@ -246,7 +484,8 @@ impl<'a> Run<'a> {
         ending: Ending,
         later: &[Entry],
     ) -> Result<(), AllocError>
-        requires { lane < length self.old.lanes }
+        requires lane { lane < length self.old.lanes }
+        requires apart { IsApart self.old lane }
         ensures told { OnOk result (self.new ≡ faulted_at self.old lane place ending later.now) }
         ensures lanes { OnOk result (length self.new.lanes ≡ length self.old.lanes) }
     {
@@ -300,6 +539,7 @@ impl<'a> Run<'a> {
     fn ends(&mut self, alloc: Global, lane: u32, ending: Ending) -> Result<bool, AllocError>
         requires lane { lane < length self.old.lanes }
         requires lanes { length self.old.lanes ≤ 64 }
+        requires apart { IsApart self.old lane }
         ensures enters { EntersBy self.old self.new (ends_at self.old lane ending) result }
         ensures lanes { OnOk result (length self.new.lanes ≡ length self.old.lanes) }
     {
@@ -319,7 +559,82 @@ impl<'a> Run<'a> {
                 self.end_session(lane);
                 Ok(true)
             }
-            Next::Job(_, _) | Next::Plain(_, _) => Ok(self.end_unread(lane, ending)),
+            Next::Job(_, _) | Next::Command(_, _) => Ok(self.end_unread(lane, ending)),
+        }
+    }
+
+    /// Memory is wanting for the lane's open collector.
+    fn be_short(&mut self, lane: u32)
+        ensures short { self.new ≡ short_open self.old lane }
+        ensures lanes { length self.new.lanes ≡ length self.old.lanes }
+    {
+        self.collecting = Some(Collecting {
+            lane,
+            is_short: true,
+        });
+    }
+
+    /// A fault of the disk closes the lane's collector, which is refused with it.
+    #[tactic(auto, using(crate::proofs::Spelled::refusal_spelled))]
+    fn fault_open(&mut self, alloc: Global, lane: u32, place: u64) -> Result<(), AllocError>
+        requires lane { lane < length self.old.lanes }
+        ensures told { OnOk result (self.new ≡ fault_open_at self.old lane place) }
+        ensures lanes { OnOk result (length self.new.lanes ≡ length self.old.lanes) }
+    {
+        let first = self.fault;
+        let reply = Reply::Refused(fault_refusal(first));
+        self.close_collector(alloc, lane, &reply)?;
+        self.fault = Some(first.unwrap_or(place));
+        Ok(())
+    }
+
+    /// The lane's end closes its collector, where the lane's ending may leave commands unread. Whether it may.
+    #[tactic(auto, unfolding(store_model::specs::Weave::unread))]
+    fn end_open(&mut self, lane: u32, ending: Ending) -> bool
+        requires { lane < 64 }
+        ensures enters { Enters self.old self.new result (end_open_at self.old lane ending) }
+        ensures lanes { length self.new.lanes ≡ length self.old.lanes }
+    {
+        let may = may_leave_unread(ending);
+        if may {
+            self.collecting = None;
+            self.end_session(lane);
+        }
+        may
+    }
+
+    /// Takes one entry of a lane whose collector is open. Whether it fits.
+    fn enter_open(
+        &mut self,
+        alloc: Global,
+        place: u64,
+        entry: &Entry,
+        ending: Ending,
+        is_short: bool,
+    ) -> Result<bool, AllocError>
+        requires lane { entry.now.lane < length self.old.lanes }
+        requires lanes { length self.old.lanes ≤ 64 }
+        requires open { own_open self.old entry.now.lane ≡ Some is_short }
+        ensures enters { EntersOpen self.old self.new ending place entry.now result }
+        ensures lanes { OnOk result (length self.new.lanes ≡ length self.old.lanes) }
+    {
+        let lane = entry.lane;
+        match entry.kind {
+            1 => Ok(true),
+            2 => {
+                self.be_short(lane);
+                Ok(true)
+            }
+            4 => {
+                self.close_collector(alloc, lane, &collected(is_short))?;
+                Ok(true)
+            }
+            5 => {
+                self.fault_open(alloc, lane, place)?;
+                Ok(true)
+            }
+            6 => Ok(self.end_open(lane, ending)),
+            _ => Ok(false),
         }
     }
 
@@ -339,14 +654,20 @@ impl<'a> Run<'a> {
         ensures lanes { OnOk result (length self.new.lanes ≡ length self.old.lanes) }
     {
         let lane = entry.lane;
+        if let Some(is_short) = self.own_collector(lane) {
+            return self.enter_open(alloc, place, entry, ending, is_short);
+        }
         match entry.kind {
             0 => self.stepped(alloc, lane, entry.moment),
+            1 => self.passed(alloc, lane),
             2 => self.short(alloc, lane),
+            3 => self.opens(alloc, lane),
             5 => {
                 self.faulted(alloc, lane, place, ending, later)?;
                 Ok(true)
             }
             6 => self.ends(alloc, lane, ending),
+            7 => self.remote_failed(alloc, lane),
             _ => Ok(false),
         }
     }

@@ -120,6 +120,7 @@ impl Plain {
             store: Plain::of(alloc, self.snapshots.clone()?)?,
             remote,
             lanes: new_lanes(alloc, inputs)?,
+            collecting: None,
             fault: None,
         })
     }
@@ -196,6 +197,7 @@ impl Run<'_> {
             store,
             remote: _,
             lanes,
+            collecting: _,
             fault: _,
         } = self;
         let replies = replies_of(alloc, lanes)?;

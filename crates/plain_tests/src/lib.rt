@@ -5,6 +5,8 @@
 #[cfg(test)]
 mod asserts;
 #[cfg(test)]
+mod jobs;
+#[cfg(test)]
 mod loading;
 #[cfg(test)]
 mod prunes;

@@ -1,20 +1,21 @@
-use Rattle.std.proofs.Common.{◌≡◌, subst, rules}
+use Rattle.std.proofs.Common.{◌≡◌, ap, subst}
 use Rattle.std.specs.Prelude.{IfOk}
 use Rattle.store_model.specs.declared.step.Step.{Step}
-use Rattle.store_model.specs.Job.{step_of}
 use Rattle.store_model.specs.JobSteps.{step_outcome}
-use Rattle.store_model.specs.Steps.{answered, step}
-use Rattle.plain_lanes.specs.Jobs.{IsJobStep}
-use Rattle.plain_store.proofs.JobLemmas.{few_told, fits_by}
+use Rattle.store_model.specs.Steps.{answered}
+use Rattle.plain_store.proofs.JobLemmas.{fits_by}
 use Rattle.plain_store.proofs.plain.Plain.do_step.Goals as goal
 
-pub returns-in-Ok-Command-clause-fits : goal.returns-in-Ok-Command-clause-fits
-unfolding step
-returns-in-Ok-Command-clause-fits c =
+pub returns-clause-step : goal.returns-clause-step
+returns-clause-step c =
     let s = c.args.self.now in
-    let asked = step_of c.args.asking.now in
-    let after = c.answer.new.self in
-    let outcome = step_outcome s c.args.lane c.args.moment asked in
-    let told : IfOk c.answer.result (λ reply. (after, reply) ≡ answered s outcome) = search rules in
-    let own = subst (λ (x : Step). IsJobStep x) c.in-Ok-Command.ensures.step c.in-Ok-Command.ensures.own in
-    fits_by c.answer.result s after outcome c.answer.ensures.spelled told (few_told s c.args.lane c.args.moment asked own)
+    subst (λ (x : Step). IfOk c.answer_step.result (λ r. (c.answer_step.new.self, r) ≡ answered s (step_outcome s c.args.lane c.args.moment x))) c.in_ok-step.ensures
+    c.answer_step.ensures.step
+
+pub returns-clause-fits : goal.returns-clause-fits
+returns-clause-fits c =
+    let s = c.args.self.now in
+    let told =
+    subst (λ (x : Step). IfOk c.answer_step.result (λ r. (c.answer_step.new.self, r) ≡ answered s (step_outcome s c.args.lane c.args.moment x))) c.in_ok-step.ensures
+    c.answer_step.ensures.step in
+    fits_by c.answer_step.result s c.answer_step.new.self c.args.lane c.args.moment c.args.asking.now c.answer_step.ensures.spelled told

@@ -13,7 +13,7 @@ end_with-requires-clause-spelled c = done_spelled
 pub returns-then-has_job-clause-enters : goal.returns-then-has_job-clause-enters
 returns-then-has_job-clause-enters c =
     let r = c.args.self.now in
-    let there = ends_open r c.args.lane c.args.ending (sym c.has_job.ensures ∙ c.if-has_job.true) in
+    let there = ends_open r c.args.lane c.args.ending c.requires.apart (sym c.has_job.ensures ∙ c.if-has_job.true) in
     subst (λ (o : Option Run). Enters r c.end_unread.new.self c.end_unread.result o) (sym there) c.end_unread.ensures.enters
 
 pub returns-clause-enters : goal.returns-clause-enters

@@ -14,7 +14,7 @@ returns-in-Asking-clause-goes c =
     let left = c.args.left.now in
     let a = c.in-Asking.asking in
     let inside = c.self.inside in
-    let r : Run = record { store = inside.store; remote = option_map (λ p. p.now.snapshots) inside.remote; lanes = inside.lanes.items; fault = inside.fault } in
+    let r : Run = record { store = inside.store; remote = option_map (λ p. p.now.snapshots) inside.remote; lanes = inside.lanes.items; collecting = inside.collecting; fault = inside.fault } in
     let within : k < length inside.lanes.items = omega (arith, ap (λ (x : Run). length x.lanes) c.self.view_is, c.requires.lane) in
     let here = at_lane r k c.index_mut-lane.result.now within c.index_mut-lane.ensures.value in
     ap (λ (x : Lane). (let y : Run = record r { lanes = set inside.lanes.items k x } in y))

@@ -1,0 +1,29 @@
+use Rattle.std.proofs.Common.{◌≡◌, sym, ap, subst, ◌∙◌, arith}
+use Rattle.std.proofs.lemmas.List.Elements.{All-nil, All-same}
+use Rattle.wire_commands.specs.HasText.{FitsFileRow, ReplyHasText}
+use Rattle.plain_lanes.specs.FaultRows.{IsFitRow}
+use Rattle.store_model.specs.Job.{closing}
+use Rattle.store_model.specs.VerifyJob.{begun, listed, next_file}
+use Rattle.plain_lanes.specs.Closes.{ended_by}
+use Rattle.plain_lanes.proofs.VerifyLemmas.{next_any, listed_not}
+use Rattle.plain_lanes.proofs.verify.listed.Goals as goal
+
+pub returns-in-Ok-clause-job : goal.returns-in-Ok-clause-job
+unfolding listed
+returns-in-Ok-clause-job c =
+    let rows = c.in-Ok.rows in
+    c.next_file.ensures.job ∙ next_any (begun c.args.snapshot) c.into_vec.result.items c.into_vec.result.items
+    ∙ ap (next_file (begun c.args.snapshot)) c.into_vec.ensures ∙ ap (listed c.args.snapshot) (sym c.in-Ok.ensures)
+
+pub returns-in-Err-clause-job : goal.returns-in-Err-clause-job
+returns-in-Err-clause-job c =
+    c.ended.ensures.job ∙ ap (ended_by closing) c.in-Err.ensures.1 ∙ listed_not c.args.snapshot c.args.reply c.in-Err.ensures.0
+
+pub invariant_of-visit : goal.invariant_of-visit
+invariant_of-visit c =
+    let told = subst ReplyHasText c.in-Ok.ensures c.requires in
+    record {
+      few = omega arith;
+      spelled = All-nil IsFitRow;
+      listed = All-same FitsFileRow c.into_vec.result.items c.in-Ok.rows c.into_vec.ensures (told.0).1;
+    }

@@ -1,0 +1,44 @@
+-- The commands by which a SYNC uploads a snapshot, by the digests that were sent.
+use Rattle.std.specs.Prelude.{◌≡◌, ℕ, Bool, List, [], ◌∷◌, ◌++◌, map, length, Result, OnOk, Vec, if◌then◌else◌}
+use Rattle.std.specs.declared.alloc.Global.{Global}
+use Rattle.std.specs.List.{list_any}
+use Rattle.std.specs.Str.{bytes_eq}
+use Rattle.sha2.specs.Sha256.{sha256}
+use Rattle.store_types.specs.declared.names.Digest32.{Digest32}
+use Rattle.blob_codec.specs.Blob as blobs
+use Rattle.store_files.specs.Archive.{Archive, Content, archive, blob, File, digest_of, pieces_of, size_of, csum_of}
+use Rattle.wire_commands.specs.declared.command.Command.{Command}
+use Rattle.wire_commands.specs.declared.command.Command.TheVariants.{Chunk, CloseIndex, Blob}
+use Rattle.store_model.specs.SyncJob.{entries_from, appends, new_index}
+
+-- where memory is not wanting, these commands come behind those before
+abbrev pub Pushes : {A E : Type 0} → Vec Command Global → Vec Command Global → List Command → Result A E → Type 0
+Pushes old new more result = OnOk result (new.items ≡ old.items ++ more)
+
+abbrev pub is_sent : List ℕ → List Digest32 → Bool
+is_sent p sent = list_any (λ d. bytes_eq d.0 (sha256 p)) sent
+
+abbrev pub unsent_by : List Digest32 → List (List ℕ) → List (List ℕ)
+unsent_by sent [] = []
+unsent_by sent (p ∷ ps) = if is_sent p sent then unsent_by sent ps else p ∷ unsent_by (digest_of p ∷ sent) ps
+
+abbrev pub sent_after : List ℕ → List Digest32 → List Digest32
+sent_after p sent = if is_sent p sent then sent else digest_of p ∷ sent
+
+abbrev pub chunk_of : List ℕ → Command
+chunk_of p = Chunk (digest_of p) (blobs.blob p)
+
+abbrev pub close_of : Archive → Command
+close_of a = CloseIndex 0 (length a.pieces) (size_of (archive a)) (csum_of (archive a))
+
+abbrev pub archive_commands_by : List Digest32 → List ℕ → Archive → List Command
+archive_commands_by sent name a =
+    new_index a.layout name ∷ map chunk_of (unsent_by sent a.pieces) ++ appends (length a.pieces) (entries_from 0 a.pieces) ++ close_of a ∷ []
+
+abbrev pub file_commands_by : List Digest32 → List ℕ → Content → List Command
+file_commands_by sent name (archive a) = archive_commands_by sent name a
+file_commands_by sent name (blob bytes) = Blob name (blobs.blob bytes) ∷ []
+
+abbrev pub uploads_by : List Digest32 → List File → List Command
+uploads_by sent [] = []
+uploads_by sent (f ∷ fs) = file_commands_by sent f.name f.content ++ uploads_by (map digest_of (pieces_of f.content) ++ sent) fs

@@ -1,0 +1,103 @@
+-- What a VERIFY makes of the replies to its steps.
+use Rattle.std.specs.Prelude.{◌≡◌, ℕ, ◌+◌, Bool, true, false, List, [], ◌∷◌, ◌++◌, Option, Some, None, Result, IfOk, MatchResult}
+use Rattle.std.specs.Option.{option_or}
+use Rattle.store_types.specs.declared.names.Digest32.{Digest32}
+use Rattle.store_types.specs.declared.refusal.Refusal.TheVariants.{Damaged, Unreadable}
+use Rattle.wire_commands.specs.declared.rows.FileRow.{FileRow}
+use Rattle.wire_commands.specs.declared.rows.FileFault.{FileFault}
+use Rattle.wire_commands.specs.declared.rows.FileFault.TheVariants as faults
+use Rattle.wire_commands.specs.declared.rows.FaultRow.{FaultRow}
+use Rattle.wire_commands.specs.declared.reply.Reply.{Reply}
+use Rattle.wire_commands.specs.declared.reply.Reply.TheVariants.{Done, Part, Data, Files, Refused}
+use Rattle.store_model.specs.Job as model
+use Rattle.store_model.specs.VerifyJob as verify
+use Rattle.plain_lanes.specs.declared.judging.Judged.{Judged}
+use Rattle.plain_lanes.specs.declared.visit.Visit.{Visit}
+use Rattle.plain_lanes.specs.Closes.{ended_by}
+
+abbrev pub shown_visit : Visit → model.Visit
+shown_visit v = record {
+  snapshot = v.snapshot;
+  files = v.files;
+  entries = v.entries;
+  bytes = v.bytes;
+  faults = v.faults.items;
+  later = v.later.items;
+}
+
+abbrev pub shown_judged : Judged → verify.Judged
+shown_judged j = record { fault = j.fault; bytes = j.bytes; digests = j.digests.items }
+
+-- where memory is not wanting, this is what the file says
+abbrev pub GivesJudged : {E : Type 0} → Result Judged E → verify.Judged → Type 0
+GivesJudged result judged = IfOk result (λ given. shown_judged given ≡ judged)
+
+abbrev pub GivesVisit : {E : Type 0} → Result Visit E → model.Visit → Type 0
+GivesVisit result visit = IfOk result (λ given. shown_visit given ≡ visit)
+
+-- the faults behind that of one more file
+abbrev pub with_faults : FileRow → Option FileFault → List FaultRow → List FaultRow
+with_faults row None faults = faults
+with_faults row (Some fault) faults = faults ++ record { file = row.file; fault = fault } ∷ []
+
+-- so many more entries, with so many bytes
+abbrev pub counted_of : model.Visit → ℕ → ℕ → model.Visit
+counted_of v entries bytes = record v { entries = v.entries + entries; bytes = v.bytes + bytes }
+
+-- ---- replies
+
+abbrev pub is_done : Reply → Bool
+is_done Done = true
+is_done _ = false
+
+abbrev pub is_files : Reply → Bool
+is_files (Files rows) = true
+is_files _ = false
+
+abbrev pub is_part : Reply → Bool
+is_part (Part total bytes) = true
+is_part _ = false
+
+abbrev pub is_data : Reply → Bool
+is_data (Data bytes) = true
+is_data _ = false
+
+abbrev pub unreadable_told : Reply → Bool
+unreadable_told (Refused (Unreadable name)) = true
+unreadable_told _ = false
+
+-- what a reply of one kind gives, or the reply back where it is of another
+abbrev pub GivesOrBack : {A : Type 0} → (A → Reply) → (Reply → Bool) → Reply → Result A Reply → Type 0
+GivesOrBack made is_one reply result = MatchResult result (λ given. reply ≡ made given) (λ back. (is_one reply ≡ false) × (back ≡ reply))
+
+-- the fault of a file that a refusal tells
+abbrev pub fault_told : Reply → Option FileFault
+fault_told (Refused (Damaged asked found)) = Some (faults.Damaged asked)
+fault_told (Refused (Unreadable name)) = Some faults.Unreadable
+fault_told _ = None
+
+-- the fault of a chunk of this digest that a refusal tells
+abbrev pub chunk_told : Reply → Digest32 → Option FileFault
+chunk_told (Refused (Damaged asked found)) d = Some (faults.Damaged d)
+chunk_told _ d = None
+
+-- the fault of a chunk of this digest, or that it has none, where the file goes on
+abbrev pub chunk_judged : Reply → Digest32 → Option (Option FileFault)
+chunk_judged (Data bytes) d = Some (verify.chunk_fault d bytes)
+chunk_judged (Refused (Damaged asked found)) d = Some (Some (faults.Damaged d))
+chunk_judged _ d = None
+
+abbrev pub JudgesChunk : Reply → Digest32 → Result (Option FileFault) Reply → Type 0
+JudgesChunk reply d result =
+    MatchResult result (λ fault. chunk_judged reply d ≡ Some fault) (λ back. (chunk_judged reply d ≡ None) × (back ≡ reply))
+
+-- ---- the job, by a reply that gives nothing of what was read
+
+-- behind the read of a part
+abbrev pub read_by : model.Visit → FileRow → Reply → model.Job
+read_by v row reply = elim (fault_told reply) [ Some fault ↦ verify.file_done v row (Some fault) | None ↦ ended_by model.closing reply ]
+
+-- behind the read of a chunk
+abbrev pub checked_by : model.Visit → FileRow → Option FileFault → Reply → model.Job
+checked_by v row fault (Refused (Unreadable name)) = verify.file_done v row (option_or fault (Some faults.Unreadable))
+checked_by v row fault reply = ended_by model.closing reply

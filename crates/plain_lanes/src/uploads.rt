@@ -1,0 +1,241 @@
+//! The commands by which a SYNC uploads a snapshot.
+
+ghost use Rattle.std.specs.Prelude.{◌≡◌, ◌++◌, ◌∷◌, [], length, map, option_map, IfOk, OnOk};
+ghost use Rattle.std.specs.List.{filter_map};
+ghost use Rattle.store_files.specs.Archive.{digest_of, file_named as file_of};
+ghost use Rattle.manifest.specs.Views.{fact_view};
+ghost use Rattle.store_types.specs.FileNames.{manifest_name};
+ghost use Rattle.store_model.specs.SyncJob.{appends, entries_from, new_index, text_of as text_in, commands_of as commands_for, listed_files as files_listed};
+ghost use Rattle.plain_snapshots.specs.Shown.{shown_layout};
+ghost use Rattle.plain_lanes.specs.Uploading.{Pushes, is_sent as was_sent, chunk_of, close_of, unsent_by, sent_after, archive_commands_by, file_commands_by, uploads_by};
+
+use plain_snapshots::{Archive, BlobData, Content, File, Layout, Snapshot, facts_in, file_named};
+use sha2::{Digest, Sha256};
+use std::alloc::{AllocError, Global};
+use std::collections::VecDeque;
+use store_types::{AppendEntry, Bytes, Digest32, Rows};
+use wire_commands::Command;
+
+// ---- an archive
+
+/// The beginning of an index.
+fn begins(alloc: Global, layout: Layout, name: &[u8]) -> Result<Command, AllocError>
+    ensures { IfOk result (λ command. command ≡ new_index (shown_layout layout) name.now) }
+{
+    let file = Bytes::from_slice(alloc, name)?;
+    match layout {
+        Layout::Dynamic => Ok(Command::NewDynamic { file }),
+        Layout::Fixed { size, chunk_size } => Ok(Command::NewFixed {
+            file,
+            size,
+            chunk_size,
+        }),
+    }
+}
+
+/// The piece's digest is one of these.
+fn is_sent(piece: &BlobData, sent: &[Digest32]) -> bool
+    ensures { result ≡ was_sent piece.now sent.now }
+{
+    let digest = Sha256::digest(piece.as_slice());
+    sent.iter().any(|other| other.0 == digest)
+}
+
+/// The upload of a piece.
+fn chunk(alloc: Global, piece: &BlobData) -> Result<Command, AllocError>
+    ensures { IfOk result (λ command. command ≡ chunk_of piece.now) }
+{
+    Ok(Command::Chunk {
+        digest: Digest32(Sha256::digest(piece.as_slice())),
+        blob: Bytes::from_vec(piece.text(alloc)?),
+    })
+}
+
+/// The upload of a piece, unless its digest is sent.
+fn push_chunk(
+    alloc: Global,
+    commands: &mut Vec<Command>,
+    sent: &mut Vec<Digest32>,
+    piece: &BlobData,
+) -> Result<(), AllocError>
+    ensures commands { Pushes commands.old commands.new (map chunk_of (unsent_by sent.old.items (piece.now ∷ []))) result }
+    ensures sent { OnOk result (sent.new.items ≡ sent_after piece.now sent.old.items) }
+{
+    if is_sent(piece, sent) {
+        return Ok(());
+    }
+    commands.push(chunk(alloc, piece)?)?;
+    sent.insert(0, Digest32(Sha256::digest(piece.as_slice())))?;
+    Ok(())
+}
+
+/// The uploads of the pieces whose digests are not sent, each at its first use.
+fn push_chunks(
+    alloc: Global,
+    commands: &mut Vec<Command>,
+    sent: &[Digest32],
+    pieces: &[BlobData],
+) -> Result<(), AllocError>
+    ensures { Pushes commands.old commands.new (map chunk_of (unsent_by sent.now pieces.now)) result }
+{
+    let mut sent = Vec::from_slice(alloc, sent)?;
+    for piece in pieces {
+        push_chunk(alloc, commands, &mut sent, piece)?;
+    }
+    Ok(())
+}
+
+/// The entries of the pieces: each begins where the one before it ends. More than a `u64` counts no memory holds.
+fn entries_of(alloc: Global, pieces: &[BlobData]) -> Result<Vec<AppendEntry>, AllocError>
+    ensures { IfOk result (λ entries. entries.items ≡ entries_from 0 pieces.now) }
+{
+    let mut entries = Vec::new(alloc);
+    let mut offset = 0u64;
+    for piece in pieces {
+        let piece = piece.as_slice();
+        entries.push(AppendEntry {
+            digest: Digest32(Sha256::digest(piece)),
+            offset,
+        })?;
+        offset = offset.checked_add(piece.len() as u64).ok_or(AllocError)?;
+    }
+    Ok(entries)
+}
+
+/// The APPENDs of the entries.
+fn push_appends(
+    alloc: Global,
+    commands: &mut Vec<Command>,
+    entries: &[AppendEntry],
+) -> Result<(), AllocError>
+    ensures { Pushes commands.old commands.new (appends (length entries.now) entries.now) result }
+{
+    let mut left = entries;
+    while !left.is_empty() {
+        let (part, later) = left.split_at(left.len().min(4096));
+        commands.push(Command::Append {
+            number: 0,
+            entries: Rows::from_vec(Vec::from_slice(alloc, part)?),
+        })?;
+        left = later;
+    }
+    Ok(())
+}
+
+/// The end of an index.
+fn closes(alloc: Global, archive: &Archive) -> Result<Command, AllocError>
+    ensures { IfOk result (λ command. command ≡ close_of archive.now) }
+{
+    Ok(Command::CloseIndex {
+        number: 0,
+        count: archive.pieces.len() as u64,
+        size: archive.size()?,
+        csum: archive.csum(alloc)?,
+    })
+}
+
+fn push_archive(
+    alloc: Global,
+    commands: &mut Vec<Command>,
+    sent: &[Digest32],
+    name: &[u8],
+    archive: &Archive,
+) -> Result<(), AllocError>
+    ensures { Pushes commands.old commands.new (archive_commands_by sent.now name.now archive.now) result }
+{
+    commands.push(begins(alloc, archive.layout, name)?)?;
+    push_chunks(alloc, commands, sent, &archive.pieces)?;
+    let entries = entries_of(alloc, &archive.pieces)?;
+    push_appends(alloc, commands, &entries)?;
+    commands.push(closes(alloc, archive)?)?;
+    Ok(())
+}
+
+// ---- files
+
+fn push_file(
+    alloc: Global,
+    commands: &mut Vec<Command>,
+    sent: &[Digest32],
+    file: &File,
+) -> Result<(), AllocError>
+    ensures { Pushes commands.old commands.new (file_commands_by sent.now file.now.name file.now.content) result }
+{
+    let name = file.name.as_slice();
+    match &file.content {
+        Content::Archive(archive) => push_archive(alloc, commands, sent, name, archive),
+        Content::Blob(contents) => {
+            commands.push(Command::Blob {
+                file: Bytes::from_slice(alloc, name)?,
+                blob: Bytes::from_vec(contents.text(alloc)?),
+            })?;
+            Ok(())
+        }
+    }
+}
+
+/// The digests of the pieces, before those that are sent.
+fn sent_with(
+    alloc: Global,
+    pieces: &[BlobData],
+    sent: &[Digest32],
+) -> Result<Vec<Digest32>, AllocError>
+    ensures { IfOk result (λ after. after.items ≡ map digest_of pieces.now ++ sent.now) }
+{
+    let mut digests = Vec::new(alloc);
+    for piece in pieces {
+        digests.push(Digest32(Sha256::digest(piece.as_slice())))?;
+    }
+    digests.extend_from_slice(sent)?;
+    Ok(digests)
+}
+
+/// The files that the manifest lists, in its order.
+fn listed_files(alloc: Global, snapshot: &Snapshot) -> Result<Vec<File>, AllocError>
+    ensures { IfOk result (λ files. files.items ≡ files_listed snapshot.now) }
+{
+    let facts = facts_in(alloc, &snapshot.files)?;
+    let mut listed = Vec::new(alloc);
+    for fact in &facts {
+        if let Some(file) = file_named(fact.name.as_slice(), &snapshot.files) {
+            listed.push(file.clone()?)?;
+        }
+    }
+    Ok(listed)
+}
+
+fn uploads(alloc: Global, files: &[File]) -> Result<Vec<Command>, AllocError>
+    ensures { IfOk result (λ commands. commands.items ≡ uploads_by [] files.now) }
+{
+    let mut commands = Vec::new(alloc);
+    let mut sent = Vec::new(alloc);
+    for file in files {
+        push_file(alloc, &mut commands, &sent, file)?;
+        sent = sent_with(alloc, file.content.pieces(), &sent)?;
+    }
+    Ok(commands)
+}
+
+/// The text of the manifest, or nothing.
+fn manifest_text(alloc: Global, snapshot: &Snapshot) -> Result<Vec<u8>, AllocError>
+    ensures { IfOk result (λ text. text.items ≡ text_in (file_of manifest_name snapshot.now.files)) }
+{
+    match file_named(b"index.json.blob", &snapshot.files) {
+        Some(file) => file.content.text(alloc),
+        None => Ok(Vec::new(alloc)),
+    }
+}
+
+/// Behind OPEN_WRITER: the files, then the manifest and FINISH.
+pub fn commands_of(alloc: Global, snapshot: &Snapshot) -> Result<VecDeque<Command>, AllocError>
+    ensures { IfOk result (λ commands. commands.items ≡ commands_for snapshot.now) }
+{
+    let files = listed_files(alloc, snapshot)?;
+    let mut commands = uploads(alloc, &files)?;
+    commands.push(Command::Blob {
+        file: Bytes::from_slice(alloc, b"index.json.blob")?,
+        blob: Bytes::from_vec(manifest_text(alloc, snapshot)?),
+    })?;
+    commands.push(Command::Finish)?;
+    Ok(VecDeque::from_vec(commands))
+}
