@@ -332,7 +332,7 @@ module _ {D E C : Type 0} (d : Ghosts D) (clock : clocks.Ghosts C) (old new : Co
       let then_is : next fin ≡ insert_snapshot (snapshot_of v) snapshots = next_is fin ∙ ap (λ (x : model.Store). x.snapshots) store in
       let apart : All (λ (q : Kept). q.key ≢ v.key) (map (λ x. x.kept) c) =
       All-same (λ (q : Kept). q.key ≢ v.key) (map (λ x. x.kept) c) (map shown_snapshot snapshots) (f.shows).catalogue
-          (All-map (λ (q : Kept). q.key ≢ v.key) shown_snapshot snapshots (fresh snapshots v (sound.writers k v at))) in
+      (All-map (λ (q : Kept). q.key ≢ v.key) shown_snapshot snapshots (fresh snapshots v (sound.writers k v at))) in
       let key : IsNewKey c snapshots added (snapshot_of v) =
       λ number q is. different v.key q.key (λ same. kept_passes (λ (z : Kept). z.key ≢ v.key) c number q apart is (sym same)) in
       subst (λ l. Sifts acts c l snapshots (next fin) (spares fin answer.reply)) (sym listed)
@@ -391,7 +391,7 @@ pub plans_more : {D E C : Type 0} (d : Ghosts D) (clock : clocks.Ghosts C) (old 
     → IsAnswered d old new lane answer → ActKeeps d old new lane act answer → is_step act ≡ false → new.collector ≡ collector_by (answer.entry).kind lane old.collector
     → ((answer.entry).kind ≡ 3 → ⊥) → StandsFor d clock.readings old h → StandsFor d clock.readings new (then_event h (event_of act answer (d.calls (new.parts).disk))) → KeepsTouches d old h
     → ShowsOpen (length (new.journal).entries.items) (new.parts).catalogue.items (world (then_event h (event_of act answer (d.calls (new.parts).disk)))).store.snapshots new.collector
-        (swept_of (then_event h (event_of act answer (d.calls (new.parts).disk)))).sweep
+    (swept_of (then_event h (event_of act answer (d.calls (new.parts).disk)))).sweep
 plans_more d clock old new lane act answer h lt formed answers keeps no collector opens_none s so touches = by_open new.collector refl
   where
     e : Event
@@ -440,7 +440,7 @@ plans_more d clock old new lane act answer h lt formed answers keeps no collecto
     by_sweep x y is plan entries None at shows = absurd shows
     by_sweep x y is plan entries (Some sweep) at shows =
         let sweeps = later ∙ stays_open (record { lane = y.lane; ended = y.ended }) (world (then_event h e)).collecting (option_map (spared act answer.reply) (swept_of h).sweep) (sym (ap open_in is) ∙ so.collecting)
-            ∙ ap (option_map (spared act answer.reply)) at in
+        ∙ ap (option_map (spared act answer.reply)) at in
         subst (λ o. ShowsOpen (length (new.journal).entries.items) c2 then_has (Some y) o) (sym sweeps)
         (subst (λ n. ShowsSweep n c2 then_has y (spared act answer.reply sweep)) (sym count)
         (shows_sifted was c c2 first then_has (spares act answer.reply) x y sweep (sifted_by was c c2 first then_has (spares act answer.reply) x y plan entries shows.numbers its) shows))

@@ -16,7 +16,7 @@ use Rattle.store_history.specs.Sweeping.{without}
 use Rattle.core_state.specs.declared.collector.Collector.{Collector}
 use Rattle.core_state.specs.declared.state.Core.{Core}
 use Rattle.core_state.specs.Changes.{Change, LeavesChange, after, drops, installs, stays}
-use Rattle.core_state.specs.Collectors.{is_on, steps_left}
+use Rattle.core_state.specs.Collectors.{is_cut, is_on, steps_left}
 use Rattle.core_state.specs.Upkeeps.{touches_kept}
 
 -- ---- the disk
@@ -74,5 +74,7 @@ pub record StepLeaves {D E C : Type 0} (d : Ghosts D) (old new : Core D E C) (la
   pub open_on : is_on lane new.collector ≡ stays_open (answer.entry).kind (is_on lane old.collector)
   -- another lane's stays as it is
   pub others : is_on lane old.collector ≡ false → new.collector ≡ old.collector
+  -- want of memory ends it early
+  pub cut : is_on lane old.collector ≡ true → (answer.entry).kind ≡ 2 → is_cut lane new.collector ≡ true
   -- a mark, a visit and a want of memory leave less to do
   pub further : is_on lane old.collector ≡ true → ((answer.entry).kind ≡ 1) ⊎ ((answer.entry).kind ≡ 2) → steps_left new.collector < steps_left old.collector
