@@ -73,7 +73,7 @@ none_some x e = cc
 -- ---- the collector
 
 -- it was open before, with the same plan and the same digests at hand
-record WasOpen (o : Option Collector) (y : Collector) : Type 0 where
+pub record WasOpen (o : Option Collector) (y : Collector) : Type 0 where
   pub was : Collector
   pub there : o ≡ Some was
   pub plan : y.plan ≡ was.plan
@@ -94,7 +94,7 @@ cut_open lane (Some x) y e = by_test (x.lane == lane) e
         record { was = x; there = refl; plan = sym (ap (λ (c : Collector). c.plan) same); same_entries = sym (ap (λ (c : Collector). c.entries) same) }
     by_test false e = same_open x y e
 
-closed_open : (lane : ℕ) (o : Option Collector) (y : Collector) → closed_on lane o ≡ Some y → WasOpen o y
+pub closed_open : (lane : ℕ) (o : Option Collector) (y : Collector) → closed_on lane o ≡ Some y → WasOpen o y
 closed_open lane None y e = absurd (none_some y e)
 closed_open lane (Some x) y e = by_test (x.lane == lane) e
   where
@@ -102,7 +102,7 @@ closed_open lane (Some x) y e = by_test (x.lane == lane) e
     by_test true e = absurd (none_some y e)
     by_test false e = same_open x y e
 
-was_open : (k lane : ℕ) (o : Option Collector) (y : Collector) → collector_by k lane o ≡ Some y → WasOpen o y
+pub was_open : (k lane : ℕ) (o : Option Collector) (y : Collector) → collector_by k lane o ≡ Some y → WasOpen o y
 was_open k lane o y is = by_kind (k == 2) ((k == 4) || (k == 6)) is
   where
     by_kind : (a b : Bool) → cond a (cut_on lane o) (cond b (closed_on lane o) o) ≡ Some y → WasOpen o y
@@ -133,11 +133,11 @@ sweep_after : (R : Option (List Snapshot)) (w : World) (s : Swept) (e : Event) �
 unfolding swept_after
 sweep_after R w s e other none = ap (while_open (after R w e).collecting) (unstarted w s e (class_of e.act) (kind e) other none)
 
-none_open : (v : Option Collecting) → None ≡ shown_collecting v → v ≡ None
+pub none_open : (v : Option Collecting) → None ≡ shown_collecting v → v ≡ None
 none_open None is = refl
 none_open (Some v) is = absurd (none_some (record { lane = v.lane; ended = Rattle.core_state.specs.Collectors.ended_if v.is_short }) is)
 
-stays_open : (x : OpenOn) (v : Option Collecting) (sweep : Option Sweep) → Some x ≡ shown_collecting v → while_open v sweep ≡ sweep
+pub stays_open : (x : OpenOn) (v : Option Collecting) (sweep : Option Sweep) → Some x ≡ shown_collecting v → while_open v sweep ≡ sweep
 stays_open x None sweep is = absurd (none_some x (sym is))
 stays_open x (Some v) sweep is = refl
 
