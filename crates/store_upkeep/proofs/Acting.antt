@@ -440,7 +440,7 @@ module _ (s : Store) (k m : ℕ) where
   one_digest d piece digest same (inl e) = e ∙ same
   one_digest d piece digest same (inr h) = absurd h
 
-  digest_is : (digest : Digest32) (checked : Result (List ℕ) Refusal) (piece : List ℕ) → IsCheckedChunk digest checked → data_in checked ≡ Ok piece → sha256 piece ≡ digest.0
+  pub digest_is : (digest : Digest32) (checked : Result (List ℕ) Refusal) (piece : List ℕ) → IsCheckedChunk digest checked → data_in checked ≡ Ok piece → sha256 piece ≡ digest.0
   digest_is digest (Ok bytes) piece formed is = checked_digest digest bytes piece formed is
   digest_is digest (Err refusal) piece formed is = absurd (err_ok refusal piece is)
 
