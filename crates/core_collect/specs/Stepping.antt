@@ -10,6 +10,7 @@ use Rattle.store_files.specs.Book.{Book, book_text}
 use Rattle.store_files.specs.Folder.{chunk_name}
 use Rattle.wire_commands.specs.declared.reply.Reply.{Reply}
 use Rattle.wire_commands.specs.declared.reply.Reply.TheVariants as replies
+use Rattle.wire_commands.specs.HasText.{ReplyHasText}
 use Rattle.store_model.specs.Store.{Store}
 use Rattle.atime_book.specs.Touches.{NoneAfter, as_of}
 use Rattle.gc_plan.specs.Plan.{left_of}
@@ -166,6 +167,7 @@ pub record HasPassed {D E C : Type 0} (d : Ghosts D) (readings : C → Option Re
   pub others : KeepsOthers mid acted
   pub passes : PassDoes d mid.parts acted.parts mid.upkeep acted.upkeep mid.collector acted.collector at result
   pub enters : EntersPass d acted new at result answer
+  pub text : IfSome answer.reply ReplyHasText
 
 pub data GoesOn {D E C : Type 0} (d : Ghosts D) (readings : C → Option Readings) (old new : Core D E C) (lane : ℕ) (answer : Answer) : Type 0 where
   not_begun : Refuses d readings old new lane answer → AdmittedHasText (Answered answer) → GoesOn d readings old new lane answer

@@ -1,11 +1,13 @@
 //! The acts of a collector after its start.
 
-ghost use Rattle.std.specs.Prelude.{◌≡◌, ◌<◌, ◌≤◌, if◌then◌else◌, ◌==◌, false, None};
+ghost use Rattle.std.specs.Prelude.{◌≡◌, ◌<◌, ◌≤◌, if◌then◌else◌, ◌==◌, false, None, IfErr, IfSome};
 ghost use Rattle.store_types.specs.Times.{last_moment};
+ghost use Rattle.wire_commands.specs.HasText.{ReplyHasText};
 ghost use Rattle.store_history.specs.declared.act.Act.TheVariants.{Step};
 ghost use Rattle.core_state.specs.Applies.{ActApplies, ActKeeps};
 ghost use Rattle.core_state.specs.Collectors.{closed_on, is_cut};
 ghost use Rattle.core_state.specs.Reserved.{HasRoom};
+ghost use Rattle.core_state.specs.Stops.{StopHasText};
 ghost use Rattle.core_collect.specs.Stepping.{EntersPass, GoesOn, PassDoes, CollectDoes, StepTells};
 
 use crate::ending::{end, end_early, told};
@@ -89,7 +91,9 @@ fn enter_pass<D: Disk, E, C>(
     requires lane { at.lane < 64 }
     requires in_time { at.moment ≤ last_moment }
     requires room { HasRoom core.old at.lane }
-    ensures { EntersPass D.Disk core.old core.new at ended result }
+    requires text { IfErr ended StopHasText }
+    ensures enters { EntersPass D.Disk core.old core.new at ended result }
+    ensures text { IfSome result.reply ReplyHasText }
 {
     match ended {
         Ok(None) => enter(core, at, PART_KIND, None),
