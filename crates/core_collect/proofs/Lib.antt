@@ -1,4 +1,7 @@
 pub mod Outcomes
+pub mod Listings
+pub mod Losing
+pub mod VisitLemmas
 pub mod Sweepable
-pub mod Settled
+pub mod Stepped
 pub mod StepLemmas

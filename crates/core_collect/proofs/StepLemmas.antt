@@ -1,30 +1,28 @@
 -- An act of a collector after its start, by how it ended.
 use Rattle.disk_trait.specs.declared.disk.Disk.{Ghosts}
-use Rattle.std.proofs.Common.{◌≡◌, ◌↔◌, ◌⊎◌, ⊎_elim, ◌<◌, ◌≤◌, ◌==◌, ◌&&◌, ℕ, Bool, true, false, cond, is_some, length, List, Option, Some, None, IfSome, IfErr, IsTrue, Result, Ok, Err, inl, inr, refl, sym, ap, subst, ◌∙◌, arith}
+use Rattle.std.proofs.Common.{◌≡◌, ◌↔◌, ⊎_elim, ◌<◌, ◌≤◌, ◌==◌, ◌&&◌, ℕ, Bool, true, false, is_some, length, List, [], ◌∷◌, Option, Some, None, IfSome, IsTrue, Result, Ok, Err, inl, inr, refl, sym, ap, subst, ◌∙◌, arith}
 use Rattle.std.specs.Prelude.{IsErrOf, IsSomeAnd}
 use Rattle.std.specs.FinMap.{get}
 use Rattle.std.specs.Option.{IsSome}
 use Rattle.std.proofs.lemmas.Bool.{eqb-true}
-use Rattle.disk_trait.specs.Disk.{Serves}
-use Rattle.disk_trait.specs.declared.disk.DiskError.TheVariants as disks
+use Rattle.disk_trait.specs.Disk.{Rose}
 use Rattle.port_traits.specs.declared.clock.Clock as clocks
-use Rattle.port_traits.specs.Readings.{Readings}
-use Rattle.store_types.specs.declared.refusal.Refusal.{Refusal}
 use Rattle.store_types.specs.declared.refusal.Refusal.TheVariants as refusals
 use Rattle.store_types.specs.declared.names.Digest32.{Digest32}
-use Rattle.store_files.specs.Folder.{IsDigest, chunk_name}
+use Rattle.store_files.specs.Book.{Book, book_text}
+use Rattle.store_files.specs.Folder.{chunk_name}
 use Rattle.wire_commands.specs.HasText.{ReplyHasText}
 use Rattle.wire_commands.specs.declared.reply.Reply.{Reply}
 use Rattle.wire_commands.specs.declared.reply.Reply.TheVariants.{Refused}
 use Rattle.store_model.specs.Weave.{first_fault}
-use Rattle.atime_book.specs.Touches.{NoneAfter}
+use Rattle.atime_book.specs.Touches.{NoneAfter, as_of}
 use Rattle.gc_plan.specs.declared.GcReport.{GcReport}
 use Rattle.store_history.specs.declared.act.Act.TheVariants.{Step}
 use Rattle.store_history.specs.declared.act.Answer.{Answer}
 use Rattle.store_history.specs.Acts.{sweeping}
 use Rattle.store_history.specs.History.{kind_of, open_on}
 use Rattle.store_history.specs.LastTouches.{SameTouches}
-use Rattle.store_history.specs.Legal.{Reports, collecting_on}
+use Rattle.store_history.specs.Legal.{Reports}
 use Rattle.store_history.specs.Sweeping.{EndsSweep, FitsSweep, Sweep, is_over, passed, report_of}
 use Rattle.core_state.specs.declared.collector.Collector.{Collector}
 use Rattle.core_state.specs.declared.collector.Early.{Early}
@@ -32,26 +30,24 @@ use Rattle.core_state.specs.declared.collector.Early.TheVariants as earlies
 use Rattle.core_state.specs.declared.entering.Admitted.TheVariants.{Answered}
 use Rattle.core_state.specs.declared.entering.Place.{Place}
 use Rattle.core_state.specs.declared.state.Core.{Core}
-use Rattle.core_state.specs.declared.stop.Stop.{Stop}
 use Rattle.core_state.specs.declared.stop.Stop.TheVariants as stops
 use Rattle.core_state.specs.Answers.{StepHasCause, done, failed, fault_after, halted, short, step_as_any, step_ends, step_passes}
 use Rattle.core_state.specs.Applies.{ActApplies, ActKeeps}
 use Rattle.core_state.specs.Begins.{AdmittedHasText, IsBegun, IsNext, IsReady, IsShort, IsHalted, Refuses, short as is_short, halted as is_halted}
-use Rattle.core_state.specs.Changes.{Change, MayLeave, after, drops, stays}
+use Rattle.core_state.specs.Changes.{Change, LeavesChange, after, drops, stays}
 use Rattle.core_state.specs.Chunks.{HoldsOnly}
-use Rattle.core_state.specs.Collectors.{closed_on, collector_by, cut_on, is_cut, is_on, open_in, refusal_of, shown_collecting}
+use Rattle.core_state.specs.Collectors.{OpenOn, closed_on, cut_on, is_cut, is_on, open_in, refusal_of, shown_collecting}
 use Rattle.core_state.specs.Entering.{held_by}
 use Rattle.core_state.specs.History.{History, StandsFor, event_of, pieces_of, then_event, world}
-use Rattle.core_state.specs.Holds.{Holds, IsOnDisk}
+use Rattle.core_state.specs.Holds.{IsOnDisk}
 use Rattle.core_state.specs.KeepsTouches.{KeepsTouches, swept_of, touches_of_history}
-use Rattle.core_state.specs.Passes.{KeepsPlan, MayChange, SavesAt, Takes}
+use Rattle.core_state.specs.Passes.{MayChange, PassTouches, Takes}
 use Rattle.core_state.specs.Replies.{may_end}
 use Rattle.core_state.specs.Reserved.{StepKeeps}
-use Rattle.core_state.specs.Settles.{IsEntered, Settles}
+use Rattle.core_state.specs.Settles.{IsEntered}
 use Rattle.core_state.specs.States.{state_of}
-use Rattle.core_state.specs.Stops.{StopHasText, told}
-use Rattle.core_state.specs.Sweeps.{ShowsOpen, ShowsSweep}
-use Rattle.core_state.specs.Unchanged.{LeavesAll, SameKept, Unchanged}
+use Rattle.core_state.specs.Sweeps.{ShowsOpen}
+use Rattle.core_state.specs.Unchanged.{SameKept, Unchanged}
 use Rattle.core_state.specs.Upkeeps.{touches_kept}
 use Rattle.core_state.specs.Wanted.{session_at}
 use Rattle.core_state.proofs.Answering.{untouched}
@@ -64,17 +60,17 @@ use Rattle.core_state.proofs.Stepped.{IsStepped, acted_stepped, begun_stepped, c
 use Rattle.core_state.proofs.SteppedImages.{SparesStored, stays_spare}
 use Rattle.core_state.proofs.SteppedTouches.{passed_keeps, unpassed_keeps}
 use Rattle.core_state.proofs.Stepping.{faulted_closed, faulted_entered, step_applies, step_keeps, unfaulted_entered, unfaulted_same}
-use Rattle.core_state.proofs.Texts.{disk_fault_has_text, no_memory_has_text}
+use Rattle.core_state.proofs.Texts.{no_memory_has_text}
 use Rattle.core_state.proofs.Touching.{same_touches}
-use Rattle.core_state.proofs.Unchanging.{leaves_same, same_unchanged}
-use Rattle.core_collect.specs.Beside.{IsPresent, StandsBeside, passed_touches}
+use Rattle.core_state.proofs.Unchanging.{same_unchanged}
+use Rattle.core_collect.specs.Beside.{StandsBeside, passed_touches}
 use Rattle.core_collect.specs.Ending.{TellsEarly, early_in, halts_early, replies_early, report_reply}
 use Rattle.core_collect.specs.Marking.{next_unreadable}
-use Rattle.core_collect.specs.Stepping.{CollectDoes, EntersPass, GoesOn, HasPassed, IsRefused, IsReport, IsTheSweeps, KeepsOthers, Outcome, PassDoes, StepTells, has_passed, not_begun, path_ended}
+use Rattle.core_collect.specs.Stepping.{CollectDoes, EntersPass, GoesOn, IsReport, IsTheSweeps, KeepsOthers, Outcome, PassDoes, StepTells, has_passed, not_begun, path_ended}
 use Rattle.core_collect.specs.Stepping as stepping
 use Rattle.core_collect.specs.Visiting.{goes}
 use Rattle.core_collect.proofs.Losing.{MayPass, spared_stands}
-use Rattle.core_collect.proofs.Stepped.{Collects, HasChanged, collects_closed, collects_cut, collects_faulted, collects_off, collects_passed, collects_short, none_later, off_closed, on_closed, only_after, step_leaves, uncut_ended}
+use Rattle.core_collect.proofs.Stepped.{Collects, HasChanged, OnLane, collects_closed, collects_cut, collects_faulted, collects_off, collects_passed, collects_short, none_later, not_here, on_closed, on_lane, only_after, open_here, step_leaves, uncut_ended}
 use Rattle.core_collect.proofs.Sweepable.{sweepable}
 
 true_false : true ≡ false → ⊥
@@ -285,3 +281,409 @@ module _ {D E C : Type 0} (d : Ghosts D) (clock : clocks.Ghosts C) (old between 
   ended_early cut (halts_early mid at first some next e) text =
       halted_by mid at.moment first some (next_begun clock.readings old mid lane at next) e text
       (λ entered. step_keeps_cut d old (record mid { collector = closed_on lane mid.collector }) new lane at.moment 5 (Some (Refused (refusals.Halted first))) answer next.journal (λ e. omega (arith, e)) cut entered)
+
+-- ---- an act that was done
+
+abbrev opens : ℕ → Option Early → Option OpenOn
+opens lane ended = Some (record { lane = lane; ended = ended })
+
+some_more : {A : Type 0} (P Q : A → Type 0) (o : Option A) → ((x : A) → P x → Q x) → IsSomeAnd o P → IsSomeAnd o Q
+some_more P Q None more said = absurd said
+some_more P Q (Some x) more said = more x said
+
+-- it takes a chunk out, or saves the book, or changes nothing
+may_pass : (book : Book) (c : Collector) (m : ℕ) (change : Change) (result : Outcome) → stepping.MayChange book c m change result → MayPass change
+may_pass book c m change (Ok None) (inl none) = inl none
+may_pass book c m change (Ok None) (inr taken) = inr (inl (taken.0, taken.2))
+may_pass book c m change (Ok (Some report)) saved = inr (inr (book_text (as_of m book), saved))
+may_pass book c m change (Err stops.DiskFailed) (inl none) = inl none
+may_pass book c m change (Err stops.DiskFailed) (inr (inl taken)) = inr (inl (taken.0, taken.2))
+may_pass book c m change (Err stops.DiskFailed) (inr (inr saved)) = inr (inr (book_text (as_of m book), saved))
+may_pass book c m change (Err stops.NoMemory) none = inl none
+may_pass book c m change (Err (stops.Refused refusal)) none = inl none
+
+module _ {D E C : Type 0} (d : Ghosts D) (clock : clocks.Ghosts C) (old mid acted between new : Core D E C) (lane : ℕ) (at : Place) (answer : Answer) (inside : lane < 64) (closes : new ≡ faulted_closed lane (answer.entry).kind between)
+    (uncut : is_cut lane old.collector ≡ false) (ready : IsReady clock.readings old mid lane at.moment) (filled : (3 ≤ held_by mid.journal lane) × (0 < (mid.journal).spare)) (others : KeepsOthers mid acted)
+    (text : IfSome answer.reply ReplyHasText) where
+  abbrev m : ℕ
+  m = at.moment
+
+  abbrev b : IsBegun clock.readings old mid lane m
+  b = ready.begun
+
+  abbrev none : old.fault ≡ None
+  none = ready.no_fault
+
+  -- by what it was entered on
+  finished : (n : ℕ) (reply : Option Reply) (on : Core D E C) → IsStepped d clock.readings old on new lane m n reply answer → (x : HasChanged d old on lane m n reply) → Collects n lane old.collector new.collector
+      → StepHasCause d old new Step answer → StepKeeps old new lane answer → IfSome reply (Unchanged d old.parts on.parts)
+      → ((h : History) → StandsFor d clock.readings old h → KeepsTouches d old h → StandsFor d clock.readings new (then_event h (event_of Step answer (d.calls (new.parts).disk))))
+      → ((h : History) → StandsFor d clock.readings old h → KeepsTouches d old h → StandsFor d clock.readings new (then_event h (event_of Step answer (d.calls (new.parts).disk)))
+      → KeepsTouches d new (then_event h (event_of Step answer (d.calls (new.parts).disk))))
+      → ((h : History) → StandsFor d clock.readings old h → KeepsTouches d old h → SparesStored x.change (d.content (old.parts).disk) (world h))
+      → StepTells d old new lane answer → IsRightStep d clock old new lane answer
+  finished n reply on stepped x collects cause reserve unchanged stands touches spares told =
+      let leaves = step_leaves d clock.readings old on new lane m n reply answer stepped x collects in record {
+        applies = step_applies d clock old on new lane m n reply answer stepped (subst (λ r. IfSome r ReplyHasText) (stepped.entered).reply_is text) cause leaves.0 stands touches
+            (λ h s kept _. subst (λ z. SparesStored z (d.content (old.parts).disk) (world h)) (sym leaves.1) (spares h s kept));
+        keeps = step_keeps d clock old on new lane m n reply answer stepped unchanged leaves.0 reserve;
+        told = told;
+      }
+
+  none_there : (h : History) → StandsFor d clock.readings old h → (world h).fault ≡ None
+  none_there h s = sym s.fault ∙ none
+
+  not_cut : {P : Type 0} → is_cut lane old.collector ≡ true → P
+  not_cut cut = absurd (true_false (sym cut ∙ uncut))
+
+  -- its book, where nothing was touched
+  same_book : acted.upkeep ≡ mid.upkeep → SameTouches (touches_kept acted.upkeep) (touches_kept old.upkeep)
+  same_book same = subst (λ u. SameTouches (touches_kept u) (touches_kept old.upkeep)) (sym (same ∙ b.upkeep)) (same_touches (touches_kept old.upkeep))
+
+  early_book : acted.upkeep ≡ mid.upkeep → NoneAfter (old.upkeep).book old.last → NoneAfter (acted.upkeep).book m
+  early_book same early = subst (λ u. NoneAfter u.book m) (sym (same ∙ b.upkeep)) (none_later (old.upkeep).book old.last m (b.clock).risen early)
+
+  -- ---- refused: the lane's collector is not open
+
+  refused_step : is_on lane mid.collector ≡ false → acted.parts ≡ mid.parts → acted.upkeep ≡ mid.upkeep → acted.collector ≡ mid.collector
+      → IsEntered d acted between lane m 0 (Some (Refused (refusals.WrongState (state_of (session_at mid.parts lane))))) answer → IsRightStep d clock old new lane answer
+  refused_step off parts upkeep collector e =
+      let r : Reply = Refused (refusals.WrongState (state_of (session_at old.parts lane))) in
+      let before : acted.parts ≡ old.parts = parts ∙ b.parts in
+      let same : (acted.parts).disk ≡ (old.parts).disk = ap (λ p. p.disk) before in
+      let off_before : is_on lane old.collector ≡ false = ap (is_on lane) (sym b.collector) ∙ off in
+      let entered : IsEntered d acted new lane m 0 (Some r) answer =
+      subst (λ p. IsEntered d acted new lane m 0 (Some (Refused (refusals.WrongState (state_of (session_at p lane))))) answer) b.parts
+          (unfaulted_entered d acted between new lane lane m 0 (Some (Refused (refusals.WrongState (state_of (session_at mid.parts lane))))) answer e closes refl) in
+      let kind : (answer.entry).kind ≡ 0 = ap (λ x. x.kind) entered.entry in
+      let kept : SameKept mid.parts acted.parts = record { catalogue = ap (λ p. p.catalogue.items) parts; sessions = ap (λ p. p.sessions.items) parts; locks = ap (λ p. p.locks) parts } in
+      let still : new.collector ≡ old.collector = entered.collector ∙ collector ∙ b.collector in
+      let stepped : IsStepped d clock.readings old acted new lane m 0 (Some r) answer =
+      acted_stepped d clock.readings old mid acted new lane m 0 (Some r) answer ⊥ acted.fault acted.collector ready others.journal others.clock others.remote (others.fault ∙ b.fault) kept
+          (untouched d (mid.parts).disk (acted.parts).disk (ap (λ p. p.disk) parts)) (λ e. omega (arith, e)) (let up = ap (λ p. d.calls p.disk) parts in omega (arith, up)) entered in
+      finished 0 (Some r) acted stepped
+      (record {
+        change = stays;
+        may_change = inl refl;
+        content = λ _ _. ap d.content same;
+        crash = inl same;
+        saves = λ four. absurd (omega (arith, four));
+        closes_only = λ _. same;
+        passes = λ one. absurd (omega (arith, one));
+        untouched = λ _. upkeep ∙ b.upkeep;
+        early = early_book upkeep;
+        refused = λ _. off_before;
+      })
+      (collects_off 0 lane old.collector new.collector off_before still) (step_as_any (done none kind r entered.reply_is refl))
+      (step_keeps_filled d clock.readings old mid acted new lane m 0 (Some r) answer b others.journal filled uncut entered) (same_unchanged d old.parts acted.parts r before)
+      (λ h s touches.
+      refused_step_stands d clock.readings old acted new h lane m answer s inside (subst d.honest (sym same) s.honest) stepped none off_before (collector ∙ b.collector)
+          (subst (λ x. IsOnDisk (d.content x) (world h).store × HoldsOnly (d.content x) (pieces_of h)) (sym same) (s.files (none_there h s), s.chunks (none_there h s))))
+      (λ h s touches so.
+      unpassed_keeps d clock.readings old acted new h lane m 0 (Some r) answer stepped so touches (λ e. omega (arith, e)) (same_book upkeep)
+          (λ _ x digest. subst (λ q. IsSome (get (d.content q) (chunk_name x)) ↔ IsSome ((touches_of_history h).last x)) (sym same) (touches.present none x digest)) old.collector touches.sweep
+          (λ y at. record { was = y; there = sym still ∙ at; plan = refl; same_entries = refl })
+          (fits_as h lane 0 answer (ap (λ x. x.lane) entered.entry) kind tt))
+      (λ h s touches. stays_spare stays (d.content (old.parts).disk) (world h) refl)
+      (record {
+        refused = λ _. (off_before, entered.reply_is);
+        ends = λ cut. not_cut cut;
+        reports = λ _ four. absurd (omega (arith, kind, four));
+        unread = λ _ one. absurd (omega (arith, kind, one));
+      })
+
+  -- ---- the lane's collector goes on
+
+  module _ (x y : Collector) (open : mid.collector ≡ Some x) (on : is_on lane (Some x) ≡ true) (then_is : acted.collector ≡ Some y) where
+    abbrev Does : Outcome → Type 0
+    Does result = CollectDoes d mid.parts acted.parts mid.upkeep acted.upkeep x y at result
+
+    was : old.collector ≡ Some x
+    was = sym b.collector ∙ open
+
+    on_before : is_on lane old.collector ≡ true
+    on_before = ap (is_on lane) was ∙ on
+
+    goes_on : x.ended ≡ None
+    goes_on = uncut_ended lane x on (ap (is_cut lane) (sym was) ∙ uncut)
+
+    shown : (h : History) → StandsFor d clock.readings old h → open_in (Some x) ≡ shown_collecting (world h).collecting
+    shown h s = ap open_in (sym was) ∙ s.collecting
+
+    going : (h : History) → StandsFor d clock.readings old h → open_on lane (world h).collecting ≡ Some false
+    going h s = going_shown lane x (world h).collecting (shown h s) on goes_on
+
+    -- what a history tells as it is begun
+    beside : (h : History) → StandsFor d clock.readings old h → KeepsTouches d old h
+        → StandsBeside d mid.parts mid.upkeep (length (old.journal).entries.items) (Some x) (world h).store (swept_of h).touches (swept_of h).sweep
+    beside h s kept =
+        subst (λ p. StandsBeside d p mid.upkeep (length (old.journal).entries.items) (Some x) (world h).store (swept_of h).touches (swept_of h).sweep) (sym b.parts)
+        (subst (λ u. StandsBeside d old.parts u (length (old.journal).entries.items) (Some x) (world h).store (swept_of h).touches (swept_of h).sweep) (sym b.upkeep) (record {
+          holds = record { honest = s.honest; shows = s.shows; files = s.files (none_there h s) };
+          touches_are = kept.touches;
+          present = kept.present none;
+          shows = subst (λ o. ShowsOpen (length (old.journal).entries.items) (old.parts).catalogue.items ((world h).store).snapshots o (swept_of h).sweep) was kept.sweep;
+        }))
+
+    module _ (result : Outcome) (does : Does result) where
+      tells : (h : History) → StandsFor d clock.readings old h → KeepsTouches d old h
+          → IsTheSweeps d acted.parts acted.upkeep (length (old.journal).entries.items) y (world h).store (swept_of h) m result × stepping.Spares (world h).store does.change
+      tells h s kept = does.tells (length (old.journal).entries.items) (world h).store (swept_of h) (beside h s kept) (sweepable d clock.readings old h s)
+
+      on_after : is_on lane (Some y) ≡ true
+      on_after = ap (λ l. l == lane) does.lane ∙ on
+
+      closed_after : closed_on lane acted.collector ≡ None
+      closed_after = ap (closed_on lane) then_is ∙ on_closed lane (Some y) on_after
+
+      reads : (IsErrOf result stops.DiskFailed → ⊥) → d.honest (old.parts).disk → d.content (acted.parts).disk ≡ after does.change (d.content (old.parts).disk)
+      reads fine = subst (λ p. d.honest p.disk → d.content (acted.parts).disk ≡ after does.change (d.content p.disk)) b.parts (does.content fine)
+
+      crash : LeavesChange d (old.parts).disk (acted.parts).disk does.change
+      crash = subst (λ p. LeavesChange d p.disk (acted.parts).disk does.change) b.parts does.crash
+
+      may : stepping.MayChange (old.upkeep).book x m does.change result
+      may = subst (λ u. stepping.MayChange u.book x m does.change result) b.upkeep does.may_change
+
+      pass : MayPass does.change
+      pass = may_pass (old.upkeep).book x m does.change result may
+
+      -- no chunk file comes
+      only : (IsErrOf result stops.DiskFailed → ⊥) → (h : History) → StandsFor d clock.readings old h → HoldsOnly (d.content (acted.parts).disk) (pieces_of h)
+      only fine h s =
+          subst (λ f. HoldsOnly f (pieces_of h)) (sym (reads fine s.honest)) (only_after does.change (d.content (old.parts).disk) (pieces_of h) pass (s.chunks (none_there h s)))
+
+      up : d.calls (mid.parts).disk ≤ d.calls (acted.parts).disk
+      up = later d (mid.parts).disk (acted.parts).disk _ does.crash
+
+      stepped_as : (n : ℕ) (reply : Option Reply) → (n ≡ 5 → ⊥) → old.fault ≡ fault_after (length (old.journal).entries.items) n old.fault → IsEntered d acted new lane m n reply answer
+          → IsStepped d clock.readings old acted new lane m n reply answer
+      stepped_as n reply calm same e =
+          acted_stepped d clock.readings old mid acted new lane m n reply answer (IsErrOf result stops.DiskFailed) acted.fault acted.collector ready others.journal others.clock others.remote
+          (others.fault ∙ b.fault ∙ same) does.kept does.serves (λ five. absurd (calm five)) up e
+
+      stored : (h : History) → StandsFor d clock.readings old h → KeepsTouches d old h → SparesStored does.change (d.content (old.parts).disk) (world h)
+      stored h s kept f g left stood = spared_stands (world h).store does.change (d.content (old.parts).disk) f g (tells h s kept).1 pass left stood
+
+      takes : (digest : Digest32) → goes (old.upkeep).book x.plan digest ≡ true → does.change ≡ drops (chunk_name digest.0 ∷ []) → Takes old lane does.change
+      takes digest stale is = record { collector = x; digest = digest; open_is = was; lane_is = eqb-true x.lane lane on; stale = stale; change_is = is }
+
+      -- the collector is as it was, but for its plan and the digests at hand
+      opened_same : y.ended ≡ None → open_in acted.collector ≡ open_in old.collector
+      opened_same still = ap open_in then_is ∙ ap (λ l. opens l y.ended) does.lane ∙ ap (opens x.lane) (still ∙ sym goes_on) ∙ ap open_in (sym was)
+
+      -- its plan shows the sweep, in the catalogue as it was
+      shows_as : (sweep : Option Sweep) (h : History) → ShowsOpen (length (old.journal).entries.items) (acted.parts).catalogue.items ((world h).store).snapshots (Some y) sweep
+          → ShowsOpen (length (old.journal).entries.items) (old.parts).catalogue.items ((world h).store).snapshots (Some y) sweep
+      shows_as sweep h shows =
+          subst (λ l. ShowsOpen (length (old.journal).entries.items) l ((world h).store).snapshots (Some y) sweep) ((does.kept).catalogue ∙ ap (λ p. p.catalogue.items) b.parts) shows
+
+    -- ---- a mark or a visit
+
+    passed_step : Does (Ok None) → IsEntered d acted between lane m 1 None answer → IsRightStep d clock old new lane answer
+    passed_step does e =
+        let entered : IsEntered d acted new lane m 1 None answer = unfaulted_entered d acted between new lane lane m 1 None answer e closes refl in
+        let stepped = stepped_as (Ok None) does 1 None (λ e. omega (arith, e)) refl entered in
+        let kind : (answer.entry).kind ≡ 1 = ap (λ x. x.kind) entered.entry in
+        let now : new.collector ≡ Some y = entered.collector ∙ then_is in
+        finished 1 None acted stepped
+        (record {
+          change = does.change;
+          may_change = ⊎_elim {C = MayChange old lane m 1 does.change} (λ stays_so. inl stays_so) (λ taken. inr (inl (inl refl, takes (Ok None) does taken.0 taken.1 taken.2))) (may (Ok None) does);
+          content = λ _. reads (Ok None) does (λ failed. cc);
+          crash = crash (Ok None) does;
+          saves = λ four. absurd (omega (arith, four));
+          closes_only = λ cut. not_cut cut;
+          passes = λ _. subst (λ u. PassTouches does.change (touches_kept u) (touches_kept acted.upkeep) m) b.upkeep does.touches;
+          untouched = λ other. absurd (other refl);
+          early = λ early. does.early old.last (b.clock).risen (subst (λ u. NoneAfter u.book old.last) (sym b.upkeep) early);
+          refused = λ zero. absurd (omega (arith, zero));
+        })
+        (collects_passed lane old.collector new.collector x y was now does.lane on does.same does.further) (step_passes none kind entered.reply_is)
+        (step_keeps_filled d clock.readings old mid acted new lane m 1 None answer b others.journal filled uncut entered) tt
+        (λ h s kept. let (sweep, is, still) = its_pass does h s kept in
+        passed_step_stands d clock.readings old acted new h lane m answer s inside ((still.2).holds).honest x y stepped none was on goes_on then_is does.lane still.1
+            (((still.2).holds).files, only (Ok None) does (λ failed. cc) h s))
+        (λ h s kept so. let (sweep, is, still) = its_pass does h s kept in
+        passed_keeps d clock.readings old acted new h lane m 1 None answer stepped so kept refl sweep is still.0 (still.2).touches_are (still.2).present y now
+            (shows_as (Ok None) does (Some (passed (swept_of h) sweep sweep.unmarked)) h (still.2).shows))
+        (stored (Ok None) does)
+        (record {
+          refused = λ zero. absurd (omega (arith, kind, zero));
+          ends = λ cut. not_cut cut;
+          reports = λ _ four. absurd (omega (arith, kind, four));
+          unread = λ _ _ honest. subst (λ o. IsSomeAnd o (λ c. path_ended new.collector ≡ next_unreadable (d.content (old.parts).disk) (old.parts).catalogue.items c)) (sym was)
+              (ap path_ended now ∙ subst (λ p. d.honest p.disk → path_ended (Some y) ≡ next_unreadable (d.content p.disk) p.catalogue.items x) b.parts (does.unread refl) honest);
+        })
+      where
+        its_pass : Does (Ok None) → (h : History) → StandsFor d clock.readings old h → KeepsTouches d old h
+            → (sweep : Sweep) × ((swept_of h).sweep ≡ Some sweep) × ((is_over sweep ≡ false) × (y.ended ≡ None)
+                × StandsBeside d acted.parts acted.upkeep (length (old.journal).entries.items) (Some y) (world h).store (passed_touches (swept_of h) sweep m) (Some (passed (swept_of h) sweep sweep.unmarked)))
+        its_pass does h s kept =
+            there (λ sweep. (is_over sweep ≡ false) × (y.ended ≡ None)
+            × StandsBeside d acted.parts acted.upkeep (length (old.journal).entries.items) (Some y) (world h).store (passed_touches (swept_of h) sweep m) (Some (passed (swept_of h) sweep sweep.unmarked)))
+            (swept_of h).sweep (tells (Ok None) does h s kept).0
+
+    -- ---- the end of a whole collection
+
+    over_step : (report : GcReport) → Does (Ok (Some report)) → IsEntered d acted between lane m 4 (Some (report_reply report)) answer → IsRightStep d clock old new lane answer
+    over_step report does e =
+        let o : Outcome = Ok (Some report) in
+        let r : Reply = report_reply report in
+        let entered : IsEntered d acted new lane m 4 (Some r) answer = unfaulted_entered d acted between new lane lane m 4 (Some r) answer e closes refl in
+        let stepped = stepped_as o does 4 (Some r) (λ e. omega (arith, e)) refl entered in
+        let kind : (answer.entry).kind ≡ 4 = ap (λ x. x.kind) entered.entry in
+        let now : new.collector ≡ None = entered.collector ∙ closed_after o does in
+        finished 4 (Some r) acted stepped
+        (record {
+          change = does.change;
+          may_change = inr (inr (inl refl, may o does));
+          content = λ _. reads o does (λ failed. cc);
+          crash = crash o does;
+          saves = λ _ _. may o does;
+          closes_only = λ cut. not_cut cut;
+          passes = λ one. absurd (omega (arith, one));
+          untouched = λ _. does.touches ∙ b.upkeep;
+          early = early_book does.touches;
+          refused = λ zero. absurd (omega (arith, zero));
+        })
+        (collects_closed 4 lane old.collector new.collector (inl refl) on_before now) (step_ends none kind r entered.reply_is refl)
+        (step_keeps_filled d clock.readings old mid acted new lane m 4 (Some r) answer b others.journal filled uncut entered) tt
+        (λ h s kept. let w = ((tells o does h s kept).0).1 in
+        closed_step_stands d clock.readings old acted new h lane m answer s inside (w.holds).honest (Some r) stepped none (subst (λ q. Reports q (Some r)) (sym (going h s)) tt) (closed_after o does)
+            ((w.holds).files, only o does (λ failed. cc) h s))
+        (λ h s kept so. let w = ((tells o does h s kept).0).1 in
+        unpassed_keeps d clock.readings old acted new h lane m 4 (Some r) answer stepped so kept (λ e. omega (arith, e)) (same_book does.touches) (λ _. w.present)
+            (Some y) (shows_as o does (swept_of h).sweep h w.shows) (λ z at. absurd (none_some z (sym now ∙ at)))
+            (fits_as h lane 4 answer (ap (λ x. x.lane) entered.entry) kind (subst (λ q. EndsSweep (swept_of h) answer.reply q) (sym (going h s)) (ends_so h entered.reply_is ((tells o does h s kept).0).0))))
+        (stored o does)
+        (record {
+          refused = λ zero. absurd (omega (arith, kind, zero));
+          ends = λ cut. not_cut cut;
+          reports = λ _ _. subst IsReport (sym entered.reply_is) tt;
+          unread = λ _ one. absurd (omega (arith, kind, one));
+        })
+      where
+        ends_so : (h : History) → answer.reply ≡ Some (report_reply report) → IsSomeAnd (swept_of h).sweep (λ sweep. (is_over sweep ≡ true) × (report_reply report ≡ report_of (swept_of h) sweep))
+            → IsSomeAnd (swept_of h).sweep (λ sweep. (is_over sweep ≡ true) × (answer.reply ≡ Some (report_of (swept_of h) sweep)))
+        ends_so h told said =
+            some_more (λ sweep. (is_over sweep ≡ true) × (report_reply report ≡ report_of (swept_of h) sweep)) (λ sweep. (is_over sweep ≡ true) × (answer.reply ≡ Some (report_of (swept_of h) sweep)))
+            (swept_of h).sweep (λ sweep its. (its.0, told ∙ ap (λ q. Some q) its.1)) said
+
+    -- ---- memory was wanting
+
+    wanting_step : Does (Err stops.NoMemory) → IsEntered d acted between lane m 2 (Some (Refused refusals.NoMemory)) answer → IsRightStep d clock old new lane answer
+    wanting_step does e =
+        let o : Outcome = Err stops.NoMemory in
+        let r : Reply = Refused refusals.NoMemory in
+        let entered : IsEntered d acted new lane m 2 (Some r) answer = unfaulted_entered d acted between new lane lane m 2 (Some r) answer e closes refl in
+        let stepped = stepped_as o does 2 (Some r) (λ e. omega (arith, e)) refl entered in
+        let kind : (answer.entry).kind ≡ 2 = ap (λ x. x.kind) entered.entry in
+        let now : new.collector ≡ cut_on lane (Some y) = entered.collector ∙ ap (cut_on lane) then_is in
+        finished 2 (Some r) acted stepped
+        (record {
+          change = does.change;
+          may_change = inl (may o does);
+          content = λ _. reads o does (λ failed. cc);
+          crash = crash o does;
+          saves = λ four. absurd (omega (arith, four));
+          closes_only = λ cut. not_cut cut;
+          passes = λ one. absurd (omega (arith, one));
+          untouched = λ _. does.touches ∙ b.upkeep;
+          early = early_book does.touches;
+          refused = λ zero. absurd (omega (arith, zero));
+        })
+        (collects_short lane old.collector new.collector x y was now does.lane on goes_on does.same) (step_as_any (short kind entered.reply_is))
+        (step_keeps_filled d clock.readings old mid acted new lane m 2 (Some r) answer b others.journal filled uncut entered)
+        (record { kept = stepped.kept; uncalled = λ none_called. absurd (true_false (sym none_called)); disk = λ _ honest. reads o does (λ failed. cc) honest ∙ ap (λ z. after z (d.content (old.parts).disk)) (may o does) })
+        (λ h s kept. let w = (tells o does h s kept).0 in
+        short_step_stands d clock.readings old acted new h lane m answer s inside (w.holds).honest stepped uncut (opened_same o does does.ends) (λ _. ((w.holds).files, only o does (λ failed. cc) h s)))
+        (λ h s kept so. let w = (tells o does h s kept).0 in
+        unpassed_keeps d clock.readings old acted new h lane m 2 (Some r) answer stepped so kept (λ e. omega (arith, e)) (same_book does.touches) (λ _. w.present)
+            (Some y) (shows_as o does (swept_of h).sweep h w.shows) (λ z at. was_open 2 lane (Some y) z (sym now ∙ at))
+            (fits_as h lane 2 answer (ap (λ x. x.lane) entered.entry) kind tt))
+        (stored o does)
+        (tells_none d old new lane 2 answer kind (λ e. omega (arith, e)) (λ e. omega (arith, e)) (λ e. omega (arith, e)))
+
+    -- ---- the disk failed in it
+
+    failed_step : Does (Err stops.DiskFailed) → IsEntered d (record acted { fault = Some (length (acted.journal).entries.items) }) between lane m 5 (Some (Refused refusals.DiskFault)) answer
+        → IsRightStep d clock old new lane answer
+    failed_step does e =
+        let o : Outcome = Err stops.DiskFailed in
+        let r : Reply = Refused refusals.DiskFault in
+        let place : ℕ = length (acted.journal).entries.items in
+        let entered : IsEntered d (record acted { fault = Some place; collector = closed_on lane acted.collector }) new lane m 5 (Some r) answer =
+        faulted_entered d (record acted { fault = Some place }) between new lane lane m (Some r) answer e closes in
+        let entries : (acted.journal).entries.items ≡ (old.journal).entries.items = ap (λ j. j.entries.items) others.journal ∙ (b.entries).entries in
+        let stepped : IsStepped d clock.readings old (record acted { fault = Some place; collector = closed_on lane acted.collector }) new lane m 5 (Some r) answer =
+        acted_stepped d clock.readings old mid acted new lane m 5 (Some r) answer (IsErrOf o stops.DiskFailed) (Some place) (closed_on lane acted.collector) ready others.journal others.clock others.remote
+            (ap (λ n. Some n) (ap length entries) ∙ sym (ap (first_fault (length (old.journal).entries.items)) none)) does.kept does.serves (λ _. refl) (up o does) entered in
+        let kind : (answer.entry).kind ≡ 5 = ap (λ x. x.kind) entered.entry in
+        let now : new.collector ≡ None = entered.collector ∙ closed_after o does in
+        finished 5 (Some r) (record acted { fault = Some place; collector = closed_on lane acted.collector }) stepped
+        (record {
+          change = does.change;
+          may_change = failed_change does (may o does);
+          content = λ fine. absurd (fine refl);
+          crash = crash o does;
+          saves = λ four. absurd (omega (arith, four));
+          closes_only = λ cut. not_cut cut;
+          passes = λ one. absurd (omega (arith, one));
+          untouched = λ _. does.touches ∙ b.upkeep;
+          early = early_book does.touches;
+          refused = λ zero. absurd (omega (arith, zero));
+        })
+        (collects_closed 5 lane old.collector new.collector (inr refl) on_before now)
+        (step_as_any (failed none kind entered.reply_is (entered.fault ∙ ap (λ n. Some n) (sym entered.place))
+        (subst (λ p. Rose (d.faults (old.parts).disk) (d.faults p.disk)) (sym entered.parts) (stepped.rose refl none))))
+        (step_keeps_filled d clock.readings old mid (record acted { fault = Some place; collector = closed_on lane acted.collector }) new lane m 5 (Some r) answer b others.journal filled uncut entered)
+        (record { kept = stepped.kept; uncalled = λ none_called. absurd (true_false (sym none_called)); disk = λ fine. absurd (fine refl) })
+        (λ h s kept.
+        failed_step_stands d clock.readings old (record acted { fault = Some place; collector = closed_on lane acted.collector }) new h lane m answer s inside
+            ((does.serves).kept.0 (subst (λ p. d.honest p.disk) (sym b.parts) s.honest)) acted.collector stepped none (opened_same o does does.ends) refl)
+        (λ h s kept so.
+        unpassed_keeps d clock.readings old (record acted { fault = Some place; collector = closed_on lane acted.collector }) new h lane m 5 (Some r) answer stepped so kept (λ e. omega (arith, e)) (same_book does.touches)
+            (λ calm. absurd (some_none place (sym entered.fault ∙ calm))) old.collector kept.sweep (λ z at. absurd (none_some z (sym now ∙ at)))
+            (fits_as h lane 5 answer (ap (λ x. x.lane) entered.entry) kind tt))
+        (stored o does)
+        (tells_none d old new lane 5 answer kind (λ e. omega (arith, e)) (λ e. omega (arith, e)) (λ e. omega (arith, e)))
+      where
+        failed_change : (does : Does (Err stops.DiskFailed)) → stepping.MayChange (old.upkeep).book x m does.change (Err stops.DiskFailed) → MayChange old lane m 5 does.change
+        failed_change does (inl none_is) = inl none_is
+        failed_change does (inr (inl taken)) = inr (inl (inr refl, takes (Err stops.DiskFailed) does taken.0 taken.1 taken.2))
+        failed_change does (inr (inr saved)) = inr (inr (inr refl, saved))
+
+    by_result : at.lane ≡ lane → (result : Outcome) → Does result → EntersPass d acted between at result answer → IsRightStep d clock old new lane answer
+    by_result lane_is (Ok None) does e = passed_step does (entered_for d acted between lane 1 at None answer lane_is e)
+    by_result lane_is (Ok (Some report)) does e = over_step report does (entered_for d acted between lane 4 at (Some (report_reply report)) answer lane_is e)
+    by_result lane_is (Err stops.NoMemory) does e = wanting_step does (entered_for d acted between lane 2 at (Some (Refused refusals.NoMemory)) answer lane_is e)
+    by_result lane_is (Err stops.DiskFailed) does e =
+        failed_step does (entered_for d (record acted { fault = Some (length (acted.journal).entries.items) }) between lane 5 at (Some (Refused refusals.DiskFault)) answer lane_is e)
+    by_result lane_is (Err (stops.Refused refusal)) does e = absurd (does.unrefused refusal refl)
+
+  -- ---- by the lane's collector
+
+  passes_by : at.lane ≡ lane → (result : Outcome) → PassDoes d mid.parts acted.parts mid.upkeep acted.upkeep mid.collector acted.collector at result → EntersPass d acted between at result answer
+      → OnLane lane mid.collector → IsRightStep d clock old new lane answer
+  passes_by lane_is result passes enters (open_here x open on) =
+      let does = there (λ y. CollectDoes d mid.parts acted.parts mid.upkeep acted.upkeep x y at result) acted.collector
+      (passes.collects x open (ap (λ l. is_on l mid.collector) lane_is ∙ ap (is_on lane) open ∙ on)) in
+      by_result x does.0 open on does.1 lane_is result does.2 enters
+  passes_by lane_is result passes enters (not_here off) =
+      let its = passes.refused (ap (λ l. is_on l mid.collector) lane_is ∙ off) in
+      let e : IsEntered d acted between at.lane m 0 (Some (Refused (refusals.WrongState (state_of (session_at mid.parts at.lane))))) answer =
+      subst (λ z. EntersPass d acted between at z answer) its.result_is enters in
+      refused_step off its.parts its.upkeep its.collector
+      (subst (λ l. IsEntered d acted between l m 0 (Some (Refused (refusals.WrongState (state_of (session_at mid.parts l))))) answer) lane_is e)
+
+-- ---- any act of a collector after its start
+
+module _ {D E C : Type 0} (d : Ghosts D) (clock : clocks.Ghosts C) (old between new : Core D E C) (lane : ℕ) (answer : Answer) (inside : lane < 64) (closes : new ≡ faulted_closed lane (answer.entry).kind between) where
+  pub cut_step : is_cut lane old.collector ≡ true → TellsEarly d clock.readings old between lane answer → IfSome answer.reply ReplyHasText → IsRightStep d clock old new lane answer
+  cut_step cut tells text = ended_early d clock old between new lane answer inside closes cut tells text
+
+  pub uncut_step : is_cut lane old.collector ≡ false → GoesOn d clock.readings old between lane answer → IsRightStep d clock old new lane answer
+  uncut_step uncut (not_begun refuses text) = refused_before d clock old between new lane answer inside closes uncut refuses text
+  uncut_step uncut (has_passed p) =
+      passes_by d clock old p.mid p.acted between new lane p.at answer inside closes uncut (p.admitted).ready p.filled p.others p.text (p.admitted).lane_is p.result p.passes p.enters (on_lane lane (p.mid).collector)
