@@ -1,0 +1,4 @@
+pub mod Lists
+pub mod StartLemmas
+pub mod ReadLemmas
+pub mod MarkLemmas
