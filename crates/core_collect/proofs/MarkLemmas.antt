@@ -49,7 +49,7 @@ none_some : {A : Type 0} (x : A) → None ≡ Some x → ⊥
 none_some x e = cc
 
 -- from a place on, where something stands there
-drop_from : {A : Type 0} (xs : List A) (n : ℕ) (x : A) → slice_get xs n ≡ Some x → drop n xs ≡ x ∷ drop (n + 1) xs
+pub drop_from : {A : Type 0} (xs : List A) (n : ℕ) (x : A) → slice_get xs n ≡ Some x → drop n xs ≡ x ∷ drop (n + 1) xs
 drop_from [] n x e = absurd (none_some x e)
 drop_from (y ∷ ys) zero x e = ap (λ z. z ∷ ys) (some_same y x e)
 drop_from (y ∷ ys) (suc n) x e =
@@ -61,7 +61,7 @@ drop_none zero = refl
 drop_none (suc n) = refl
 
 -- something stands at a place before the end
-at_place : {A : Type 0} (xs : List A) (n : ℕ) → slice_get xs n ≡ None → length xs ≤ n
+pub at_place : {A : Type 0} (xs : List A) (n : ℕ) → slice_get xs n ≡ None → length xs ≤ n
 at_place [] n e = omega arith
 at_place (x ∷ xs) zero e = absurd (none_some x (sym e))
 at_place (x ∷ xs) (suc n) e = let le = at_place xs n e in omega (arith, le)
@@ -142,7 +142,7 @@ module _ (catalogue : List Listed) (snapshots : List Snapshot) where
   later_left indexes (sweeping names) i count left at some = absurd (none_some i at)
 
   -- past the last index nothing is unmarked
-  all_marked : (indexes : List IndexAt) (stage : Stage) → mark_in indexes stage ≡ None → unmarked indexes stage ≡ []
+  pub all_marked : (indexes : List IndexAt) (stage : Stage) → mark_in indexes stage ≡ None → unmarked indexes stage ≡ []
   all_marked indexes (marking place first) none = by_test (Rattle.std.proofs.Common.nat_lt place (length indexes)) refl none
     where
       by_test : (b : Bool) → Rattle.std.proofs.Common.nat_lt place (length indexes) ≡ b → cond b (Some (place, first)) None ≡ None → left_in catalogue snapshots first (drop place indexes) ≡ []

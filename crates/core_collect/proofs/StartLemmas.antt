@@ -3,7 +3,6 @@ use Rattle.std.proofs.Common.{◌≡◌, ◌<◌, ◌||◌, ◌++◌, ℕ, Bool,
 use Rattle.std.specs.Prelude.{AllPairs}
 use Rattle.std.specs.List.{All, find}
 use Rattle.std.proofs.lemmas.Bool.{or_parts}
-use Rattle.std.proofs.lemmas.List.{get_or_default, length-map}
 use Rattle.std.proofs.lemmas.List.Concat.{flat_map-append}
 use Rattle.std.proofs.lemmas.List.Elements.{All-append, All-head, All-map, All-nil, All-tail, filter_passes}
 use Rattle.store_types.specs.Chain.Refusing.{◌>>=◌, if_none}
@@ -37,8 +36,8 @@ use Rattle.core_state.specs.Numbers.{AreNumbered, IsGiven}
 use Rattle.core_state.specs.Shown.{files_named, shown_file, shown_files, shown_session, shown_snapshot}
 use Rattle.core_state.specs.Sweeps.{FitsRemoved, HasNumber, ShowsSweep, digests_in, kept_at, left_at, left_in, left_of_kept, unmarked_by, visits_by}
 use Rattle.core_state.specs.Wanted.{session_at, want_idle}
+use Rattle.core_state.proofs.Commanding.{session_shown}
 use Rattle.core_state.proofs.Finding.{find_map, no_mapped}
-use Rattle.core_state.proofs.Sessions.{at_lane}
 use Rattle.core_collect.specs.Starting.{IsNewCollector, earlier_of, first_unreadable, indexes_in, indexes_of, oldest_kept, start_told, unreadable_of}
 use Rattle.core_collect.proofs.Lists.{each_file, each_like, each_named, each_numbered}
 
@@ -48,12 +47,6 @@ idle_same : (snapshots : List Snapshot) (x : model.Session) → want_idle (shown
 idle_same snapshots model.none = refl
 idle_same snapshots (model.writer w) = refl
 idle_same snapshots (model.reader r) = refl
-
-session_shown : {D : Type 0} (parts : Parts D) (s : Store) (k : ℕ) → Shows parts s → k < 64 → session_at parts k ≡ shown_session s.snapshots (session s k)
-session_shown parts s k shows lt =
-    let within : k < length parts.sessions.items =
-    omega (arith, ap length shows.sessions, length-map s.sessions (shown_session s.snapshots), (shows.sound).lanes, lt) in
-    at_lane parts.sessions.items s k (session_at parts k) shows.sessions (shows.sound).lanes lt (get_or_default parts.sessions.items k Idle (session_at parts k) within)
 
 none_some : (x : OpenOn) → None ≡ Some x → ⊥
 none_some x e = cc
