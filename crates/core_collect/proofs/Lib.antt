@@ -1,7 +1,16 @@
 pub mod Outcomes
+pub mod Lists
 pub mod Listings
 pub mod Losing
+pub mod StartLemmas
+pub mod StartActs
+pub mod ReadLemmas
+pub mod MarkLemmas
+pub mod Settling
+pub mod Marked
 pub mod VisitLemmas
+pub mod EndLemmas
 pub mod Sweepable
+pub mod Collected
 pub mod Stepped
 pub mod StepLemmas
