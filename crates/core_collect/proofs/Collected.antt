@@ -1,7 +1,7 @@
 -- The next mark or visit of a collector, or its end, by the calls that it makes.
 use Rattle.disk_trait.specs.declared.disk.Disk.{Ghosts}
 use Rattle.std.proofs.Common.{◌≡◌, ◌⊎◌, ⊎_elim, ◌<◌, ◌≤◌, ◌+◌, ℕ, max, Bool, true, false, cond, is_some, length, List, [], ◌∷◌, Option, Some, None, IfSome, Result, Ok, Err, inl, inr, refl, sym, ap, subst, ◌∙◌, arith}
-use Rattle.std.specs.Prelude.{IfErr, IsErrOf, IsSomeAnd, option_map}
+use Rattle.std.specs.Prelude.{IfErr, IsErrAnd, IsErrOf, IsSomeAnd, option_map}
 use Rattle.std.proofs.lemmas.Bool.{cases_lt}
 use Rattle.std.proofs.lemmas.List.{length-take}
 use Rattle.disk_trait.specs.Disk.{Same, Serves, Steps}
@@ -30,7 +30,7 @@ use Rattle.core_state.specs.declared.upkeep.Upkeep.{Upkeep}
 use Rattle.core_state.specs.Changes.{Change, LeavesChange, MayLeave, after, drops, finishes, forgets, installs, stays, stores, undone}
 use Rattle.core_state.specs.Collectors.{steps_if, steps_left}
 use Rattle.core_state.specs.Passes.{KeepsPlan}
-use Rattle.core_state.specs.Stops.{StopHasText}
+use Rattle.core_state.specs.Stops.{StopHasText, stop_of}
 use Rattle.core_state.specs.Sweeps.{ShowsOpen, ShowsSweep}
 use Rattle.core_state.specs.Unchanged.{SameKept}
 use Rattle.core_state.specs.Upkeeps.{TouchesEach, touches_kept}
@@ -57,6 +57,11 @@ unrefused_text (Ok done) none = tt
 unrefused_text (Err stops.NoMemory) none = tt
 unrefused_text (Err stops.DiskFailed) none = tt
 unrefused_text (Err (stops.Refused refusal)) none = absurd (none refusal refl)
+
+-- an error of the disk stops the act
+pub stopped_as : (result : Outcome) (e : DiskError) → IsErrAnd result (λ x. x ≡ stop_of e) → result ≡ Err (stop_of e)
+stopped_as (Ok done) e is = absurd is
+stopped_as (Err stop) e is = ap (λ x. Err x) is
 
 -- ---- the disk
 
@@ -163,7 +168,7 @@ fixed_then c e p further start cutoff indexes = record { start = start ∙ furth
 -- ---- a mark
 
 module _ {D : Type 0} (d : Ghosts D) (old new : Parts D) (u v : Upkeep) (c e f : Collector) (at : Place) where
-  pub marked_does : OnlyReads d old.disk new.disk (IsErrOf {A = Bool} (Ok true) unread.DiskFailed) → SameKept old new → FindsNext d old c e (Ok true) → MarksSome u.book v.book e f at.moment → v.undated ≡ u.undated
+  pub marked_does : OnlyReads d old.disk new.disk (IsErrOf {T = Bool} (Ok true) unread.DiskFailed) → SameKept old new → FindsNext d old c e (Ok true) → MarksSome u.book v.book e f at.moment → v.undated ≡ u.undated
       → is_over c.plan ≡ false → c.ended ≡ None → CollectDoes d old new u v c f at (Ok None)
   marked_does reads kept finds marks undated going goes =
       let still : f.ended ≡ None = marks.ended ∙ (finds.further).ended ∙ goes in record {
@@ -182,7 +187,7 @@ module _ {D : Type 0} (d : Ghosts D) (old new : Parts D) (u v : Upkeep) (c e f :
         same = fixed_then c e f.plan finds.further (ap (λ p. p.start) marks.plan) (ap (λ p. p.cutoff) marks.plan) (ap (λ p. p.indexes) marks.plan);
         unread = λ _ honest. ap path_of_early still ∙ sym (finds.unread honest);
         tells = λ acts s w beside able.
-            (marked_tells d old new u v c e f (IsErrOf {A = Bool} (Ok true) unread.DiskFailed) at.moment reads kept finds marks (ap (λ us. record v { undated = us }) undated) going goes acts s w beside, spares_same s);
+            (marked_tells d old new u v c e f (IsErrOf {T = Bool} (Ok true) unread.DiskFailed) at.moment reads kept finds marks (ap (λ us. record v { undated = us }) undated) going goes acts s w beside, spares_same s);
       }
 
 -- ---- an index that does not decode, want of memory and a fault as one is looked for
@@ -204,7 +209,7 @@ module _ {D : Type 0} (d : Ghosts D) (old new : Parts D) (u : Upkeep) (c e : Col
       by_sweep None shows = shows
       by_sweep (Some sweep) shows = (finds.shows acts s sweep beside.holds shows).1
 
-  pub unread_does : (f : Collector) (path : List ℕ) → OnlyReads d old.disk new.disk (IsErrOf {A = Bool} (Err (unread.Unreadable path)) unread.DiskFailed) → SameKept old new
+  pub unread_does : (f : Collector) (path : List ℕ) → OnlyReads d old.disk new.disk (IsErrOf {T = Bool} (Err (unread.Unreadable path)) unread.DiskFailed) → SameKept old new
       → FindsNext d old c e (Err (unread.Unreadable path)) → f.lane ≡ e.lane → f.plan ≡ e.plan → f.ended ≡ Some (earlies.Unreadable path) → c.ended ≡ None → CollectDoes d old new u u c f at (Ok None)
   unread_does f path reads kept finds lane plan ended goes = record {
     serves = record { kept = (reads.serves).kept; count = (reads.serves).count; cause = λ failed. cc };
@@ -224,7 +229,7 @@ module _ {D : Type 0} (d : Ghosts D) (old new : Parts D) (u : Upkeep) (c e : Col
     tells = λ acts s w beside able. absurd (never_unread path finds acts s w beside);
   }
 
-  pub wanting_does : OnlyReads d old.disk new.disk (IsErrOf {A = Bool} (Err unread.NoMemory) unread.DiskFailed) → SameKept old new → FindsNext d old c e (Err unread.NoMemory) → c.ended ≡ None
+  pub wanting_does : OnlyReads d old.disk new.disk (IsErrOf {T = Bool} (Err unread.NoMemory) unread.DiskFailed) → SameKept old new → FindsNext d old c e (Err unread.NoMemory) → c.ended ≡ None
       → CollectDoes d old new u u c e at (Err stops.NoMemory)
   wanting_does reads kept finds goes = record {
     serves = record { kept = (reads.serves).kept; count = (reads.serves).count; cause = λ failed. cc };
@@ -249,7 +254,7 @@ module _ {D : Type 0} (d : Ghosts D) (old new : Parts D) (u : Upkeep) (c e : Col
     }, spares_same s);
   }
 
-  pub failed_does : OnlyReads d old.disk new.disk (IsErrOf {A = Bool} (Err unread.DiskFailed) unread.DiskFailed) → SameKept old new → FindsNext d old c e (Err unread.DiskFailed) → c.ended ≡ None
+  pub failed_does : OnlyReads d old.disk new.disk (IsErrOf {T = Bool} (Err unread.DiskFailed) unread.DiskFailed) → SameKept old new → FindsNext d old c e (Err unread.DiskFailed) → c.ended ≡ None
       → CollectDoes d old new u u c e at (Err stops.DiskFailed)
   failed_does reads kept finds goes = record {
     serves = record { kept = (reads.serves).kept; count = (reads.serves).count; cause = λ _. (reads.serves).cause refl };
@@ -272,7 +277,7 @@ module _ {D : Type 0} (d : Ghosts D) (old new : Parts D) (u : Upkeep) (c e : Col
 -- ---- a visit
 
 module _ {D : Type 0} (d : Ghosts D) (old new : Parts D) (mid : D) (u v : Upkeep) (c e f : Collector) (at : Place)
-    (reads : OnlyReads d old.disk mid (IsErrOf {A = Bool} (Ok false) unread.DiskFailed)) (kept : SameKept old new) (finds : FindsNext d old c e (Ok false))
+    (reads : OnlyReads d old.disk mid (IsErrOf {T = Bool} (Ok false) unread.DiskFailed)) (kept : SameKept old new) (finds : FindsNext d old c e (Ok false))
     (lane : f.lane ≡ e.lane) (same_ended : f.ended ≡ e.ended) (entries : f.entries ≡ e.entries) (undated : v.undated ≡ u.undated) (going : is_over c.plan ≡ false) (goes_on : c.ended ≡ None) where
   abbrev Visits : Result (Unit {0}) DiskError → Type 0
   Visits r = VisitsNext d mid new.disk u.book v.book e.plan f.plan r
@@ -301,7 +306,7 @@ module _ {D : Type 0} (d : Ghosts D) (old new : Parts D) (mid : D) (u v : Upkeep
 
     tells : (acts : ℕ) (s : Store) (w : Swept) → StandsBeside d old u acts (Some c) s w.touches w.sweep → IsSweepable s w → IsTheSweeps d new v acts f s w at.moment (visit_outcome r) × Spares s x.change
     tells acts s w beside able =
-        visited_tells d old new mid u v c e f (IsErrOf {A = Bool} (Ok false) unread.DiskFailed) at.moment r reads kept serves finds x same_ended entries undated going goes_on acts s w beside able
+        visited_tells d old new mid u v c e f (IsErrOf {T = Bool} (Ok false) unread.DiskFailed) at.moment r reads kept serves finds x same_ended entries undated going goes_on acts s w beside able
 
   -- the chunk that is next was visited, if one is left
   visited_fixed : (done : Unit {0}) → Visits (Ok done) → KeepsPlan c.plan f.plan
@@ -320,10 +325,10 @@ module _ {D : Type 0} (d : Ghosts D) (old new : Parts D) (mid : D) (u v : Upkeep
       first_fixed listed change (Some digest) (inl (stays_there, same, is, left)) = record { start = ap (λ p. p.start) is; cutoff = ap (λ p. p.cutoff) is; indexes = ap (λ p. p.indexes) is }
       first_fixed listed change (Some digest) (inr (stale, swept, is, left)) = record { start = ap (λ p. p.start) is; cutoff = ap (λ p. p.cutoff) is; indexes = ap (λ p. p.indexes) is }
 
-  pub visited_does : (done : Unit {0}) → Serves d.honest d.faults mid new.disk (IsErrOf {A = Unit {0}} (Ok done) disks.Failed) → Visits (Ok done) → CollectDoes d old new u v c f at (Ok None)
+  pub visited_does : (done : Unit {0}) → Serves d.honest d.faults mid new.disk (IsErrOf {T = Unit {0}} (Ok done) disks.Failed) → Visits (Ok done) → CollectDoes d old new u v c f at (Ok None)
   visited_does done serves x =
       let first = first_is u.book v.book (x.done).0 f.plan x.change (next_visit (x.done).0) (x.done).2 in record {
-        serves = serves_then d old.disk mid new.disk (IsErrOf {A = Bool} (Ok false) unread.DiskFailed) (IsErrOf {A = Unit {0}} (Ok done) disks.Failed) (IsErrOf {A = Option GcReport} (Ok None) stops.DiskFailed) (λ failed. cc) reads.serves serves;
+        serves = serves_then d old.disk mid new.disk (IsErrOf {T = Bool} (Ok false) unread.DiskFailed) (IsErrOf {T = Unit {0}} (Ok done) disks.Failed) (IsErrOf {T = Option GcReport} (Ok None) stops.DiskFailed) (λ failed. cc) reads.serves serves;
         kept = kept;
         unrefused = λ refusal is. cc;
         change = x.change;
@@ -341,10 +346,10 @@ module _ {D : Type 0} (d : Ghosts D) (old new : Parts D) (mid : D) (u v : Upkeep
       }
 
   -- memory was wanting, or the disk failed
-  pub unvisited_does : (error : DiskError) → Serves d.honest d.faults mid new.disk (IsErrOf {A = Unit {0}} (Err error) disks.Failed) → Visits (Err error) → CollectDoes d old new u v c f at (visit_outcome (Err error))
+  pub unvisited_does : (error : DiskError) → Serves d.honest d.faults mid new.disk (IsErrOf {T = Unit {0}} (Err error) disks.Failed) → Visits (Err error) → CollectDoes d old new u v c f at (visit_outcome (Err error))
   unvisited_does disks.NoMemory serves x =
       let plan : f.plan ≡ e.plan = (x.want refl).0 in record {
-        serves = serves_then d old.disk mid new.disk (IsErrOf {A = Bool} (Ok false) unread.DiskFailed) (IsErrOf {A = Unit {0}} (Err disks.NoMemory) disks.Failed) (IsErrOf {A = Option GcReport} (Err stops.NoMemory) stops.DiskFailed)
+        serves = serves_then d old.disk mid new.disk (IsErrOf {T = Bool} (Ok false) unread.DiskFailed) (IsErrOf {T = Unit {0}} (Err disks.NoMemory) disks.Failed) (IsErrOf {T = Option GcReport} (Err stops.NoMemory) stops.DiskFailed)
             (λ failed. cc) reads.serves serves;
         kept = kept;
         unrefused = λ refusal is. cc;
@@ -352,8 +357,8 @@ module _ {D : Type 0} (d : Ghosts D) (old new : Parts D) (mid : D) (u v : Upkeep
         may_change = (x.want refl).1;
         content = λ _. reads_then (Err disks.NoMemory) serves x (λ failed. cc);
         crash = crash (Err disks.NoMemory) serves x;
-        touches = same_upkeep u v (x.unswept tt) undated;
-        early = λ before le early. subst (λ b. NoneAfter b at.moment) (sym (x.unswept tt)) (none_later u.book before at.moment le early);
+        touches = same_upkeep u v (x.unswept refl) undated;
+        early = λ before le early. subst (λ b. NoneAfter b at.moment) (sym (x.unswept refl)) (none_later u.book before at.moment le early);
         lane = lane ∙ (finds.further).lane;
         ends = still;
         further = tt;
@@ -362,7 +367,7 @@ module _ {D : Type 0} (d : Ghosts D) (old new : Parts D) (mid : D) (u v : Upkeep
         tells = tells (Err disks.NoMemory) serves x;
       }
   unvisited_does disks.Failed serves x = record {
-    serves = serves_then d old.disk mid new.disk (IsErrOf {A = Bool} (Ok false) unread.DiskFailed) (IsErrOf {A = Unit {0}} (Err disks.Failed) disks.Failed) (IsErrOf {A = Option GcReport} (Err stops.DiskFailed) stops.DiskFailed)
+    serves = serves_then d old.disk mid new.disk (IsErrOf {T = Bool} (Ok false) unread.DiskFailed) (IsErrOf {T = Unit {0}} (Err disks.Failed) disks.Failed) (IsErrOf {T = Option GcReport} (Err stops.DiskFailed) stops.DiskFailed)
         (λ _. refl) reads.serves serves;
     kept = kept;
     unrefused = λ refusal is. cc;
@@ -370,8 +375,8 @@ module _ {D : Type 0} (d : Ghosts D) (old new : Parts D) (mid : D) (u v : Upkeep
     may_change = ⊎_elim {C = stepping.MayChange u.book c at.moment x.change (Err stops.DiskFailed)} (λ none. inl none) (λ drop. inr (inl drop)) (lost (Err disks.Failed) serves x);
     content = λ calm. absurd (calm refl);
     crash = crash (Err disks.Failed) serves x;
-    touches = same_upkeep u v (x.unswept tt) undated;
-    early = λ before le early. subst (λ b. NoneAfter b at.moment) (sym (x.unswept tt)) (none_later u.book before at.moment le early);
+    touches = same_upkeep u v (x.unswept refl) undated;
+    early = λ before le early. subst (λ b. NoneAfter b at.moment) (sym (x.unswept refl)) (none_later u.book before at.moment le early);
     lane = lane ∙ (finds.further).lane;
     ends = still;
     further = tt;
@@ -389,7 +394,7 @@ module _ {D : Type 0} (d : Ghosts D) (old new : Parts D) (u : Upkeep) (c : Colle
   abbrev Ends : Result GcReport DiskError → Type 0
   Ends r = EndsPlan d old.disk new.disk u.book c.plan at.moment r
 
-  pub ended_does : (report : GcReport) → Serves d.honest d.faults old.disk new.disk (IsErrOf {A = GcReport} (Ok report) disks.Failed) → Ends (Ok report) → DiskWantKeeps d old.disk new.disk (Ok report)
+  pub ended_does : (report : GcReport) → Serves d.honest d.faults old.disk new.disk (IsErrOf {T = GcReport} (Ok report) disks.Failed) → Ends (Ok report) → DiskWantKeeps d old.disk new.disk (Ok report)
       → CollectDoes d old new u u c c at (Ok (Some report))
   ended_does report serves ends keeps = record {
     serves = record { kept = serves.kept; count = serves.count; cause = λ failed. cc };
@@ -409,7 +414,7 @@ module _ {D : Type 0} (d : Ghosts D) (old new : Parts D) (u : Upkeep) (c : Colle
     tells = λ acts s w beside able. (ended_tells d old new u c at.moment (Ok report) kept serves ends keeps over acts s w beside able, spares_install s book_name text);
   }
 
-  pub unended_does : (error : DiskError) → Serves d.honest d.faults old.disk new.disk (IsErrOf {A = GcReport} (Err error) disks.Failed) → Ends (Err error) → DiskWantKeeps d old.disk new.disk (Err error)
+  pub unended_does : (error : DiskError) → Serves d.honest d.faults old.disk new.disk (IsErrOf {T = GcReport} (Err error) disks.Failed) → Ends (Err error) → DiskWantKeeps d old.disk new.disk (Err error)
       → CollectDoes d old new u u c c at (end_outcome (Err error))
   unended_does disks.NoMemory serves ends keeps =
       let same = keeps refl in record {

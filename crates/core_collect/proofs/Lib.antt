@@ -13,4 +13,5 @@ pub mod EndLemmas
 pub mod Sweepable
 pub mod Collected
 pub mod Stepped
+pub mod Passed
 pub mod StepLemmas

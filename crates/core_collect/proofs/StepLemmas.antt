@@ -66,7 +66,7 @@ use Rattle.core_state.proofs.Unchanging.{same_unchanged}
 use Rattle.core_collect.specs.Beside.{StandsBeside, passed_touches}
 use Rattle.core_collect.specs.Ending.{TellsEarly, early_in, halts_early, replies_early, report_reply}
 use Rattle.core_collect.specs.Marking.{next_unreadable}
-use Rattle.core_collect.specs.Stepping.{CollectDoes, EntersPass, GoesOn, IsReport, IsTheSweeps, KeepsOthers, Outcome, PassDoes, StepTells, has_passed, not_begun, path_ended}
+use Rattle.core_collect.specs.Stepping.{CollectDoes, EntersPass, GoesOn, IsReport, IsTheSweeps, KeepsOthers, Outcome, PassDoes, StepTells, TakesNext, has_passed, not_begun, path_ended}
 use Rattle.core_collect.specs.Stepping as stepping
 use Rattle.core_collect.specs.Visiting.{goes}
 use Rattle.core_collect.proofs.Losing.{MayPass, spared_stands}
@@ -680,10 +680,17 @@ module _ {D E C : Type 0} (d : Ghosts D) (clock : clocks.Ghosts C) (old mid acte
 -- ---- any act of a collector after its start
 
 module _ {D E C : Type 0} (d : Ghosts D) (clock : clocks.Ghosts C) (old between new : Core D E C) (lane : ℕ) (answer : Answer) (inside : lane < 64) (closes : new ≡ faulted_closed lane (answer.entry).kind between) where
-  pub cut_step : is_cut lane old.collector ≡ true → TellsEarly d clock.readings old between lane answer → IfSome answer.reply ReplyHasText → IsRightStep d clock old new lane answer
+  cut_step : is_cut lane old.collector ≡ true → TellsEarly d clock.readings old between lane answer → IfSome answer.reply ReplyHasText → IsRightStep d clock old new lane answer
   cut_step cut tells text = ended_early d clock old between new lane answer inside closes cut tells text
 
-  pub uncut_step : is_cut lane old.collector ≡ false → GoesOn d clock.readings old between lane answer → IsRightStep d clock old new lane answer
+  uncut_step : is_cut lane old.collector ≡ false → GoesOn d clock.readings old between lane answer → IsRightStep d clock old new lane answer
   uncut_step uncut (not_begun refuses text) = refused_before d clock old between new lane answer inside closes uncut refuses text
   uncut_step uncut (has_passed p) =
       passes_by d clock old p.mid p.acted between new lane p.at answer inside closes uncut (p.admitted).ready p.filled p.others p.text (p.admitted).lane_is p.result p.passes p.enters (on_lane lane (p.mid).collector)
+
+  by_cut : (b : Bool) → is_cut lane old.collector ≡ b → TakesNext d clock.readings old between lane answer → IsRightStep d clock old new lane answer
+  by_cut true cut takes = let ends = takes.ends cut in cut_step cut ends.0 ends.1
+  by_cut false uncut takes = uncut_step uncut (takes.goes uncut)
+
+  pub taken_next : TakesNext d clock.readings old between lane answer → IsRightStep d clock old new lane answer
+  taken_next takes = by_cut (is_cut lane old.collector) refl takes
