@@ -2,6 +2,8 @@ pub mod Outcomes
 pub mod Listings
 pub mod Losing
 pub mod VisitLemmas
+pub mod VisitAnswers
+pub mod EndLemmas
 pub mod Sweepable
 pub mod Stepped
 pub mod StepLemmas
