@@ -1,25 +1,30 @@
 -- The end of a collector whose sweep is over: its report is the sweep's, and the saved book matters for nothing.
 use Rattle.disk_trait.specs.declared.disk.Disk.{Ghosts}
-use Rattle.std.proofs.Common.{◌≡◌, ◌×◌, ◌↔◌, ◌<◌, ◌≤◌, ◌^◌, ℕ, Bool, true, not, List, length, Option, Some, None, Result, Ok, Err, refl, sym, subst, ap, ◌∙◌, arith}
-use Rattle.std.specs.Prelude.{IsErrOf, IsSomeAnd}
+use Rattle.std.proofs.Common.{◌≡◌, ◌↔◌, ◌==◌, inl, inr, ℕ, true, not, List, length, Option, Some, None, is_some, Result, Ok, Err, refl, sym, subst, ap, ◌∙◌, arith, true≢false}
+use Rattle.std.specs.Prelude.{IfOk, IfSome, IsErr, IsErrOf, IsSomeAnd}
 use Rattle.std.specs.FinMap.{get}
 use Rattle.std.specs.List.{Contains}
 use Rattle.std.specs.Option.{IsSome}
+use Rattle.std.proofs.lemmas.Bool.{and_parts}
 use Rattle.std.proofs.lemmas.List.Elements.{filter_agree}
 use Rattle.disk_trait.specs.Disk.{Serves}
-use Rattle.disk_trait.specs.Effects.{DiskWantKeeps}
+use Rattle.disk_trait.specs.Effects.{DiskWantKeeps, StepsOn}
 use Rattle.disk_trait.specs.Files.{Files}
 use Rattle.disk_trait.specs.declared.disk.DiskError.{DiskError}
 use Rattle.disk_trait.specs.declared.disk.DiskError.TheVariants.{NoMemory, Failed}
+use Rattle.file_install.specs.Install.{Installs, installed}
 use Rattle.store_files.specs.Book.{Book, book_text}
 use Rattle.store_files.specs.Folder.{chunk_name, file_path}
 use Rattle.store_model.specs.Store.{Store}
 use Rattle.wire_commands.specs.declared.reply.Reply.{Reply}
 use Rattle.wire_commands.specs.declared.reply.Reply.TheVariants.{Collected}
+use Rattle.wire_commands.specs.HasText.{FitsReply, ReplyHasText}
+use Rattle.wire_commands.specs.ReplyText.{reply_text}
 use Rattle.atime_book.specs.Counts.{ListsBook, is_since, pending_among as pending_of_book, used_among as used_of_book}
 use Rattle.atime_book.specs.Touches.{as_of, last_of}
-use Rattle.gc_plan.specs.Plan.{is_over as is_plan_over}
+use Rattle.gc_plan.specs.Plan.{Plan, is_over as is_plan_over}
 use Rattle.gc_plan.specs.declared.GcReport.{GcReport}
+use Rattle.store_history.specs.declared.act.Answer.{Answer}
 use Rattle.store_history.specs.LastTouches.{SameTouches}
 use Rattle.store_history.specs.Saved.{book_name}
 use Rattle.store_history.specs.Sweeping.{Sweep, Swept, chunks, is_over, pending_among, report_of, used_among}
@@ -27,16 +32,20 @@ use Rattle.core_state.specs.declared.collector.Collector.{Collector}
 use Rattle.core_state.specs.declared.kept.Listed.{Listed}
 use Rattle.core_state.specs.declared.parts.Parts.{Parts}
 use Rattle.core_state.specs.declared.upkeep.Upkeep.{Upkeep}
+use Rattle.core_state.specs.declared.state.Core.{Core}
 use Rattle.core_state.specs.declared.stop.Stop.TheVariants as stops
+use Rattle.core_state.specs.Collectors.{is_cut}
+use Rattle.core_state.specs.Settles.{IsEntered}
 use Rattle.core_state.specs.Sweeps.{ShowsOpen, ShowsSweep}
 use Rattle.core_state.specs.Unchanged.{SameKept}
 use Rattle.core_state.specs.Upkeeps.{touches_kept}
 use Rattle.core_state.proofs.SavingNames.{SameStore, same_installed}
-use Rattle.core_collect.specs.Beside.{IsPresent, IsSweepable, StandsBeside}
-use Rattle.core_collect.specs.Ending.{EndsPlan, Reports, report_reply}
+use Rattle.core_collect.specs.Beside.{IsSweepable, StandsBeside}
+use Rattle.core_collect.specs.Ending.{EndsPlan, Reports, early_in, report_reply}
 use Rattle.core_collect.specs.Stepping.{IsTheSweeps}
-use Rattle.core_collect.proofs.Losing.{holds_same, holds_saved}
+use Rattle.core_collect.proofs.Losing.{holds_saved}
 use Rattle.core_collect.proofs.Outcomes.{end_outcome}
+use Rattle.core_collect.proofs.VisitAnswers.{ok_error, on_error}
 use Rattle.core_collect.proofs.VisitLemmas.{over_is}
 
 -- ---- the report
@@ -111,3 +120,39 @@ ended_tells d old new u c moment (Ok report) kept serves ends keeps over acts s 
 ended_tells d old new u c moment (Err NoMemory) kept serves ends keeps over acts s w beside able =
     ends_wanting d old new u c moment kept over acts s w beside able (serves.kept.0 (beside.holds).honest) keeps
 ended_tells d old new u c moment (Err Failed) kept serves ends keeps over acts s w beside able = serves.kept.0 (beside.holds).honest
+
+-- ---- answers
+
+pub collected_has_text : (start cutoff used pending removed : ℕ) → FitsReply (Collected start cutoff used pending removed) → ReplyHasText (Collected start cutoff used pending removed)
+unfolding reply_text
+collected_has_text start cutoff used pending removed fits = (fits, omega arith)
+
+module _ {D : Type 0} (d : Ghosts D) (old : D) (book : Book) (plan : Plan) (moment : ℕ) where
+  -- the disk was not called
+  pub unsaved : (r : Result GcReport DiskError) → IsErr r → EndsPlan d old old book plan moment r
+  unsaved r failed = record { crash = inl refl; installed = λ honest. on_error r _ failed; report = no_report r failed }
+    where
+      no_report : (x : Result GcReport DiskError) → IsErr x → IfOk x (Reports book plan)
+      no_report (Ok report) e = absurd (ok_error report e)
+      no_report (Err error) e = tt
+
+  pub unsaved_by : (new : D) (r : Result GcReport DiskError) → IsErr r → StepsOn d old new (Installs (d.content old) book_name (book_text (as_of moment book))) → EndsPlan d old new book plan moment r
+  unsaved_by new r failed crash = record { crash = inr crash; installed = λ honest. on_error r _ failed; report = no_report r failed }
+    where
+      no_report : (x : Result GcReport DiskError) → IsErr x → IfOk x (Reports book plan)
+      no_report (Ok report) e = absurd (ok_error report e)
+      no_report (Err error) e = tt
+
+  pub saved_by : (new : D) (report : GcReport) → StepsOn d old new (Installs (d.content old) book_name (book_text (as_of moment book)))
+      → (d.honest old → d.content new ≡ installed (d.content old) book_name (book_text (as_of moment book))) → Reports book plan report → EndsPlan d old new book plan moment (Ok report)
+  saved_by new report crash saved reports = record { crash = inr crash; installed = saved; report = reports }
+
+-- ---- a collector that was ended early
+
+pub cut_early : (lane : ℕ) (c : Option Collector) → is_cut lane c ≡ true → IsSome (early_in c)
+cut_early lane None cut = absurd (true≢false (sym cut))
+cut_early lane (Some c) cut = (and_parts (c.lane == lane) (is_some c.ended) cut).1
+
+pub entered_text : {D E C : Type 0} (d : Ghosts D) (old new : Core D E C) (lane moment kind : ℕ) (reply : Reply) (answer : Answer) → IsEntered d old new lane moment kind (Some reply) answer → ReplyHasText reply
+    → IfSome answer.reply ReplyHasText
+entered_text d old new lane moment kind reply answer entered text = subst (λ (o : Option Reply). IfSome o ReplyHasText) (sym entered.reply_is) text
