@@ -16,3 +16,4 @@ pub mod Collected
 pub mod Stepped
 pub mod Passed
 pub mod StepLemmas
+pub mod ActLemmas

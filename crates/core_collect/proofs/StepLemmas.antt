@@ -182,15 +182,15 @@ first_true false b is = absurd (true_false (sym is))
 -- the collector that was ended early
 record WasEnded (lane : ℕ) (c : Option Collector) (early : Early) : Type 0 where
   pub was : Collector
-  pub open : c ≡ Some was
+  pub open_is : c ≡ Some was
   pub on : is_on lane (Some was) ≡ true
   pub ended : was.ended ≡ Some early
 
 was_ended : (lane : ℕ) (c : Option Collector) (early : Early) → is_cut lane c ≡ true → early_in c ≡ Some early → WasEnded lane c early
 was_ended lane None early cut has = absurd (true_false (sym cut))
-was_ended lane (Some x) early cut has = record { was = x; open = refl; on = first_true (x.lane == lane) (is_some x.ended) cut; ended = has }
+was_ended lane (Some x) early cut has = record { was = x; open_is = refl; on = first_true (x.lane == lane) (is_some x.ended) cut; ended = has }
 
-cut_is_on : (lane : ℕ) (c : Option Collector) → is_cut lane c ≡ true → is_on lane c ≡ true
+pub cut_is_on : (lane : ℕ) (c : Option Collector) → is_cut lane c ≡ true → is_on lane c ≡ true
 cut_is_on lane None cut = absurd (true_false (sym cut))
 cut_is_on lane (Some x) cut = first_true (x.lane == lane) (is_some x.ended) cut
 
@@ -258,7 +258,7 @@ module _ {D E C : Type 0} (d : Ghosts D) (clock : clocks.Ghosts C) (old between 
       let kind : (answer.entry).kind ≡ 4 = ap (λ x. x.kind) entered.entry in
       let x : WasEnded lane old.collector early = was_ended lane old.collector early cut has in
       let shown : (h : History) → StandsFor d clock.readings old h → (open_on lane (world h).collecting ≡ Some true) × (early ≡ earlies.NoMemory) =
-      λ h s. ended_shown lane x.was (world h).collecting early (ap open_in (sym x.open) ∙ s.collecting) x.on x.ended in
+      λ h s. ended_shown lane x.was (world h).collecting early (ap open_in (sym x.open_is) ∙ s.collecting) x.on x.ended in
       uncalled d clock old mid new lane at.moment 4 r answer None b b.fault entered
       (λ e. omega (arith, e)) (λ e. omega (arith, e)) (λ _. cut) (λ e. absurd (omega (arith, e)))
       (subst (λ x. IfSome x ReplyHasText) entered.reply_is text) (step_ends none kind r entered.reply_is (may_early early))
@@ -394,12 +394,12 @@ module _ {D E C : Type 0} (d : Ghosts D) (clock : clocks.Ghosts C) (old mid acte
 
   -- ---- the lane's collector goes on
 
-  module _ (x y : Collector) (open : mid.collector ≡ Some x) (on : is_on lane (Some x) ≡ true) (then_is : acted.collector ≡ Some y) where
+  module _ (x y : Collector) (begun_with : mid.collector ≡ Some x) (on : is_on lane (Some x) ≡ true) (then_is : acted.collector ≡ Some y) where
     abbrev Does : Outcome → Type 0
     Does result = CollectDoes d mid.parts acted.parts mid.upkeep acted.upkeep x y at result
 
     was : old.collector ≡ Some x
-    was = sym b.collector ∙ open
+    was = sym b.collector ∙ begun_with
 
     on_before : is_on lane old.collector ≡ true
     on_before = ap (is_on lane) was ∙ on
@@ -666,10 +666,10 @@ module _ {D E C : Type 0} (d : Ghosts D) (clock : clocks.Ghosts C) (old mid acte
 
   passes_by : at.lane ≡ lane → (result : Outcome) → PassDoes d mid.parts acted.parts mid.upkeep acted.upkeep mid.collector acted.collector at result → EntersPass d acted between at result answer
       → OnLane lane mid.collector → IsRightStep d clock old new lane answer
-  passes_by lane_is result passes enters (open_here x open on) =
+  passes_by lane_is result passes enters (open_here x begun_with on) =
       let does = there (λ y. CollectDoes d mid.parts acted.parts mid.upkeep acted.upkeep x y at result) acted.collector
-      (passes.collects x open (ap (λ l. is_on l mid.collector) lane_is ∙ ap (is_on lane) open ∙ on)) in
-      by_result x does.0 open on does.1 lane_is result does.2 enters
+      (passes.collects x begun_with (ap (λ l. is_on l mid.collector) lane_is ∙ ap (is_on lane) begun_with ∙ on)) in
+      by_result x does.0 begun_with on does.1 lane_is result does.2 enters
   passes_by lane_is result passes enters (not_here off) =
       let its = passes.refused (ap (λ l. is_on l mid.collector) lane_is ∙ off) in
       let e : IsEntered d acted between at.lane m 0 (Some (Refused (refusals.WrongState (state_of (session_at mid.parts at.lane))))) answer =
