@@ -6,6 +6,7 @@ use Rattle.store_types.specs.declared.refusal.Refusal.{Refusal}
 use Rattle.store_types.specs.declared.refusal.Refusal.TheVariants as refusals
 use Rattle.wire_commands.specs.declared.reply.Reply.{Reply}
 use Rattle.wire_commands.specs.declared.reply.Reply.TheVariants as replies
+use Rattle.store_history.specs.declared.act.Act.{Act}
 use Rattle.store_history.specs.declared.act.Act.TheVariants.{Start, Step}
 use Rattle.store_history.specs.declared.act.Answer.{Answer}
 use Rattle.core_state.specs.declared.collector.Collector.{Collector}
@@ -16,7 +17,7 @@ use Rattle.core_state.specs.Collectors.{is_cut, is_on, refusal_of as early_refus
 use Rattle.core_state.specs.Replies.{may_answer}
 use Rattle.core_state.specs.Unreadables.{Asked, TellsUnreadable, known, part_read}
 use Rattle.core_state.specs.Wanted.{session_at}
-use Rattle.core_collect.specs.Acts.{CollectUnreadable, asked_by, asked_of_collector, refusal_of}
+use Rattle.core_collect.specs.Acts.{CollectUnreadable, IsCollectors, asked_by, asked_of_collector, refusal_of}
 use Rattle.core_collect.specs.Ending.{early_in}
 use Rattle.core_collect.specs.Starting.{StartTells}
 use Rattle.core_collect.specs.Stepping.{IsReport, StepTells}
@@ -148,3 +149,9 @@ step_unreadable d old new lane answer cause tells =
         ap (λ b. if b then asked_by (option_map early_refusal (early_in old.collector)) else None) (cut_is_on lane old.collector cut)
         ∙ ap asked_by (ended_by (early_in old.collector) (refusals.Unreadable name) said)
     by_cut name is false uncut = absurd (no_report (refusals.Unreadable name) (subst IsReport is (tells.reports uncut (step_kind d old new answer name cause is))))
+
+-- a collector has no other act
+pub neither : (act : Act) → IsCollectors act → (act ≡ Start → ⊥) → (act ≡ Step → ⊥) → ⊥
+neither Start is other none = other refl
+neither Step is other none = none refl
+neither act is other none = is

@@ -1,7 +1,7 @@
 use Rattle.std.proofs.Common.{sym, subst}
 use Rattle.core_state.specs.Applies.{ActApplies, ActKeeps}
-use Rattle.core_collect.specs.Acts.{CollectUnreadable, CoreAnswersBy, IsCollectors}
-use Rattle.core_collect.proofs.ActLemmas.{start_unreadable, step_unreadable}
+use Rattle.core_collect.specs.Acts.{CollectUnreadable, CoreAnswersBy}
+use Rattle.core_collect.proofs.ActLemmas.{neither, start_unreadable, step_unreadable}
 use Rattle.core_collect.proofs.act.collect_act.Goals as goal
 
 pub returns-in-Start-clause-applies : goal.returns-in-Start-clause-applies
@@ -33,4 +33,4 @@ returns-in-Step-clause-unreadable g c =
     (step_unreadable g.D.Disk c.args.core.now c.step.new.core c.args.lane c.step.result c.step.ensures.applies.cause c.step.ensures.told)
 
 pub unreachable-requires : goal.unreachable-requires
-unreachable-requires g c = elim c.args.act [ ]
+unreachable-requires g c = neither c.args.act c.requires.kind c.in_default.not-Start c.in_default.not-Step
