@@ -246,12 +246,15 @@ module _ {D : Type 0} (d : Ghosts D) (old new : Parts D) (u : Upkeep) (c e : Col
     further = tt;
     same = fixed_then c e e.plan finds.further refl refl refl;
     unread = λ is. cc;
-    tells = λ acts s w beside able. (record {
-      holds = holds_same d old new s kept beside.holds ((reads.serves).kept.0 (beside.holds).honest) (reads.same (beside.holds).honest);
-      touches_are = beside.touches_are;
-      present = subst (λ m. IsPresent m w.touches) (sym (reads.same (beside.holds).honest)) beside.present;
-      shows = subst (λ l. ShowsOpen acts l s.snapshots (Some e) w.sweep) (sym kept.catalogue) (still_shows (Err unread.NoMemory) finds acts s w beside);
-    }, spares_same s);
+    tells = λ acts s w beside able. (
+      record {
+        holds = holds_same d old new s kept beside.holds ((reads.serves).kept.0 (beside.holds).honest) (reads.same (beside.holds).honest);
+        touches_are = beside.touches_are;
+        present = subst (λ m. IsPresent m w.touches) (sym (reads.same (beside.holds).honest)) beside.present;
+        shows = subst (λ l. ShowsOpen acts l s.snapshots (Some e) w.sweep) (sym kept.catalogue) (still_shows (Err unread.NoMemory) finds acts s w beside);
+      },
+      spares_same s,
+    );
   }
 
   pub failed_does : OnlyReads d old.disk new.disk (IsErrOf {T = Bool} (Err unread.DiskFailed) unread.DiskFailed) → SameKept old new → FindsNext d old c e (Err unread.DiskFailed) → c.ended ≡ None
