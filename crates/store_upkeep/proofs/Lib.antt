@@ -14,4 +14,5 @@ pub mod Following
 pub mod Whole
 pub mod Lasting
 pub mod Reporting
+pub mod Started
 mod Examples

@@ -10,7 +10,7 @@ use Rattle.atime_book.specs.Touches.{cutoff_of}
 use Rattle.store_history.specs.declared.act.Act.{Act}
 use Rattle.store_history.specs.declared.act.Act.TheVariants.{Chunk, Start, Step}
 use Rattle.store_history.specs.declared.act.Event.{Event}
-use Rattle.store_history.specs.History.{World, Opening, opened, after, after_all, moment, kind, reply}
+use Rattle.store_history.specs.History.{World, Opening, opened, after, after_all, lane, moment, kind, reply}
 use Rattle.store_history.specs.Legal.{IsLegal}
 use Rattle.store_history.specs.LastTouches.{LastTouches, touches_at_opening}
 use Rattle.store_history.specs.Sweeping.{Sweep, Swept, swept_at, chunks, oldest_in, is_over, taken_by, touched_after, swept_after, swept_all, world, swept, used_among, pending_among, report_of, IsSwept}
@@ -112,6 +112,24 @@ EndsAreReported =
     (remote : Option (List Snapshot)) (o : Opening) (es : List Event) (e : Event)
     → IsLegal remote (opened o) (es ++ e ∷ []) → IsSwept remote (opened o) (swept_at o) (es ++ e ∷ []) → kind e ≡ 4 → (reply e ≡ Some (Refused NoMemory) → ⊥)
     → IsSomeAnd (swept remote o es).sweep (λ sweep. (is_over sweep ≡ true) × (reply e ≡ Some (report_of (swept remote o es) sweep)))
+
+-- The collector that ends behind these events, by e, started among them, on its lane. It has swept the whole since, and replies that sweep's report.
+pub record ReportsWhole (remote : Option (List Snapshot)) (o : Opening) (es : List Event) (e : Event) : Type 0 where
+  pub before : List Event
+  pub start : Event
+  pub since : List Event
+  pub sweep : Sweep
+  pub parts : es ≡ before ++ start ∷ since
+  pub own : lane start ≡ lane e
+  pub whole : IsWhole remote (world remote o before) (swept remote o before) start since sweep
+  pub leaves : OpensStocked o → LeavesRight remote (world remote o before) (swept remote o before) start since sweep
+  pub reported : reply e ≡ Some (report_of (swept remote o es) sweep)
+
+abbrev pub ReportsAreRight : Type 0
+ReportsAreRight =
+    (remote : Option (List Snapshot)) (o : Opening) (es : List Event) (e : Event)
+    → IsLegal remote (opened o) (es ++ e ∷ []) → IsSwept remote (opened o) (swept_at o) (es ++ e ∷ []) → kind e ≡ 4 → (reply e ≡ Some (Refused NoMemory) → ⊥)
+    → ReportsWhole remote o es e
 
 -- the digests of the chunks that are there, each once
 pub record Lists (touches : LastTouches) (digests : List (List ℕ)) : Type 0 where
