@@ -15,4 +15,5 @@ pub mod Whole
 pub mod Lasting
 pub mod Reporting
 pub mod Started
+pub mod Unvisited
 mod Examples

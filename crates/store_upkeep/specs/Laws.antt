@@ -1,5 +1,5 @@
 -- What holds of sweeps in every legal history.
-use Rattle.std.specs.Prelude.{◌≡◌, ◌≢◌, ◌≤◌, ◌⊎◌, ◌↔◌, ℕ, true, List, [], ◌∷◌, ◌++◌, length, Option, Some, IsSome, IsSomeAnd, option_to_list}
+use Rattle.std.specs.Prelude.{◌≡◌, ◌≢◌, ◌≤◌, ◌⊎◌, ◌↔◌, ℕ, true, List, [], ◌∷◌, ◌++◌, length, Option, Some, None, IsSome, IsSomeAnd, option_to_list}
 use Rattle.std.specs.List.{AllPairs, Contains, flat_map}
 use Rattle.store_types.specs.Names.{name_lt}
 use Rattle.store_files.specs.Archive.{Snapshot}
@@ -33,6 +33,13 @@ abbrev pub NeededIsThere : Type 0
 NeededIsThere =
     (remote : Option (List Snapshot)) (o : Opening) (es : List Event) → IsLegal remote (opened o) es → OpensStocked o
     → IsStocked (world remote o es).store (swept remote o es).touches
+
+-- while some is still to be marked, no chunk was listed or taken out
+abbrev pub IsUnvisited : Option Sweep → Type 0
+IsUnvisited o = (sweep : Sweep) → o ≡ Some sweep → (sweep.unmarked ≡ [] → ⊥) → (sweep.to_visit ≡ None) × (sweep.removed ≡ 0)
+
+abbrev pub VisitsComeLast : Type 0
+VisitsComeLast = (remote : Option (List Snapshot)) (o : Opening) (es : List Event) → IsUnvisited (swept remote o es).sweep
 
 -- only a visit takes a chunk out
 abbrev pub OnlyVisitsTake : Type 0
