@@ -74,10 +74,7 @@ static DAMAGED: [&[u8]; 9] = [
 ];
 
 /// A disk with these files.
-pub(crate) fn disk_of(
-    alloc: Global,
-    files: &[(&str, &[u8])],
-) -> Result<MemoryDisk, DiskError> {
+pub(crate) fn disk_of(alloc: Global, files: &[(&str, &[u8])]) -> Result<MemoryDisk, DiskError> {
     let mut disk = MemoryDisk::new(alloc);
     for (name, bytes) in files {
         if name.len() <= 255 {

@@ -77,11 +77,7 @@ const RUNNING: &[u8] =
 
 /// A later writer moves no cutoff. A lane with a session opens no collector.
 const BESIDE_WRITERS: Collection = Collection {
-    files: &[
-        (ABC_CHUNK, ABC_BLOB),
-        (DE_CHUNK, DE_BLOB),
-        (BOOK, RUNNING),
-    ],
+    files: &[(ABC_CHUNK, ABC_BLOB), (DE_CHUNK, DE_BLOB), (BOOK, RUNNING)],
     entries: 0,
     clock: &[900_000, 990_000],
     then: 1_000_000,
@@ -328,12 +324,7 @@ const TAKEN_OVER: Collection = Collection {
             4,
         ),
         (4, Step::OpenReader(SECOND), DONE, 0),
-        (
-            4,
-            Step::Send(FROM_END),
-            b"\x09\0\0\0\0(\x10\0\0\0\0\0\0",
-            0,
-        ),
+        (4, Step::Send(FROM_END), b"\x09\0\0\0\0(\x10\0\0\0\0\0\0", 0),
         (4, Step::Send(ALL_THREE), b"\x04\0\0\0\0abc", 0),
     ],
     left: (1_000_000, Some(1_000_000), None, 0),

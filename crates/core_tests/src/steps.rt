@@ -67,9 +67,7 @@ fn act_sent(alloc: Global, body: &[u8]) -> Result<Act, Fail>
         return Err("no command".into());
     };
     match command {
-        Command::Previous { file, offset } => {
-            Ok(Act::Plain(Command::Previous { file, offset }))
-        }
+        Command::Previous { file, offset } => { Ok(Act::Plain(Command::Previous { file, offset })) }
         Command::NewDynamic { file } => Ok(Act::Plain(Command::NewDynamic { file })),
         Command::Append { number, entries } => {
             Ok(Act::Plain(Command::Append { number, entries }))
@@ -89,9 +87,7 @@ fn act_sent(alloc: Global, body: &[u8]) -> Result<Act, Fail>
             name: file,
             checked: checked(blob),
         }),
-        Command::Download { file, offset } => {
-            Ok(Act::Plain(Command::Download { file, offset }))
-        }
+        Command::Download { file, offset } => { Ok(Act::Plain(Command::Download { file, offset })) }
         Command::Range {
             file,
             offset,
