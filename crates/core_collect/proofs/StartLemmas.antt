@@ -201,7 +201,7 @@ module _ (catalogue : List Listed) (snapshots : List Snapshot) where
     files_left (f ∷ fs) there kinds =
         by_name (is_index_name f.name) refl (files_left fs (All-tail (λ g. file_named g.name y.files ≡ Some g) f fs there) (All-tail (λ g. names_content g.content g.name ≡ true) f fs kinds))
       where
-        abbrev behind : List StoredFile
+        behind : List StoredFile
         behind = filter (λ g. is_index_name g.name) (shown_files y.key fs)
 
         by_name : (b : Bool) → is_index_name f.name ≡ b → flat_map left (map of_file behind) ≡ flat_map of_model fs
@@ -242,9 +242,9 @@ module _ (catalogue : List Listed) (snapshots : List Snapshot) where
   snapshots_left (x ∷ xs) (y ∷ ys) same at whole =
       flat_map-append left (indexes_of x) (indexes_in xs)
       ∙ ap (λ us. us ++ flat_map left (indexes_in xs))
-          (snapshot_left x y (heads x.kept (shown_snapshot y) (map (λ z. z.kept) xs) (map shown_snapshot ys) same) (All-head (λ z. kept_at z.number catalogue ≡ Some (z.kept)) x xs at) (All-head IsWhole y ys whole))
+      (snapshot_left x y (heads x.kept (shown_snapshot y) (map (λ z. z.kept) xs) (map shown_snapshot ys) same) (All-head (λ z. kept_at z.number catalogue ≡ Some (z.kept)) x xs at) (All-head IsWhole y ys whole))
       ∙ ap (λ us. sweeps.indexes_of y ++ us)
-          (snapshots_left xs ys (tails x.kept (shown_snapshot y) (map (λ z. z.kept) xs) (map shown_snapshot ys) same) (All-tail (λ z. kept_at z.number catalogue ≡ Some (z.kept)) x xs at) (All-tail IsWhole y ys whole))
+      (snapshots_left xs ys (tails x.kept (shown_snapshot y) (map (λ z. z.kept) xs) (map shown_snapshot ys) same) (All-tail (λ z. kept_at z.number catalogue ≡ Some (z.kept)) x xs at) (All-tail IsWhole y ys whole))
 
   all_whole : keys_rise snapshots ≡ true → All IsSnapshot snapshots → All IsWhole snapshots
   all_whole rise each k d within =
