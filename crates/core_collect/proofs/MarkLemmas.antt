@@ -214,10 +214,10 @@ module _ (catalogue : List Listed) (snapshots : List Snapshot) where
       let first = marked_in (c.plan).stage in
       let bytes : Digest32 → List ℕ = λ d. d.0 in
       let left : left_at catalogue snapshots first i ≡ record { key = k.key; name = i.name; digests = map bytes (drop first c.entries.items) } ∷ [] =
-          ap (left_of_kept snapshots i.name first) there
-          ∙ ap (λ ds. unmarked_of k.key i.name (drop first ds)) digests
-          ∙ ap (unmarked_of k.key i.name) (drop-map bytes first c.entries.items)
-          ∙ unmarked_some k.key i.name (map bytes (drop first c.entries.items)) (left_some first c.entries.items (c.fits).within some) in record {
+      ap (left_of_kept snapshots i.name first) there
+      ∙ ap (λ ds. unmarked_of k.key i.name (drop first ds)) digests
+      ∙ ap (unmarked_of k.key i.name) (drop-map bytes first c.entries.items)
+      ∙ unmarked_some k.key i.name (map bytes (drop first c.entries.items)) (left_some first c.entries.items (c.fits).within some) in record {
         index = i;
         kept = k;
         next = at;
@@ -278,7 +278,7 @@ module _ (catalogue : List Listed) (snapshots : List Snapshot) where
     entries_then [] is some = absurd (some (marks.entries ∙ ap (λ ds. at_hand_then ds e.entries.items) is))
     entries_then (x ∷ xs) is some =
         let next : next_index f.plan ≡ Some b.index =
-            ap next_index marks.plan ∙ same_index p.indexes p.stage count (length (left_then e)) (some_zero x xs is) ∙ b.next in
+        ap next_index marks.plan ∙ same_index p.indexes p.stage count (length (left_then e)) (some_zero x xs is) ∙ b.next in
         let are : AreEntries snapshots (b.index).name e.entries.items (Some b.kept) = sym b.digests in
         subst (HasEntries catalogue snapshots f.entries.items) (sym next)
         (subst (λ ds. HasEntries catalogue snapshots ds (Some b.index)) (sym (marks.entries ∙ ap (λ ds. at_hand_then ds e.entries.items) is))

@@ -249,9 +249,9 @@ module _ (catalogue : List Listed) (snapshots : List Snapshot) where
   snapshots_left (x ∷ xs) (y ∷ ys) same at whole =
       flat_map-append left (indexes_of x) (indexes_in xs)
       ∙ ap (λ us. us ++ flat_map left (indexes_in xs))
-          (snapshot_left x y (heads x.kept (shown_snapshot y) (map (λ z. z.kept) xs) (map shown_snapshot ys) same) (All-head (λ z. kept_at z.number catalogue ≡ Some (z.kept)) x xs at) (All-head IsWhole y ys whole))
+      (snapshot_left x y (heads x.kept (shown_snapshot y) (map (λ z. z.kept) xs) (map shown_snapshot ys) same) (All-head (λ z. kept_at z.number catalogue ≡ Some (z.kept)) x xs at) (All-head IsWhole y ys whole))
       ∙ ap (λ us. sweeps.indexes_of y ++ us)
-          (snapshots_left xs ys (tails x.kept (shown_snapshot y) (map (λ z. z.kept) xs) (map shown_snapshot ys) same) (All-tail (λ z. kept_at z.number catalogue ≡ Some (z.kept)) x xs at) (All-tail IsWhole y ys whole))
+      (snapshots_left xs ys (tails x.kept (shown_snapshot y) (map (λ z. z.kept) xs) (map shown_snapshot ys) same) (All-tail (λ z. kept_at z.number catalogue ≡ Some (z.kept)) x xs at) (All-tail IsWhole y ys whole))
 
   all_whole : keys_rise snapshots ≡ true → All IsSnapshot snapshots → All IsWhole snapshots
   all_whole rise each k d within =
@@ -311,9 +311,9 @@ module _ (c : Option Collector) (x : Session) (catalogue : List Listed) where
   unfolding start_told
   told_session refusal is = ap after_session is
 
-  pub told_busy : (open : Collector) → want_idle x ≡ Ok tt → c ≡ Some open → start_told c x catalogue ≡ Err (CollectorBusy open.lane)
+  pub told_busy : (ahead : Collector) → want_idle x ≡ Ok tt → c ≡ Some open → start_told c x catalogue ≡ Err (CollectorBusy ahead.lane)
   unfolding start_told
-  told_busy open idle is = ap after_session idle ∙ ap (λ o. after_busy (busy o)) is
+  told_busy ahead idle is = ap after_session idle ∙ ap (λ o. after_busy (busy o)) is
 
   pub told_damaged : (name : List ℕ) → want_idle x ≡ Ok tt → c ≡ None → first_unreadable catalogue ≡ Some name → start_told c x catalogue ≡ Err (Unreadable name)
   unfolding start_told
