@@ -311,7 +311,7 @@ module _ (c : Option Collector) (x : Session) (catalogue : List Listed) where
   unfolding start_told
   told_session refusal is = ap after_session is
 
-  pub told_busy : (ahead : Collector) → want_idle x ≡ Ok tt → c ≡ Some open → start_told c x catalogue ≡ Err (CollectorBusy ahead.lane)
+  pub told_busy : (ahead : Collector) → want_idle x ≡ Ok tt → c ≡ Some ahead → start_told c x catalogue ≡ Err (CollectorBusy ahead.lane)
   unfolding start_told
   told_busy ahead idle is = ap after_session idle ∙ ap (λ o. after_busy (busy o)) is
 
