@@ -66,7 +66,7 @@ use Rattle.core_state.proofs.Unchanging.{same_unchanged}
 use Rattle.core_collect.specs.Beside.{StandsBeside, passed_touches}
 use Rattle.core_collect.specs.Ending.{TellsEarly, early_in, halts_early, replies_early, report_reply}
 use Rattle.core_collect.specs.Marking.{next_unreadable}
-use Rattle.core_collect.specs.Stepping.{CollectDoes, EntersPass, GoesOn, IsReport, IsTheSweeps, KeepsOthers, Outcome, PassDoes, StepTells, has_passed, not_begun, path_ended}
+use Rattle.core_collect.specs.Stepping.{CollectDoes, EntersPass, GoesOn, IsReport, IsTheSweeps, KeepsOthers, Outcome, PassDoes, StepTells, TakesNext, has_passed, not_begun, path_ended}
 use Rattle.core_collect.specs.Stepping as stepping
 use Rattle.core_collect.specs.Visiting.{goes}
 use Rattle.core_collect.proofs.Losing.{MayPass, spared_stands}
@@ -182,15 +182,15 @@ first_true false b is = absurd (true_false (sym is))
 -- the collector that was ended early
 record WasEnded (lane : ℕ) (c : Option Collector) (early : Early) : Type 0 where
   pub was : Collector
-  pub open : c ≡ Some was
+  pub open_is : c ≡ Some was
   pub on : is_on lane (Some was) ≡ true
   pub ended : was.ended ≡ Some early
 
 was_ended : (lane : ℕ) (c : Option Collector) (early : Early) → is_cut lane c ≡ true → early_in c ≡ Some early → WasEnded lane c early
 was_ended lane None early cut has = absurd (true_false (sym cut))
-was_ended lane (Some x) early cut has = record { was = x; open = refl; on = first_true (x.lane == lane) (is_some x.ended) cut; ended = has }
+was_ended lane (Some x) early cut has = record { was = x; open_is = refl; on = first_true (x.lane == lane) (is_some x.ended) cut; ended = has }
 
-cut_is_on : (lane : ℕ) (c : Option Collector) → is_cut lane c ≡ true → is_on lane c ≡ true
+pub cut_is_on : (lane : ℕ) (c : Option Collector) → is_cut lane c ≡ true → is_on lane c ≡ true
 cut_is_on lane None cut = absurd (true_false (sym cut))
 cut_is_on lane (Some x) cut = first_true (x.lane == lane) (is_some x.ended) cut
 
@@ -258,7 +258,7 @@ module _ {D E C : Type 0} (d : Ghosts D) (clock : clocks.Ghosts C) (old between 
       let kind : (answer.entry).kind ≡ 4 = ap (λ x. x.kind) entered.entry in
       let x : WasEnded lane old.collector early = was_ended lane old.collector early cut has in
       let shown : (h : History) → StandsFor d clock.readings old h → (open_on lane (world h).collecting ≡ Some true) × (early ≡ earlies.NoMemory) =
-      λ h s. ended_shown lane x.was (world h).collecting early (ap open_in (sym x.open) ∙ s.collecting) x.on x.ended in
+      λ h s. ended_shown lane x.was (world h).collecting early (ap open_in (sym x.open_is) ∙ s.collecting) x.on x.ended in
       uncalled d clock old mid new lane at.moment 4 r answer None b b.fault entered
       (λ e. omega (arith, e)) (λ e. omega (arith, e)) (λ _. cut) (λ e. absurd (omega (arith, e)))
       (subst (λ x. IfSome x ReplyHasText) entered.reply_is text) (step_ends none kind r entered.reply_is (may_early early))
@@ -266,7 +266,7 @@ module _ {D E C : Type 0} (d : Ghosts D) (clock : clocks.Ghosts C) (old between 
       (collects_closed 4 lane old.collector new.collector (inl refl) (cut_is_on lane old.collector cut) collector)
       (λ h s stepped honest on_disk.
       closed_step_stands d clock.readings old (record mid { collector = None }) new h lane at.moment answer s inside honest (Some r) stepped none
-          (subst (λ o. Reports o (Some r)) (sym (shown h s).0) (ap (λ q. Some (Refused (refusal_of q))) (shown h s).1)) refl (on_disk (sym s.fault ∙ none)))
+      (subst (λ o. Reports o (Some r)) (sym (shown h s).0) (ap (λ q. Some (Refused (refusal_of q))) (shown h s).1)) refl (on_disk (sym s.fault ∙ none)))
       (λ y at. absurd (none_some y (sym collector ∙ at)))
       (λ h s. subst (λ o. EndsSweep (swept_of h) answer.reply o) (sym (shown h s).0) tt)
       (record {
@@ -354,13 +354,13 @@ module _ {D E C : Type 0} (d : Ghosts D) (clock : clocks.Ghosts C) (old mid acte
       let off_before : is_on lane old.collector ≡ false = ap (is_on lane) (sym b.collector) ∙ off in
       let entered : IsEntered d acted new lane m 0 (Some r) answer =
       subst (λ p. IsEntered d acted new lane m 0 (Some (Refused (refusals.WrongState (state_of (session_at p lane))))) answer) b.parts
-          (unfaulted_entered d acted between new lane lane m 0 (Some (Refused (refusals.WrongState (state_of (session_at mid.parts lane))))) answer e closes refl) in
+      (unfaulted_entered d acted between new lane lane m 0 (Some (Refused (refusals.WrongState (state_of (session_at mid.parts lane))))) answer e closes refl) in
       let kind : (answer.entry).kind ≡ 0 = ap (λ x. x.kind) entered.entry in
       let kept : SameKept mid.parts acted.parts = record { catalogue = ap (λ p. p.catalogue.items) parts; sessions = ap (λ p. p.sessions.items) parts; locks = ap (λ p. p.locks) parts } in
       let still : new.collector ≡ old.collector = entered.collector ∙ collector ∙ b.collector in
       let stepped : IsStepped d clock.readings old acted new lane m 0 (Some r) answer =
       acted_stepped d clock.readings old mid acted new lane m 0 (Some r) answer ⊥ acted.fault acted.collector ready others.journal others.clock others.remote (others.fault ∙ b.fault) kept
-          (untouched d (mid.parts).disk (acted.parts).disk (ap (λ p. p.disk) parts)) (λ e. omega (arith, e)) (let up = ap (λ p. d.calls p.disk) parts in omega (arith, up)) entered in
+      (untouched d (mid.parts).disk (acted.parts).disk (ap (λ p. p.disk) parts)) (λ e. omega (arith, e)) (let up = ap (λ p. d.calls p.disk) parts in omega (arith, up)) entered in
       finished 0 (Some r) acted stepped
       (record {
         change = stays;
@@ -378,12 +378,12 @@ module _ {D E C : Type 0} (d : Ghosts D) (clock : clocks.Ghosts C) (old mid acte
       (step_keeps_filled d clock.readings old mid acted new lane m 0 (Some r) answer b others.journal filled uncut entered) (same_unchanged d old.parts acted.parts r before)
       (λ h s touches.
       refused_step_stands d clock.readings old acted new h lane m answer s inside (subst d.honest (sym same) s.honest) stepped none off_before (collector ∙ b.collector)
-          (subst (λ x. IsOnDisk (d.content x) (world h).store × HoldsOnly (d.content x) (pieces_of h)) (sym same) (s.files (none_there h s), s.chunks (none_there h s))))
+      (subst (λ x. IsOnDisk (d.content x) (world h).store × HoldsOnly (d.content x) (pieces_of h)) (sym same) (s.files (none_there h s), s.chunks (none_there h s))))
       (λ h s touches so.
       unpassed_keeps d clock.readings old acted new h lane m 0 (Some r) answer stepped so touches (λ e. omega (arith, e)) (same_book upkeep)
-          (λ _ x digest. subst (λ q. IsSome (get (d.content q) (chunk_name x)) ↔ IsSome ((touches_of_history h).last x)) (sym same) (touches.present none x digest)) old.collector touches.sweep
-          (λ y at. record { was = y; there = sym still ∙ at; plan = refl; same_entries = refl })
-          (fits_as h lane 0 answer (ap (λ x. x.lane) entered.entry) kind tt))
+      (λ _ x digest. subst (λ q. IsSome (get (d.content q) (chunk_name x)) ↔ IsSome ((touches_of_history h).last x)) (sym same) (touches.present none x digest)) old.collector touches.sweep
+      (λ y at. record { was = y; there = sym still ∙ at; plan = refl; same_entries = refl })
+      (fits_as h lane 0 answer (ap (λ x. x.lane) entered.entry) kind tt))
       (λ h s touches. stays_spare stays (d.content (old.parts).disk) (world h) refl)
       (record {
         refused = λ _. (off_before, entered.reply_is);
@@ -394,12 +394,12 @@ module _ {D E C : Type 0} (d : Ghosts D) (clock : clocks.Ghosts C) (old mid acte
 
   -- ---- the lane's collector goes on
 
-  module _ (x y : Collector) (open : mid.collector ≡ Some x) (on : is_on lane (Some x) ≡ true) (then_is : acted.collector ≡ Some y) where
+  module _ (x y : Collector) (begun_with : mid.collector ≡ Some x) (on : is_on lane (Some x) ≡ true) (then_is : acted.collector ≡ Some y) where
     abbrev Does : Outcome → Type 0
     Does result = CollectDoes d mid.parts acted.parts mid.upkeep acted.upkeep x y at result
 
     was : old.collector ≡ Some x
-    was = sym b.collector ∙ open
+    was = sym b.collector ∙ begun_with
 
     on_before : is_on lane old.collector ≡ true
     on_before = ap (is_on lane) was ∙ on
@@ -503,10 +503,10 @@ module _ {D E C : Type 0} (d : Ghosts D) (clock : clocks.Ghosts C) (old mid acte
         (step_keeps_filled d clock.readings old mid acted new lane m 1 None answer b others.journal filled uncut entered) tt
         (λ h s kept. let (sweep, is, still) = its_pass does h s kept in
         passed_step_stands d clock.readings old acted new h lane m answer s inside ((still.2).holds).honest x y stepped none was on goes_on then_is does.lane still.1
-            (((still.2).holds).files, only (Ok None) does (λ failed. cc) h s))
+        (((still.2).holds).files, only (Ok None) does (λ failed. cc) h s))
         (λ h s kept so. let (sweep, is, still) = its_pass does h s kept in
         passed_keeps d clock.readings old acted new h lane m 1 None answer stepped so kept refl sweep is still.0 (still.2).touches_are (still.2).present y now
-            (shows_as (Ok None) does (Some (passed (swept_of h) sweep sweep.unmarked)) h (still.2).shows))
+        (shows_as (Ok None) does (Some (passed (swept_of h) sweep sweep.unmarked)) h (still.2).shows))
         (stored (Ok None) does)
         (record {
           refused = λ zero. absurd (omega (arith, kind, zero));
@@ -518,7 +518,7 @@ module _ {D E C : Type 0} (d : Ghosts D) (clock : clocks.Ghosts C) (old mid acte
       where
         its_pass : Does (Ok None) → (h : History) → StandsFor d clock.readings old h → KeepsTouches d old h
             → (sweep : Sweep) × ((swept_of h).sweep ≡ Some sweep) × ((is_over sweep ≡ false) × (y.ended ≡ None)
-                × StandsBeside d acted.parts acted.upkeep (length (old.journal).entries.items) (Some y) (world h).store (passed_touches (swept_of h) sweep m) (Some (passed (swept_of h) sweep sweep.unmarked)))
+            × StandsBeside d acted.parts acted.upkeep (length (old.journal).entries.items) (Some y) (world h).store (passed_touches (swept_of h) sweep m) (Some (passed (swept_of h) sweep sweep.unmarked)))
         its_pass does h s kept =
             there (λ sweep. (is_over sweep ≡ false) × (y.ended ≡ None)
             × StandsBeside d acted.parts acted.upkeep (length (old.journal).entries.items) (Some y) (world h).store (passed_touches (swept_of h) sweep m) (Some (passed (swept_of h) sweep sweep.unmarked)))
@@ -551,11 +551,11 @@ module _ {D E C : Type 0} (d : Ghosts D) (clock : clocks.Ghosts C) (old mid acte
         (step_keeps_filled d clock.readings old mid acted new lane m 4 (Some r) answer b others.journal filled uncut entered) tt
         (λ h s kept. let w = ((tells o does h s kept).0).1 in
         closed_step_stands d clock.readings old acted new h lane m answer s inside (w.holds).honest (Some r) stepped none (subst (λ q. Reports q (Some r)) (sym (going h s)) tt) (closed_after o does)
-            ((w.holds).files, only o does (λ failed. cc) h s))
+        ((w.holds).files, only o does (λ failed. cc) h s))
         (λ h s kept so. let w = ((tells o does h s kept).0).1 in
         unpassed_keeps d clock.readings old acted new h lane m 4 (Some r) answer stepped so kept (λ e. omega (arith, e)) (same_book does.touches) (λ _. w.present)
-            (Some y) (shows_as o does (swept_of h).sweep h w.shows) (λ z at. absurd (none_some z (sym now ∙ at)))
-            (fits_as h lane 4 answer (ap (λ x. x.lane) entered.entry) kind (subst (λ q. EndsSweep (swept_of h) answer.reply q) (sym (going h s)) (ends_so h entered.reply_is ((tells o does h s kept).0).0))))
+        (Some y) (shows_as o does (swept_of h).sweep h w.shows) (λ z at. absurd (none_some z (sym now ∙ at)))
+        (fits_as h lane 4 answer (ap (λ x. x.lane) entered.entry) kind (subst (λ q. EndsSweep (swept_of h) answer.reply q) (sym (going h s)) (ends_so h entered.reply_is ((tells o does h s kept).0).0))))
         (stored o does)
         (record {
           refused = λ zero. absurd (omega (arith, kind, zero));
@@ -600,8 +600,8 @@ module _ {D E C : Type 0} (d : Ghosts D) (clock : clocks.Ghosts C) (old mid acte
         short_step_stands d clock.readings old acted new h lane m answer s inside (w.holds).honest stepped uncut (opened_same o does does.ends) (λ _. ((w.holds).files, only o does (λ failed. cc) h s)))
         (λ h s kept so. let w = (tells o does h s kept).0 in
         unpassed_keeps d clock.readings old acted new h lane m 2 (Some r) answer stepped so kept (λ e. omega (arith, e)) (same_book does.touches) (λ _. w.present)
-            (Some y) (shows_as o does (swept_of h).sweep h w.shows) (λ z at. was_open 2 lane (Some y) z (sym now ∙ at))
-            (fits_as h lane 2 answer (ap (λ x. x.lane) entered.entry) kind tt))
+        (Some y) (shows_as o does (swept_of h).sweep h w.shows) (λ z at. was_open 2 lane (Some y) z (sym now ∙ at))
+        (fits_as h lane 2 answer (ap (λ x. x.lane) entered.entry) kind tt))
         (stored o does)
         (tells_none d old new lane 2 answer kind (λ e. omega (arith, e)) (λ e. omega (arith, e)) (λ e. omega (arith, e)))
 
@@ -618,7 +618,7 @@ module _ {D E C : Type 0} (d : Ghosts D) (clock : clocks.Ghosts C) (old mid acte
         let entries : (acted.journal).entries.items ≡ (old.journal).entries.items = ap (λ j. j.entries.items) others.journal ∙ (b.entries).entries in
         let stepped : IsStepped d clock.readings old (record acted { fault = Some place; collector = closed_on lane acted.collector }) new lane m 5 (Some r) answer =
         acted_stepped d clock.readings old mid acted new lane m 5 (Some r) answer (IsErrOf o stops.DiskFailed) (Some place) (closed_on lane acted.collector) ready others.journal others.clock others.remote
-            (ap (λ n. Some n) (ap length entries) ∙ sym (ap (first_fault (length (old.journal).entries.items)) none)) does.kept does.serves (λ _. refl) (up o does) entered in
+        (ap (λ n. Some n) (ap length entries) ∙ sym (ap (first_fault (length (old.journal).entries.items)) none)) does.kept does.serves (λ _. refl) (up o does) entered in
         let kind : (answer.entry).kind ≡ 5 = ap (λ x. x.kind) entered.entry in
         let now : new.collector ≡ None = entered.collector ∙ closed_after o does in
         finished 5 (Some r) (record acted { fault = Some place; collector = closed_on lane acted.collector }) stepped
@@ -641,11 +641,11 @@ module _ {D E C : Type 0} (d : Ghosts D) (clock : clocks.Ghosts C) (old mid acte
         (record { kept = stepped.kept; uncalled = λ none_called. absurd (true_false (sym none_called)); disk = λ fine. absurd (fine refl) })
         (λ h s kept.
         failed_step_stands d clock.readings old (record acted { fault = Some place; collector = closed_on lane acted.collector }) new h lane m answer s inside
-            ((does.serves).kept.0 (subst (λ p. d.honest p.disk) (sym b.parts) s.honest)) acted.collector stepped none (opened_same o does does.ends) refl)
+        ((does.serves).kept.0 (subst (λ p. d.honest p.disk) (sym b.parts) s.honest)) acted.collector stepped none (opened_same o does does.ends) refl)
         (λ h s kept so.
         unpassed_keeps d clock.readings old (record acted { fault = Some place; collector = closed_on lane acted.collector }) new h lane m 5 (Some r) answer stepped so kept (λ e. omega (arith, e)) (same_book does.touches)
-            (λ calm. absurd (some_none place (sym entered.fault ∙ calm))) old.collector kept.sweep (λ z at. absurd (none_some z (sym now ∙ at)))
-            (fits_as h lane 5 answer (ap (λ x. x.lane) entered.entry) kind tt))
+        (λ calm. absurd (some_none place (sym entered.fault ∙ calm))) old.collector kept.sweep (λ z at. absurd (none_some z (sym now ∙ at)))
+        (fits_as h lane 5 answer (ap (λ x. x.lane) entered.entry) kind tt))
         (stored o does)
         (tells_none d old new lane 5 answer kind (λ e. omega (arith, e)) (λ e. omega (arith, e)) (λ e. omega (arith, e)))
       where
@@ -666,10 +666,10 @@ module _ {D E C : Type 0} (d : Ghosts D) (clock : clocks.Ghosts C) (old mid acte
 
   passes_by : at.lane ≡ lane → (result : Outcome) → PassDoes d mid.parts acted.parts mid.upkeep acted.upkeep mid.collector acted.collector at result → EntersPass d acted between at result answer
       → OnLane lane mid.collector → IsRightStep d clock old new lane answer
-  passes_by lane_is result passes enters (open_here x open on) =
+  passes_by lane_is result passes enters (open_here x begun_with on) =
       let does = there (λ y. CollectDoes d mid.parts acted.parts mid.upkeep acted.upkeep x y at result) acted.collector
-      (passes.collects x open (ap (λ l. is_on l mid.collector) lane_is ∙ ap (is_on lane) open ∙ on)) in
-      by_result x does.0 open on does.1 lane_is result does.2 enters
+      (passes.collects x begun_with (ap (λ l. is_on l mid.collector) lane_is ∙ ap (is_on lane) begun_with ∙ on)) in
+      by_result x does.0 begun_with on does.1 lane_is result does.2 enters
   passes_by lane_is result passes enters (not_here off) =
       let its = passes.refused (ap (λ l. is_on l mid.collector) lane_is ∙ off) in
       let e : IsEntered d acted between at.lane m 0 (Some (Refused (refusals.WrongState (state_of (session_at mid.parts at.lane))))) answer =
@@ -680,10 +680,17 @@ module _ {D E C : Type 0} (d : Ghosts D) (clock : clocks.Ghosts C) (old mid acte
 -- ---- any act of a collector after its start
 
 module _ {D E C : Type 0} (d : Ghosts D) (clock : clocks.Ghosts C) (old between new : Core D E C) (lane : ℕ) (answer : Answer) (inside : lane < 64) (closes : new ≡ faulted_closed lane (answer.entry).kind between) where
-  pub cut_step : is_cut lane old.collector ≡ true → TellsEarly d clock.readings old between lane answer → IfSome answer.reply ReplyHasText → IsRightStep d clock old new lane answer
+  cut_step : is_cut lane old.collector ≡ true → TellsEarly d clock.readings old between lane answer → IfSome answer.reply ReplyHasText → IsRightStep d clock old new lane answer
   cut_step cut tells text = ended_early d clock old between new lane answer inside closes cut tells text
 
-  pub uncut_step : is_cut lane old.collector ≡ false → GoesOn d clock.readings old between lane answer → IsRightStep d clock old new lane answer
+  uncut_step : is_cut lane old.collector ≡ false → GoesOn d clock.readings old between lane answer → IsRightStep d clock old new lane answer
   uncut_step uncut (not_begun refuses text) = refused_before d clock old between new lane answer inside closes uncut refuses text
   uncut_step uncut (has_passed p) =
       passes_by d clock old p.mid p.acted between new lane p.at answer inside closes uncut (p.admitted).ready p.filled p.others p.text (p.admitted).lane_is p.result p.passes p.enters (on_lane lane (p.mid).collector)
+
+  by_cut : (b : Bool) → is_cut lane old.collector ≡ b → TakesNext d clock.readings old between lane answer → IsRightStep d clock old new lane answer
+  by_cut true cut takes = let ends = takes.ends cut in cut_step cut ends.0 ends.1
+  by_cut false uncut takes = uncut_step uncut (takes.goes uncut)
+
+  pub taken_next : TakesNext d clock.readings old between lane answer → IsRightStep d clock old new lane answer
+  taken_next takes = by_cut (is_cut lane old.collector) refl takes
