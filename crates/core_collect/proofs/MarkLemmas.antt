@@ -1,12 +1,12 @@
 -- Marks: the plan of a collector shows the sweep of the plain store as indexes are passed over, read and marked.
 use Rattle.disk_trait.specs.declared.disk.Disk.{Ghosts}
-use Rattle.std.proofs.Common.{◌≡◌, ◌<◌, ◌≤◌, ◌+◌, ◌-◌, ◌⊎◌, ◌==◌, ◌++◌, ℕ, zero, suc, max, min, Bool, true, false, ◌||◌, cond, List, [], ◌∷◌, drop, flat_map, length, map, take, option_map, Option, Some, None, Result, Ok, Err, IsSome, is_some, IsSomeAnd, inl, inr, refl, sym, ap, subst, ◌∙◌, arith}
+use Rattle.std.proofs.Common.{◌≡◌, ◌<◌, ◌≤◌, ◌+◌, ◌-◌, ◌⊎◌, ◌==◌, ◌++◌, ℕ, zero, suc, max, min, Bool, true, false, ◌||◌, cond, List, [], ◌∷◌, drop, flat_map, length, map, take, option_map, Option, Some, None, Result, Ok, Err, IsSome, is_some, IsSomeAnd, length-drop, length-take, nat_lt, inl, inr, refl, sym, ap, subst, ◌∙◌, arith}
 use Rattle.std.specs.Prelude.{slice_get, ◌↔◌}
 use Rattle.std.specs.FinMap.{get}
 use Rattle.std.specs.List.{All}
 use Rattle.std.specs.Str.{bytes_eq}
-use Rattle.std.proofs.lemmas.Bool.{ne_eqb, eq-eqb}
-use Rattle.std.proofs.lemmas.List.{drop-map, length-map, nil_from_length, take-map, drop-drop}
+use Rattle.std.proofs.lemmas.Bool.{eq-eqb, le-ltb, lt-ltb, ltb-false, ne_eqb}
+use Rattle.std.proofs.lemmas.List.{drop_all, drop-map, length-map, nil_from_length, take-map, drop-drop}
 use Rattle.disk_trait.specs.Effects.{OnlyReads}
 use Rattle.disk_trait.specs.Files.{Files}
 use Rattle.store_types.specs.declared.names.Digest32.{Digest32}
@@ -20,7 +20,7 @@ use Rattle.store_files.specs.Folder.{IsDigest, chunk_name}
 use Rattle.store_model.specs.Store.{Store}
 use Rattle.atime_book.specs.Present.{is_among}
 use Rattle.atime_book.specs.Touches.{last_of}
-use Rattle.gc_plan.specs.Plan.{Plan, Stage, entry_limit, index_in, mark_in, mark_limit, marked_at, marking, next_index, next_mark, sweeping, with_mark}
+use Rattle.gc_plan.specs.Plan.{FitsMark, Plan, Stage, entry_limit, index_in, mark_in, mark_limit, marked_at, marking, next_index, next_mark, sweeping, with_mark}
 use Rattle.gc_plan.specs.Plan as plans
 use Rattle.gc_plan.specs.declared.IndexAt.{IndexAt}
 use Rattle.store_history.specs.LastTouches.{LastTouches, is_one_of, touched}
@@ -29,7 +29,7 @@ use Rattle.core_state.specs.declared.collector.Collector.{Collector}
 use Rattle.core_state.specs.declared.kept.Kept.{Kept}
 use Rattle.core_state.specs.declared.kept.Listed.{Listed}
 use Rattle.core_state.specs.declared.parts.Parts.{Parts}
-use Rattle.core_state.specs.Entries.{marked_in}
+use Rattle.core_state.specs.Entries.{FitsEntries, marked_in}
 use Rattle.core_state.specs.Found.{path_of_kept}
 use Rattle.core_state.specs.Holds.{Holds}
 use Rattle.core_state.specs.Shown.{shown_snapshot}
@@ -56,7 +56,7 @@ drop_from (y ∷ ys) (suc n) x e =
     let more : suc (n + 1) ≡ suc n + 1 = omega arith in
     drop_from ys n x e ∙ ap (λ k. x ∷ drop k (y ∷ ys)) more
 
-drop_none : {A : Type 0} (n : ℕ) → drop n (Rattle.std.proofs.Common.[] {A = A}) ≡ []
+drop_none : (n : ℕ) → ◌≡◌ {A = List (List ℕ)} (drop n []) []
 drop_none zero = refl
 drop_none (suc n) = refl
 
@@ -65,6 +65,11 @@ pub at_place : {A : Type 0} (xs : List A) (n : ℕ) → slice_get xs n ≡ None 
 at_place [] n e = omega arith
 at_place (x ∷ xs) zero e = absurd (none_some x (sym e))
 at_place (x ∷ xs) (suc n) e = let le = at_place xs n e in omega (arith, le)
+
+place_within : {A : Type 0} (xs : List A) (n : ℕ) (x : A) → slice_get xs n ≡ Some x → n < length xs
+place_within [] n x e = absurd (none_some x e)
+place_within (y ∷ ys) zero x e = omega arith
+place_within (y ∷ ys) (suc n) x e = let lt = place_within ys n x e in omega (arith, lt)
 
 unmarked_none : (key : SnapshotKey) (name : List ℕ) (ds : List (List ℕ)) → ds ≡ [] → unmarked_of key name ds ≡ []
 unmarked_none key name ds none = ap (unmarked_of key name) none
@@ -75,9 +80,9 @@ unmarked_some key name (d ∷ ds) some = refl
 
 left_some : (first : ℕ) (entries : List Digest32) → (first ≡ 0) ⊎ (first < length entries) → (entries ≡ [] → ⊥) → map (λ (d : Digest32). d.0) (drop first entries) ≡ [] → ⊥
 left_some first entries (inl begun) some none =
-    some (nil_from_length entries (omega (arith, begun, ap length none, length-map (drop first entries) (λ (d : Digest32). d.0), Rattle.std.proofs.Common.length-drop first entries)))
+    some (nil_from_length entries (omega (arith, begun, ap length none, length-map (drop first entries) (λ (d : Digest32). d.0), length-drop first entries)))
 left_some first entries (inr lt) some none =
-    omega (arith, lt, ap length none, length-map (drop first entries) (λ (d : Digest32). d.0), Rattle.std.proofs.Common.length-drop first entries)
+    omega (arith, lt, ap length none, length-map (drop first entries) (λ (d : Digest32). d.0), length-drop first entries)
 
 -- ---- a plan after a mark
 
@@ -110,17 +115,42 @@ same_index indexes (sweeping names) count left some = refl
 -- an index is next exactly where a mark is
 pub no_index : (indexes : List IndexAt) (stage : Stage) → index_in indexes stage ≡ None → mark_in indexes stage ≡ None
 no_index indexes (marking place first) none =
-    ap (λ b. cond b (Some (place, first)) None) (Rattle.std.proofs.lemmas.Bool.le-ltb place (length indexes) (at_place indexes place none))
+    ap (λ b. cond b (Some (place, first)) None) (le-ltb place (length indexes) (at_place indexes place none))
 no_index indexes (sweeping names) none = refl
+
+-- a mark is next where an index is
+pub mark_there : (indexes : List IndexAt) (stage : Stage) (i : IndexAt) → index_in indexes stage ≡ Some i → IsSome (mark_in indexes stage)
+mark_there indexes (marking place first) i at = ap (λ b. is_some (cond b (Some (place, first)) None)) (lt-ltb place (length indexes) (place_within indexes place i at))
+mark_there indexes (sweeping names) i at = absurd (none_some i at)
 
 -- the mark that is next begins where the index is marked up to
 pub mark_is : (indexes : List IndexAt) (stage : Stage) (mark : ℕ × ℕ) → mark_in indexes stage ≡ Some mark → mark.1 ≡ marked_in stage
-mark_is indexes (marking place first) mark e = by_test (Rattle.std.proofs.Common.nat_lt place (length indexes)) e
+mark_is indexes (marking place first) mark e = by_test (nat_lt place (length indexes)) e
   where
     by_test : (b : Bool) → cond b (Some (place, first)) None ≡ Some mark → mark.1 ≡ first
     by_test true e = sym (ap (λ (m : ℕ × ℕ). m.1) (some_same (place, first) mark e))
     by_test false e = absurd (none_some mark e)
 mark_is indexes (sweeping names) mark e = absurd (none_some mark e)
+
+-- a plan may pass over the index that is next
+pub fits_pass : (p : Plan) (entries : List Digest32) → FitsEntries p entries → IsSome (next_mark p) → FitsMark p 0 0
+fits_pass p entries fits some = by_mark (next_mark p) refl some
+  where
+    none_is : false ≡ true → ⊥
+    none_is e = cc
+
+    within : (m : ℕ) → (m ≡ 0) ⊎ (m < length entries) → m + 0 + 0 ≤ entry_limit
+    within m (inl begun) = omega (arith, begun)
+    within m (inr lt) = let few = fits.few in omega (arith, lt, few)
+
+    by_mark : (o : Option (ℕ × ℕ)) → next_mark p ≡ o → IsSome o → IsSomeAnd o (λ mark. mark.1 + 0 + 0 ≤ entry_limit)
+    by_mark None is some = absurd (none_is some)
+    by_mark (Some mark) is some = subst (λ n. n + 0 + 0 ≤ entry_limit) (sym (mark_is p.indexes p.stage mark is)) (within (marked_in p.stage) fits.within)
+
+-- and then nothing of the next is marked
+pub over_zero : (stage : Stage) → marked_in (marked_at stage 0 0) ≡ 0
+over_zero (marking place first) = refl
+over_zero (sweeping names) = refl
 
 module _ (catalogue : List Listed) (snapshots : List Snapshot) where
   abbrev unmarked : List IndexAt → Stage → List Unmarked
@@ -143,11 +173,11 @@ module _ (catalogue : List Listed) (snapshots : List Snapshot) where
 
   -- past the last index nothing is unmarked
   pub all_marked : (indexes : List IndexAt) (stage : Stage) → mark_in indexes stage ≡ None → unmarked indexes stage ≡ []
-  all_marked indexes (marking place first) none = by_test (Rattle.std.proofs.Common.nat_lt place (length indexes)) refl none
+  all_marked indexes (marking place first) none = by_test (nat_lt place (length indexes)) refl none
     where
-      by_test : (b : Bool) → Rattle.std.proofs.Common.nat_lt place (length indexes) ≡ b → cond b (Some (place, first)) None ≡ None → left_in catalogue snapshots first (drop place indexes) ≡ []
+      by_test : (b : Bool) → nat_lt place (length indexes) ≡ b → cond b (Some (place, first)) None ≡ None → left_in catalogue snapshots first (drop place indexes) ≡ []
       by_test true is e = absurd (none_some (place, first) (sym e))
-      by_test false is e = ap (left_in catalogue snapshots first) (Rattle.std.proofs.lemmas.List.drop_all place indexes (Rattle.std.proofs.lemmas.Bool.ltb-false place (length indexes) is))
+      by_test false is e = ap (left_in catalogue snapshots first) (drop_all place indexes (ltb-false place (length indexes) is))
   all_marked indexes (sweeping names) none = refl
 
   -- ---- an index that is passed over
@@ -225,7 +255,7 @@ module _ (catalogue : List Listed) (snapshots : List Snapshot) where
     whole : (x : Digest32) (xs : List Digest32) → left_then e ≡ x ∷ xs → count ≡ mark_limit
     whole x xs is =
         let two = ap length is in
-        omega (arith, two, Rattle.std.proofs.Common.length-take mark_limit (entries_left e), Rattle.std.proofs.Common.length-drop mark_limit (entries_left e))
+        omega (arith, two, length-take mark_limit (entries_left e), length-drop mark_limit (entries_left e))
 
     left_is : (x : Digest32) (xs : List Digest32) → left_then e ≡ x ∷ xs → left_at catalogue snapshots (done + count) (b.index) ≡ unmarked_of (b.kept).key (b.index).name (drop mark_limit (map bytes (entries_left e)))
     left_is x xs is =

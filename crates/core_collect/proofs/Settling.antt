@@ -1,8 +1,10 @@
 -- The index that is next is passed over, read or unreadable, and the search for the one that is marked.
 use Rattle.disk_trait.specs.declared.disk.Disk.{Ghosts}
-use Rattle.std.proofs.Common.{◌≡◌, ◌<◌, ◌≤◌, ◌+◌, ℕ, zero, suc, Bool, true, false, List, [], ◌∷◌, drop, length, map, Option, Some, None, Result, Ok, Err, IsSome, is_some, refl, sym, ap, ap₂, subst, ◌∙◌, arith}
+use Rattle.std.proofs.Common.{◌≡◌, ◌<◌, ◌≤◌, ◌+◌, ℕ, zero, suc, Bool, true, false, cond, nat_lt, le_refl, le_of_eq, List, [], ◌∷◌, drop, length, map, Option, Some, None, Result, Ok, Err, IsSome, is_some, refl, sym, ap, ap₂, subst, ◌∙◌, arith}
 use Rattle.std.specs.Prelude.{slice_get}
 use Rattle.std.specs.List.{All}
+use Rattle.std.proofs.lemmas.Bool.{ltb-false}
+use Rattle.std.proofs.lemmas.List.{drop_all}
 use Rattle.std.proofs.lemmas.List.Elements.{All-head, All-tail}
 use Rattle.disk_trait.specs.Effects.{OnlyReads}
 use Rattle.disk_trait.specs.Files.{Files}
@@ -12,7 +14,7 @@ use Rattle.store_types.specs.declared.refusal.Refusal.TheVariants as refusals
 use Rattle.store_types.specs.FileNames.{is_fixed_name, is_index_name}
 use Rattle.store_files.specs.Archive.{Snapshot}
 use Rattle.store_model.specs.Store.{Store}
-use Rattle.gc_plan.specs.Plan.{Plan, Stage, index_in, left_of, marked_at, marking, next_index, next_mark, sweeping}
+use Rattle.gc_plan.specs.Plan.{Plan, Stage, ends_at, index_in, is_over, left_of, mark_in, marked_at, marking, next_index, next_mark, sweeping}
 use Rattle.gc_plan.specs.declared.IndexAt.{IndexAt}
 use Rattle.snapshot_files.proofs.OnlyReading.{reads_then}
 use Rattle.store_history.specs.Sweeping.{Sweep}
@@ -30,7 +32,7 @@ use Rattle.core_collect.specs.Marking.{AtHand, FindsNext, GoesFurther, IsFound, 
 use Rattle.core_collect.specs.declared.marking.Unread.{Unread}
 use Rattle.core_collect.specs.declared.marking.Unread.TheVariants.{DiskFailed, NoMemory, Unreadable}
 use Rattle.core_collect.proofs.ReadLemmas.{index_digests, no_digests}
-use Rattle.core_collect.proofs.MarkLemmas.{all_marked, begins_with, drop_from, no_index, passed_shows}
+use Rattle.core_collect.proofs.MarkLemmas.{all_marked, at_place, begins_with, drop_from, no_index, passed_shows}
 
 none_some : {A : Type 0} (x : A) → None ≡ Some x → ⊥
 none_some x e = cc
@@ -64,7 +66,7 @@ left_from is (marking place first) i e = drop_from is place i e
 left_from is (sweeping names) i e = absurd (none_some i e)
 
 none_left : (is : List IndexAt) (stage : Stage) → index_in is stage ≡ None → indexes_left is stage ≡ []
-none_left is (marking place first) e = Rattle.std.proofs.lemmas.List.drop_all place is (Rattle.core_collect.proofs.MarkLemmas.at_place is place e)
+none_left is (marking place first) e = drop_all place is (at_place is place e)
 none_left is (sweeping names) e = refl
 
 standing_some : (path : List ℕ) (ds : List (List ℕ)) → (ds ≡ [] → ⊥) → standing_as path (Ok ds) ≡ marked_next
@@ -90,7 +92,12 @@ kept_there i catalogue path found = by_kept (kept_at i.snapshot catalogue) refl 
     by_kept (Some k) at e = (k, at)
 
 pub further_same : (c : Collector) → GoesFurther c c
-further_same c = record { lane = refl; ended = refl; not_more = Rattle.std.proofs.Common.le_refl (left_of c.plan) }
+further_same c = record { lane = refl; ended = refl; start = refl; cutoff = refl; indexes = refl; over = λ going. going; not_more = le_refl (left_of c.plan) }
+
+-- where an index is passed over a plan that is not over is not over
+still_going : (stage : Stage) → ends_at stage ≡ false → ends_at (marked_at stage 0 0) ≡ false
+still_going (marking place first) going = refl
+still_going (sweeping names) going = going
 
 module _ {D : Type 0} (d : Ghosts D) (parts : Parts D) where
   abbrev m : Files
@@ -121,7 +128,15 @@ module _ {D : Type 0} (d : Ghosts D) (parts : Parts D) where
   passed_settles : (old new : Collector) (i : IndexAt) → next_index old.plan ≡ Some i → PassesOver old new → (d.honest parts.disk → standing m catalogue old.entries.items i ≡ passed_over)
       → ((s : Store) → Holds d parts s → (k : Kept) → kept_at i.snapshot catalogue ≡ Some k → digests_named k.key i.name s.snapshots ≡ []) → SettlesNext d parts old new (Ok false)
   passed_settles old new i at over stands empty = record {
-    further = record { lane = over.lane; ended = over.ended; not_more = let less = over.less in omega arith };
+    further = record {
+      lane = over.lane;
+      ended = over.ended;
+      start = ap (λ (p : Plan). p.start) over.plan;
+      cutoff = ap (λ (p : Plan). p.cutoff) over.plan;
+      indexes = ap (λ (p : Plan). p.indexes) over.plan;
+      over = λ going. ap is_over over.plan ∙ still_going (old.plan).stage going;
+      not_more = let less = over.less in omega arith;
+    };
     shows = λ acts s sweep holds h. (passed_shows catalogue s.snapshots acts old new sweep i over at (empty s holds) h, tt);
     at_hand = λ e. absurd (false_true e);
     passes = λ _ _. over.less;
@@ -186,7 +201,15 @@ module _ {D : Type 0} (d : Ghosts D) (parts : Parts D) where
   had_settles : (old new : Collector) (i : IndexAt) (path : List ℕ) → next_index old.plan ≡ Some i → path_at i catalogue ≡ Some path → new.plan ≡ old.plan → new.lane ≡ old.lane → new.ended ≡ old.ended
       → (new.entries.items ≡ [] → ⊥) → IsHad old new i path → (d.honest parts.disk → standing m catalogue old.entries.items i ≡ marked_next) → SettlesNext d parts old new (Ok true)
   had_settles old new i path at found plan lane ended some had stands = record {
-    further = record { lane = lane; ended = ended; not_more = Rattle.std.proofs.Common.le_of_eq (ap left_of plan) };
+    further = record {
+      lane = lane;
+      ended = ended;
+      start = ap (λ (p : Plan). p.start) plan;
+      cutoff = ap (λ (p : Plan). p.cutoff) plan;
+      indexes = ap (λ (p : Plan). p.indexes) plan;
+      over = λ going. ap is_over plan ∙ going;
+      not_more = le_of_eq (ap left_of plan);
+    };
     shows = λ acts s sweep holds h. had_shows old new i path acts s sweep at found plan some had holds h;
     at_hand = λ _. record { next = ap is_some (ap next_index plan ∙ at); some = some };
     passes = λ e _. absurd (true_false e);
@@ -260,6 +283,10 @@ module _ {D : Type 0} (d : Ghosts D) (parts now : Parts D) (old c : Collector) (
   further_then e next = record {
     lane = next.lane ∙ (h.further).lane;
     ended = next.ended ∙ (h.further).ended;
+    start = next.start ∙ (h.further).start;
+    cutoff = next.cutoff ∙ (h.further).cutoff;
+    indexes = next.indexes ∙ (h.further).indexes;
+    over = λ going. next.over ((h.further).over going);
     not_more = let one = next.not_more in let two = (h.further).not_more in omega arith;
   }
 
@@ -303,12 +330,12 @@ module _ {D : Type 0} (d : Ghosts D) (parts now : Parts D) (old c : Collector) (
     unread = λ honest. h.unread honest ∙ ap (unreadable_in (d.content parts.disk) parts.catalogue.items c.entries.items) (none_marked (c.plan).indexes (c.plan).stage none);
   }
     where
-      by_test : (is : List IndexAt) (place first : ℕ) (b : Bool) → Rattle.std.proofs.Common.nat_lt place (length is) ≡ b → Rattle.std.proofs.Common.cond b (Some (place, first)) None ≡ None → drop place is ≡ []
+      by_test : (is : List IndexAt) (place first : ℕ) (b : Bool) → nat_lt place (length is) ≡ b → cond b (Some (place, first)) None ≡ None → drop place is ≡ []
       by_test is place first true less e = absurd (none_some (place, first) (sym e))
-      by_test is place first false less e = Rattle.std.proofs.lemmas.List.drop_all place is (Rattle.std.proofs.lemmas.Bool.ltb-false place (length is) less)
+      by_test is place first false less e = drop_all place is (ltb-false place (length is) less)
 
-      none_marked : (is : List IndexAt) (stage : Stage) → Rattle.gc_plan.specs.Plan.mark_in is stage ≡ None → indexes_left is stage ≡ []
-      none_marked is (marking place first) e = by_test is place first (Rattle.std.proofs.Common.nat_lt place (length is)) refl e
+      none_marked : (is : List IndexAt) (stage : Stage) → mark_in is stage ≡ None → indexes_left is stage ≡ []
+      none_marked is (marking place first) e = by_test is place first (nat_lt place (length is)) refl e
       none_marked is (sweeping names) e = refl
 
   -- one is to be marked, or it is not to be had
