@@ -1,5 +1,5 @@
 -- The start of a collector: what refuses it, and that its plan is the new sweep of the plain store.
-use Rattle.std.proofs.Common.{◌≡◌, ◌<◌, ◌≤◌, ◌+◌, ◌^◌, get_or, ◌||◌, ◌++◌, ℕ, Bool, true, false, cond, min, List, [], ◌∷◌, append-nil, append_assoc, drop, filter, flat_map, length, map, take, Option, Some, None, Result, Ok, Err, is_some, refl, sym, ap, subst, ◌∙◌, arith}
+use Rattle.std.proofs.Common.{◌≡◌, ◌<◌, ◌≤◌, ◌+◌, ◌^◌, get_or, ◌||◌, ◌++◌, ℕ, Bool, true, false, cond, min, List, [], ◌∷◌, append-nil, append_assoc, drop, filter, flat_map, length, map, take, Option, Some, None, Result, Ok, Err, is_some, inl, refl, sym, ap, subst, ◌∙◌, arith}
 use Rattle.std.specs.Prelude.{AllPairs}
 use Rattle.std.specs.List.{All, find, list_all}
 use Rattle.std.proofs.lemmas.Bool.{and_parts, leb-true, or_parts}
@@ -21,7 +21,7 @@ use Rattle.store_model.specs.Store.{Store, session, snapshot_named}
 use Rattle.store_model.specs.Store as model
 use Rattle.store_model.specs.Weave.{want_collector}
 use Rattle.atime_book.specs.Touches.{cutoff_of}
-use Rattle.gc_plan.specs.Plan.{Plan}
+use Rattle.gc_plan.specs.Plan.{Plan, begun}
 use Rattle.gc_plan.specs.declared.IndexAt.{IndexAt}
 use Rattle.backup_session.specs.Shown.{shown}
 use Rattle.store_history.specs.History.{World}
@@ -36,6 +36,7 @@ use Rattle.core_state.specs.declared.kept.Session.TheVariants.{Idle, Reader, Wri
 use Rattle.core_state.specs.declared.kept.StoredFile.{StoredFile}
 use Rattle.core_state.specs.declared.parts.Parts.{Parts}
 use Rattle.core_state.specs.Collectors.{OpenOn, ended_if, open_in, shown_collecting}
+use Rattle.core_state.specs.Entries.{FitsEntries}
 use Rattle.core_state.specs.Holds.{Shows}
 use Rattle.core_state.specs.Named.{has_text, is_named_snapshot, is_short_name}
 use Rattle.core_state.specs.Numbers.{AreNumbered, IsGiven}
@@ -375,3 +376,7 @@ indexes_next xs i x lt at =
     ap (λ is. indexes_in (take i xs) ++ is) (sym (append-nil (indexes_of x)))
     ∙ sym (flat_map-append indexes_of (take i xs) (x ∷ []))
     ∙ sym (ap indexes_in (take_more xs i x lt ∙ ap (λ y. take i xs ++ y ∷ []) (sym at)))
+
+-- of a plan that begins none are at hand
+pub fits_new : (moment : ℕ) (oldest : Option ℕ) (catalogue : List Listed) (p : Plan) → p ≡ begun moment oldest (indexes_in catalogue) → FitsEntries p []
+fits_new moment oldest catalogue p is = subst (λ q. FitsEntries q []) (sym is) (record { named = names_in catalogue; within = inl refl; few = omega arith })
