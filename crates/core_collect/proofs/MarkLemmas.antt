@@ -133,6 +133,16 @@ mark_is indexes (marking place first) mark e = by_test (nat_lt place (length ind
     by_test false e = absurd (none_some mark e)
 mark_is indexes (sweeping names) mark e = absurd (none_some mark e)
 
+pub at_hand_mark : (c : Collector) → AtHand c → next_mark c.plan ≡ None → ⊥
+at_hand_mark c hand none = by_index (next_index c.plan) refl hand.next
+  where
+    none_is : false ≡ true → ⊥
+    none_is e = cc
+
+    by_index : (o : Option IndexAt) → next_index c.plan ≡ o → IsSome o → ⊥
+    by_index None is some = none_is some
+    by_index (Some i) is some = none_is (sym (ap is_some none) ∙ mark_there (c.plan).indexes (c.plan).stage i is)
+
 -- a plan may pass over the index that is next
 pub fits_pass : (p : Plan) (entries : List Digest32) → FitsEntries p entries → IsSome (next_mark p) → FitsMark p 0 0
 fits_pass p entries fits some = by_mark (next_mark p) refl some
