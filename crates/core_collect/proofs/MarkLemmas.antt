@@ -1,12 +1,12 @@
 -- Marks: the plan of a collector shows the sweep of the plain store as indexes are passed over, read and marked.
 use Rattle.disk_trait.specs.declared.disk.Disk.{Ghosts}
-use Rattle.std.proofs.Common.{◌≡◌, ◌<◌, ◌≤◌, ◌+◌, ◌-◌, ◌⊎◌, ◌==◌, ◌++◌, ℕ, zero, suc, max, min, Bool, true, false, ◌||◌, cond, List, [], ◌∷◌, drop, flat_map, length, map, take, option_map, Option, Some, None, Result, Ok, Err, IsSome, is_some, IsSomeAnd, length-drop, length-take, nat_lt, inl, inr, refl, sym, ap, subst, ◌∙◌, arith}
+use Rattle.std.proofs.Common.{◌≡◌, ◌<◌, ◌≤◌, ◌+◌, ◌-◌, ◌⊎◌, ◌==◌, ◌++◌, ℕ, zero, suc, max, min, Bool, true, false, ◌||◌, cond, List, [], ◌∷◌, drop, flat_map, length, map, take, option_map, Option, Some, None, Result, Ok, Err, IsSome, is_some, IsSomeAnd, length-drop, length-take, nat_lt, inl, inr, true≢false, refl, sym, ap, ap₂, subst, ◌∙◌, arith}
 use Rattle.std.specs.Prelude.{slice_get, ◌↔◌}
 use Rattle.std.specs.FinMap.{get}
 use Rattle.std.specs.List.{All}
 use Rattle.std.specs.Str.{bytes_eq}
 use Rattle.std.proofs.lemmas.Bool.{eq-eqb, le-ltb, lt-ltb, ltb-false, ne_eqb}
-use Rattle.std.proofs.lemmas.List.{drop_all, drop-map, length-map, nil_from_length, take-map, drop-drop}
+use Rattle.std.proofs.lemmas.List.{drop_all, drop-map, length-map, nil_from_length, take_min, drop-drop}
 use Rattle.disk_trait.specs.Effects.{OnlyReads}
 use Rattle.disk_trait.specs.Files.{Files}
 use Rattle.store_types.specs.declared.names.Digest32.{Digest32}
@@ -20,7 +20,7 @@ use Rattle.store_files.specs.Folder.{IsDigest, chunk_name}
 use Rattle.store_model.specs.Store.{Store}
 use Rattle.atime_book.specs.Present.{is_among}
 use Rattle.atime_book.specs.Touches.{last_of}
-use Rattle.gc_plan.specs.Plan.{FitsMark, Plan, Stage, entry_limit, index_in, mark_in, mark_limit, marked_at, marking, next_index, next_mark, sweeping, with_mark}
+use Rattle.gc_plan.specs.Plan.{FitsMark, Plan, Stage, entry_limit, index_in, left_of, mark_in, mark_limit, marked_at, marking, next_index, next_mark, sweeping, with_mark}
 use Rattle.gc_plan.specs.Plan as plans
 use Rattle.gc_plan.specs.declared.IndexAt.{IndexAt}
 use Rattle.store_history.specs.LastTouches.{LastTouches, is_one_of, touched}
@@ -35,6 +35,7 @@ use Rattle.core_state.specs.Holds.{Holds}
 use Rattle.core_state.specs.Shown.{shown_snapshot}
 use Rattle.core_state.specs.Sweeps.{AreEntries, FitsRemoved, HasEntries, HasNumber, ShowsSweep, digests_named, kept_at, left_at, left_in, left_of_kept, unmarked_by, visits_by}
 use Rattle.core_state.specs.Unchanged.{SameKept}
+use Rattle.core_state.specs.Upkeeps.{TouchesEach}
 use Rattle.core_state.proofs.Acting.{holds_same}
 use Rattle.core_state.proofs.Finding.{some_same}
 use Rattle.core_collect.specs.Marking.{AtHand, BeginsWith, FindsNext, GoesFurther, IsFound, IsSettled, MarksSome, PassesOver, Reads, SettlesNext, SettlesUnread, Standing, at_hand_then, behind_next, bytes_of, digests_read, entries_left, indexes_left, left_then, marked_next, marked_now, next_unreadable, passed_over, path_at, standing, standing_as, standing_at, unless_passed, unreadable, unreadable_in}
@@ -132,6 +133,16 @@ mark_is indexes (marking place first) mark e = by_test (nat_lt place (length ind
     by_test false e = absurd (none_some mark e)
 mark_is indexes (sweeping names) mark e = absurd (none_some mark e)
 
+pub at_hand_mark : (c : Collector) → AtHand c → next_mark c.plan ≡ None → ⊥
+at_hand_mark c hand none = by_index (next_index c.plan) refl hand.next
+  where
+    none_is : false ≡ true → ⊥
+    none_is e = cc
+
+    by_index : (o : Option IndexAt) → next_index c.plan ≡ o → IsSome o → ⊥
+    by_index None is some = none_is some
+    by_index (Some i) is some = none_is (sym (ap is_some none) ∙ mark_there (c.plan).indexes (c.plan).stage i is)
+
 -- a plan may pass over the index that is next
 pub fits_pass : (p : Plan) (entries : List Digest32) → FitsEntries p entries → IsSome (next_mark p) → FitsMark p 0 0
 fits_pass p entries fits some = by_mark (next_mark p) refl some
@@ -151,6 +162,84 @@ fits_pass p entries fits some = by_mark (next_mark p) refl some
 pub over_zero : (stage : Stage) → marked_in (marked_at stage 0 0) ≡ 0
 over_zero (marking place first) = refl
 over_zero (sweeping names) = refl
+
+-- ---- what fits the digests at hand
+
+pub fits_over : (p q : Plan) (entries : List Digest32) → FitsEntries p entries → q ≡ with_mark p 0 0 → FitsEntries q entries
+fits_over p q entries fits is = subst (λ x. FitsEntries x entries) (sym is) (record { named = fits.named; within = inl (over_zero p.stage); few = fits.few })
+
+pub fits_none : (p q : Plan) (entries : List Digest32) → FitsEntries p entries → q ≡ with_mark p 0 0 → FitsEntries q []
+fits_none p q entries fits is = subst (λ x. FitsEntries x []) (sym is) (record { named = fits.named; within = inl (over_zero p.stage); few = omega arith })
+
+-- none were at hand, and they are read
+pub fits_read : (p : Plan) (before after_ : List Digest32) → FitsEntries p before → before ≡ [] → length after_ ≤ entry_limit → FitsEntries p after_
+fits_read p before after_ fits none few = record { named = fits.named; within = inl (begun fits.within); few = few }
+  where
+    begun : (marked_in p.stage ≡ 0) ⊎ (marked_in p.stage < length before) → marked_in p.stage ≡ 0
+    begun (inl zero_is) = zero_is
+    begun (inr lt) = let n = ap length none in absurd (omega (arith, lt, n))
+
+positive : (n : ℕ) → (n == 0) ≡ false → 0 < n
+positive zero e = absurd (true≢false e)
+positive (suc n) e = omega arith
+
+marked_within : (stage : Stage) (count left n : ℕ) → marked_in stage + count + left ≡ n → (marked_in (marked_at stage count left) ≡ 0) ⊎ (marked_in (marked_at stage count left) < n)
+marked_within (marking place first) count left n whole = by_test (left == 0) refl
+  where
+    by_test : (b : Bool) → (left == 0) ≡ b
+        → (marked_in (cond b (marking (place + 1) 0) (marking place (first + count))) ≡ 0) ⊎ (marked_in (cond b (marking (place + 1) 0) (marking place (first + count))) < n)
+    by_test true is = inl refl
+    by_test false is = let some = positive left is in inr (omega (arith, some, whole))
+marked_within (sweeping names) count left n whole = inl refl
+
+-- some were marked
+pub fits_marked : (p q : Plan) (entries : List Digest32) (count left : ℕ) → FitsEntries p entries → marked_in p.stage + count + left ≡ length entries → q ≡ with_mark p count left → FitsEntries q entries
+fits_marked p q entries count left fits whole is =
+    subst (λ x. FitsEntries x entries) (sym is) (record { named = fits.named; within = marked_within p.stage count left (length entries) whole; few = fits.few })
+
+-- all were
+pub fits_done : (p q : Plan) (entries : List Digest32) (count left : ℕ) → FitsEntries p entries → left ≡ 0 → q ≡ with_mark p count left → FitsEntries q []
+fits_done p q entries count left fits none is =
+    fits_none p q entries fits (is ∙ ap (λ s. let x : Plan = record p { stage = s } in x) (over_left p.stage count left (eq-eqb left 0 none)))
+
+-- ---- what a mark does
+
+module _ (before after_ : Book) (old new : Collector) (moment count rest : ℕ) (slice : List Digest32) (rest_is : rest ≡ length old.entries.items - marked_in (old.plan).stage)
+    (count_is : count ≡ min rest mark_limit) (slice_is : slice ≡ take count (drop (marked_in (old.plan).stage) old.entries.items)) where
+  whole_left : length (entries_left old) ≡ rest
+  whole_left = omega (arith, rest_is, length-drop (marked_in (old.plan).stage) old.entries.items)
+
+  count_now : count ≡ length (marked_now old)
+  count_now = omega (arith, whole_left, count_is, length-take mark_limit (entries_left old))
+
+  left_now : rest - count ≡ length (left_then old)
+  left_now = omega (arith, whole_left, count_is, length-drop mark_limit (entries_left old))
+
+  slice_now : slice ≡ marked_now old
+  slice_now =
+      let least : count ≡ min mark_limit (length (entries_left old)) = omega (arith, whole_left, count_is) in
+      slice_is ∙ ap (λ n. take n (entries_left old)) least ∙ take_min mark_limit (entries_left old)
+
+  entries_now : (xs : List Digest32) → left_then old ≡ xs → cond (count == rest) [] old.entries.items ≡ at_hand_then xs old.entries.items
+  entries_now [] is =
+      let none = ap length is in
+      let same : count ≡ rest = omega (arith, whole_left, count_is, none, length-drop mark_limit (entries_left old)) in
+      ap (λ b. cond b [] old.entries.items) (eq-eqb count rest same)
+  entries_now (x ∷ xs) is =
+      let some = ap length is in
+      let over : rest ≡ length xs + 1 + mark_limit = omega (arith, whole_left, some, length-drop mark_limit (entries_left old)) in
+      ap (λ b. cond b [] old.entries.items) (ne_eqb count rest (λ e. omega (arith, e, over, count_is)))
+
+  pub marks_some : TouchesEach before after_ slice moment → new.lane ≡ old.lane → new.ended ≡ old.ended → new.plan ≡ with_mark old.plan count (rest - count)
+      → new.entries.items ≡ cond (count == rest) [] old.entries.items → left_of new.plan < left_of old.plan → MarksSome before after_ old new moment
+  marks_some touches lane ended plan entries less = record {
+    touches = subst (λ ds. TouchesEach before after_ ds moment) slice_now touches;
+    lane = lane;
+    ended = ended;
+    plan = plan ∙ ap₂ (λ n m. with_mark old.plan n m) count_now left_now;
+    entries = entries ∙ entries_now (left_then old) refl;
+    less = less;
+  }
 
 module _ (catalogue : List Listed) (snapshots : List Snapshot) where
   abbrev unmarked : List IndexAt → Stage → List Unmarked

@@ -55,7 +55,8 @@ use Rattle.core_state.proofs.Starts.{start_opened_applies, start_opened_keeps, s
 use Rattle.core_state.proofs.Touching.{entry_touches_same, same_back, same_then}
 use Rattle.core_state.proofs.Unswept.{fits_other, unswept_touches}
 use Rattle.core_collect.specs.Starting.{GivesCollector, IsNewCollector, StartTells, first_unreadable, start_told}
-use Rattle.core_collect.proofs.StartLemmas.{start_told_is, started_shows}
+use Rattle.core_collect.proofs.StartLemmas.{started_shows}
+use Rattle.core_collect.proofs.StartRefused.{start_told_is}
 
 no_sweep : class_of Start ≡ sweeping → ⊥
 no_sweep e = cc

@@ -1,5 +1,5 @@
 -- The start of a collector: what refuses it, and that its plan is the new sweep of the plain store.
-use Rattle.std.proofs.Common.{◌≡◌, ◌<◌, ◌≤◌, ◌+◌, ◌^◌, get_or, ◌||◌, ◌++◌, ℕ, Bool, true, false, cond, min, List, [], ◌∷◌, append-nil, append_assoc, drop, filter, flat_map, length, map, take, Option, Some, None, Result, Ok, Err, is_some, refl, sym, ap, subst, ◌∙◌, arith}
+use Rattle.std.proofs.Common.{◌≡◌, ◌<◌, ◌≤◌, ◌+◌, ◌^◌, get_or, ◌||◌, ◌++◌, ℕ, Bool, true, false, cond, min, List, [], ◌∷◌, append-nil, append_assoc, drop, filter, flat_map, length, map, take, Option, Some, None, Result, Ok, Err, is_some, inl, refl, sym, ap, subst, ◌∙◌, arith}
 use Rattle.std.specs.Prelude.{AllPairs}
 use Rattle.std.specs.List.{All, find, list_all}
 use Rattle.std.proofs.lemmas.Bool.{and_parts, leb-true, or_parts}
@@ -15,17 +15,13 @@ use Rattle.wire_commands.specs.HasText.{ReplyHasText}
 use Rattle.wire_commands.specs.RefusalText.{refusal_text}
 use Rattle.wire_commands.specs.ReplyText.{reply_text}
 use Rattle.store_files.specs.Archive.{Content, archive, blob, File, Layout, dynamic, fixed, Snapshot, file_named}
-use Rattle.store_model.specs.Lanes.{Collecting}
 use Rattle.store_model.specs.Stands.{IsSnapshot, keys_rise, names_content}
 use Rattle.store_model.specs.Store.{Store, session, snapshot_named}
 use Rattle.store_model.specs.Store as model
-use Rattle.store_model.specs.Weave.{want_collector}
 use Rattle.atime_book.specs.Touches.{cutoff_of}
-use Rattle.gc_plan.specs.Plan.{Plan}
+use Rattle.gc_plan.specs.Plan.{Plan, begun}
 use Rattle.gc_plan.specs.declared.IndexAt.{IndexAt}
 use Rattle.backup_session.specs.Shown.{shown}
-use Rattle.store_history.specs.History.{World}
-use Rattle.store_history.specs.Legal.{may_open}
 use Rattle.store_history.specs.Sweeping.{Unmarked, digests_of, earlier, new_sweep, oldest_in, unmarked_of}
 use Rattle.store_history.specs.Sweeping as sweeps
 use Rattle.core_state.specs.declared.collector.Collector.{Collector}
@@ -35,81 +31,15 @@ use Rattle.core_state.specs.declared.kept.Session.{Session}
 use Rattle.core_state.specs.declared.kept.Session.TheVariants.{Idle, Reader, Writer}
 use Rattle.core_state.specs.declared.kept.StoredFile.{StoredFile}
 use Rattle.core_state.specs.declared.parts.Parts.{Parts}
-use Rattle.core_state.specs.Collectors.{OpenOn, ended_if, open_in, shown_collecting}
+use Rattle.core_state.specs.Entries.{FitsEntries}
 use Rattle.core_state.specs.Holds.{Shows}
 use Rattle.core_state.specs.Named.{has_text, is_named_snapshot, is_short_name}
 use Rattle.core_state.specs.Numbers.{AreNumbered, IsGiven}
 use Rattle.core_state.specs.Shown.{files_named, shown_file, shown_files, shown_session, shown_snapshot}
 use Rattle.core_state.specs.Sweeps.{FitsRemoved, HasNumber, ShowsSweep, digests_in, kept_at, left_at, left_in, left_of_kept, unmarked_by, visits_by}
 use Rattle.core_state.specs.Wanted.{session_at, want_idle}
-use Rattle.core_state.proofs.Commanding.{session_shown}
-use Rattle.core_state.proofs.Finding.{find_map, no_mapped}
 use Rattle.core_collect.specs.Starting.{IsNewCollector, earlier_of, first_unreadable, indexes_in, indexes_of, oldest_kept, start_told, unreadable_of}
 use Rattle.core_collect.proofs.Lists.{each_file, each_like, each_named, each_numbered}
-
--- ---- what refuses it
-
-idle_same : (snapshots : List Snapshot) (x : model.Session) → want_idle (shown_session snapshots x) ≡ model.want_idle x
-idle_same snapshots model.none = refl
-idle_same snapshots (model.writer w) = refl
-idle_same snapshots (model.reader r) = refl
-
-none_some : (x : OpenOn) → None ≡ Some x → ⊥
-none_some x e = cc
-
-some_none : (x : OpenOn) → Some x ≡ None → ⊥
-some_none x e = cc
-
-open_same : (x y : OpenOn) → Some x ≡ Some y → x ≡ y
-open_same x y e = cc
-
-abbrev busy : Option Collector → Result (Unit {0}) Refusal
-busy c = if_none (λ (x : Collector). CollectorBusy x.lane) c
-
-abbrev busy_in : Option Collecting → Result (Unit {0}) Refusal
-busy_in w = if_none (λ (x : Collecting). CollectorBusy x.lane) w
-
-busy_same : (c : Option Collector) (w : Option Collecting) → open_in c ≡ shown_collecting w → busy c ≡ busy_in w
-busy_same None None is = refl
-busy_same None (Some w) is = absurd (none_some (record { lane = w.lane; ended = ended_if w.is_short }) is)
-busy_same (Some c) None is = absurd (some_none (record { lane = c.lane; ended = c.ended }) is)
-busy_same (Some c) (Some w) is =
-    ap (λ (x : OpenOn). let r : Result (Unit {0}) Refusal = Err (CollectorBusy x.lane) in r)
-    (open_same (record { lane = c.lane; ended = c.ended }) (record { lane = w.lane; ended = ended_if w.is_short }) is)
-
--- no snapshot of a plain store is damaged
-none_damaged : (snapshots : List Snapshot) → find (λ (k : Kept). is_some k.unreadable) (map shown_snapshot snapshots) ≡ None
-none_damaged [] = refl
-none_damaged (x ∷ xs) = none_damaged xs
-
-none_unreadable : (catalogue : List Listed) (snapshots : List Snapshot) → map (λ x. x.kept) catalogue ≡ map shown_snapshot snapshots → first_unreadable catalogue ≡ None
-none_unreadable catalogue snapshots is =
-    let p : Kept → Bool = λ k. is_some k.unreadable in
-    ap unreadable_of (no_mapped (λ (x : Listed). x.kept) (find (λ (x : Listed). is_some (x.kept).unreadable) catalogue)
-    (sym (find_map (λ (x : Listed). x.kept) p catalogue) ∙ ap (find p) is ∙ none_damaged snapshots))
-
-tests_end : (a b : Result (Unit {0}) Refusal) → (a >>= λ _. b >>= λ _. if_none Unreadable None) ≡ (a >>= λ _. b)
-tests_end (Err e) b = refl
-tests_end (Ok x) (Err e) = refl
-tests_end (Ok x) (Ok y) = refl
-
-tests_same : (a b x y : Result (Unit {0}) Refusal) (o : Option (List ℕ)) → a ≡ b → x ≡ y → o ≡ None
-    → (a >>= λ _. x >>= λ _. if_none Unreadable o) ≡ (b >>= λ _. y)
-tests_same a b x y o first next none =
-    ap (λ q. q >>= λ _. x >>= λ _. if_none Unreadable o) first
-    ∙ ap (λ q. b >>= λ _. q >>= λ _. if_none Unreadable o) next
-    ∙ ap (λ p. b >>= λ _. y >>= λ _. if_none Unreadable p) none
-    ∙ tests_end b y
-
--- a start is refused as the plain store's is
-pub start_told_is : {D : Type 0} (parts : Parts D) (w : World) (k : ℕ) (c : Option Collector) → Shows parts w.store → open_in c ≡ shown_collecting w.collecting → k < 64
-    → start_told c (session_at parts k) parts.catalogue.items ≡ may_open w k
-unfolding start_told want_collector
-start_told_is parts w k c shows is lt =
-    tests_same (want_idle (session_at parts k)) (model.want_idle (session w.store k)) (busy c) (busy_in w.collecting) (first_unreadable parts.catalogue.items)
-    (ap want_idle (session_shown parts w.store k shows lt) ∙ idle_same (w.store).snapshots (session w.store k))
-    (busy_same c w.collecting is)
-    (none_unreadable parts.catalogue.items (w.store).snapshots shows.catalogue)
 
 -- ---- the oldest writer
 
@@ -300,6 +230,9 @@ oldest_end xs i oldest le so_far = sym (earliest_all oldest) ∙ sym (ap (λ ys.
 
 -- ---- what refuses it, test by test
 
+abbrev pub busy : Option Collector → Result (Unit {0}) Refusal
+busy c = if_none (λ (x : Collector). CollectorBusy x.lane) c
+
 module _ (c : Option Collector) (x : Session) (catalogue : List Listed) where
   abbrev after_session : Result (Unit {0}) Refusal → Result (Unit {0}) Refusal
   after_session r = r >>= λ _. busy c >>= λ _. if_none Unreadable (first_unreadable catalogue)
@@ -375,3 +308,7 @@ indexes_next xs i x lt at =
     ap (λ is. indexes_in (take i xs) ++ is) (sym (append-nil (indexes_of x)))
     ∙ sym (flat_map-append indexes_of (take i xs) (x ∷ []))
     ∙ sym (ap indexes_in (take_more xs i x lt ∙ ap (λ y. take i xs ++ y ∷ []) (sym at)))
+
+-- of a plan that begins none are at hand
+pub fits_new : (moment : ℕ) (oldest : Option ℕ) (catalogue : List Listed) (p : Plan) → p ≡ begun moment oldest (indexes_in catalogue) → FitsEntries p []
+fits_new moment oldest catalogue p is = subst (λ q. FitsEntries q []) (sym is) (record { named = names_in catalogue; within = inl refl; few = omega arith })

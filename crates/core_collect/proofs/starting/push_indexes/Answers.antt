@@ -3,7 +3,7 @@ use Rattle.std.proofs.lemmas.List.{take_all}
 use Rattle.store_types.specs.FileNames.{is_index_name}
 use Rattle.core_collect.proofs.StartLemmas.{index_of, indexes_kept, indexes_pushed}
 use Rattle.core_collect.proofs.starting.push_indexes.Goals as goal
-use Rattle.core_collect.proofs.starting.push_indexes.Goals.{then-is_index+in_ok-name+in_ok-push, else-is_index}
+use Rattle.core_collect.proofs.starting.push_indexes.Goals.{then-is_index+in_ok-clone+in_ok-push, else-is_index}
 
 pub loop-file-preserved : goal.loop-file-preserved
 loop-file-preserved c =
@@ -12,7 +12,7 @@ loop-file-preserved c =
     let x = c.file-item.result in
     let old = c.args.indexes.now.items in
     elim c.if-is_index.branch [
-      | then-is_index+in_ok-name+in_ok-push w ↦
+      | then-is_index+in_ok-clone+in_ok-push w ↦
           indexes_pushed c.args.listed.now.number xs i x old c.loop-file.indexes.items c.if-is_index.indexes.items (omega arith) c.file-item.is (sym c.is_index.ensures ∙ w.if-is_index.true)
           (ap (λ v. v.items) w.indexes-is ∙ w.in_ok-push.ensures.items) c.loop-file.invariant
       | else-is_index w ↦
