@@ -53,14 +53,14 @@ use Rattle.core_collect.proofs.VisitLemmas.{drops_goes, first_is, goes_so, visit
 
 -- an outcome that is no refusal has no text to be spelled
 pub unrefused_text : (result : Outcome) → ((refusal : Refusal) → result ≡ Err (stops.Refused refusal) → ⊥) → IfErr result StopHasText
-unrefused_text (Ok done) none = tt
+unrefused_text (Ok outcome) none = tt
 unrefused_text (Err stops.NoMemory) none = tt
 unrefused_text (Err stops.DiskFailed) none = tt
 unrefused_text (Err (stops.Refused refusal)) none = absurd (none refusal refl)
 
 -- an error of the disk stops the act
 pub stopped_as : (result : Outcome) (e : DiskError) → IsErrAnd result (λ x. x ≡ stop_of e) → result ≡ Err (stop_of e)
-stopped_as (Ok done) e is = absurd is
+stopped_as (Ok outcome) e is = absurd is
 stopped_as (Err stop) e is = ap (λ x. Err x) is
 
 -- ---- the disk
@@ -356,7 +356,7 @@ module _ {D : Type 0} (d : Ghosts D) (old new : Parts D) (u : Upkeep) (c : Colle
   abbrev Ends : Result GcReport DiskError → Type 0
   Ends r = EndsPlan d old.disk new.disk u.book c.plan at.moment r
 
-  pub ended_does : (report : GcReport) → Serves d.honest d.faults old.disk new.disk (IsErrOf {T = GcReport} (Ok report) disks.Failed) → Ends (Ok report) → DiskWantKeeps d old.disk new.disk (Ok report)
+  pub ended_does : (report : GcReport) → Serves d.honest d.faults old.disk new.disk (IsErrOf {T = GcReport} (Ok report) disks.Failed) → Ends (Ok report) → DiskWantKeeps {A = GcReport} d old.disk new.disk (Ok report)
       → CollectDoes d old new u u c c at (Ok (Some report))
   ended_does report serves ends keeps = record {
     serves = record { kept = serves.kept; count = serves.count; cause = λ failed. cc };
@@ -376,7 +376,7 @@ module _ {D : Type 0} (d : Ghosts D) (old new : Parts D) (u : Upkeep) (c : Colle
     tells = λ acts s w beside able. (ended_tells d old new u c at.moment (Ok report) kept serves ends keeps over acts s w beside able, spares_install s book_name text);
   }
 
-  pub unended_does : (error : DiskError) → Serves d.honest d.faults old.disk new.disk (IsErrOf {T = GcReport} (Err error) disks.Failed) → Ends (Err error) → DiskWantKeeps d old.disk new.disk (Err error)
+  pub unended_does : (error : DiskError) → Serves d.honest d.faults old.disk new.disk (IsErrOf {T = GcReport} (Err error) disks.Failed) → Ends (Err error) → DiskWantKeeps {A = GcReport} d old.disk new.disk (Err error)
       → CollectDoes d old new u u c c at (end_outcome (Err error))
   unended_does disks.NoMemory serves ends keeps =
       let same = keeps refl in record {

@@ -1,47 +1,24 @@
 -- Marks: the plan of a collector shows the sweep of the plain store as indexes are passed over, read and marked.
-use Rattle.disk_trait.specs.declared.disk.Disk.{Ghosts}
-use Rattle.std.proofs.Common.{◌≡◌, ◌<◌, ◌≤◌, ◌+◌, ◌-◌, ◌⊎◌, ◌==◌, ◌++◌, ℕ, zero, suc, max, min, Bool, true, false, ◌||◌, cond, List, [], ◌∷◌, drop, flat_map, length, map, take, option_map, Option, Some, None, Result, Ok, Err, IsSome, is_some, IsSomeAnd, length-drop, length-take, nat_lt, inl, inr, true≢false, refl, sym, ap, ap₂, subst, ◌∙◌, arith}
-use Rattle.std.specs.Prelude.{slice_get, ◌↔◌}
-use Rattle.std.specs.FinMap.{get}
+use Rattle.std.proofs.Common.{◌≡◌, ◌<◌, ◌≤◌, ◌+◌, ◌-◌, ◌==◌, ◌++◌, ℕ, zero, suc, min, Bool, true, false, cond, List, [], ◌∷◌, drop, length, map, take, Option, Some, None, IsSome, is_some, IsSomeAnd, length-drop, length-take, nat_lt, true≢false, refl, sym, ap, ap₂, subst, ◌∙◌, arith}
+use Rattle.std.specs.Prelude.{slice_get}
 use Rattle.std.specs.List.{All}
-use Rattle.std.specs.Str.{bytes_eq}
 use Rattle.std.proofs.lemmas.Bool.{eq-eqb, le-ltb, lt-ltb, ltb-false, ne_eqb}
 use Rattle.std.proofs.lemmas.List.{drop_all, drop-map, length-map, nil_from_length, take_min, drop-drop}
-use Rattle.disk_trait.specs.Effects.{OnlyReads}
-use Rattle.disk_trait.specs.Files.{Files}
 use Rattle.store_types.specs.declared.names.Digest32.{Digest32}
 use Rattle.store_types.specs.declared.names.SnapshotKey.{SnapshotKey}
-use Rattle.store_types.specs.declared.refusal.Refusal.{Refusal}
-use Rattle.store_types.specs.declared.refusal.Refusal.TheVariants as refusals
-use Rattle.store_types.specs.FileNames.{is_fixed_name, is_index_name}
 use Rattle.store_files.specs.Archive.{Snapshot}
 use Rattle.store_files.specs.Book.{Book}
-use Rattle.store_files.specs.Folder.{IsDigest, chunk_name}
-use Rattle.store_model.specs.Store.{Store}
-use Rattle.atime_book.specs.Present.{is_among}
-use Rattle.atime_book.specs.Touches.{last_of}
 use Rattle.gc_plan.specs.Plan.{FitsMark, Plan, Stage, entry_limit, index_in, left_of, mark_in, mark_limit, marked_at, marking, next_index, next_mark, sweeping, with_mark}
-use Rattle.gc_plan.specs.Plan as plans
 use Rattle.gc_plan.specs.declared.IndexAt.{IndexAt}
-use Rattle.store_history.specs.LastTouches.{LastTouches, is_one_of, touched}
-use Rattle.store_history.specs.Sweeping.{Sweep, Swept, Unmarked, is_done, next_marks, next_taken, passed, unmarked_of, without}
+use Rattle.store_history.specs.Sweeping.{Sweep, Swept, Unmarked, passed, unmarked_of}
 use Rattle.core_state.specs.declared.collector.Collector.{Collector}
 use Rattle.core_state.specs.declared.kept.Kept.{Kept}
 use Rattle.core_state.specs.declared.kept.Listed.{Listed}
-use Rattle.core_state.specs.declared.parts.Parts.{Parts}
 use Rattle.core_state.specs.Entries.{FitsEntries, marked_in}
-use Rattle.core_state.specs.Found.{path_of_kept}
-use Rattle.core_state.specs.Holds.{Holds}
-use Rattle.core_state.specs.Shown.{shown_snapshot}
 use Rattle.core_state.specs.Sweeps.{AreEntries, FitsRemoved, HasEntries, HasNumber, ShowsSweep, digests_named, kept_at, left_at, left_in, left_of_kept, unmarked_by, visits_by}
-use Rattle.core_state.specs.Unchanged.{SameKept}
 use Rattle.core_state.specs.Upkeeps.{TouchesEach}
-use Rattle.core_state.proofs.Acting.{holds_same}
 use Rattle.core_state.proofs.Finding.{some_same}
-use Rattle.core_collect.specs.Marking.{AtHand, BeginsWith, FindsNext, GoesFurther, IsFound, IsSettled, MarksSome, PassesOver, Reads, SettlesNext, SettlesUnread, Standing, at_hand_then, behind_next, bytes_of, digests_read, entries_left, indexes_left, left_then, marked_next, marked_now, next_unreadable, passed_over, path_at, standing, standing_as, standing_at, unless_passed, unreadable, unreadable_in}
-use Rattle.core_collect.specs.declared.marking.Unread.{Unread}
-use Rattle.core_collect.specs.declared.marking.Unread.TheVariants.{DiskFailed, NoMemory, Unreadable}
-use Rattle.core_collect.proofs.ReadLemmas.{index_digests, no_digests}
+use Rattle.core_collect.specs.Marking.{AtHand, BeginsWith, MarksSome, PassesOver, at_hand_then, behind_next, bytes_of, entries_left, left_then, marked_now}
 use Rattle.core_collect.proofs.StartLemmas.{left_all}
 
 -- ---- lists
@@ -79,11 +56,9 @@ unmarked_some : (key : SnapshotKey) (name : List ℕ) (ds : List (List ℕ)) →
 unmarked_some key name [] some = absurd (some refl)
 unmarked_some key name (d ∷ ds) some = refl
 
-left_some : (first : ℕ) (entries : List Digest32) → (first ≡ 0) ⊎ (first < length entries) → (entries ≡ [] → ⊥) → map (λ (d : Digest32). d.0) (drop first entries) ≡ [] → ⊥
-left_some first entries (inl begun) some none =
-    some (nil_from_length entries (omega (arith, begun, ap length none, length-map (drop first entries) (λ (d : Digest32). d.0), length-drop first entries)))
-left_some first entries (inr lt) some none =
-    omega (arith, lt, ap length none, length-map (drop first entries) (λ (d : Digest32). d.0), length-drop first entries)
+left_some : (first : ℕ) (entries : List Digest32) → (0 < first → first < length entries) → (entries ≡ [] → ⊥) → map (λ (d : Digest32). d.0) (drop first entries) ≡ [] → ⊥
+left_some first entries within some none =
+    some (nil_from_length entries (omega (arith, within, ap length none, length-map (drop first entries) (λ (d : Digest32). d.0), length-drop first entries)))
 
 -- ---- a plan after a mark
 
@@ -121,7 +96,7 @@ no_index indexes (sweeping names) none = refl
 
 -- a mark is next where an index is
 pub mark_there : (indexes : List IndexAt) (stage : Stage) (i : IndexAt) → index_in indexes stage ≡ Some i → IsSome (mark_in indexes stage)
-mark_there indexes (marking place first) i at = ap (λ b. is_some (cond b (Some (place, first)) None)) (lt-ltb place (length indexes) (place_within indexes place i at))
+mark_there indexes (marking place first) i at = ap (λ b. is_some {T = ℕ × ℕ} (cond b (Some (place, first)) None)) (lt-ltb place (length indexes) (place_within indexes place i at))
 mark_there indexes (sweeping names) i at = absurd (none_some i at)
 
 -- the mark that is next begins where the index is marked up to
@@ -143,6 +118,10 @@ at_hand_mark c hand none = by_index (next_index c.plan) refl hand.next
     by_index None is some = none_is some
     by_index (Some i) is some = none_is (sym (ap is_some none) ∙ mark_there (c.plan).indexes (c.plan).stage i is)
 
+-- where none is marked
+none_begun : (m n : ℕ) → m ≡ 0 → 0 < m → m < n
+none_begun m n zero_is begun = absurd (omega (arith, zero_is, begun))
+
 -- a plan may pass over the index that is next
 pub fits_pass : (p : Plan) (entries : List Digest32) → FitsEntries p entries → IsSome (next_mark p) → FitsMark p 0 0
 fits_pass p entries fits some = by_mark (next_mark p) refl some
@@ -150,9 +129,8 @@ fits_pass p entries fits some = by_mark (next_mark p) refl some
     none_is : false ≡ true → ⊥
     none_is e = cc
 
-    within : (m : ℕ) → (m ≡ 0) ⊎ (m < length entries) → m + 0 + 0 ≤ entry_limit
-    within m (inl begun) = omega (arith, begun)
-    within m (inr lt) = let few = fits.few in omega (arith, lt, few)
+    within : (m : ℕ) → (0 < m → m < length entries) → m + 0 + 0 ≤ entry_limit
+    within m left = let few = fits.few in omega (arith, left, few)
 
     by_mark : (o : Option (ℕ × ℕ)) → next_mark p ≡ o → IsSome o → IsSomeAnd o (λ mark. mark.1 + 0 + 0 ≤ entry_limit)
     by_mark None is some = absurd (none_is some)
@@ -166,31 +144,30 @@ over_zero (sweeping names) = refl
 -- ---- what fits the digests at hand
 
 pub fits_over : (p q : Plan) (entries : List Digest32) → FitsEntries p entries → q ≡ with_mark p 0 0 → FitsEntries q entries
-fits_over p q entries fits is = subst (λ x. FitsEntries x entries) (sym is) (record { named = fits.named; within = inl (over_zero p.stage); few = fits.few })
+fits_over p q entries fits is = subst (λ x. FitsEntries x entries) (sym is) (record { named = fits.named; within = none_begun (marked_in (marked_at p.stage 0 0)) (length entries) (over_zero p.stage); few = fits.few })
 
 pub fits_none : (p q : Plan) (entries : List Digest32) → FitsEntries p entries → q ≡ with_mark p 0 0 → FitsEntries q []
-fits_none p q entries fits is = subst (λ x. FitsEntries x []) (sym is) (record { named = fits.named; within = inl (over_zero p.stage); few = omega arith })
+fits_none p q entries fits is = subst (λ x. FitsEntries x []) (sym is) (record { named = fits.named; within = none_begun (marked_in (marked_at p.stage 0 0)) 0 (over_zero p.stage); few = omega arith })
 
 -- none were at hand, and they are read
 pub fits_read : (p : Plan) (before after_ : List Digest32) → FitsEntries p before → before ≡ [] → length after_ ≤ entry_limit → FitsEntries p after_
-fits_read p before after_ fits none few = record { named = fits.named; within = inl (begun fits.within); few = few }
+fits_read p before after_ fits none few = record { named = fits.named; within = λ some. absurd (begun some fits.within); few = few }
   where
-    begun : (marked_in p.stage ≡ 0) ⊎ (marked_in p.stage < length before) → marked_in p.stage ≡ 0
-    begun (inl zero_is) = zero_is
-    begun (inr lt) = let n = ap length none in absurd (omega (arith, lt, n))
+    begun : 0 < marked_in p.stage → (0 < marked_in p.stage → marked_in p.stage < length before) → ⊥
+    begun some left = let n = ap length none in let lt = left some in omega (arith, lt, n)
 
 positive : (n : ℕ) → (n == 0) ≡ false → 0 < n
 positive zero e = absurd (true≢false e)
 positive (suc n) e = omega arith
 
-marked_within : (stage : Stage) (count left n : ℕ) → marked_in stage + count + left ≡ n → (marked_in (marked_at stage count left) ≡ 0) ⊎ (marked_in (marked_at stage count left) < n)
+marked_within : (stage : Stage) (count left n : ℕ) → marked_in stage + count + left ≡ n → 0 < marked_in (marked_at stage count left) → marked_in (marked_at stage count left) < n
 marked_within (marking place first) count left n whole = by_test (left == 0) refl
   where
-    by_test : (b : Bool) → (left == 0) ≡ b
-        → (marked_in (cond b (marking (place + 1) 0) (marking place (first + count))) ≡ 0) ⊎ (marked_in (cond b (marking (place + 1) 0) (marking place (first + count))) < n)
-    by_test true is = inl refl
-    by_test false is = let some = positive left is in inr (omega (arith, some, whole))
-marked_within (sweeping names) count left n whole = inl refl
+    by_test : (b : Bool) → (left == 0) ≡ b → 0 < marked_in (cond b (marking (place + 1) 0) (marking place (first + count)))
+        → marked_in (cond b (marking (place + 1) 0) (marking place (first + count))) < n
+    by_test true is begun = absurd (omega (arith, begun))
+    by_test false is begun = let some = positive left is in omega (arith, some, whole)
+marked_within (sweeping names) count left n whole begun = absurd (omega (arith, begun))
 
 -- some were marked
 pub fits_marked : (p q : Plan) (entries : List Digest32) (count left : ℕ) → FitsEntries p entries → marked_in p.stage + count + left ≡ length entries → q ≡ with_mark p count left → FitsEntries q entries
@@ -264,7 +241,7 @@ module _ (catalogue : List Listed) (snapshots : List Snapshot) where
   pub all_marked : (indexes : List IndexAt) (stage : Stage) → mark_in indexes stage ≡ None → unmarked indexes stage ≡ []
   all_marked indexes (marking place first) none = by_test (nat_lt place (length indexes)) refl none
     where
-      by_test : (b : Bool) → nat_lt place (length indexes) ≡ b → cond b (Some (place, first)) None ≡ None → left_in catalogue snapshots first (drop place indexes) ≡ []
+      by_test : (b : Bool) → nat_lt place (length indexes) ≡ b → cond {A = Option (ℕ × ℕ)} b (Some (place, first)) None ≡ None → left_in catalogue snapshots first (drop place indexes) ≡ []
       by_test true is e = absurd (none_some (place, first) (sym e))
       by_test false is e = ap (left_in catalogue snapshots first) (drop_all place indexes (ltb-false place (length indexes) is))
   all_marked indexes (sweeping names) none = refl
