@@ -330,7 +330,7 @@ module _ {D : Type 0} (d : Ghosts D) (parts now : Parts D) (old c : Collector) (
     unread = λ honest. h.unread honest ∙ ap (unreadable_in (d.content parts.disk) parts.catalogue.items c.entries.items) (none_marked (c.plan).indexes (c.plan).stage none);
   }
     where
-      by_test : (is : List IndexAt) (place first : ℕ) (b : Bool) → nat_lt place (length is) ≡ b → cond b (Some (place, first)) None ≡ None → drop place is ≡ []
+      by_test : (is : List IndexAt) (place first : ℕ) (b : Bool) → nat_lt place (length is) ≡ b → cond {A = Option (ℕ × ℕ)} b (Some (place, first)) None ≡ None → drop place is ≡ []
       by_test is place first true less e = absurd (none_some (place, first) (sym e))
       by_test is place first false less e = drop_all place is (ltb-false place (length is) less)
 
