@@ -6,7 +6,7 @@ use Rattle.std.proofs.lemmas.Bool.{eqb-true}
 use Rattle.store_types.specs.declared.names.Digest32.{Digest32}
 use Rattle.store_files.specs.Archive.{Snapshot}
 use Rattle.gc_plan.specs.Plan.{Plan}
-use Rattle.store_model.specs.Lanes.{Collecting, collects}
+use Rattle.store_model.specs.Lanes.{Collecting}
 use Rattle.store_history.specs.declared.act.Act.{Act}
 use Rattle.store_history.specs.Acts.{Class, stepping, starting, sweeping, wanting, ending, class_of}
 use Rattle.store_history.specs.History.{World, moved, halted_on, kind_of, open_on}
