@@ -35,3 +35,6 @@ returns-clause-value g c =
     let none : c.args.collector.now ≡ None = search rules in
     let whole : first_unreadable c.args.parts.now.catalogue.items ≡ None = search rules in
     told_free c.args.collector.now (session_at c.args.parts.now c.args.lane) c.args.parts.now.catalogue.items idle none whole
+
+pub returns-in-Some-clause-text : goal.returns-in-Some-clause-text
+returns-in-Some-clause-text g c = busy_has_text c.in-Some.other.lane ?
