@@ -1,0 +1,3 @@
+mod Reserving
+mod Played
+mod LeftChunks
