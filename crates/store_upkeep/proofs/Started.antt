@@ -180,7 +180,7 @@ unfolding after
 after_lane R w s v k right on some =
     moved_lane R w (lane v) (moment v) v.act (kind_of (kind v)) k on
     (λ is. not_opened R w (lane v) (moment v) k v.act (reply v) (class_of v.act) on
-        (subst (λ n. Right R w (lane v) (moment v) v.act (reply v) (class_of v.act) n) is right.says))
+    (subst (λ n. Right R w (lane v) (moment v) v.act (reply v) (class_of v.act) n) is right.says))
     (open_some R w s v some)
 
 lanes_stay : (R : Option (List Snapshot)) (es : List Event) (w : World) (s : Swept) (k : ℕ) → IsLegal R w es → OnLane k w.collecting → StaysOpen R w s es
