@@ -154,12 +154,12 @@ halted_lane n j k c on some = on
 moved_lane : (R : Option (List Snapshot)) (w : World) (j m : ℕ) (a : Act) (n : EntryKind) (k : ℕ) → OnLane k w.collecting → (n ≡ start_kind → ⊥)
     → IsSome (moved R w j m a n).collecting → OnLane k (moved R w j m a n).collecting
 unfolding moved
-moved_lane R w j m a short_kind k on no some = cut_lane j k w.collecting on
-moved_lane R w j m a start_kind k on no some = absurd (no refl)
-moved_lane R w j m a close_kind k on no some = absurd (false≢true some)
-moved_lane R w j m a fault_kind k on no some = halted_lane (class_of a) j k w.collecting on some
-moved_lane R w j m a end_kind k on no some = closed_lane j k w.collecting on some
-moved_lane R w j m a n k on no some = on
+moved_lane R w j m a short_kind k on off some = cut_lane j k w.collecting on
+moved_lane R w j m a start_kind k on off some = absurd (off refl)
+moved_lane R w j m a close_kind k on off some = absurd (false≢true some)
+moved_lane R w j m a fault_kind k on off some = halted_lane (class_of a) j k w.collecting on some
+moved_lane R w j m a end_kind k on off some = closed_lane j k w.collecting on some
+moved_lane R w j m a n k on off some = on
 
 -- while one is open none starts
 not_opened : (R : Option (List Snapshot)) (w : World) (j m k : ℕ) (a : Act) (r : Option Reply) (c : Class) → OnLane k w.collecting → Right R w j m a r c start_kind → ⊥
@@ -269,7 +269,7 @@ module _ (R : Option (List Snapshot)) (o : Opening) (es : List Event) (e : Event
     parts = f.parts;
     own = one_lane (lane f.start) (lane e) (after_all R (opened o) es).collecting on (ends_on R (after_all R (opened o) es) e right is);
     whole = whole;
-    leaves = λ stocked. sweeps_leave R o f.before f.start f.since legal_since stocked whole;
+    leaves = λ stocked. sweeps_leave R o f.before f.start f.since x.sweep legal_since stocked whole;
     reported = x.told;
   }
 
