@@ -9,8 +9,11 @@ pub mod Stocking
 pub mod Marking
 pub mod Taking
 pub mod Listing
+pub mod Digests
 pub mod Following
 pub mod Whole
 pub mod Lasting
 pub mod Reporting
+pub mod Started
+pub mod Unvisited
 mod Examples
