@@ -68,6 +68,15 @@ abbrev pub IsIndex : Early → Type 0
 IsIndex (Unreadable path) = Unit {0}
 IsIndex early = ⊥
 
+-- and stands at this path
+abbrev pub path_of_early : Option Early → Option (List ℕ)
+path_of_early (Some (Unreadable path)) = Some path
+path_of_early ended = None
+
+abbrev pub path_ended : Option Collector → Option (List ℕ)
+path_ended None = None
+path_ended (Some c) = path_of_early c.ended
+
 -- it goes on, but where that is so
 abbrev pub MayEnd : Collector → Outcome → Type 0
 MayEnd c (Ok None) = IfSome c.ended IsIndex
@@ -110,6 +119,10 @@ pub record CollectDoes {D : Type 0} (d : Ghosts D) (old new : Parts D) (u v : Up
   pub lane : e.lane ≡ c.lane
   pub ends : MayEnd e result
   pub further : GoesDown c e result
+  -- of what its start fixed nothing has changed
+  pub same : SameFixed c.plan e.plan
+  -- an honest disk's index that is next does not decode, or there is none such
+  pub unread : result ≡ Ok None → d.honest old.disk → path_of_early e.ended ≡ next_unreadable (d.content old.disk) old.catalogue.items c
   pub tells : (acts : ℕ) (s : Store) (w : Swept) → StandsBeside d old u acts (Some c) s w.touches w.sweep → IsSweepable s w
       → IsTheSweeps d new v acts e s w at.moment result × Spares s change
 
@@ -160,6 +173,18 @@ pub data GoesOn {D E C : Type 0} (d : Ghosts D) (readings : C → Option Reading
 
 -- ---- what is told
 
--- it is refused with the lane's session, where the lane's collector is not open
-abbrev pub StepTells : {D E C : Type 0} → Core D E C → ℕ → Answer → Type 0
-StepTells old lane answer = (answer.entry).kind ≡ 0 → (is_on lane old.collector ≡ false) × (answer.reply ≡ Some (replies.Refused (WrongState (state_of (session_at old.parts lane)))))
+-- a whole collection's report
+abbrev pub IsReport : Option Reply → Type 0
+IsReport (Some (replies.Collected start cutoff used pending removed)) = Unit {0}
+IsReport reply = ⊥
+
+-- What it answers by what the core keeps, on any disk.
+pub record StepTells {D E C : Type 0} (d : Ghosts D) (old new : Core D E C) (lane : ℕ) (answer : Answer) : Type 0 where
+  -- it is refused with the lane's session, where the lane's collector is not open
+  pub refused : (answer.entry).kind ≡ 0 → (is_on lane old.collector ≡ false) × (answer.reply ≡ Some (replies.Refused (WrongState (state_of (session_at old.parts lane)))))
+  -- the end of a collector replies what ended it early, or its report
+  pub ends : is_cut lane old.collector ≡ true → (answer.entry).kind ≡ 4 → IsSomeAnd (early_in old.collector) (λ early. answer.reply ≡ Some (replies.Refused (refusal_of early)))
+  pub reports : is_cut lane old.collector ≡ false → (answer.entry).kind ≡ 4 → IsReport answer.reply
+  -- An honest disk's index that does not decode ends it early as it comes to be marked, and nothing else does so in a mark or a visit.
+  pub unread : is_cut lane old.collector ≡ false → (answer.entry).kind ≡ 1 → d.honest (old.parts).disk
+      → IsSomeAnd old.collector (λ c. path_ended new.collector ≡ next_unreadable (d.content (old.parts).disk) (old.parts).catalogue.items c)

@@ -73,7 +73,7 @@ none_some x e = cc
 -- ---- the collector
 
 -- it was open before, with the same plan and the same digests at hand
-record WasOpen (o : Option Collector) (y : Collector) : Type 0 where
+pub record WasOpen (o : Option Collector) (y : Collector) : Type 0 where
   pub was : Collector
   pub there : o ≡ Some was
   pub plan : y.plan ≡ was.plan
@@ -94,7 +94,7 @@ cut_open lane (Some x) y e = by_test (x.lane == lane) e
         record { was = x; there = refl; plan = sym (ap (λ (c : Collector). c.plan) same); same_entries = sym (ap (λ (c : Collector). c.entries) same) }
     by_test false e = same_open x y e
 
-closed_open : (lane : ℕ) (o : Option Collector) (y : Collector) → closed_on lane o ≡ Some y → WasOpen o y
+pub closed_open : (lane : ℕ) (o : Option Collector) (y : Collector) → closed_on lane o ≡ Some y → WasOpen o y
 closed_open lane None y e = absurd (none_some y e)
 closed_open lane (Some x) y e = by_test (x.lane == lane) e
   where
@@ -102,7 +102,7 @@ closed_open lane (Some x) y e = by_test (x.lane == lane) e
     by_test true e = absurd (none_some y e)
     by_test false e = same_open x y e
 
-was_open : (k lane : ℕ) (o : Option Collector) (y : Collector) → collector_by k lane o ≡ Some y → WasOpen o y
+pub was_open : (k lane : ℕ) (o : Option Collector) (y : Collector) → collector_by k lane o ≡ Some y → WasOpen o y
 was_open k lane o y is = by_kind (k == 2) ((k == 4) || (k == 6)) is
   where
     by_kind : (a b : Bool) → cond a (cut_on lane o) (cond b (closed_on lane o) o) ≡ Some y → WasOpen o y
@@ -133,11 +133,11 @@ sweep_after : (R : Option (List Snapshot)) (w : World) (s : Swept) (e : Event) �
 unfolding swept_after
 sweep_after R w s e other none = ap (while_open (after R w e).collecting) (unstarted w s e (class_of e.act) (kind e) other none)
 
-none_open : (v : Option Collecting) → None ≡ shown_collecting v → v ≡ None
+pub none_open : (v : Option Collecting) → None ≡ shown_collecting v → v ≡ None
 none_open None is = refl
 none_open (Some v) is = absurd (none_some (record { lane = v.lane; ended = Rattle.core_state.specs.Collectors.ended_if v.is_short }) is)
 
-stays_open : (x : OpenOn) (v : Option Collecting) (sweep : Option Sweep) → Some x ≡ shown_collecting v → while_open v sweep ≡ sweep
+pub stays_open : (x : OpenOn) (v : Option Collecting) (sweep : Option Sweep) → Some x ≡ shown_collecting v → while_open v sweep ≡ sweep
 stays_open x None sweep is = absurd (none_some x (sym is))
 stays_open x (Some v) sweep is = refl
 
@@ -332,7 +332,7 @@ module _ {D E C : Type 0} (d : Ghosts D) (clock : clocks.Ghosts C) (old new : Co
       let then_is : next fin ≡ insert_snapshot (snapshot_of v) snapshots = next_is fin ∙ ap (λ (x : model.Store). x.snapshots) store in
       let apart : All (λ (q : Kept). q.key ≢ v.key) (map (λ x. x.kept) c) =
       All-same (λ (q : Kept). q.key ≢ v.key) (map (λ x. x.kept) c) (map shown_snapshot snapshots) (f.shows).catalogue
-          (All-map (λ (q : Kept). q.key ≢ v.key) shown_snapshot snapshots (fresh snapshots v (sound.writers k v at))) in
+      (All-map (λ (q : Kept). q.key ≢ v.key) shown_snapshot snapshots (fresh snapshots v (sound.writers k v at))) in
       let key : IsNewKey c snapshots added (snapshot_of v) =
       λ number q is. different v.key q.key (λ same. kept_passes (λ (z : Kept). z.key ≢ v.key) c number q apart is (sym same)) in
       subst (λ l. Sifts acts c l snapshots (next fin) (spares fin answer.reply)) (sym listed)
@@ -391,7 +391,7 @@ pub plans_more : {D E C : Type 0} (d : Ghosts D) (clock : clocks.Ghosts C) (old 
     → IsAnswered d old new lane answer → ActKeeps d old new lane act answer → is_step act ≡ false → new.collector ≡ collector_by (answer.entry).kind lane old.collector
     → ((answer.entry).kind ≡ 3 → ⊥) → StandsFor d clock.readings old h → StandsFor d clock.readings new (then_event h (event_of act answer (d.calls (new.parts).disk))) → KeepsTouches d old h
     → ShowsOpen (length (new.journal).entries.items) (new.parts).catalogue.items (world (then_event h (event_of act answer (d.calls (new.parts).disk)))).store.snapshots new.collector
-        (swept_of (then_event h (event_of act answer (d.calls (new.parts).disk)))).sweep
+    (swept_of (then_event h (event_of act answer (d.calls (new.parts).disk)))).sweep
 plans_more d clock old new lane act answer h lt formed answers keeps no collector opens_none s so touches = by_open new.collector refl
   where
     e : Event
@@ -440,7 +440,7 @@ plans_more d clock old new lane act answer h lt formed answers keeps no collecto
     by_sweep x y is plan entries None at shows = absurd shows
     by_sweep x y is plan entries (Some sweep) at shows =
         let sweeps = later ∙ stays_open (record { lane = y.lane; ended = y.ended }) (world (then_event h e)).collecting (option_map (spared act answer.reply) (swept_of h).sweep) (sym (ap open_in is) ∙ so.collecting)
-            ∙ ap (option_map (spared act answer.reply)) at in
+        ∙ ap (option_map (spared act answer.reply)) at in
         subst (λ o. ShowsOpen (length (new.journal).entries.items) c2 then_has (Some y) o) (sym sweeps)
         (subst (λ n. ShowsSweep n c2 then_has y (spared act answer.reply sweep)) (sym count)
         (shows_sifted was c c2 first then_has (spares act answer.reply) x y sweep (sifted_by was c c2 first then_has (spares act answer.reply) x y plan entries shows.numbers its) shows))

@@ -21,7 +21,7 @@ use Rattle.core_state.proofs.Planned.{IsNewKey, finished_left, filtered_left, fo
 abbrev pub sifted : (Unmarked → Bool) → Sweep → Sweep
 sifted p sweep = record sweep { unmarked = filter p sweep.unmarked }
 
-numbers_later : (acts : ℕ) (is : List IndexAt) → All (HasNumber acts) is → All (HasNumber (acts + 1)) is
+pub numbers_later : (acts : ℕ) (is : List IndexAt) → All (HasNumber acts) is → All (HasNumber (acts + 1)) is
 numbers_later acts is all = All-weaker (HasNumber acts) (HasNumber (acts + 1))
     (λ i has. ⊎_elim {C = HasNumber (acts + 1) i} (λ (lt : i.snapshot < acts). inl (omega (arith, lt))) (λ found. inr found) has) is all
 
