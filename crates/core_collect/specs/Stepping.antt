@@ -1,6 +1,6 @@
 -- The acts of a collector after its start.
 use Rattle.disk_trait.specs.declared.disk.Disk.{Ghosts}
-use Rattle.std.specs.Prelude.{◌≡◌, ◌<◌, ◌≤◌, ◌⊎◌, ◌∷◌, [], ℕ, true, false, Option, Some, None, IsSomeAnd, IfSome, IfErr, Result, Ok, Err, IsErrOf}
+use Rattle.std.specs.Prelude.{◌≡◌, ◌<◌, ◌≤◌, ◌⊎◌, ◌∷◌, [], ℕ, true, false, List, Option, Some, None, IsSomeAnd, IfSome, IfErr, Result, Ok, Err, IsErrOf}
 use Rattle.disk_trait.specs.Disk.{Serves}
 use Rattle.port_traits.specs.Readings.{Readings}
 use Rattle.store_types.specs.declared.names.Digest32.{Digest32}
@@ -31,9 +31,9 @@ use Rattle.core_state.specs.declared.stop.Stop.TheVariants.{Refused, NoMemory, D
 use Rattle.core_state.specs.declared.upkeep.Upkeep.{Upkeep}
 use Rattle.core_state.specs.Begins.{AdmittedHasText, IsAdmitted, Refuses}
 use Rattle.core_state.specs.Changes.{Change, LeavesChange, after, drops, installs, stays}
-use Rattle.core_state.specs.Collectors.{is_on, steps_left}
+use Rattle.core_state.specs.Collectors.{is_cut, is_on, refusal_of, steps_left}
 use Rattle.core_state.specs.Entering.{held_by}
-use Rattle.core_state.specs.Passes.{PassTouches}
+use Rattle.core_state.specs.Passes.{KeepsPlan, PassTouches}
 use Rattle.core_state.specs.Settles.{IsEntered, Settles}
 use Rattle.core_state.specs.States.{state_of}
 use Rattle.core_state.specs.Stops.{StopHasText, told}
@@ -41,7 +41,8 @@ use Rattle.core_state.specs.Unchanged.{SameKept}
 use Rattle.core_state.specs.Upkeeps.{touches_kept}
 use Rattle.core_state.specs.Wanted.{session_at}
 use Rattle.core_collect.specs.Beside.{IsSweepable, StandsBeside, passed_touches}
-use Rattle.core_collect.specs.Ending.{report_reply}
+use Rattle.core_collect.specs.Ending.{early_in, report_reply}
+use Rattle.core_collect.specs.Marking.{next_unreadable}
 use Rattle.core_collect.specs.Visiting.{goes}
 
 -- ---- an open collector, on any disk
@@ -59,9 +60,9 @@ MayChange book c moment change (Err DiskFailed) =
 MayChange book c moment change (Err stop) = change ≡ stays
 
 -- a mark or a visit touches some chunks, or takes one out; nothing else does
-abbrev pub MayTouch : Upkeep → Upkeep → ℕ → Outcome → Type 0
-MayTouch u v moment (Ok None) = PassTouches (touches_kept u) (touches_kept v) moment
-MayTouch u v moment result = v ≡ u
+abbrev pub MayTouch : Change → Upkeep → Upkeep → ℕ → Outcome → Type 0
+MayTouch change u v moment (Ok None) = PassTouches change (touches_kept u) (touches_kept v) moment
+MayTouch change u v moment result = v ≡ u
 
 -- an index did not decode
 abbrev pub IsIndex : Early → Type 0
@@ -113,14 +114,13 @@ pub record CollectDoes {D : Type 0} (d : Ghosts D) (old new : Parts D) (u v : Up
   pub may_change : MayChange u.book c at.moment change result
   pub content : (IsErrOf result DiskFailed → ⊥) → d.honest old.disk → d.content new.disk ≡ after change (d.content old.disk)
   pub crash : LeavesChange d old.disk new.disk change
-  pub touches : MayTouch u v at.moment result
+  pub touches : MayTouch change u v at.moment result
   -- no chunk is touched after the act's moment
   pub early : (before : ℕ) → before ≤ at.moment → NoneAfter u.book before → NoneAfter v.book at.moment
   pub lane : e.lane ≡ c.lane
   pub ends : MayEnd e result
   pub further : GoesDown c e result
-  -- of what its start fixed nothing has changed
-  pub same : SameFixed c.plan e.plan
+  pub same : KeepsPlan c.plan e.plan
   -- an honest disk's index that is next does not decode, or there is none such
   pub unread : result ≡ Ok None → d.honest old.disk → path_of_early e.ended ≡ next_unreadable (d.content old.disk) old.catalogue.items c
   pub tells : (acts : ℕ) (s : Store) (w : Swept) → StandsBeside d old u acts (Some c) s w.touches w.sweep → IsSweepable s w

@@ -141,7 +141,7 @@ pub fn step<D: Disk, E, C: Clock>(core: &mut Core<D, E, C>, alloc: Global, lane:
     ensures applies { ActApplies D.Disk C.Clock core.old core.new lane Step result }
     ensures keeps { ActKeeps D.Disk core.old core.new lane Step result }
     // on any disk
-    ensures told { StepTells core.old lane result }
+    ensures told { StepTells D.Disk core.old core.new lane result }
 {
     let answer = if core.is_cut(lane) {
         end_early(core, lane)

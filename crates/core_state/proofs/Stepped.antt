@@ -3,7 +3,7 @@ use Rattle.disk_trait.specs.declared.disk.Disk.{Ghosts}
 use Rattle.std.proofs.Common.{◌≡◌, ◌<◌, ◌≤◌, ℕ, Bool, true, false, ◌==◌, cond, [], ◌++◌, length, Option, Some, None, IfSome, refl, sym, ap, subst, ◌∙◌, arith}
 use Rattle.std.specs.Prelude.{option_map}
 use Rattle.std.proofs.lemmas.List.{length-map}
-use Rattle.disk_trait.specs.Disk.{Rose}
+use Rattle.disk_trait.specs.Disk.{Rose, Serves}
 use Rattle.port_traits.specs.Readings.{Readings}
 use Rattle.store_types.specs.declared.refusal.Refusal.TheVariants.{DiskFault, Halted, NoMemory, WrongState}
 use Rattle.store_files.specs.Archive.{Snapshot}
@@ -24,7 +24,7 @@ use Rattle.core_state.specs.declared.collector.Early.{Early}
 use Rattle.core_state.specs.declared.collector.Early.TheVariants as early
 use Rattle.core_state.specs.declared.state.Core.{Core}
 use Rattle.core_state.specs.Answers.{fault_after}
-use Rattle.core_state.specs.Begins.{ReadsClock}
+use Rattle.core_state.specs.Begins.{IsBegun, IsReady, ReadsClock}
 use Rattle.core_state.specs.Chunks.{HoldsOnly}
 use Rattle.core_state.specs.Collectors.{OpenOn, closed_on, collector_by, ended_if, is_cut, is_on, open_in, shown_collecting}
 use Rattle.core_state.specs.History.{History, StandsFor, event_of, pieces_of, then_event, world}
@@ -35,6 +35,7 @@ use Rattle.core_state.specs.States.{state_of}
 use Rattle.core_state.specs.Unchanged.{SameKept}
 use Rattle.core_state.specs.Wanted.{session_at}
 use Rattle.core_state.proofs.Acting.{shows_same}
+use Rattle.core_state.proofs.Answering.{where_none, where_some}
 use Rattle.core_state.proofs.Chunks.{only_same}
 use Rattle.core_state.proofs.Collecting.{closed_shown, cut_is, cut_shown}
 use Rattle.core_state.proofs.Commanding.{session_shown}
@@ -219,3 +220,43 @@ module _ {D E C : Type 0} (d : Ghosts D) (readings : C → Option Readings) (old
       stands_by 5 (Some (Refused DiskFault)) is (ap (λ f. Some (Refused (fault_refusal f))) (sym fault)) refl
       (is.fault ∙ ap (first_fault (length (old.journal).entries.items)) none ∙ ap (λ n. Some n) place ∙ sym first)
       (ap open_in closed ∙ closed_shown k was (world h).collecting (same ∙ s.collecting)) (λ at. absurd (some_none (world h).events (sym first ∙ at)))
+
+-- ---- what the act is entered on
+
+-- nothing has changed since it was begun, but the collector
+pub begun_stepped : {D E C : Type 0} (d : Ghosts D) (readings : C → Option Readings) (old mid new : Core D E C) (k m n : ℕ) (reply : Option Reply) (answer : Answer) (c : Option Collector)
+    → IsBegun readings old mid k m → mid.fault ≡ fault_after (length (old.journal).entries.items) n old.fault → (n ≡ 5 → old.fault ≡ None → ⊥)
+    → IsEntered d (record mid { collector = c }) new k m n reply answer → IsStepped d readings old (record mid { collector = c }) new k m n reply answer
+begun_stepped d readings old mid new k m n reply answer c b fault other e = record {
+  clock = b.clock;
+  entries = (b.entries).entries;
+  calls = (b.entries).calls;
+  remote = b.remote;
+  fault = fault;
+  kept = record { catalogue = ap (λ p. p.catalogue.items) b.parts; sessions = ap (λ p. p.sessions.items) b.parts; locks = ap (λ p. p.locks) b.parts };
+  count = let same = ap (λ p. d.faults p.disk) b.parts in omega (arith, same);
+  rose = λ five none. absurd (other five none);
+  later = let same = ap (λ p. d.calls p.disk) b.parts in omega (arith, same);
+  halted = where_some old.fault ((mid.parts).disk ≡ (old.parts).disk) (ap (λ p. p.disk) b.parts);
+  entered = e;
+}
+
+-- its parts, its book, its collector and its fault have changed alone since it was begun
+pub acted_stepped : {D E C : Type 0} (d : Ghosts D) (readings : C → Option Readings) (old mid acted new : Core D E C) (k m n : ℕ) (reply : Option Reply) (answer : Answer) (failed : Type 0) (fault : Option ℕ) (c : Option Collector)
+    → IsReady readings old mid k m → acted.journal ≡ mid.journal → acted.clock ≡ mid.clock → acted.remote ≡ mid.remote → fault ≡ fault_after (length (old.journal).entries.items) n old.fault
+    → SameKept mid.parts acted.parts → Serves d.honest d.faults (mid.parts).disk (acted.parts).disk failed → (n ≡ 5 → failed) → d.calls (mid.parts).disk ≤ d.calls (acted.parts).disk
+    → IsEntered d (record acted { fault = fault; collector = c }) new k m n reply answer → IsStepped d readings old (record acted { fault = fault; collector = c }) new k m n reply answer
+acted_stepped d readings old mid acted new k m n reply answer failed fault c ready journal clock remote fault_is kept serves met up e =
+    let b = ready.begun in record {
+      clock = subst (λ x. ReadsClock readings old.clock x old.last m) (sym clock) b.clock;
+      entries = ap (λ j. j.entries.items) journal ∙ (b.entries).entries;
+      calls = ap (λ j. j.calls.items) journal ∙ (b.entries).calls;
+      remote = remote ∙ b.remote;
+      fault = fault_is;
+      kept = subst (λ p. SameKept p acted.parts) b.parts kept;
+      count = subst (λ p. d.faults p.disk ≤ d.faults (acted.parts).disk) b.parts serves.count;
+      rose = λ five _. subst (λ p. Rose (d.faults p.disk) (d.faults (acted.parts).disk)) b.parts (serves.cause (met five));
+      later = subst (λ p. d.calls p.disk ≤ d.calls (acted.parts).disk) b.parts up;
+      halted = where_none old.fault ((acted.parts).disk ≡ (old.parts).disk) ready.no_fault;
+      entered = e;
+    }

@@ -1,0 +1,4 @@
+pub mod Outcomes
+pub mod Sweepable
+pub mod Settled
+pub mod StepLemmas
