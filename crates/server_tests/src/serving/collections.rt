@@ -628,8 +628,11 @@ fn try_stop(rt: &impl Abort, alloc: Global, disk: MemoryDisk, call: u64) -> Resu
     let left = served.disk.into_inner();
     for choice in 0..3 {
         let found = found_on(alloc, left.crashed(alloc, choice)?)?;
-        let fits = found.is_some_and(|number| may_be_found(&kinds, number));
-        same(rt, (call, choice, found, fits), (call, choice, found, true));
+        let fits = match found {
+            Some(number) => may_be_found(&kinds, number),
+            None => false,
+        };
+        same(rt, (call, choice, fits), (call, choice, true));
     }
     Ok(())
 }
