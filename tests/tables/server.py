@@ -71,6 +71,7 @@ TABLES = {
         "FINISH": [frame(finish())],
         "WRONG_STATE": [frame(wrong_state(0))],
         "BYE": [frame(bye())],
+        "GC": [frame(gc())],
         "DONE": [frame(done())],
         "OPEN_WRITER": [frame(open_writer(A))],
         "NO_BASE": [frame(base())],
