@@ -26,11 +26,11 @@ pub returns-then-entry-eq-MEMORY_KIND-clause-room : goal.returns-then-entry-eq-M
 returns-then-entry-eq-MEMORY_KIND-clause-room g c = let kept = c.apply-reply.ensures.keeps in
     let leaves = kept.stepped refl in
     stays_sweeping g.D.Disk c.args.core.now c.apply-reply.new.core c.args.lane c.args.is_last.now _ c.apply-reply.result c.requires.sweeps kept.reserve leaves (kept.admin refl).0
-    (leaves.cut (c.requires.sweeps).open) ((c.apply-reply.ensures.applies).answers).last (inr c.if-entry-eq-MEMORY_KIND.true) refl
+    (leaves.cut (c.requires.sweeps).is_open) ((c.apply-reply.ensures.applies).answers).last (inr c.if-entry-eq-MEMORY_KIND.true) refl
 
 pub returns-then-entry-eq-MEMORY_KIND-clause-further : goal.returns-then-entry-eq-MEMORY_KIND-clause-further
 returns-then-entry-eq-MEMORY_KIND-clause-further g c =
-    ((c.apply-reply.ensures.keeps).stepped refl).further (c.requires.sweeps).open (inr c.if-entry-eq-MEMORY_KIND.true)
+    ((c.apply-reply.ensures.keeps).stepped refl).further (c.requires.sweeps).is_open (inr c.if-entry-eq-MEMORY_KIND.true)
 
 pub returns-then-entry-eq-MEMORY_KIND-clause-entered : goal.returns-then-entry-eq-MEMORY_KIND-clause-entered
 returns-then-entry-eq-MEMORY_KIND-clause-entered g c =
@@ -52,11 +52,11 @@ pub returns-clause-room : goal.returns-clause-room
 returns-clause-room g c = let kept = c.apply-reply.ensures.keeps in
     let leaves = kept.stepped refl in
     pass_leaves g.D.Disk c.args.core.now c.apply-reply.new.core c.args.lane c.args.is_last.now _ c.apply-reply.result c.requires.sweeps kept.reserve leaves (kept.admin refl).0
-    (leaves.cut (c.requires.sweeps).open) ((c.apply-reply.ensures.applies).answers).last (c.apply-reply.ensures.applies).told refl
+    (leaves.cut (c.requires.sweeps).is_open) ((c.apply-reply.ensures.applies).answers).last (c.apply-reply.ensures.applies).told refl
 
 pub returns-clause-further : goal.returns-clause-further
 returns-clause-further g c =
-    pass_further g.D.Disk c.args.core.now c.apply-reply.new.core c.args.lane c.apply-reply.result ((c.apply-reply.ensures.keeps).stepped refl) (c.requires.sweeps).open (c.apply-reply.ensures.applies).told
+    pass_further g.D.Disk c.args.core.now c.apply-reply.new.core c.args.lane c.apply-reply.result ((c.apply-reply.ensures.keeps).stepped refl) (c.requires.sweeps).is_open (c.apply-reply.ensures.applies).told
 
 pub returns-clause-entered : goal.returns-clause-entered
 returns-clause-entered g c =
