@@ -176,7 +176,7 @@ new_want true b none is = refl
 new_want false b none is = absurd (true_false (sym is ∙ none))
 
 pub start_kind : (answer : Answer) → IsToldBut 3 answer → answer.reply ≡ None → (answer.entry).kind ≡ 3
-start_kind answer (inl open) none = open.0
+start_kind answer (inl opened) none = opened.0
 start_kind answer (inr told) none = absurd (none_some answer.reply none told.1)
 
 pub start_last : (answer : Answer) → (answer.last ≡ true → (answer.entry).kind ≡ 2) → (answer.entry).kind ≡ 3 → answer.last ≡ false
