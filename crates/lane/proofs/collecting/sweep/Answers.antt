@@ -35,3 +35,6 @@ returns-in-Some-clause-remote g c = c.in-Some.ensures.remote ∙ c.loop-reply.in
 pub returns-in-Some-clause-entered : goal.returns-in-Some-clause-entered
 returns-in-Some-clause-entered g c =
     more_entered g.D.Disk c.args.core.now c.loop-reply.core c.pass.new.core c.args.lane (c.loop-reply.last ≡ true) _ _ c.loop-reply.invariant.3 c.in-Some.ensures.entered (want_before c.loop-reply.last _)
+
+pub pass-requires-clause-sweeps : goal.pass-requires-clause-sweeps
+pass-requires-clause-sweeps g c = c.loop-reply.invariant.1
