@@ -3,7 +3,7 @@ use Rattle.store_history.specs.declared.act.Act.TheVariants as acts
 use Rattle.core_state.specs.History.{event_of}
 use Rattle.core_state.proofs.Reaching.{reaches_more}
 use Rattle.core_state.proofs.Reserves.{reserved_room}
-use Rattle.lane.proofs.Collecting.{does_opened, does_told}
+use Rattle.lane.proofs.Collections.{does_opened, does_told}
 use Rattle.lane.proofs.Entries.{one_entered, more_entered}
 use Rattle.lane.proofs.Sweeping.{opens_sweep, start_kind, start_last, start_want}
 use Rattle.lane.proofs.collecting.collect.Goals as goal

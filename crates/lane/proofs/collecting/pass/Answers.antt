@@ -2,7 +2,7 @@ use Rattle.std.proofs.Common.{inr, refl}
 use Rattle.store_history.specs.declared.act.Act.TheVariants as acts
 use Rattle.core_state.specs.History.{event_of}
 use Rattle.core_state.proofs.Reaching.{reaches_more}
-use Rattle.lane.proofs.Collecting.{want_told, end_told}
+use Rattle.lane.proofs.Collections.{want_told, end_told}
 use Rattle.lane.proofs.Entries.{one_entered}
 use Rattle.lane.proofs.Sweeping.{sweep_room, stays_sweeping, pass_leaves, pass_further, new_want}
 use Rattle.lane.proofs.collecting.pass.Goals as goal

@@ -5,7 +5,7 @@ use Rattle.wire_commands.specs.declared.command.Command.{Command}
 use Rattle.lane.specs.Acting.{HasReply}
 use Rattle.lane.specs.Doing.{CoreDoes}
 use Rattle.lane.proofs.Acting.{replied}
-use Rattle.lane.proofs.Collecting.{does_unserved}
+use Rattle.lane.proofs.Collections.{does_unserved}
 use Rattle.lane.proofs.Doing.{does_plain, command_alone, prune_by, gc_by}
 use Rattle.lane.proofs.run.do_command.Goals as goal
 
