@@ -139,9 +139,11 @@ impl Asking {
                 snapshot: Bytes::from_slice(alloc, snapshot.as_slice())?,
             })),
             Stage::Reading { row, bytes, .. } => {
-                file_step(alloc, row.file.as_slice(), bytes.len() as u64)
+                Ok(file_step(alloc, row.file.as_slice(), bytes.len() as u64)?)
             }
-            Stage::Checking { row, place, .. } => chunk_step(alloc, row.file.as_slice(), *place),
+            Stage::Checking { row, place, .. } => {
+                Ok(chunk_step(alloc, row.file.as_slice(), *place)?)
+            }
             Stage::Closing { .. } => Ok(Step::Command(Command::CloseReader)),
             Stage::Beginning { pull } => Ok(Step::Command(Command::OpenWriter {
                 snapshot: pull.snapshot.key.text(alloc)?,

@@ -97,7 +97,8 @@ fn entries_of(alloc: Global, pieces: &[BlobData]) -> Result<Vec<AppendEntry>, Al
             digest: Digest32(Sha256::digest(piece)),
             offset,
         })?;
-        offset = offset.checked_add(piece.len() as u64).ok_or(AllocError)?;
+        let size = piece.len() as u64;
+        offset = offset.checked_add(size).ok_or(AllocError)?;
     }
     Ok(entries)
 }
@@ -221,7 +222,7 @@ fn manifest_text(alloc: Global, snapshot: &Snapshot) -> Result<Vec<u8>, AllocErr
     ensures { IfOk result (λ text. text.items ≡ text_in (file_of manifest_name snapshot.now.files)) }
 {
     match file_named(b"index.json.blob", &snapshot.files) {
-        Some(file) => file.content.text(alloc),
+        Some(file) => Ok(file.content.text(alloc)?),
         None => Ok(Vec::new(alloc)),
     }
 }
