@@ -14,11 +14,12 @@ use Rattle.store_model.specs.WriterSteps.{goes_on, open_writer, want_newer, base
 use Rattle.store_model.specs.WriterCalls as calls
 use Rattle.store_model.specs.ArchiveSteps.{new_fixed, new_dynamic, check_chunk, checked_chunk, put_chunk, named, append, close_index}
 use Rattle.store_model.specs.ReaderSteps.{open_reader, reader_files, download, noted_pieces, get_chunk, range_of, range, close_reader}
+use Rattle.store_model.specs.Jobs.{IsPrune}
 use Rattle.store_model.specs.AdminSteps.{want_after, list, files, group, counts_fit, prune_group}
 use Rattle.store_model.specs.Steps.{outcome, answered}
 use Rattle.store_history.specs.declared.act.Act.{Act}
 use Rattle.store_history.specs.declared.act.Act.TheVariants as acts
-use Rattle.store_history.specs.Acts.{IsPrune, IsWellFormed}
+use Rattle.store_history.specs.Acts.{IsWellFormed}
 use Rattle.store_history.specs.History.{World, EntryKind, step_kind, pass_kind, short_kind, start_kind, close_kind, fault_kind, end_kind, remote_kind, no_kind, kind_of, act_outcome, data_in, moved}
 
 -- a FINISH or a FORGET

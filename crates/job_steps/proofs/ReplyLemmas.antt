@@ -1,13 +1,15 @@
 -- Replies taken one after another.
-use Rattle.std.proofs.Common.{◌≡◌, ℕ, suc, ◌+◌, ◌<◌, ◌≤◌, add-one, List, ◌∷◌, length, get_or, drop, Option, Some, None, sym, ap, subst, ◌∙◌}
+use Rattle.std.proofs.Common.{◌≡◌, ℕ, suc, ◌+◌, ◌<◌, ◌≤◌, add-one, List, ◌∷◌, length, get_or, drop, Option, Some, None, refl, sym, ap, subst, ◌∙◌}
 use Rattle.std.specs.Prelude.{fold, IsSome, IfSome}
 use Rattle.std.proofs.Math.Seq.{drop-cons}
 use Rattle.std.proofs.lemmas.Bool.{false≢true}
 use Rattle.std.proofs.lemmas.List.{drop_all}
+use Rattle.wire_commands.specs.declared.command.Command.{Command}
+use Rattle.wire_commands.specs.declared.command.Command.TheVariants.{Prune}
 use Rattle.wire_commands.specs.declared.reply.Reply.{Reply}
 use Rattle.wire_commands.specs.HasText.{ReplyHasText}
 use Rattle.store_model.specs.Job.{Job, Asking, asking, next}
-use Rattle.store_model.specs.Jobs.{take_more, job_after}
+use Rattle.store_model.specs.Jobs.{job_of, IsPrune, take_more, job_after}
 use Rattle.store_model.specs.JobReplies.{IsReplyTo}
 use Rattle.job_steps.specs.Replies.{AreReplies}
 
@@ -27,6 +29,10 @@ pub folded_all : (job first : Job) (rs : List Reply) (n : ℕ) → length rs ≤
 folded_all job first rs n le same = sym (ap (fold take_more job) (drop_all n rs le)) ∙ same
 
 -- ---- from the command on
+
+pub prune_some : (c : Command) → IsPrune c → IsSome (job_of c)
+prune_some (Prune group keep dry) prune = refl
+prune_some c prune = absurd prune
 
 pub replies_from : (begun : Option Asking) (job : Job) (rs : List Reply) → IsSome begun → IfSome begun (λ a. job ≡ asking a)
     → IfSome begun (λ a. AreReplies (asking a) rs) → AreReplies job rs

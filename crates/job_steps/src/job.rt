@@ -3,7 +3,7 @@
 ghost use Rattle.std.specs.Prelude.{◌≡◌, ◌≤◌, drop, fold, take, vec_len, IsSome, IsNone, IfSome, IfOk, OnErr};
 ghost use Rattle.wire_commands.specs.HasText.{ReplyHasText};
 ghost use Rattle.store_model.specs.Job.{asking, next as next_of, report as report_of};
-ghost use Rattle.store_model.specs.Jobs.{job_of, take_more, job_after};
+ghost use Rattle.store_model.specs.Jobs.{job_of, IsPrune, take_more, job_after};
 ghost use Rattle.store_model.specs.PruneJob.{grouped as grouped_by, go_on};
 ghost use Rattle.store_model.specs.JobReplies.{IsJobStep, IsReplyTo, IsWithinGroup};
 ghost use Rattle.job_steps.specs.Replies.{AreReplies};
@@ -47,14 +47,13 @@ impl Model for Job {
 }
 
 impl Job {
-    /// The job of a command, with nothing done. It makes the room for all that its last reply may need. Only a PRUNE has
-    /// one here: for a VERIFY it is answered that memory is wanting.
+    /// The job of a PRUNE, with nothing done. It makes the room for all that its last reply may need.
     pub fn start(alloc: Global, command: &Command) -> Result<Job, AllocError>
-        requires { IsSome (job_of command.now) }
+        requires { IsPrune command.now }
         ensures { IfOk result (λ job. IfSome (job_of command.now) (λ a. job ≡ asking a)) }
     {
         let Command::Prune { group, keep, dry } = command else {
-            return Err(AllocError);
+            unreachable!();
         };
         let grouping = Grouping {
             group: Bytes::from_slice(alloc, group.as_slice())?,
@@ -171,9 +170,9 @@ fn take_all(job: &mut Job, replies: Vec<Reply>)
     }
 }
 
-/// The job of a command after these replies to its steps.
+/// The job of a PRUNE after these replies to its steps.
 pub fn replay(alloc: Global, command: &Command, replies: Rows<Reply>) -> Result<Job, AllocError>
-    requires job { IsSome (job_of command.now) }
+    requires job { IsPrune command.now }
     requires replies { IfSome (job_of command.now) (λ a. AreReplies (asking a) replies) }
     ensures { IfOk result (λ job. IfSome (job_of command.now) (λ a. job ≡ job_after a replies)) }
 {

@@ -4,11 +4,11 @@ use Rattle.std.proofs.lemmas.Bool.{eq-eqb}
 use Rattle.wire_commands.specs.declared.command.Command.{Command}
 use Rattle.wire_commands.specs.declared.command.Command.TheVariants as commands
 use Rattle.store_model.specs.Job.{Asking}
-use Rattle.store_model.specs.Jobs.{job_of}
+use Rattle.store_model.specs.Jobs.{job_of, IsPrune}
 use Rattle.store_model.specs.Lanes.{job_step, command_next}
 use Rattle.store_history.specs.declared.act.Act.{Act}
 use Rattle.store_history.specs.declared.act.Event.{Event}
-use Rattle.store_history.specs.Acts.{IsPrune, act_of_command}
+use Rattle.store_history.specs.Acts.{act_of_command}
 use Rattle.store_history.specs.History.{kind}
 use Rattle.store_history.specs.LaneRun.{Position, heard}
 use Rattle.store_history.specs.Seats.{AreOf}

@@ -16,14 +16,14 @@ use Rattle.wire_commands.specs.declared.rows.PruneRow.{PruneRow}
 use Rattle.wire_commands.specs.HasText.{ReplyHasText}
 use Rattle.store_model.specs.Job.{Asking, grouping, forgetting, step_of, Job, over, asking, next, report}
 use Rattle.store_model.specs.JobReplies.{IsReplyTo}
-use Rattle.store_model.specs.Jobs.{job_of, take, take_more}
+use Rattle.store_model.specs.Jobs.{job_of, IsPrune, take, take_more}
 use Rattle.store_model.specs.PruneJob as prune
 use Rattle.store_model.specs.VerifyJob as verify
 use Rattle.store_model.specs.Lanes.{job_step, command_next}
 use Rattle.store_history.specs.declared.act.Act.{Act}
 use Rattle.store_history.specs.declared.act.Act.TheVariants as acts
 use Rattle.store_history.specs.declared.act.Event.{Event}
-use Rattle.store_history.specs.Acts.{IsPrune, IsWellFormed}
+use Rattle.store_history.specs.Acts.{IsWellFormed}
 use Rattle.store_history.specs.History.{kind}
 use Rattle.store_history.specs.LaneRun.{Position, goes_on}
 use Rattle.store_history.specs.SoFar.{Leads}

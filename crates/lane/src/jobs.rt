@@ -2,7 +2,7 @@
 
 ghost use Rattle.std.specs.Prelude.{◌≡◌, ◌<◌, true};
 ghost use Rattle.wire_commands.specs.HasText.{ReplyHasText};
-ghost use Rattle.store_history.specs.Acts.{IsPrune};
+ghost use Rattle.store_model.specs.Jobs.{IsPrune};
 ghost use Rattle.core_state.specs.Reserved.{Reserved};
 ghost use Rattle.lane.specs.Acting.{LeavesReserve};
 ghost use Rattle.lane.specs.Doing.{CoreDoes};

@@ -1,9 +1,9 @@
 //! Prunes step by step, with the replies to their steps in bytes.
 
-ghost use Rattle.std.specs.Prelude.{◌≡◌, codes, IsSome, IsTrue, IfOk};
+ghost use Rattle.std.specs.Prelude.{◌≡◌, codes, IsTrue, IfOk};
 ghost use Rattle.wire_commands.specs.HasText.{ReplyHasText};
 ghost use Rattle.store_model.specs.JobReplies.{IsReplyTo};
-ghost use Rattle.store_model.specs.Jobs.{job_of};
+ghost use Rattle.store_model.specs.Jobs.{IsPrune};
 
 use crate::asserts::same;
 use job_steps::{Job, replay};
@@ -188,7 +188,7 @@ fn log_of(
     snapshots: &[&[u8]],
     replies: &[&[u8]],
 ) -> Result<Vec<u8>, Fail>
-    requires { IsSome (job_of command.now) }
+    requires { IsPrune command.now }
 {
     let mut log = Vec::new(alloc);
     let mut job = Job::start(alloc, command)?;

@@ -1,5 +1,4 @@
 -- What a lane's loop needs of its collector: where its acts lead.
--- Nothing names these yet: they wait for GC on a lane.
 use Rattle.std.proofs.Common.{◌≡◌, ℕ, Bool, true, false, ◌||◌, List, [], ◌∷◌, ◌++◌, Option, Some, None, refl, sym, ap, subst, ◌∙◌, ◌==◌, if◌then◌else◌}
 use Rattle.wire_commands.specs.declared.reply.Reply.{Reply}
 use Rattle.store_model.specs.Lanes.{collect, collecting}
@@ -15,7 +14,7 @@ use Rattle.store_history.proofs.Growing.{leads_more}
 
 -- ---- what an answer leaves
 
-abbrev flag : Answer → Option Bool → ℕ → Position → Position
+abbrev pub flag : Answer → Option Bool → ℕ → Position → Position
 flag a o n q = record q { is_short = wants n o; is_spent = a.last || q.is_spent }
 
 -- a GC whose collector opens
@@ -36,25 +35,6 @@ heard_gc p left a r is says =
     ap (λ x. flag a p.collecting (a.entry).kind (heard_at p (a.entry).kind a.reply x)) is
     ∙ ap (λ (x : Option Reply). flag a p.collecting (a.entry).kind (heard_at p (a.entry).kind x (collect left))) says
     ∙ ap (λ (o : Option Bool). flag a o (a.entry).kind (heard_at p (a.entry).kind (Some r) (collect left))) (next_shut p (collect left) is refl)
-
--- a mark or a visit
-pub heard_pass : (p : Position) (a : Answer) → p.collecting ≡ Some false → a.reply ≡ None
-    → heard p a ≡ record p { is_short = (a.entry).kind == 2; is_spent = a.last || p.is_spent }
-unfolding heard heard_at
-heard_pass p a on none =
-    ap (λ x. flag a p.collecting (a.entry).kind (heard_at p (a.entry).kind a.reply x)) (next_collecting p false on)
-    ∙ ap (λ (x : Option Reply). flag a p.collecting (a.entry).kind (heard_at p (a.entry).kind x (collecting false))) none
-    ∙ ap (λ (o : Option Bool). flag a o (a.entry).kind p) on
-
--- one that memory was wanting for
-pub heard_cut : (p : Position) (a : Answer) (r : Reply) → p.collecting ≡ Some false → a.reply ≡ Some r → (a.entry).kind ≡ 2
-    → heard p a ≡ record p { collecting = Some true; is_short = true; is_spent = a.last || p.is_spent }
-unfolding heard heard_at
-heard_cut p a r on says two =
-    ap (λ x. flag a p.collecting (a.entry).kind (heard_at p (a.entry).kind a.reply x)) (next_collecting p false on)
-    ∙ ap (λ (x : Option Reply). flag a p.collecting (a.entry).kind (heard_at p (a.entry).kind x (collecting false))) says
-    ∙ ap (λ (o : Option Bool). flag a o (a.entry).kind (heard_at p (a.entry).kind (Some r) (collecting false))) on
-    ∙ ap (λ n. flag a (Some false) n (heard_at p n (Some r) (collecting false))) two
 
 wants_is : (n : ℕ) (b : Bool) → (n == 2) ≡ false → wants n (Some b) ≡ b
 wants_is n true h = refl
@@ -92,18 +72,6 @@ pub leads_gc : (vs : List Event) (p q : Position) (left : List ℕ) (v : Event) 
     → Leads p (vs ++ v ∷ []) (record q { left = left; job = None; is_short = kind v == 2; is_spent = (v.answer).last || q.is_spent; told = q.told ++ r ∷ [] })
 leads_gc vs p q left v r led on is asks says =
     subst (λ x. Leads p (vs ++ v ∷ []) x) (heard_gc q left v.answer r is says) (leads_more vs p q v led (follows_start q left v on is asks))
-
--- a mark or a visit
-pub leads_pass : (vs : List Event) (p q : Position) (v : Event) → Leads p vs q → q.collecting ≡ Some false → v.act ≡ acts.Step → reply v ≡ None
-    → Leads p (vs ++ v ∷ []) (record q { is_short = kind v == 2; is_spent = (v.answer).last || q.is_spent })
-leads_pass vs p q v led on asks none =
-    subst (λ x. Leads p (vs ++ v ∷ []) x) (heard_pass q v.answer on none) (leads_more vs p q v led (follows_step q false v on asks))
-
--- one that memory was wanting for
-pub leads_cut : (vs : List Event) (p q : Position) (v : Event) (r : Reply) → Leads p vs q → q.collecting ≡ Some false → v.act ≡ acts.Step → reply v ≡ Some r → kind v ≡ 2
-    → Leads p (vs ++ v ∷ []) (record q { collecting = Some true; is_short = true; is_spent = (v.answer).last || q.is_spent })
-leads_cut vs p q v r led on asks says two =
-    subst (λ x. Leads p (vs ++ v ∷ []) x) (heard_cut q v.answer r on says two) (leads_more vs p q v led (follows_step q false v on asks))
 
 -- the collector's end
 pub leads_close : (vs : List Event) (p q : Position) (b : Bool) (v : Event) (r : Reply) → Leads p vs q → q.collecting ≡ Some b → v.act ≡ acts.Step → reply v ≡ Some r

@@ -10,13 +10,13 @@ use Rattle.wire_commands.specs.declared.rows.PruneRow.{PruneRow}
 use Rattle.store_types.specs.declared.names.Keep.{Keep}
 use Rattle.store_types.specs.declared.refusal.Refusal.TheVariants.{SnapshotBusy, NoSnapshot}
 use Rattle.store_model.specs.Job.{Asking, grouping, forgetting, step_of, Job, over, asking}
-use Rattle.store_model.specs.Jobs.{job_of, take as job_take}
+use Rattle.store_model.specs.Jobs.{job_of, IsPrune, take as job_take}
 use Rattle.store_model.specs.PruneJob as prune
 use Rattle.store_model.specs.Lanes.{job_step}
 use Rattle.store_history.specs.declared.act.Act.TheVariants as acts
 use Rattle.store_history.specs.declared.act.Answer.{Answer}
 use Rattle.store_history.specs.declared.act.Event.{Event}
-use Rattle.store_history.specs.Acts.{IsPrune, IsWellFormed, act_of_step, Class, stepping, wanting, class_of}
+use Rattle.store_history.specs.Acts.{IsWellFormed, act_of_step, Class, stepping, wanting, class_of}
 use Rattle.store_history.specs.History.{kind, reply}
 use Rattle.store_history.specs.LaneRun.{Position, next_at, goes_on, wants, heard_at, heard, Asks, may_want_at}
 use Rattle.store_history.specs.SoFar.{goes_further, Follows, Leads}

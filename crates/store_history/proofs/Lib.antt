@@ -3,6 +3,7 @@ pub mod Collectors
 pub mod Placed
 pub mod Wanting
 pub mod Checking
+pub mod Digests
 pub mod Events
 pub mod Keeping
 pub mod Whole

@@ -5,6 +5,7 @@ use Rattle.store_types.specs.declared.refusal.Refusal.TheVariants.{BadBlob, Wron
 use Rattle.store_types.specs.declared.names.Digest32.{Digest32}
 use Rattle.blob_codec.specs.Blob.{data_of}
 use Rattle.store_model.specs.ArchiveSteps.{check_chunk}
+use Rattle.store_model.specs.Jobs.{IsPrune}
 use Rattle.wire_commands.specs.declared.command.Command.{Command}
 use Rattle.wire_commands.specs.declared.command.Command.TheVariants as commands
 use Rattle.store_model.specs.declared.step.Step.{Step}
@@ -41,11 +42,6 @@ IsPlain (commands.Sync group) = ⊥
 IsPlain commands.Gc = ⊥
 IsPlain (commands.Group group) = Unit {0}
 IsPlain commands.Bye = ⊥
-
--- a job's command whose first step gives a group
-abbrev pub IsPrune : Command → Type 0
-IsPrune (commands.Prune group keep dry) = Unit {0}
-IsPrune c = ⊥
 
 -- what the check of an upload gives: its bytes, where they are a blob, or what is wrong with them
 abbrev pub IsChecked : Result (List ℕ) Refusal → Type 0

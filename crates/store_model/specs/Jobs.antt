@@ -17,6 +17,11 @@ job_of (Prune group keep dry) = Some (grouping (Prune group keep dry) keep dry)
 job_of (Verify snapshot) = Some (opening snapshot)
 job_of _ = None
 
+-- a job's command whose first step gives a group
+abbrev pub IsPrune : Command → Type 0
+IsPrune (Prune group keep dry) = Unit {0}
+IsPrune c = ⊥
+
 -- the job after the reply to the step that it asked
 unfoldable pub take : Asking → Reply → Job
 take (grouping c keep dry) reply = prune.grouped keep dry reply

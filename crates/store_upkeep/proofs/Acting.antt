@@ -28,6 +28,7 @@ use Rattle.store_model.specs.WriterSteps.{with_pool, with_file, goes_on, new_wri
 use Rattle.store_model.specs.WriterCalls as calls
 use Rattle.store_model.specs.ArchiveSteps.{new_fixed, new_dynamic, checked_chunk, named, append, close_index}
 use Rattle.store_model.specs.ReaderSteps.{open_reader, reader_files, note, is_noted, download, noted_pieces, get_chunk, range_of, range, close_reader}
+use Rattle.store_model.specs.Jobs.{IsPrune}
 use Rattle.store_model.specs.AdminSteps.{want_after, list, files, want_free, forget, group, counts_fit, prune_group}
 use Rattle.store_model.specs.Steps.{outcome, answered}
 use Rattle.store_model.proofs.Finding.{found_passes}
@@ -35,7 +36,7 @@ use Rattle.store_history.specs.declared.act.Act.{Act}
 use Rattle.store_history.specs.declared.act.Act.TheVariants as acts
 use Rattle.store_model.specs.Weave.{fault_refusal}
 use Rattle.store_history.specs.declared.act.Event.{Event}
-use Rattle.store_history.specs.Acts.{IsPlain, IsPrune, IsCheckedChunk, IsWellFormed, stepping, starting, sweeping, wanting, ending, class_of}
+use Rattle.store_history.specs.Acts.{IsPlain, IsCheckedChunk, IsWellFormed, stepping, starting, sweeping, wanting, ending, class_of}
 use Rattle.store_history.specs.History.{World, data_in, act_outcome, moved, after, lane, moment, kind, reply, EntryKind, kind_of, step_kind, short_kind, fault_kind, end_kind}
 use Rattle.store_history.specs.Legal.{Right, IsRight}
 use Rattle.store_history.proofs.Checking.{checked_digest}
@@ -439,7 +440,7 @@ module _ (s : Store) (k m : ℕ) where
   one_digest d piece digest same (inl e) = e ∙ same
   one_digest d piece digest same (inr h) = absurd h
 
-  digest_is : (digest : Digest32) (checked : Result (List ℕ) Refusal) (piece : List ℕ) → IsCheckedChunk digest checked → data_in checked ≡ Ok piece → sha256 piece ≡ digest.0
+  pub digest_is : (digest : Digest32) (checked : Result (List ℕ) Refusal) (piece : List ℕ) → IsCheckedChunk digest checked → data_in checked ≡ Ok piece → sha256 piece ≡ digest.0
   digest_is digest (Ok bytes) piece formed is = checked_digest digest bytes piece formed is
   digest_is digest (Err refusal) piece formed is = absurd (err_ok refusal piece is)
 

@@ -9,6 +9,7 @@ pub mod Stocking
 pub mod Marking
 pub mod Taking
 pub mod Listing
+pub mod Digests
 pub mod Following
 pub mod Whole
 pub mod Lasting

@@ -23,9 +23,9 @@ use Rattle.store_history.specs.declared.act.Act.TheVariants.{Chunk}
 use Rattle.store_history.specs.declared.act.Event.{Event}
 use Rattle.store_history.specs.History.{World, Opening, opened, after, reply}
 use Rattle.store_history.specs.LastTouches.{LastTouches, is_one_of}
-use Rattle.store_history.specs.Sweeping.{Swept, insert_digest, in_order, swept_at, is_there, chunks, taken_by, touched_after, without, known_after, swept_after, swept_all, used_among, pending_among}
+use Rattle.store_history.specs.Sweeping.{Swept, insert_digest, in_order, swept_at, is_there, chunks, taken_by, touched_after, without, known_after, swept_after, swept_all, swept, used_among, pending_among}
 use Rattle.store_upkeep.specs.Safety.{In, IsThere}
-use Rattle.store_upkeep.specs.Laws.{sent_in, Lists}
+use Rattle.store_upkeep.specs.Laws.{sent_in, Lists, Above, Rising}
 use Rattle.store_upkeep.proofs.Members.{in_append, in_left, in_right, in_filter, filter_in, is_one_in}
 use Rattle.store_upkeep.proofs.Taking.{after_from}
 
@@ -46,14 +46,6 @@ not_less Greater e h = false≢true h
 
 lt_itself : (a : List ℕ) → name_lt a a ≡ true → ⊥
 lt_itself a h = not_less (text_cmp a a) (ap is_eq (tied_itself nat_list_cmp_total a)) h
-
--- each is above the one before it
-abbrev pub Above : List ℕ → List (List ℕ) → Type 0
-Above x ds = (y : List ℕ) → In y ds → name_lt x y ≡ true
-
-abbrev pub Rising : List (List ℕ) → Type 0
-Rising [] = Unit {0}
-Rising (d ∷ ds) = Above d ds × Rising ds
 
 -- each stands once
 abbrev AllDiffer : List (List ℕ) → Type 0
@@ -213,7 +205,7 @@ contains_from_in [] x h = absurd h
 contains_from_in (y ∷ ys) x (inl e) = (0, omega arith, sym e)
 contains_from_in (y ∷ ys) x (inr h) = let at = contains_from_in ys x h in (suc at.0, omega (arith, at.1), at.2)
 
-in_at : (xs : List (List ℕ)) (j : ℕ) (d : List ℕ) → j < length xs → In (get_or xs j d) xs
+pub in_at : (xs : List (List ℕ)) (j : ℕ) (d : List ℕ) → j < length xs → In (get_or xs j d) xs
 in_at [] j d lt = absurd (omega (arith, lt))
 in_at (x ∷ xs) zero d lt = inl refl
 in_at (x ∷ xs) (suc j) d lt = inr (in_at xs j d (omega (arith, lt)))
@@ -280,6 +272,9 @@ known_lists s h = record {
 
 pub lists_chunks : (R : Option (List Snapshot)) (o : Opening) (es : List Event) → Lists (swept_all R (opened o) (swept_at o) es).touches (chunks (swept_all R (opened o) (swept_at o) es))
 lists_chunks R o es = known_lists (swept_all R (opened o) (swept_at o) es) (known_all R (opened o) (swept_at o) es (opened_known o))
+
+pub swept_rising : (R : Option (List Snapshot)) (o : Opening) (es : List Event) → Rising (chunks (swept R o es))
+swept_rising R o es = chunks_rising (swept R o es) (known_all R (opened o) (swept_at o) es (opened_known o))
 
 -- ---- counts
 

@@ -1,6 +1,7 @@
 -- What holds of sweeps in every legal history.
 use Rattle.std.specs.Prelude.{◌≡◌, ◌≢◌, ◌≤◌, ◌⊎◌, ◌↔◌, ℕ, true, List, [], ◌∷◌, ◌++◌, length, Option, Some, IsSome, IsSomeAnd, option_to_list}
 use Rattle.std.specs.List.{AllPairs, Contains, flat_map}
+use Rattle.store_types.specs.Names.{name_lt}
 use Rattle.store_files.specs.Archive.{Snapshot}
 use Rattle.wire_commands.specs.declared.reply.Reply.{Reply}
 use Rattle.store_types.specs.declared.refusal.Refusal.TheVariants.{NoMemory}
@@ -116,6 +117,14 @@ EndsAreReported =
 pub record Lists (touches : LastTouches) (digests : List (List ℕ)) : Type 0 where
   pub once : AllPairs (λ a b. a ≢ b) digests
   pub each : (d : List ℕ) → IsThere touches d ↔ Contains digests d
+
+-- in byte order: each of these is above it, and each is above those before it
+abbrev pub Above : List ℕ → List (List ℕ) → Type 0
+Above x digests = (y : List ℕ) → In y digests → name_lt x y ≡ true
+
+abbrev pub Rising : List (List ℕ) → Type 0
+Rising [] = Unit {0}
+Rising (x ∷ xs) = Above x xs × Rising xs
 
 -- the chunks that a collector lists and counts are those that are there
 abbrev pub ListsChunks : Type 0
