@@ -13,7 +13,7 @@ use Rattle.store_files.specs.Archive.{Archive, Content, archive, blob, File, Sna
 use Rattle.wire_commands.specs.declared.command.Command.{Command}
 use Rattle.wire_commands.specs.declared.command.Command.TheVariants.{Append, Blob, Finish}
 use Rattle.store_model.specs.SyncJob.{has_digest_of, unsent, entries_from, appends, file_commands, archive_commands, new_index, uploads, listed_files, text_of, commands_of}
-use Rattle.plain_lanes.specs.Uploading.{is_sent, unsent_by, sent_after, chunk_of, close_of, archive_commands_by, file_commands_by, uploads_by}
+use Rattle.plain_lanes.specs.Uploading.{is_sent, unsent_by, sent_after, chunk_of, close_of, file_commands_by, uploads_by}
 
 -- ---- by digests, as by pieces
 

@@ -5,8 +5,8 @@ use Rattle.plain_lanes.specs.Uploading.{is_sent}
 use Rattle.plain_lanes.proofs.UploadLemmas.{chunk_sent, chunk_unsent, sent_already, sent_now}
 use Rattle.plain_lanes.proofs.uploads.push_chunk.Goals as goal
 
-pub returns-then-is_sent-clause-commands : goal.returns-then-is_sent-clause-commands
-returns-then-is_sent-clause-commands c =
+pub returns-then-is_sent-clause-pushes : goal.returns-then-is_sent-clause-pushes
+returns-then-is_sent-clause-pushes c =
     let sent = c.args.sent.now.items in
     let p = c.args.piece.now in
     let told : is_sent p sent ≡ true = sym (c.is_sent.ensures ∙ ap (is_sent p) c.deref.ensures.value) ∙ c.if-is_sent.true in
@@ -19,8 +19,8 @@ returns-then-is_sent-clause-sent c =
     let told : is_sent p sent ≡ true = sym (c.is_sent.ensures ∙ ap (is_sent p) c.deref.ensures.value) ∙ c.if-is_sent.true in
     sent_already sent p told
 
-pub returns-clause-commands : goal.returns-clause-commands
-returns-clause-commands c =
+pub returns-clause-pushes : goal.returns-clause-pushes
+returns-clause-pushes c =
     let sent = c.args.sent.now.items in
     let p = c.args.piece.now in
     let told : is_sent p sent ≡ false = sym (c.is_sent.ensures ∙ ap (is_sent p) c.deref.ensures.value) ∙ c.if-is_sent.false in
