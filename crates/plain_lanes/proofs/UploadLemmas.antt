@@ -1,5 +1,5 @@
 -- The commands by which a SYNC uploads a snapshot, one by one.
-use Rattle.std.proofs.Common.{◌≡◌, ℕ, zero, suc, ◌+◌, ◌≤◌, ◌<◌, Bool, true, false, cond, List, [], ◌∷◌, ◌++◌, map, length, get_or, Option, Some, None, take, drop, drop-cons, add-one, refl, sym, ap, ◌∙◌, arith, append_assoc, append-nil, length-drop}
+use Rattle.std.proofs.Common.{◌≡◌, ℕ, zero, suc, ◌+◌, ◌≤◌, ◌<◌, Bool, true, false, cond, eqb, List, [], ◌∷◌, ◌++◌, map, length, get_or, Option, Some, None, take, drop, drop-cons, add-one, refl, sym, ap, ◌∙◌, arith, append_assoc, append-nil, length-drop}
 use Rattle.std.specs.List.{list_any, filter_map, cons_option}
 use Rattle.std.specs.Str.{bytes_eq}
 use Rattle.std.specs.Prelude.{min}
@@ -152,6 +152,11 @@ archive_pushed commands one two three four begin close chunks appended first sec
     ∙ append_assoc ((commands ++ begin ∷ []) ++ chunks) appended (close ∷ [])
     ∙ append_assoc (commands ++ begin ∷ []) chunks (appended ++ close ∷ [])
     ∙ append_assoc commands (begin ∷ []) (chunks ++ appended ++ close ∷ [])
+
+-- whether some are left
+pub some_left : (entries : List AppendEntry) → eqb (length entries) 0 ≡ false → 0 < length entries
+some_left [] h = cc
+some_left (e ∷ es) h = omega arith
 
 pub appends_done : (before r : List Command) (left : List AppendEntry) → length left ≡ 0 → before ++ appends (length left) left ≡ r → before ≡ r
 unfolding appends

@@ -161,7 +161,10 @@ fn push_file(
 {
     let name = file.name.as_slice();
     match &file.content {
-        Content::Archive(archive) => push_archive(alloc, commands, sent, name, archive),
+        Content::Archive(archive) => {
+            push_archive(alloc, commands, sent, name, archive)?;
+            Ok(())
+        }
         Content::Blob(contents) => {
             commands.push(Command::Blob {
                 file: Bytes::from_slice(alloc, name)?,

@@ -20,11 +20,11 @@ loop-fact-preserved c =
     let x = c.fact-item.result in
     let listed = c.deref-2.ensures.value ∙ ap (λ (s : Snapshot). s.files) c.snapshot.view_is in
     let told = c.file_named.ensures ∙ ap (λ n. file_named n c.deref-2.result.now) c.as_slice.ensures.value ∙ ap (file_named x.name) listed in
-    elim c.match-branch.branch [
+    elim c.match-file_named.branch [
       | in-Some+in_ok-push w ↦
           let file = w.in-Some.file.now in
           let same : w.in_ok-clone.field-0 ≡ file = search rules in
-          found_more found facts i x (omega arith) c.fact-item.is c.loop-fact.listed.items c.match-branch.listed.items file c.loop-fact.invariant
+          found_more found facts i x (omega arith) c.fact-item.is c.loop-fact.listed.items c.match-file_named.listed.items file c.loop-fact.invariant
           (sym told ∙ ap (option_map (λ f. f.now)) w.in-Some.is)
           (ap (λ v. v.items) w.listed-is ∙ w.in_ok-push.ensures.items ∙ ap (λ (y : File). c.loop-fact.listed.items ++ y ∷ []) same)
       | in_default w ↦
