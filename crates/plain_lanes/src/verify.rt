@@ -281,7 +281,8 @@ fn part_read(
     ensures job { GivesJob result (model.part_read (shown visit) row bytes.items total) }
     ensures spelled { IfOk result IsSpelledJob }
 {
-    if (bytes.len() as u64) < total {
+    let so_far = bytes.len() as u64;
+    if so_far < total {
         let stage = Stage::Reading { visit, row, bytes };
         return Ok(Job::Asking(Asking { stage }));
     }
