@@ -74,14 +74,15 @@ fn fixed_judged(alloc: Global, row: &FileRow, bytes: &[u8]) -> Result<Judged, Al
         return Ok(without_entries(alloc, Some(FileFault::Unreadable)));
     };
     let digests = fixed_digests(alloc, &view)?;
+    let total = view.size();
     Ok(Judged {
-        fault: compared(row, view.size(), &view.csum().0),
-        bytes: view.size(),
+        fault: compared(row, total, &view.csum().0),
+        bytes: total,
         digests: VecDeque::from_vec(digests),
     })
 }
 
-#[tactic(auto, unfolding(store_model::specs::VerifyJob::dynamic_judged), using(crate::proofs::JudgingLemmas::last_same))]
+#[tactic(auto, unfolding(store_model::specs::VerifyJob::dynamic_judged))]
 fn dynamic_judged(alloc: Global, row: &FileRow, bytes: &[u8]) -> Result<Judged, AllocError>
     ensures judged { GivesJudged result (model.dynamic_judged row.now bytes.now) }
     ensures fits { IfOk result (λ judged. IfSome judged.fault FitsFileFault) }
@@ -90,9 +91,10 @@ fn dynamic_judged(alloc: Global, row: &FileRow, bytes: &[u8]) -> Result<Judged, 
         return Ok(without_entries(alloc, Some(FileFault::Unreadable)));
     };
     let digests = dynamic_digests(alloc, &view)?;
+    let total = view.size();
     Ok(Judged {
-        fault: compared(row, view.size(), &view.csum().0),
-        bytes: view.size(),
+        fault: compared(row, total, &view.csum().0),
+        bytes: total,
         digests: VecDeque::from_vec(digests),
     })
 }
