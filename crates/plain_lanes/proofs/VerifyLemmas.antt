@@ -21,7 +21,7 @@ use Rattle.store_model.specs.Job.{Visit, Job, over, asking, listing, reading, cl
 use Rattle.store_model.specs.VerifyJob.{next_file, file_done, next_chunk, with_fault, tally, judged, file_read, opened, begun, listed, part_read, read_part, chunk_fault, checked}
 use Rattle.plain_lanes.specs.Closes.{ended_by}
 use Rattle.plain_lanes.specs.FaultRows.{fault_fits, IsFitRow}
-use Rattle.plain_lanes.specs.Visits.{is_done, is_files, is_part, fault_told, unreadable_told, chunk_judged, with_faults, read_by, checked_by}
+use Rattle.plain_lanes.specs.Visits.{is_done, is_files, is_part, is_data, fault_told, chunk_told, unreadable_told, chunk_judged, with_faults, read_by, checked_by}
 
 -- ---- the report
 
@@ -160,3 +160,16 @@ module _ (v : Visit) (row : FileRow) where
       not_checked (Refused (Unreadable name)) h = refl
       not_checked (Refused refusal) h = refl
       not_checked reply h = refl
+
+-- the fault of a chunk that a reply tells
+pub fault_judged : (reply : Reply) (d : Digest32) (f : FileFault) → chunk_told reply d ≡ Some f → chunk_judged reply d ≡ Some (Some f)
+fault_judged (Data bytes) d f h = cc
+fault_judged (Refused (Damaged asked given)) d f h = ap (λ o. (let x : Option (Option FileFault) = Some o in x)) h
+fault_judged (Refused refusal) d f h = cc
+fault_judged reply d f h = cc
+
+pub none_judged : (reply : Reply) (d : Digest32) → is_data reply ≡ false → chunk_told reply d ≡ None → chunk_judged reply d ≡ None
+none_judged (Data bytes) d other h = cc
+none_judged (Refused (Damaged asked given)) d other h = cc
+none_judged (Refused refusal) d other h = refl
+none_judged reply d other h = refl
