@@ -3,12 +3,14 @@ pub mod Lists
 pub mod Listings
 pub mod Losing
 pub mod StartLemmas
+pub mod StartRefused
 pub mod StartActs
 pub mod ReadLemmas
 pub mod MarkLemmas
 pub mod Settling
 pub mod Marked
 pub mod VisitLemmas
+pub mod Fitting
 pub mod VisitAnswers
 pub mod EndLemmas
 pub mod Sweepable
