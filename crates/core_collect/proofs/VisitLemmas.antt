@@ -1,7 +1,7 @@
 -- A visit of the collector is that of the sweep.
 use Rattle.disk_trait.specs.declared.disk.Disk.{Ghosts}
-use Rattle.std.proofs.Common.{◌≡◌, ◌⊎◌, ◌×◌, inl, inr, ℕ, zero, suc, ◌<◌, ◌≤◌, ◌+◌, ◌^◌, min, Bool, true, false, cond, List, [], ◌∷◌, length, map, Option, Some, None, Result, Ok, Err, refl, sym, subst, ap, ◌∙◌, arith, true≢false}
-use Rattle.std.specs.Prelude.{IfSome, IsErrOf, IsSomeAnd, OnOk, Vec, unwrap_or}
+use Rattle.std.proofs.Common.{◌≡◌, ◌⊎◌, ◌×◌, inl, inr, ℕ, suc, ◌<◌, ◌≤◌, ◌+◌, ◌^◌, min, Bool, true, false, cond, List, [], ◌∷◌, length, Option, Some, None, Result, Ok, Err, refl, sym, subst, ap, ◌∙◌, arith, true≢false}
+use Rattle.std.specs.Prelude.{IfSome, IsErrOf, IsSomeAnd, Vec, unwrap_or}
 use Rattle.std.specs.declared.alloc.Global.{Global}
 use Rattle.std.specs.FinMap.{remove}
 use Rattle.std.specs.List.{All}
@@ -31,7 +31,7 @@ use Rattle.core_state.specs.declared.upkeep.Upkeep.{Upkeep}
 use Rattle.core_state.specs.declared.stop.Stop.TheVariants as stops
 use Rattle.core_state.specs.Changes.{Change, after, drops, stays}
 use Rattle.core_state.specs.Holds.{Holds}
-use Rattle.core_state.specs.Passes.{PassTouches}
+use Rattle.core_state.specs.Passes.{KeepsPlan, PassTouches}
 use Rattle.core_state.specs.Sweeps.{FitsRemoved, HasEntries, HasNumber, ShowsSweep, unmarked_by, visits_by}
 use Rattle.core_state.specs.Unchanged.{SameKept}
 use Rattle.core_state.specs.Upkeeps.{touches_kept}
@@ -158,11 +158,11 @@ same_touches t = record { last = λ x. refl; undated = λ x. refl }
 
 -- what the visit takes out of the touches, on any disk
 pub visited_pass : (u v : Upkeep) (p q : Plan) (change : Change) (first : Option Digest32) (moment : ℕ) → v.undated ≡ u.undated → FirstIs u.book v.book p q change first
-    → PassTouches (touches_kept u) (touches_kept v) moment
+    → PassTouches change (touches_kept u) (touches_kept v) moment
 visited_pass u v p q change first moment undated (keeps same is left) =
-    inr (None, visited_touches u v (touches_kept u) None (same_touches (touches_kept u)) undated same)
+    inr (None, left, visited_touches u v (touches_kept u) None (same_touches (touches_kept u)) undated same)
 visited_pass u v p q change first moment undated (takes digest is stale swept plan_is lost) =
-    inr (Some digest.0, visited_touches u v (touches_kept u) (Some digest.0) (same_touches (touches_kept u)) undated swept)
+    inr (Some digest.0, lost, visited_touches u v (touches_kept u) (Some digest.0) (same_touches (touches_kept u)) undated swept)
 
 -- ---- the first chunk, on any disk
 
@@ -178,6 +178,23 @@ goes_so book p q digest same stale = sym (ap (is_stale (last_of book digest.0)) 
 pub drops_goes : {D : Type 0} (d : Ghosts D) (disk : D) (book : Book) (p : Plan) (change : Change) (drop : DropsFirst d disk book p change) → goes book p drop.digest ≡ true
 drops_goes d disk book p change drop = goes_so book p drop.listed drop.digest (listed_cutoff d disk p drop.listed drop.is_listed) drop.stale
 
+-- the visit leaves start, cutoff and indexes
+pub visited_keeps : {D : Type 0} (d : Ghosts D) (disk : D) (before after_ : Book) (p listed q : Plan) (change : Change) (first : Option Digest32)
+    → IsListed d disk p listed → FirstIs before after_ listed q change first → KeepsPlan p q
+visited_keeps d disk before after_ p listed q change first are visit =
+    record { start = (by_visit visit).start ∙ (by_listing are).start; cutoff = (by_visit visit).cutoff ∙ (by_listing are).cutoff; indexes = (by_visit visit).indexes ∙ (by_listing are).indexes }
+  where
+    plan_same : (x y : Plan) → y ≡ x → KeepsPlan x y
+    plan_same x y e = record { start = ap (λ (z : Plan). z.start) e; cutoff = ap (λ (z : Plan). z.cutoff) e; indexes = ap (λ (z : Plan). z.indexes) e }
+
+    by_listing : IsListed d disk p listed → KeepsPlan p listed
+    by_listing (inl (has, same)) = plan_same p listed same
+    by_listing (inr (none, (names, e, set))) = record { start = ap (λ (z : Plan). z.start) e; cutoff = ap (λ (z : Plan). z.cutoff) e; indexes = ap (λ (z : Plan). z.indexes) e }
+
+    by_visit : FirstIs before after_ listed q change first → KeepsPlan listed q
+    by_visit (keeps same e left) = record { start = ap (λ (z : Plan). z.start) e; cutoff = ap (λ (z : Plan). z.cutoff) e; indexes = ap (λ (z : Plan). z.indexes) e }
+    by_visit (takes digest is stale swept e lost) = record { start = ap (λ (z : Plan). z.start) e; cutoff = ap (λ (z : Plan). z.cutoff) e; indexes = ap (λ (z : Plan). z.indexes) e }
+
 -- ---- what is left to do
 
 behind_less : (p : Plan) → plan_left (visited p) ≤ plan_left p
@@ -189,7 +206,7 @@ behind_less p = by_stage p.stage refl
     by_stage (sweeping (x ∷ xs)) is = subst (λ (q : Plan). plan_left (visited q) ≤ plan_left q) (sym (ap (λ (x : Stage). record p { stage = x }) is)) (omega arith)
 
 visit_less : (p : Plan) → is_plan_over p ≡ false → has_names p ≡ true → plan_left (visited p) < plan_left p
-visit_less p open has = by_stage p.stage refl open has
+visit_less p ahead has = by_stage p.stage refl ahead has
   where
     by_stage : (stage : Stage) → p.stage ≡ stage → ends_at stage ≡ false → is_sweeping stage ≡ true → plan_left (visited p) < plan_left p
     by_stage (marking place first) is left none = absurd (true≢false (sym none))
@@ -204,14 +221,14 @@ list_less p names none few = by_stage p.stage refl none
     by_stage (sweeping others) is some = absurd (true≢false some)
 
 pub visited_less : {D : Type 0} (d : Ghosts D) (disk : D) (p listed q : Plan) → is_plan_over p ≡ false → IsListed d disk p listed → (q ≡ visited listed) ⊎ (q ≡ with_removal (visited listed)) → plan_left q < plan_left p
-visited_less d disk p listed q open (inl (has, same)) is =
+visited_less d disk p listed q ahead (inl (has, same)) is =
     subst (λ n. n < plan_left p) (sym (left_is is))
-    (subst (λ (x : Plan). plan_left (visited x) < plan_left p) (sym same) (visit_less p open has))
+    (subst (λ (x : Plan). plan_left (visited x) < plan_left p) (sym same) (visit_less p ahead has))
   where
     left_is : (q ≡ visited listed) ⊎ (q ≡ with_removal (visited listed)) → plan_left q ≡ plan_left (visited listed)
     left_is (inl e) = ap plan_left e
     left_is (inr e) = ap plan_left e
-visited_less d disk p listed q open (inr (none, (names, e, are))) is =
+visited_less d disk p listed q ahead (inr (none, (names, e, are))) is =
     let less : plan_left listed < plan_left p = subst (λ (x : Plan). plan_left x < plan_left p) (sym e) (list_less p names none are.few) in
     let behind = behind_less listed in
     let same : plan_left q ≡ plan_left (visited listed) = left_is is in
@@ -248,7 +265,7 @@ stale_there (Some when) cutoff e = refl
 module _ {D : Type 0} (d : Ghosts D) (old new : Parts D) (mid : D) (u v : Upkeep) (e f : Collector) (failed : Type 0) (moment : ℕ) (acts : ℕ) (s : Store) (w : Swept) (sweep : Sweep)
     (reads : OnlyReads d old.disk mid failed) (kept : SameKept old new) (honest : d.honest new.disk) (ended : f.ended ≡ None) (undated : v.undated ≡ u.undated)
     (holds : Holds d old s) (touches_are : SameTouches (touches_kept u) w.touches) (present : IsPresent (d.content old.disk) w.touches) (shows : ShowsSweep acts old.catalogue.items s.snapshots e sweep)
-    (none : sweep.unmarked ≡ []) (open : is_over sweep ≡ false) (is : w.sweep ≡ Some sweep) (able : IsSweepable s w) where
+    (none : sweep.unmarked ≡ []) (ahead : is_over sweep ≡ false) (is : w.sweep ≡ Some sweep) (able : IsSweepable s w) where
   mid_honest : d.honest mid
   mid_honest = (reads.serves).kept.0 holds.honest
 
@@ -336,7 +353,7 @@ module _ {D : Type 0} (d : Ghosts D) (old new : Parts D) (mid : D) (u v : Upkeep
   sweeps_by beside =
       subst (λ (o : Option Sweep). IsSomeAnd o (λ (x : Sweep). (is_over x ≡ false) × (f.ended ≡ None)
       × StandsBeside d new v acts (Some f) s (passed_touches w x moment) (Some (passed w x x.unmarked)))) (sym is)
-      (open, ended, subst After (sym none) beside)
+      (ahead, ended, subst After (sym none) beside)
 
   -- nothing is taken out
   keeps_chunk : (ds : List Digest32) → next_taken w sweep [] ≡ None → behind_first (left_of w sweep) ≡ bytes_of ds → f.plan ≡ with_names e.plan ds → (e.plan).removed + length ds < 2 ^ 63
@@ -422,7 +439,7 @@ want_unfailed e = cc
 
 module _ {D : Type 0} (d : Ghosts D) (old new : Parts D) (mid : D) (u v : Upkeep) (c e f : Collector) (failed : Type 0) (moment : ℕ)
     (reads : OnlyReads d old.disk mid failed) (kept : SameKept old new) (finds : FindsNext d old c e (Ok false)) (ended : f.ended ≡ e.ended) (entries : f.entries ≡ e.entries)
-    (undated : v.undated ≡ u.undated) (open : is_plan_over c.plan ≡ false) (going : c.ended ≡ None) (acts : ℕ) (s : Store) (w : Swept)
+    (undated : v.undated ≡ u.undated) (ahead : is_plan_over c.plan ≡ false) (going : c.ended ≡ None) (acts : ℕ) (s : Store) (w : Swept)
     (beside : StandsBeside d old u acts (Some c) s w.touches w.sweep) (able : IsSweepable s w) (honest : d.honest new.disk) where
   abbrev Tells : Result (Unit {0}) DiskError → Change → Type 0
   Tells r change = IsTheSweeps d new v acts f s w moment (visit_outcome r) × Spares s change
@@ -439,7 +456,7 @@ module _ {D : Type 0} (d : Ghosts D) (old new : Parts D) (mid : D) (u v : Upkeep
       by_sweep None is shows = absurd shows
       by_sweep (Some sweep) is shows =
           let found = finds.shows acts s sweep beside.holds shows in
-          go sweep is found.0 found.1 (sym (over_is acts old.catalogue.items c s sweep shows) ∙ open)
+          go sweep is found.0 found.1 (sym (over_is acts old.catalogue.items c s sweep shows) ∙ ahead)
 
   tells_done : (done : Unit {0}) (x : VisitsNext d mid new.disk u.book v.book e.plan f.plan (Ok done)) → Tells (Ok done) x.change
   tells_done done x = with_sweep (Ok done) x.change (λ sweep is shows none left.
@@ -469,9 +486,9 @@ pub visited_tells : {D : Type 0} (d : Ghosts D) (old new : Parts D) (mid : D) (u
     → (x : VisitsNext d mid new.disk u.book v.book e.plan f.plan r) → f.ended ≡ e.ended → f.entries ≡ e.entries → v.undated ≡ u.undated → is_plan_over c.plan ≡ false → c.ended ≡ None
     → (acts : ℕ) (s : Store) (w : Swept) → StandsBeside d old u acts (Some c) s w.touches w.sweep → IsSweepable s w
     → IsTheSweeps d new v acts f s w moment (visit_outcome r) × Spares s x.change
-visited_tells d old new mid u v c e f failed moment (Ok done) reads kept serves finds x ended entries undated open going acts s w beside able =
-    tells_done d old new mid u v c e f failed moment reads kept finds ended entries undated open going acts s w beside able (serves.kept.0 ((reads.serves).kept.0 (beside.holds).honest)) done x
-visited_tells d old new mid u v c e f failed moment (Err NoMemory) reads kept serves finds x ended entries undated open going acts s w beside able =
-    tells_wanting d old new mid u v c e f failed moment reads kept finds ended entries undated open going acts s w beside able (serves.kept.0 ((reads.serves).kept.0 (beside.holds).honest)) x
-visited_tells d old new mid u v c e f failed moment (Err Failed) reads kept serves finds x ended entries undated open going acts s w beside able =
-    tells_failed d old new mid u v c e f failed moment reads kept finds ended entries undated open going acts s w beside able (serves.kept.0 ((reads.serves).kept.0 (beside.holds).honest)) x
+visited_tells d old new mid u v c e f failed moment (Ok done) reads kept serves finds x ended entries undated ahead going acts s w beside able =
+    tells_done d old new mid u v c e f failed moment reads kept finds ended entries undated ahead going acts s w beside able (serves.kept.0 ((reads.serves).kept.0 (beside.holds).honest)) done x
+visited_tells d old new mid u v c e f failed moment (Err NoMemory) reads kept serves finds x ended entries undated ahead going acts s w beside able =
+    tells_wanting d old new mid u v c e f failed moment reads kept finds ended entries undated ahead going acts s w beside able (serves.kept.0 ((reads.serves).kept.0 (beside.holds).honest)) x
+visited_tells d old new mid u v c e f failed moment (Err Failed) reads kept serves finds x ended entries undated ahead going acts s w beside able =
+    tells_failed d old new mid u v c e f failed moment reads kept finds ended entries undated ahead going acts s w beside able (serves.kept.0 ((reads.serves).kept.0 (beside.holds).honest)) x
