@@ -3,7 +3,7 @@
 ghost use Rattle.std.specs.Prelude.{◌≡◌, map, IfOk, IfSome};
 ghost use Rattle.wire_commands.specs.HasText.{FitsFileFault};
 ghost use Rattle.store_model.specs.VerifyJob as model;
-ghost use Rattle.plain_lanes.specs.Visits.{shown_judged, GivesJudged};
+ghost use Rattle.plain_lanes.specs.Visits.{shown_judged, digests_of, GivesFault, GivesJudged};
 
 use crate::asked::file_name;
 use blob_codec::decode;
@@ -56,7 +56,7 @@ fn fixed_digests(alloc: Global, view: &FixedView) -> Result<Vec<Digest32>, Alloc
 }
 
 fn dynamic_digests(alloc: Global, view: &DynamicView) -> Result<Vec<Digest32>, AllocError>
-    ensures { IfOk result (λ digests. digests.items ≡ map (λ e. model.digest e.digest) view.now.entries) }
+    ensures { IfOk result (λ digests. digests.items ≡ digests_of view.now.entries) }
 {
     let mut digests = Vec::new(alloc);
     for i in 0..view.len() {
@@ -74,14 +74,15 @@ fn fixed_judged(alloc: Global, row: &FileRow, bytes: &[u8]) -> Result<Judged, Al
         return Ok(without_entries(alloc, Some(FileFault::Unreadable)));
     };
     let digests = fixed_digests(alloc, &view)?;
+    let total = view.size();
     Ok(Judged {
-        fault: compared(row, view.size(), &view.csum().0),
-        bytes: view.size(),
+        fault: compared(row, total, &view.csum().0),
+        bytes: total,
         digests: VecDeque::from_vec(digests),
     })
 }
 
-#[tactic(auto, unfolding(store_model::specs::VerifyJob::dynamic_judged), using(crate::proofs::JudgingLemmas::last_same))]
+#[tactic(auto, unfolding(store_model::specs::VerifyJob::dynamic_judged))]
 fn dynamic_judged(alloc: Global, row: &FileRow, bytes: &[u8]) -> Result<Judged, AllocError>
     ensures judged { GivesJudged result (model.dynamic_judged row.now bytes.now) }
     ensures fits { IfOk result (λ judged. IfSome judged.fault FitsFileFault) }
@@ -90,9 +91,10 @@ fn dynamic_judged(alloc: Global, row: &FileRow, bytes: &[u8]) -> Result<Judged, 
         return Ok(without_entries(alloc, Some(FileFault::Unreadable)));
     };
     let digests = dynamic_digests(alloc, &view)?;
+    let total = view.size();
     Ok(Judged {
-        fault: compared(row, view.size(), &view.csum().0),
-        bytes: view.size(),
+        fault: compared(row, total, &view.csum().0),
+        bytes: total,
         digests: VecDeque::from_vec(digests),
     })
 }
@@ -103,7 +105,7 @@ fn manifest_fault(
     snapshot: &[u8],
     contents: &[u8],
 ) -> Result<Option<FileFault>, AllocError>
-    ensures fault { IfOk result (λ fault. fault ≡ model.manifest_fault snapshot.now contents.now) }
+    ensures fault { GivesFault result (model.manifest_fault snapshot.now contents.now) }
     ensures fits { IfOk result (λ fault. IfSome fault FitsFileFault) }
 {
     let Ok(listed) = manifest::read(alloc, contents)? else {
@@ -123,7 +125,7 @@ fn blob_fault(
     name: &[u8],
     bytes: &[u8],
 ) -> Result<Option<FileFault>, AllocError>
-    ensures fault { IfOk result (λ fault. fault ≡ model.blob_fault snapshot.now name.now bytes.now) }
+    ensures fault { GivesFault result (model.blob_fault snapshot.now name.now bytes.now) }
     ensures fits { IfOk result (λ fault. IfSome fault FitsFileFault) }
 {
     let Ok(contents) = decode(bytes) else {

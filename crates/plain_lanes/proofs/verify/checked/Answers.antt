@@ -1,5 +1,6 @@
 use Rattle.std.proofs.Common.{◌≡◌, ◌+◌, sym, ap, subst, ◌∙◌, arith}
 use Rattle.std.specs.Prelude.{IfOk}
+use Rattle.wire_commands.specs.HasText.{ReplyHasText}
 use Rattle.store_model.specs.Job.{Job}
 use Rattle.store_model.specs.VerifyJob.{next_chunk}
 use Rattle.plain_lanes.specs.Jobs.{shown_job}
@@ -25,3 +26,6 @@ returns-in-Err-clause-job c =
     ap (checked_by v c.args.row c.args.fault) c.in-Err.ensures.fault.1
     ∙ not_checked v c.args.row c.args.fault c.args.place c.args.digest c.args.later.items c.args.reply c.in-Err.ensures.fault.0 in
     subst (λ (x : Job). IfOk c.unchecked.result (λ job. shown_job job ≡ x)) told c.unchecked.ensures.job
+
+pub unchecked-requires-clause-reply : goal.unchecked-requires-clause-reply
+unchecked-requires-clause-reply c = subst ReplyHasText (sym c.in-Err.ensures.fault.1) c.requires.reply

@@ -27,3 +27,6 @@ invariant_of-visit c =
       spelled = All-nil IsFitRow;
       listed = All-same FitsFileRow c.into_vec.result.items c.in-Ok.rows c.into_vec.ensures (told.0).1;
     }
+
+pub ended-requires : goal.ended-requires
+ended-requires c = subst ReplyHasText (sym c.in-Err.ensures.1) c.requires
