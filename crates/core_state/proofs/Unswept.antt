@@ -12,8 +12,8 @@ use Rattle.store_history.specs.Sweeping.{FitsSweep, Sweep, Swept, is_pass, marks
 use Rattle.core_state.specs.Commands.{is_step}
 
 pub no_sweep : (act : Act) → is_step act ≡ false → class_of act ≡ sweeping → ⊥
-no_sweep Step no e = cc
-no_sweep act no e = cc
+no_sweep Step unstepped e = cc
+no_sweep act unstepped e = cc
 
 no_pass : (c : Class) (k : EntryKind) → (c ≡ sweeping → ⊥) → is_pass c k ≡ false
 no_pass stepping k other = refl

@@ -1,5 +1,5 @@
 -- The entries of the index that a collector marks.
-use Rattle.std.specs.Prelude.{◌≡◌, ◌<◌, ◌≤◌, ◌⊎◌, ℕ, List, length, IsTrue}
+use Rattle.std.specs.Prelude.{◌<◌, ◌≤◌, ℕ, List, length, IsTrue}
 use Rattle.std.specs.List.{All}
 use Rattle.store_types.specs.declared.names.Digest32.{Digest32}
 use Rattle.store_types.specs.FileNames.{is_index_name}
@@ -13,5 +13,5 @@ marked_in (sweeping names) = 0
 -- Each index has the name of one. Where some entries are marked, some are left of those at hand. There are no more than an index may have.
 pub record FitsEntries (plan : Plan) (entries : List Digest32) : Type 0 where
   pub named : All (λ i. IsTrue (is_index_name i.name)) plan.indexes
-  pub within : (marked_in plan.stage ≡ 0) ⊎ (marked_in plan.stage < length entries)
+  pub within : 0 < marked_in plan.stage → marked_in plan.stage < length entries
   pub few : length entries ≤ entry_limit
