@@ -24,7 +24,7 @@ use Rattle.core_collect.proofs.VisitLemmas.{goes_so, visited_less}
 
 -- ---- results
 
-pub ok_error : {A E : Type 0} (x : A) → IsErr (Ok {E = E} x) → ⊥
+pub ok_error : {A E : Type 0} (x : A) → IsErr {E = E} (Ok x) → ⊥
 ok_error x e = true≢false (sym e)
 
 pub on_error : {A E : Type 0} (r : Result A E) (P : Type 0) → IsErr r → OnOk r P

@@ -225,11 +225,19 @@ sifts_finished acts c s new x p few at key all = record {
 -- its key is that of none in the catalogue
 kept_passes : (P : Kept → Type 0) (c : List Listed) (number : ℕ) (k : Kept) → All P (map (λ x. x.kept) c) → kept_at number c ≡ Some k → P k
 kept_passes P [] number k all at = absurd (none_some k at)
+<<<<<<< HEAD
 kept_passes P (x ∷ xs) number k all at = by_test (x.number == number) (kept_passes P xs number k (All-tail P x.kept (map (λ y. y.kept) xs) all)) at
   where
     by_test : (b : Bool) → (kept_at number xs ≡ Some k → P k) → option_map (λ y. y.kept) (cond b (Some x) (find (λ y. y.number == number) xs)) ≡ Some k → P k
     by_test true later e = subst P (some_same x.kept k e) (All-head P x.kept (map (λ y. y.kept) xs) all)
     by_test false later e = later e
+=======
+kept_passes P (x ∷ xs) number k all at = by_test (x.number == number) (λ e. kept_passes P xs number k (All-tail P x.kept (map (λ y. y.kept) xs) all) e) at
+  where
+    by_test : (b : Bool) → (kept_at number xs ≡ Some k → P k) → option_map (λ y. y.kept) (cond b (Some x) (find (λ y. y.number == number) xs)) ≡ Some k → P k
+    by_test true behind e = subst P (some_same x.kept k e) (All-head P x.kept (map (λ y. y.kept) xs) all)
+    by_test false behind e = behind e
+>>>>>>> refs/wip/A2-3
 
 -- ---- an act
 
@@ -392,7 +400,11 @@ pub plans_more : {D E C : Type 0} (d : Ghosts D) (clock : clocks.Ghosts C) (old 
     → ((answer.entry).kind ≡ 3 → ⊥) → StandsFor d clock.readings old h → StandsFor d clock.readings new (then_event h (event_of act answer (d.calls (new.parts).disk))) → KeepsTouches d old h
     → ShowsOpen (length (new.journal).entries.items) (new.parts).catalogue.items (world (then_event h (event_of act answer (d.calls (new.parts).disk)))).store.snapshots new.collector
     (swept_of (then_event h (event_of act answer (d.calls (new.parts).disk)))).sweep
+<<<<<<< HEAD
 plans_more d clock old new lane act answer h lt formed answers keeps unstepped collector opens_none s so touches = by_open new.collector refl
+=======
+plans_more d clock old new lane act answer h lt formed answers keeps other collector opens_none s so touches = by_open new.collector refl
+>>>>>>> refs/wip/A2-3
   where
     e : Event
     e = event_of act answer (d.calls (new.parts).disk)
@@ -416,7 +428,11 @@ plans_more d clock old new lane act answer h lt formed answers keeps unstepped c
     count = let n = ap length answers.entries in omega (arith, n, length-append (old.journal).entries.items (answer.entry ∷ []))
 
     later : (swept_of (then_event h e)).sweep ≡ while_open (world (then_event h e)).collecting (option_map (spared act answer.reply) (swept_of h).sweep)
+<<<<<<< HEAD
     later = ap (λ (v : Swept). v.sweep) (swept_longer h.remote h.opening h.events e) ∙ sweep_after h.remote (world h) (swept_of h) e (no_sweep act unstepped) opens_none
+=======
+    later = ap (λ (v : Swept). v.sweep) (swept_longer h.remote h.opening h.events e) ∙ sweep_after h.remote (world h) (swept_of h) e (no_sweep act other) opens_none
+>>>>>>> refs/wip/A2-3
         ∙ sym (ap (λ (v : World). while_open v.collecting (option_map (spared act answer.reply) (swept_of h).sweep)) (world_more h e))
 
     listed : c2 ≡ listed_by act answer.reply was (session_at old.parts (answer.entry).lane) c
