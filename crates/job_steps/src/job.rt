@@ -53,7 +53,7 @@ impl Job {
         ensures { IfOk result (λ job. IfSome (job_of command.now) (λ a. job ≡ asking a)) }
     {
         let Command::Prune { group, keep, dry } = command else {
-            unreachable!();
+            unreachable!()
         };
         let grouping = Grouping {
             group: Bytes::from_slice(alloc, group.as_slice())?,

@@ -50,7 +50,7 @@ chunk_digest : (R : Option (List Snapshot)) (w : World) (k m : ℕ) (digest : Di
     → (n : EntryKind) → Right R w k m (acts.Chunk digest checked) (Some Done) stepping n → IsDigest digest.0
 unfolding act_outcome
 chunk_digest R w k m digest checked formed step_kind right =
-    let piece = piece_of w.store k (data_in checked) (some_same Done _ right.1) in
+    let piece = piece_of w.store k (data_in checked) (some_same Done (answered w.store (act_outcome R w k m (acts.Chunk digest checked))).1 right.1) in
     subst IsDigest (digest_is w.store k m digest checked piece.0 formed piece.1) (is_digest piece.0)
 chunk_digest R w k m digest checked formed short_kind right = absurd (refused_apart NoMemory (some_same Done _ right.0))
 chunk_digest R w k m digest checked formed fault_kind right = absurd (refused_apart (fault_refusal w.fault) (some_same Done _ right))
@@ -99,6 +99,7 @@ opened_digests o d h = let at = map_in sha256 o.chunks d (from_in_order (map sha
 -- ---- the chunks that are there
 
 pub chunks_digests : (R : Option (List Snapshot)) (o : Opening) (es : List Event) → IsLegal R (opened o) es → All IsDigest (chunks (swept R o es))
-chunks_digests R o es legal i d lt =
+chunks_digests R o es legal =
     let s = swept R o es in
-    digests_all R (opened o) (swept_at o) es legal (opened_digests o) (get_or (chunks s) i d) (filter_in (is_there s.touches) s.known (get_or (chunks s) i d) (in_at (chunks s) i d lt)).0
+    λ i d lt. digests_all R (opened o) (swept_at o) es legal (opened_digests o) (get_or (chunks s) i d)
+    (filter_in (is_there s.touches) s.known (get_or (chunks s) i d) (in_at (chunks s) i d lt)).0

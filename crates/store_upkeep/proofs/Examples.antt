@@ -1,7 +1,11 @@
--- Cutoffs, and a sweep of three chunks.
-use Rattle.std.specs.Prelude.{◌≡◌, ℕ, List, [], ◌∷◌, Option, Some, None, refl, false, ⊤}
+-- Cutoffs, sweeps of few chunks, and what is to be marked.
+use Rattle.std.specs.Prelude.{◌≡◌, ℕ, List, [], ◌∷◌, ◌++◌, replicate, codes, Option, Some, None, option_map, refl, false, ⊤}
 use Rattle.store_types.specs.declared.names.SnapshotKey.{SnapshotKey}
 use Rattle.store_types.specs.declared.names.Kind.TheVariants.{Host}
+use Rattle.store_types.proofs.OnLiterals.{store_types_on_literals}
+use Rattle.wire_commands.specs.declared.command.Command.TheVariants.{Forget}
+use Rattle.wire_commands.specs.declared.reply.Reply.{Reply}
+use Rattle.wire_commands.specs.declared.reply.Reply.TheVariants.{Done, Collected}
 use Rattle.store_model.specs.Store.{Session, none, writer, store_of}
 use Rattle.store_model.specs.WriterSteps.{new_writer}
 use Rattle.atime_book.specs.Touches.{cutoff_of, last_in}
@@ -10,7 +14,7 @@ use Rattle.store_history.specs.declared.act.Act.TheVariants as acts
 use Rattle.store_history.specs.declared.act.Event.{Event}
 use Rattle.store_history.specs.History.{World, act_outcome, moved, after, after_all}
 use Rattle.store_history.specs.LastTouches.{LastTouches}
-use Rattle.store_history.specs.Sweeping.{Unmarked, Sweep, Swept, in_order, oldest_in, first_taken, chunks, swept_after, swept_all, used_among}
+use Rattle.store_history.specs.Sweeping.{Unmarked, Sweep, Swept, in_order, unmarked_of, oldest_in, first_taken, passed, chunks, swept_after, swept_all, used_among, report_of}
 
 -- ---- cutoffs
 
@@ -104,3 +108,64 @@ all_visited = refl
 counts : used_among (swept_all None w s (pass 9 ∷ pass 10 ∷ pass 11 ∷ pass 12 ∷ [])).touches 20 ((1 ∷ []) ∷ (3 ∷ []) ∷ []) ≡ 1
 unfolding on_sweeps
 counts = refl
+
+-- ---- two chunks of one snapshot, which is forgotten later
+
+abbrev pass_at : ℕ → ℕ → Event
+pass_at when place = record { act = acts.Step; answer = record { reply = None; entry = record { lane = 0; moment = when; kind = 1 }; place = place; last = false }; calls = 3 }
+
+abbrev two : List (List ℕ)
+two = (1 ∷ []) ∷ (2 ∷ []) ∷ []
+
+-- a collector started; both chunks were last touched at this moment
+abbrev started : ℕ → ℕ → List Unmarked → ℕ → Swept
+started start cutoff unmarked touched = record {
+  touches = record { last = last_in (record { digest = 1 ∷ []; moment = touched } ∷ record { digest = 2 ∷ []; moment = touched } ∷ []); undated = λ d. false };
+  known = two;
+  sweep = Some (record { start = start; cutoff = cutoff; unmarked = unmarked; to_visit = None; removed = 0 });
+}
+
+abbrev report : Swept → Option Reply
+report s = option_map (report_of s) s.sweep
+
+abbrev of_both : Unmarked
+of_both = record { key = key; name = 97 ∷ []; digests = two }
+
+both_used : report (swept_all None w (started 1_000_000 913_300 (of_both ∷ []) 900_000) (pass_at 1_000_000 9 ∷ pass_at 1_000_000 10 ∷ pass_at 1_000_000 11 ∷ []))
+    ≡ Some (Collected 1_000_000 913_300 2 0 0)
+unfolding on_sweeps
+both_used = refl
+
+both_go : report (swept_all None w (started 1_100_000 1_013_300 [] 1_000_000) (pass_at 1_100_000 9 ∷ pass_at 1_100_000 10 ∷ [])) ≡ Some (Collected 1_100_000 1_013_300 0 0 2)
+unfolding on_sweeps
+both_go = refl
+
+-- ---- what is to be marked
+
+-- of 1,001 entries the last is left for a second mark
+abbrev many : Unmarked
+many = record { key = key; name = 97 ∷ []; digests = replicate 1_000 (1 ∷ []) ++ (2 ∷ []) ∷ [] }
+
+second_mark : (passed s (sweep (many ∷ []) None 0) (many ∷ [])).unmarked ≡ record { key = key; name = 97 ∷ []; digests = (2 ∷ []) ∷ [] } ∷ []
+second_mark = refl
+
+-- an index without entries is none
+no_entry : unmarked_of key (97 ∷ []) [] ≡ []
+no_entry = refl
+
+-- one that is forgotten is passed over
+abbrev forgotten : Event
+forgotten = record {
+  act = acts.Plain (Forget (codes "host/a/1970-01-01T00:00:00Z"));
+  answer = record { reply = Some Done; entry = record { lane = 1; moment = 30; kind = 0 }; place = 9; last = false };
+  calls = 3;
+}
+
+passed_over : (swept_after None w s forgotten).sweep ≡ Some (sweep [] None 0)
+unfolding on_sweeps store_types_on_literals
+passed_over = refl
+
+-- where no chunk is there the listing ends the sweep
+no_chunk : (swept_after None w (record s { known = []; sweep = Some (sweep [] None 0) }) (pass 9)).sweep ≡ Some (sweep [] (Some []) 0)
+unfolding on_sweeps
+no_chunk = refl

@@ -14,4 +14,6 @@ pub mod Following
 pub mod Whole
 pub mod Lasting
 pub mod Reporting
+pub mod Started
+pub mod Unvisited
 mod Examples

@@ -263,7 +263,7 @@ some_of : (o : Option Sweep) → IsSome o → (x : Sweep) × (o ≡ Some x)
 some_of None h = absurd (false≢true h)
 some_of (Some x) h = (x, refl)
 
-stays_some : (R : Option (List Snapshot)) (w : World) (s : Swept) (es : List Event) → StaysOpen R w s es → IsSome s.sweep
+pub stays_some : (R : Option (List Snapshot)) (w : World) (s : Swept) (es : List Event) → StaysOpen R w s es → IsSome s.sweep
 stays_some R w s [] h = h
 stays_some R w s (e ∷ es) h = h.0
 
@@ -292,7 +292,7 @@ module _ (R : Option (List Snapshot)) (w : World) (s : Swept) (e : Event) (act_i
   none_taken : taken_by s e ≡ None
   none_taken = ap (λ b. taken_in s (sweep_of s.sweep b)) no_pass
 
-  opens : (after R w e).collecting ≡ new_collecting (lane e) false
+  pub opens : (after R w e).collecting ≡ new_collecting (lane e) false
   unfolding after moved
   opens = ap (λ n. (moved R w (lane e) (moment e) e.act (kind_of n)).collecting) kind_is
 
@@ -351,7 +351,7 @@ module _ (w : World) (s : Swept) (u : LastTouches) (sweep : Sweep) (h : Sweeps w
           absurd (omega (arith, before, was.1))
       by_last (Some l) is = is ∙ sym (subst (λ p. Follows sweep.cutoff p (u.last d)) is (h.follows d)) ∙ was.0
 
-legal_parts : (R : Option (List Snapshot)) (w : World) (xs ys : List Event) → IsLegal R w (xs ++ ys) → IsLegal R w xs × IsLegal R (after_all R w xs) ys
+pub legal_parts : (R : Option (List Snapshot)) (w : World) (xs ys : List Event) → IsLegal R w (xs ++ ys) → IsLegal R w xs × IsLegal R (after_all R w xs) ys
 unfolding after_all
 legal_parts R w [] ys legal = (tt, legal)
 legal_parts R w (x ∷ xs) ys legal = let rest = legal_parts R (after R w x) xs ys legal.1 in ((legal.0, rest.0), rest.1)

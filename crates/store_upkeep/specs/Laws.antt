@@ -1,5 +1,5 @@
 -- What holds of sweeps in every legal history.
-use Rattle.std.specs.Prelude.{◌≡◌, ◌≢◌, ◌≤◌, ◌⊎◌, ◌↔◌, ℕ, true, List, [], ◌∷◌, ◌++◌, length, Option, Some, IsSome, IsSomeAnd, option_to_list}
+use Rattle.std.specs.Prelude.{◌≡◌, ◌≢◌, ◌≤◌, ◌⊎◌, ◌↔◌, ℕ, true, List, [], ◌∷◌, ◌++◌, length, Option, Some, None, IsSome, IsSomeAnd, option_to_list}
 use Rattle.std.specs.List.{AllPairs, Contains, flat_map}
 use Rattle.store_types.specs.Names.{name_lt}
 use Rattle.store_files.specs.Archive.{Snapshot}
@@ -10,7 +10,7 @@ use Rattle.atime_book.specs.Touches.{cutoff_of}
 use Rattle.store_history.specs.declared.act.Act.{Act}
 use Rattle.store_history.specs.declared.act.Act.TheVariants.{Chunk, Start, Step}
 use Rattle.store_history.specs.declared.act.Event.{Event}
-use Rattle.store_history.specs.History.{World, Opening, opened, after, after_all, moment, kind, reply}
+use Rattle.store_history.specs.History.{World, Opening, opened, after, after_all, lane, moment, kind, reply}
 use Rattle.store_history.specs.Legal.{IsLegal}
 use Rattle.store_history.specs.LastTouches.{LastTouches, touches_at_opening}
 use Rattle.store_history.specs.Sweeping.{Sweep, Swept, swept_at, chunks, oldest_in, is_over, taken_by, touched_after, swept_after, swept_all, world, swept, used_among, pending_among, report_of, IsSwept}
@@ -33,6 +33,13 @@ abbrev pub NeededIsThere : Type 0
 NeededIsThere =
     (remote : Option (List Snapshot)) (o : Opening) (es : List Event) → IsLegal remote (opened o) es → OpensStocked o
     → IsStocked (world remote o es).store (swept remote o es).touches
+
+-- while some is still to be marked, no chunk was listed or taken out
+abbrev pub IsUnvisited : Option Sweep → Type 0
+IsUnvisited o = (sweep : Sweep) → o ≡ Some sweep → (sweep.unmarked ≡ [] → ⊥) → (sweep.to_visit ≡ None) × (sweep.removed ≡ 0)
+
+abbrev pub VisitsComeLast : Type 0
+VisitsComeLast = (remote : Option (List Snapshot)) (o : Opening) (es : List Event) → IsUnvisited (swept remote o es).sweep
 
 -- only a visit takes a chunk out
 abbrev pub OnlyVisitsTake : Type 0
@@ -112,6 +119,24 @@ EndsAreReported =
     (remote : Option (List Snapshot)) (o : Opening) (es : List Event) (e : Event)
     → IsLegal remote (opened o) (es ++ e ∷ []) → IsSwept remote (opened o) (swept_at o) (es ++ e ∷ []) → kind e ≡ 4 → (reply e ≡ Some (Refused NoMemory) → ⊥)
     → IsSomeAnd (swept remote o es).sweep (λ sweep. (is_over sweep ≡ true) × (reply e ≡ Some (report_of (swept remote o es) sweep)))
+
+-- The collector that ends behind these events, by e, started among them, on its lane. It has swept the whole since, and replies that sweep's report.
+pub record ReportsWhole (remote : Option (List Snapshot)) (o : Opening) (es : List Event) (e : Event) : Type 0 where
+  pub before : List Event
+  pub start : Event
+  pub since : List Event
+  pub sweep : Sweep
+  pub parts : es ≡ before ++ start ∷ since
+  pub own : lane start ≡ lane e
+  pub whole : IsWhole remote (world remote o before) (swept remote o before) start since sweep
+  pub leaves : OpensStocked o → LeavesRight remote (world remote o before) (swept remote o before) start since sweep
+  pub reported : reply e ≡ Some (report_of (swept remote o es) sweep)
+
+abbrev pub ReportsAreRight : Type 0
+ReportsAreRight =
+    (remote : Option (List Snapshot)) (o : Opening) (es : List Event) (e : Event)
+    → IsLegal remote (opened o) (es ++ e ∷ []) → IsSwept remote (opened o) (swept_at o) (es ++ e ∷ []) → kind e ≡ 4 → (reply e ≡ Some (Refused NoMemory) → ⊥)
+    → ReportsWhole remote o es e
 
 -- the digests of the chunks that are there, each once
 pub record Lists (touches : LastTouches) (digests : List (List ℕ)) : Type 0 where

@@ -1,6 +1,6 @@
 //! What holds of the sweeps of every history.
 
-ghost use Rattle.store_upkeep.specs.Laws.{CountsAreOne, EndsAreReported, HistoriesAreSafe, LastTouchesStay, ListsChunks, NeededIsThere, OnlyVisitsTake, TakenIsNotNeeded, ThereOrSent, WholeSweepsLeaveRight};
+ghost use Rattle.store_upkeep.specs.Laws.{CountsAreOne, EndsAreReported, HistoriesAreSafe, LastTouchesStay, ListsChunks, NeededIsThere, OnlyVisitsTake, ReportsAreRight, TakenIsNotNeeded, ThereOrSent, VisitsComeLast, WholeSweepsLeaveRight};
 
 /// In a legal history, at each place: no running writer began before the cutoff of an open sweep; what it sent was
 /// touched since it began; what finished snapshots have was touched at the cutoff or later, or is still to be marked;
@@ -18,6 +18,11 @@ pub fn taken_chunks_are_not_needed()
 /// at opening were.
 pub fn needed_chunks_are_there()
     ensures { NeededIsThere }
+{}
+
+/// No chunk is visited before all is marked.
+pub fn visits_come_last()
+    ensures { VisitsComeLast }
 {}
 
 /// Only a visit takes a chunk out.
@@ -45,6 +50,12 @@ pub fn last_touches_stay()
 /// chunks that are there are used and how many pending, and how many it took out.
 pub fn ends_are_reported()
     ensures { EndsAreReported }
+{}
+
+/// Such a collector started on its lane, and has swept the whole since: start, cutoff and the chunks that it took out are
+/// those of this sweep.
+pub fn reports_are_right()
+    ensures { ReportsAreRight }
 {}
 
 /// The chunks that a collector lists, and counts for its report, are those that are there, each once.

@@ -26,9 +26,14 @@ pub enum Reply {
     /// The command was done, and there is nothing to tell.
     Done,
     /// The base of a new writer, as the text of a snapshot, empty where there is none.
-    Base { snapshot: Bytes },
+    Base {
+        snapshot: Bytes,
+    },
     /// The size of a file in bytes, and a part of it.
-    Part { total: u64, bytes: Bytes },
+    Part {
+        total: u64,
+        bytes: Bytes,
+    },
     /// Bytes alone: the blob of a piece, or a part of an archive.
     Data(Bytes),
     /// The number of a new index, 0 to 15.
