@@ -1,8 +1,6 @@
 -- The chunks that a disk lists are those of the sweep, in the same order.
-use Rattle.std.proofs.Common.{◌≡◌, ◌⊎◌, ◌↔◌, inl, inr, ℕ, zero, suc, ◌<◌, Bool, true, ◌&&◌, List, [], ◌∷◌, length, map, refl, sym, subst, ap, ◌∙◌, arith}
-use Rattle.std.specs.FinMap.{get}
+use Rattle.std.proofs.Common.{◌≡◌, inl, inr, ℕ, zero, suc, true, List, [], ◌∷◌, map, refl, sym, subst, ap, ◌∙◌, arith}
 use Rattle.std.specs.List.{All, Contains}
-use Rattle.std.specs.Option.{IsSome}
 use Rattle.std.specs.Ordering.{is_lt}
 use Rattle.std.specs.declared.cmp.Ordering.{Ordering}
 use Rattle.std.specs.declared.cmp.Ordering.TheVariants.{Less, Equal, Greater}
@@ -12,7 +10,7 @@ use Rattle.std.proofs.lemmas.List.Elements.{All-contains}
 use Rattle.disk_trait.specs.Files.{Files}
 use Rattle.store_types.specs.declared.names.Digest32.{Digest32}
 use Rattle.store_types.specs.Names.{name_lt, text_cmp}
-use Rattle.store_files.specs.Folder.{IsDigest, chunk_name}
+use Rattle.store_files.specs.Folder.{IsDigest}
 use Rattle.chunk_store.specs.Listed.{Lists as ListsFiles, digests_rise}
 use Rattle.store_history.specs.LastTouches.{LastTouches}
 use Rattle.store_upkeep.specs.Laws.{Above, Lists, Rising}

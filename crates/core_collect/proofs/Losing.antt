@@ -2,7 +2,7 @@
 use Rattle.disk_trait.specs.declared.disk.Disk.{Ghosts}
 use Rattle.std.proofs.Common.{◌≡◌, ◌≢◌, ◌⊎◌, ◌↔◌, inl, inr, ⊎_elim, ℕ, zero, suc, ◌<◌, Bool, true, false, cond, List, [], ◌∷◌, length, map, get_or, Option, Some, None, refl, sym, subst, ap, ◌∙◌, arith, true≢false}
 use Rattle.std.specs.FinMap.{get, remove}
-use Rattle.std.specs.List.{All, Contains, flat_map}
+use Rattle.std.specs.List.{Contains, flat_map}
 use Rattle.std.specs.Option.{IsSome}
 use Rattle.std.specs.Str.{bytes_eq}
 use Rattle.std.proofs.lemmas.Slice.Eq.{bytes_eq-Decides}
@@ -13,8 +13,8 @@ use Rattle.store_types.specs.declared.names.Digest32.{Digest32}
 use Rattle.store_types.specs.declared.names.SnapshotKey.{SnapshotKey}
 use Rattle.store_types.specs.FileNames.{manifest_name}
 use Rattle.store_files.specs.Archive.{File, Snapshot, pieces_of}
-use Rattle.store_files.specs.Folder.{HasWholeChunks, IsDigest, chunk_name, file_path}
-use Rattle.store_model.specs.Stands.{HoldsFiles, HoldsPieces, StandsFor, pieces_in}
+use Rattle.store_files.specs.Folder.{IsDigest, chunk_name, file_path}
+use Rattle.store_model.specs.Stands.{StandsFor, pieces_in}
 use Rattle.store_model.specs.Store.{Store, Writer, session, writer}
 use Rattle.chunk_store.proofs.Names.{file_not_chunk, same_digest}
 use Rattle.snapshot_files.specs.Forgotten.{MayLose}

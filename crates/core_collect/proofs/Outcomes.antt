@@ -1,5 +1,5 @@
 -- What the outcome of a visit or of an end is for the act.
-use Rattle.std.specs.Prelude.{Option, Some, None, Result, Ok, Err}
+use Rattle.std.specs.Prelude.{Some, None, Result, Ok, Err}
 use Rattle.disk_trait.specs.declared.disk.DiskError.{DiskError}
 use Rattle.gc_plan.specs.declared.GcReport.{GcReport}
 use Rattle.core_state.specs.Stops.{stop_of}

@@ -1,7 +1,7 @@
 -- A visit of the collector is that of the sweep.
 use Rattle.disk_trait.specs.declared.disk.Disk.{Ghosts}
-use Rattle.std.proofs.Common.{◌≡◌, ◌⊎◌, ◌×◌, inl, inr, ℕ, zero, suc, ◌<◌, ◌≤◌, ◌+◌, ◌^◌, min, Bool, true, false, cond, List, [], ◌∷◌, length, map, Option, Some, None, Result, Ok, Err, refl, sym, subst, ap, ◌∙◌, arith, true≢false}
-use Rattle.std.specs.Prelude.{IfSome, IsErrOf, IsSomeAnd, OnOk, Vec, unwrap_or}
+use Rattle.std.proofs.Common.{◌≡◌, ◌⊎◌, ◌×◌, inl, inr, ℕ, suc, ◌<◌, ◌≤◌, ◌+◌, ◌^◌, min, Bool, true, false, cond, List, [], ◌∷◌, length, Option, Some, None, Result, Ok, Err, refl, sym, subst, ap, ◌∙◌, arith, true≢false}
+use Rattle.std.specs.Prelude.{IfSome, IsErrOf, IsSomeAnd, Vec, unwrap_or}
 use Rattle.std.specs.declared.alloc.Global.{Global}
 use Rattle.std.specs.FinMap.{remove}
 use Rattle.std.specs.List.{All}
@@ -31,7 +31,7 @@ use Rattle.core_state.specs.declared.upkeep.Upkeep.{Upkeep}
 use Rattle.core_state.specs.declared.stop.Stop.TheVariants as stops
 use Rattle.core_state.specs.Changes.{Change, after, drops, stays}
 use Rattle.core_state.specs.Holds.{Holds}
-use Rattle.core_state.specs.Passes.{PassTouches}
+use Rattle.core_state.specs.Passes.{KeepsPlan, PassTouches}
 use Rattle.core_state.specs.Sweeps.{FitsRemoved, HasEntries, HasNumber, ShowsSweep, unmarked_by, visits_by}
 use Rattle.core_state.specs.Unchanged.{SameKept}
 use Rattle.core_state.specs.Upkeeps.{touches_kept}
@@ -158,11 +158,11 @@ same_touches t = record { last = λ x. refl; undated = λ x. refl }
 
 -- what the visit takes out of the touches, on any disk
 pub visited_pass : (u v : Upkeep) (p q : Plan) (change : Change) (first : Option Digest32) (moment : ℕ) → v.undated ≡ u.undated → FirstIs u.book v.book p q change first
-    → PassTouches (touches_kept u) (touches_kept v) moment
+    → PassTouches change (touches_kept u) (touches_kept v) moment
 visited_pass u v p q change first moment undated (keeps same is left) =
-    inr (None, visited_touches u v (touches_kept u) None (same_touches (touches_kept u)) undated same)
+    inr (None, left, visited_touches u v (touches_kept u) None (same_touches (touches_kept u)) undated same)
 visited_pass u v p q change first moment undated (takes digest is stale swept plan_is lost) =
-    inr (Some digest.0, visited_touches u v (touches_kept u) (Some digest.0) (same_touches (touches_kept u)) undated swept)
+    inr (Some digest.0, lost, visited_touches u v (touches_kept u) (Some digest.0) (same_touches (touches_kept u)) undated swept)
 
 -- ---- the first chunk, on any disk
 
@@ -177,6 +177,23 @@ goes_so book p q digest same stale = sym (ap (is_stale (last_of book digest.0)) 
 -- what is lost goes by the plan's cutoff
 pub drops_goes : {D : Type 0} (d : Ghosts D) (disk : D) (book : Book) (p : Plan) (change : Change) (drop : DropsFirst d disk book p change) → goes book p drop.digest ≡ true
 drops_goes d disk book p change drop = goes_so book p drop.listed drop.digest (listed_cutoff d disk p drop.listed drop.is_listed) drop.stale
+
+-- the visit leaves start, cutoff and indexes
+pub visited_keeps : {D : Type 0} (d : Ghosts D) (disk : D) (before after_ : Book) (p listed q : Plan) (change : Change) (first : Option Digest32)
+    → IsListed d disk p listed → FirstIs before after_ listed q change first → KeepsPlan p q
+visited_keeps d disk before after_ p listed q change first are visit =
+    record { start = (by_visit visit).start ∙ (by_listing are).start; cutoff = (by_visit visit).cutoff ∙ (by_listing are).cutoff; indexes = (by_visit visit).indexes ∙ (by_listing are).indexes }
+  where
+    plan_same : (x y : Plan) → y ≡ x → KeepsPlan x y
+    plan_same x y e = record { start = ap (λ (z : Plan). z.start) e; cutoff = ap (λ (z : Plan). z.cutoff) e; indexes = ap (λ (z : Plan). z.indexes) e }
+
+    by_listing : IsListed d disk p listed → KeepsPlan p listed
+    by_listing (inl (has, same)) = plan_same p listed same
+    by_listing (inr (none, (names, e, set))) = record { start = ap (λ (z : Plan). z.start) e; cutoff = ap (λ (z : Plan). z.cutoff) e; indexes = ap (λ (z : Plan). z.indexes) e }
+
+    by_visit : FirstIs before after_ listed q change first → KeepsPlan listed q
+    by_visit (keeps same e left) = record { start = ap (λ (z : Plan). z.start) e; cutoff = ap (λ (z : Plan). z.cutoff) e; indexes = ap (λ (z : Plan). z.indexes) e }
+    by_visit (takes digest is stale swept e lost) = record { start = ap (λ (z : Plan). z.start) e; cutoff = ap (λ (z : Plan). z.cutoff) e; indexes = ap (λ (z : Plan). z.indexes) e }
 
 -- ---- what is left to do
 

@@ -10,9 +10,9 @@ use Rattle.store_files.specs.Book.{Book, book_text}
 use Rattle.store_files.specs.Folder.{chunk_name}
 use Rattle.wire_commands.specs.declared.reply.Reply.{Reply}
 use Rattle.wire_commands.specs.declared.reply.Reply.TheVariants as replies
+use Rattle.wire_commands.specs.HasText.{ReplyHasText}
 use Rattle.store_model.specs.Store.{Store}
 use Rattle.atime_book.specs.Touches.{NoneAfter, as_of}
-use Rattle.gc_plan.specs.Plan.{left_of}
 use Rattle.gc_plan.specs.declared.GcReport.{GcReport}
 use Rattle.store_history.specs.LastTouches.{LastTouches, SameTouches, touched}
 use Rattle.store_history.specs.Saved.{book_name}
@@ -41,7 +41,7 @@ use Rattle.core_state.specs.Unchanged.{SameKept}
 use Rattle.core_state.specs.Upkeeps.{touches_kept}
 use Rattle.core_state.specs.Wanted.{session_at}
 use Rattle.core_collect.specs.Beside.{IsSweepable, StandsBeside, passed_touches}
-use Rattle.core_collect.specs.Ending.{early_in, report_reply}
+use Rattle.core_collect.specs.Ending.{TellsEarly, early_in, report_reply}
 use Rattle.core_collect.specs.Marking.{next_unreadable}
 use Rattle.core_collect.specs.Visiting.{goes}
 
@@ -85,7 +85,12 @@ MayEnd c result = c.ended ≡ None
 
 abbrev pub GoesDown : Collector → Collector → Outcome → Type 0
 GoesDown c e (Ok None) = steps_left (Some e) < steps_left (Some c)
-GoesDown c e result = left_of e.plan ≤ left_of c.plan
+GoesDown c e result = Unit {0}
+
+-- unless the disk failed, what its start fixed is as before
+abbrev pub KeepsFixed : Collector → Collector → Outcome → Type 0
+KeepsFixed c e (Err DiskFailed) = Unit {0}
+KeepsFixed c e result = KeepsPlan c.plan e.plan
 
 -- ---- and for what a history tells
 
@@ -120,7 +125,7 @@ pub record CollectDoes {D : Type 0} (d : Ghosts D) (old new : Parts D) (u v : Up
   pub lane : e.lane ≡ c.lane
   pub ends : MayEnd e result
   pub further : GoesDown c e result
-  pub same : KeepsPlan c.plan e.plan
+  pub same : KeepsFixed c e result
   -- an honest disk's index that is next does not decode, or there is none such
   pub unread : result ≡ Ok None → d.honest old.disk → path_of_early e.ended ≡ next_unreadable (d.content old.disk) old.catalogue.items c
   pub tells : (acts : ℕ) (s : Store) (w : Swept) → StandsBeside d old u acts (Some c) s w.touches w.sweep → IsSweepable s w
@@ -166,10 +171,16 @@ pub record HasPassed {D E C : Type 0} (d : Ghosts D) (readings : C → Option Re
   pub others : KeepsOthers mid acted
   pub passes : PassDoes d mid.parts acted.parts mid.upkeep acted.upkeep mid.collector acted.collector at result
   pub enters : EntersPass d acted new at result answer
+  pub text : IfSome answer.reply ReplyHasText
 
 pub data GoesOn {D E C : Type 0} (d : Ghosts D) (readings : C → Option Readings) (old new : Core D E C) (lane : ℕ) (answer : Answer) : Type 0 where
   not_begun : Refuses d readings old new lane answer → AdmittedHasText (Answered answer) → GoesOn d readings old new lane answer
   has_passed : HasPassed d readings old new lane answer → GoesOn d readings old new lane answer
+
+-- The end of a collector that was ended early, or the next act of one that goes on.
+pub record TakesNext {D E C : Type 0} (d : Ghosts D) (readings : C → Option Readings) (old new : Core D E C) (lane : ℕ) (answer : Answer) : Type 0 where
+  pub ends : is_cut lane old.collector ≡ true → TellsEarly d readings old new lane answer × IfSome answer.reply ReplyHasText
+  pub goes : is_cut lane old.collector ≡ false → GoesOn d readings old new lane answer
 
 -- ---- what is told
 

@@ -1,6 +1,6 @@
 //! The end of a collector.
 
-ghost use Rattle.std.specs.Prelude.{◌≡◌, ◌<◌, IsErrOf, IsSome, Some, true};
+ghost use Rattle.std.specs.Prelude.{◌≡◌, ◌<◌, IfSome, IsErrOf, IsSome, Some, true};
 ghost use Rattle.disk_trait.specs.Disk.{Serves};
 ghost use Rattle.disk_trait.specs.Effects.{DiskWantKeeps};
 ghost use Rattle.wire_commands.specs.HasText.{ReplyHasText};
@@ -68,7 +68,8 @@ pub fn end_early<D: Disk, E, C: Clock>(core: &mut Core<D, E, C>, lane: u32) -> A
     requires lane { lane < 64 }
     requires room { HasRoom core.old lane }
     requires cut { is_cut lane core.old.collector ≡ true }
-    ensures { TellsEarly D.Disk C.readings core.old core.new lane result }
+    ensures told { TellsEarly D.Disk C.readings core.old core.new lane result }
+    ensures text { IfSome result.reply ReplyHasText }
 {
     let at = next_place(core, lane);
     if let Some(place) = core.fault {

@@ -8,6 +8,7 @@ use Rattle.store_history.specs.Acts.{Class, stepping, starting, sweeping, wantin
 use Rattle.store_history.specs.History.{World, moved, halted_on, kind_of, open_on}
 use Rattle.store_history.specs.History as worlds
 use Rattle.core_state.specs.declared.collector.Collector.{Collector}
+use Rattle.core_state.specs.declared.collector.Early.{Early}
 use Rattle.core_state.specs.declared.collector.Early.TheVariants.{NoMemory}
 use Rattle.core_state.specs.Collectors.{OpenOn, closed_on, collector_by, cut_on, first_of, is_cut, is_on, open_in, ended_if, shown_collecting, with_cut}
 
@@ -22,6 +23,10 @@ bool_same x y e = cc
 
 same_open : (x y : OpenOn) → Some x ≡ Some y → x ≡ y
 same_open x y e = cc
+
+-- a collector of the lane that this ended early
+abbrev pub opens : ℕ → Option Early → Option OpenOn
+opens lane ended = Some (record { lane = lane; ended = ended })
 
 -- want of memory, whatever ended it before
 cut_ended : (is_short : Bool) → first_of (ended_if is_short) NoMemory ≡ Some NoMemory
@@ -45,15 +50,15 @@ module _ (k : ℕ) where
   cut_shown (Some c) None is = absurd (some_none _ is)
   cut_shown (Some c) (Some w) is = by_test (w.lane == k) refl
     where
-      cut_is : open_in (Some (with_cut c)) ≡ Some (record { lane = w.lane; ended = Some NoMemory })
-      cut_is = ap (λ n. Some (record { lane = n; ended = first_of c.ended NoMemory })) (lane_same c w is)
-          ∙ ap (λ r. Some (record { lane = w.lane; ended = first_of r NoMemory })) (ended_same c w is)
-          ∙ ap (λ r. Some (record { lane = w.lane; ended = r })) (cut_ended w.is_short)
+      is_cut_so : open_in (Some (with_cut c)) ≡ opens w.lane (Some NoMemory)
+      is_cut_so = ap (λ n. opens n (first_of c.ended NoMemory)) (lane_same c w is)
+          ∙ ap (λ r. opens w.lane (first_of r NoMemory)) (ended_same c w is)
+          ∙ ap (opens w.lane) (cut_ended w.is_short)
 
       by_test : (b : Bool) → (w.lane == k) ≡ b → open_in (cut_on k (Some c)) ≡ shown_collecting (cond (w.lane == k) (worlds.new_collecting k true) (Some w))
       by_test true on =
-          ap (λ b. open_in (cond b (Some (with_cut c)) (Some c))) (on_same c w is ∙ on) ∙ cut_is
-          ∙ ap (λ n. Some (record { lane = n; ended = Some NoMemory })) (eqb-true w.lane k on)
+          ap (λ b. open_in (cond b (Some (with_cut c)) (Some c))) (on_same c w is ∙ on) ∙ is_cut_so
+          ∙ ap (λ n. opens n (Some NoMemory)) (eqb-true w.lane k on)
           ∙ sym (ap (λ b. shown_collecting (cond b (worlds.new_collecting k true) (Some w))) on)
       by_test false off =
           ap (λ b. open_in (cond b (Some (with_cut c)) (Some c))) (on_same c w is ∙ off) ∙ is

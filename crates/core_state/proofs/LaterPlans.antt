@@ -43,7 +43,7 @@ use Rattle.core_state.specs.declared.state.Core.{Core}
 use Rattle.core_state.specs.Answers.{IsAnswered}
 use Rattle.core_state.specs.Applies.{ActKeeps}
 use Rattle.core_state.specs.Catalogue.{Lists, closed, closed_by, forgotten_by, insert_listed, listed_by, listed_of, without_listed, without_named}
-use Rattle.core_state.specs.Collectors.{OpenOn, closed_on, collector_by, cut_on, open_in, shown_collecting, with_cut}
+use Rattle.core_state.specs.Collectors.{OpenOn, closed_on, collector_by, cut_on, ended_if, open_in, shown_collecting, with_cut}
 use Rattle.core_state.specs.Commands.{is_step}
 use Rattle.core_state.specs.History.{History, StandsFor, event_of, then_event, world}
 use Rattle.core_state.specs.Holds.{Shows}
@@ -135,7 +135,7 @@ sweep_after R w s e other none = ap (while_open (after R w e).collecting) (unsta
 
 pub none_open : (v : Option Collecting) → None ≡ shown_collecting v → v ≡ None
 none_open None is = refl
-none_open (Some v) is = absurd (none_some (record { lane = v.lane; ended = Rattle.core_state.specs.Collectors.ended_if v.is_short }) is)
+none_open (Some v) is = let shown : OpenOn = record { lane = v.lane; ended = ended_if v.is_short } in absurd (none_some shown is)
 
 pub stays_open : (x : OpenOn) (v : Option Collecting) (sweep : Option Sweep) → Some x ≡ shown_collecting v → while_open v sweep ≡ sweep
 stays_open x None sweep is = absurd (none_some x (sym is))

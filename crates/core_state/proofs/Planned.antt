@@ -122,8 +122,8 @@ module _ (catalogue : List Listed) (snapshots : List Snapshot) where
     filtered : (k : SnapshotKey) (name : List ℕ) (ds : List (List ℕ)) (g : Bool) → same_key k key ≡ g → cond g [] (unmarked_of k name ds) ≡ filter spares (unmarked_of k name ds)
     filtered k name [] true gone = refl
     filtered k name [] false gone = refl
-    filtered k name (d ∷ ds) true gone = sym (ap (λ t. cond (not t) (record { key = k; name = name; digests = d ∷ ds } ∷ []) []) gone)
-    filtered k name (d ∷ ds) false gone = sym (ap (λ t. cond (not t) (record { key = k; name = name; digests = d ∷ ds } ∷ []) []) gone)
+    filtered k name (d ∷ ds) true gone = let u : Unmarked = record { key = k; name = name; digests = d ∷ ds } in sym (ap (λ t. cond (not t) (u ∷ []) []) gone)
+    filtered k name (d ∷ ds) false gone = let u : Unmarked = record { key = k; name = name; digests = d ∷ ds } in sym (ap (λ t. cond (not t) (u ∷ []) []) gone)
 
     forgotten_kept : (name : List ℕ) (first : ℕ) (o : Option Kept)
         → left_of_kept (without_snapshot key snapshots) name first (keep_unless key o) ≡ filter spares (left_of_kept snapshots name first o)

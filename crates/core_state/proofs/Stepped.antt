@@ -178,8 +178,8 @@ module _ {D E C : Type 0} (d : Ghosts D) (readings : C → Option Readings) (old
   pub passed_step_stands : (x y : Collector) → IsStepped d readings old acted new k m 1 None answer → old.fault ≡ None → old.collector ≡ Some x → is_on k (Some x) ≡ true → x.ended ≡ None
       → acted.collector ≡ Some y → y.lane ≡ x.lane → y.ended ≡ None → HasFiles → StandsLonger
   unfolding moved
-  passed_step_stands x y is none open on goes then_is lane still has =
-      let was : open_in (Some x) ≡ shown_collecting (world h).collecting = ap open_in (sym open) ∙ s.collecting in
+  passed_step_stands x y is none there on goes then_is lane still has =
+      let was : open_in (Some x) ≡ shown_collecting (world h).collecting = ap open_in (sym there) ∙ s.collecting in
       let same : open_in acted.collector ≡ open_in (Some x) =
       ap open_in then_is ∙ ap (λ l. opens l y.ended) lane ∙ ap (opens x.lane) (still ∙ sym goes) in
       stands_by 1 None is (none_before none, going_shown k x (world h).collecting was on goes, refl) refl (is.fault ∙ s.fault) (same ∙ was) (λ _. has)

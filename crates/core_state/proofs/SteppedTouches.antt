@@ -208,7 +208,7 @@ module _ {D E C : Type 0} (d : Ghosts D) (readings : C → Option Readings) (old
   -- by the collector before the entry, which has closed it or left it open
   shows_on : (n ≡ 1 → ⊥) → (was : Option Collector) → ShowsOpen acts c snapshots was u.sweep → ((y : Collector) → new.collector ≡ Some y → WasOpen was y)
       → ShowsOpen (length (new.journal).entries.items) (new.parts).catalogue.items ((world (then_event h e)).store).snapshots new.collector (swept_of (then_event h e)).sweep
-  shows_on other was shows open = by_open new.collector refl
+  shows_on other was shows before = by_open new.collector refl
     where
       Shows : Option Collector → Type 0
       Shows o = ShowsOpen (length (new.journal).entries.items) (new.parts).catalogue.items ((world (then_event h e)).store).snapshots o (swept_of (then_event h e)).sweep
@@ -226,14 +226,14 @@ module _ {D E C : Type 0} (d : Ghosts D) (readings : C → Option Readings) (old
       by_open : (o : Option Collector) → new.collector ≡ o → Shows o
       by_open None at = sweep_stays other ∙ ap (λ v. while_open v u.sweep) (none_open (world (then_event h e)).collecting (sym (ap open_in at) ∙ so.collecting))
       by_open (Some y) at =
-          let x = open y at in
+          let x = before y at in
           by_sweep x.was y at x.plan x.same_entries u.sweep refl (subst (λ o. ShowsOpen acts c snapshots o u.sweep) x.there shows)
 
   pub unpassed_keeps : (n ≡ 1 → ⊥) → SameTouches (touches_kept acted.upkeep) (touches_kept old.upkeep) → (new.fault ≡ None → HasChunks (touches_of_history h))
       → (was : Option Collector) → ShowsOpen acts c snapshots was u.sweep → ((y : Collector) → new.collector ≡ Some y → WasOpen was y)
       → FitsSweep w u (answer.entry).lane answer.reply sweeping (kind_of (answer.entry).kind) → KeepsTouches d new (then_event h (event_of Step answer (d.calls (new.parts).disk)))
-  unpassed_keeps other same has was shows open fits =
-      keeps_by u.touches (same_then (touches_kept acted.upkeep) (touches_kept old.upkeep) u.touches same touches.touches) (dated_alone other) has (shows_on other was shows open) fits
+  unpassed_keeps other same has was shows before fits =
+      keeps_by u.touches (same_then (touches_kept acted.upkeep) (touches_kept old.upkeep) u.touches same touches.touches) (dated_alone other) has (shows_on other was shows before) fits
 
   -- ---- a mark or a visit
 
@@ -269,9 +269,9 @@ module _ {D E C : Type 0} (d : Ghosts D) (readings : C → Option Readings) (old
         → (y : Collector) → new.collector ≡ Some y → ShowsSweep acts c snapshots y (passed u sweep sweep.unmarked)
         → KeepsTouches d new (then_event h (event_of Step answer (d.calls (new.parts).disk)))
     passed_keeps going same has y at shows =
-        let open : open_in (Some y) ≡ shown_collecting (world (then_event h e)).collecting = sym (ap open_in at) ∙ so.collecting in
+        let held : open_in (Some y) ≡ shown_collecting (world (then_event h e)).collecting = sym (ap open_in at) ∙ so.collecting in
         let sweeps : (swept_of (then_event h e)).sweep ≡ Some (passed u sweep sweep.unmarked) =
-        sweep_passes ∙ stays_open (record { lane = y.lane; ended = y.ended }) (world (then_event h e)).collecting (Some (passed u sweep sweep.unmarked)) open in
+        sweep_passes ∙ stays_open (record { lane = y.lane; ended = y.ended }) (world (then_event h e)).collecting (Some (passed u sweep sweep.unmarked)) held in
         keeps_by touches_passed same passed_dated (λ _. has)
         (subst (λ o. ShowsOpen (length (new.journal).entries.items) (new.parts).catalogue.items ((world (then_event h e)).store).snapshots o (swept_of (then_event h e)).sweep) (sym at)
         (subst (λ o. ShowsOpen (length (new.journal).entries.items) (new.parts).catalogue.items ((world (then_event h e)).store).snapshots (Some y) o) (sym sweeps)

@@ -55,8 +55,8 @@ static CLOSINGS: [(u32, Step, &[u8], u8); 16] = [
     (2, Step::CloseReader, DONE, 2),
     (2, Step::CloseReader, IN_NONE, 3),
     (5, Step::Start, b"", 3),
-    (5, Step::Short, b"\x01\0\0\0\x1c", 2),
-    (5, Step::Pass, b"\x01\0\0\0\x1c", 1),
+    (5, Step::Short, b"\x01\0\0\0\x1c", 3),
+    (5, Step::Pass, b"\x01\0\0\0\x1c", 2),
     (5, Step::Pass, IN_NONE, 3),
     (3, Step::End, b"", 1),
 ];
