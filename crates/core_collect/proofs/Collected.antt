@@ -184,7 +184,7 @@ module _ {D : Type 0} (d : Ghosts D) (old new : Parts D) (u v : Upkeep) (c e f :
         lane = marks.lane ∙ (finds.further).lane;
         ends = none_ends f still;
         further = goes_down c f goes still (let less = marks.less in let most = (finds.further).not_more in omega (arith, less, most));
-        same = fixed_then c e f.plan finds.further (ap (λ p. p.start) marks.plan) (ap (λ p. p.cutoff) marks.plan) (ap (λ p. p.indexes) marks.plan);
+        same = fixed_then c e f.plan finds.further (ap (λ (p : Plan). p.start) marks.plan) (ap (λ (p : Plan). p.cutoff) marks.plan) (ap (λ (p : Plan). p.indexes) marks.plan);
         unread = λ _ honest. ap path_of_early still ∙ sym (finds.unread honest);
         tells = λ acts s w beside able.
             (marked_tells d old new u v c e f (IsErrOf {T = Bool} (Ok true) unread.DiskFailed) at.moment reads kept finds marks (ap (λ us. record v { undated = us }) undated) going goes acts s w beside, spares_same s);
@@ -224,7 +224,7 @@ module _ {D : Type 0} (d : Ghosts D) (old new : Parts D) (u : Upkeep) (c e : Col
     lane = lane ∙ (finds.further).lane;
     ends = subst (λ o. IfSome o IsIndex) (sym ended) tt;
     further = ends_down c f path goes ended;
-    same = fixed_then c e f.plan finds.further (ap (λ p. p.start) plan) (ap (λ p. p.cutoff) plan) (ap (λ p. p.indexes) plan);
+    same = fixed_then c e f.plan finds.further (ap (λ (p : Plan). p.start) plan) (ap (λ (p : Plan). p.cutoff) plan) (ap (λ (p : Plan). p.indexes) plan);
     unread = λ _ honest. ap path_of_early ended ∙ sym (finds.unread honest);
     tells = λ acts s w beside able. absurd (never_unread path finds acts s w beside);
   }
@@ -320,13 +320,13 @@ module _ {D : Type 0} (d : Ghosts D) (old new : Parts D) (mid : D) (u v : Upkeep
       fixed_then c e f.plan finds.further (q.start ∙ p.start) (q.cutoff ∙ p.cutoff) (q.indexes ∙ p.indexes)
     where
       listed_fixed : (listed : Plan) → IsListed d mid e.plan listed → KeepsPlan e.plan listed
-      listed_fixed listed (inl (has, same)) = record { start = ap (λ p. p.start) same; cutoff = ap (λ p. p.cutoff) same; indexes = ap (λ p. p.indexes) same }
-      listed_fixed listed (inr (none, (names, is, are))) = record { start = ap (λ p. p.start) is; cutoff = ap (λ p. p.cutoff) is; indexes = ap (λ p. p.indexes) is }
+      listed_fixed listed (inl (has, same)) = record { start = ap (λ (p : Plan). p.start) same; cutoff = ap (λ (p : Plan). p.cutoff) same; indexes = ap (λ (p : Plan). p.indexes) same }
+      listed_fixed listed (inr (none, (names, is, are))) = record { start = ap (λ (p : Plan). p.start) is; cutoff = ap (λ (p : Plan). p.cutoff) is; indexes = ap (λ (p : Plan). p.indexes) is }
 
       first_fixed : (listed : Plan) (change : Change) (first : Option Digest32) → VisitedFirst u.book v.book listed f.plan change first → KeepsPlan listed f.plan
-      first_fixed listed change None (same, is, left) = record { start = ap (λ p. p.start) is; cutoff = ap (λ p. p.cutoff) is; indexes = ap (λ p. p.indexes) is }
-      first_fixed listed change (Some digest) (inl (stays_there, same, is, left)) = record { start = ap (λ p. p.start) is; cutoff = ap (λ p. p.cutoff) is; indexes = ap (λ p. p.indexes) is }
-      first_fixed listed change (Some digest) (inr (stale, swept, is, left)) = record { start = ap (λ p. p.start) is; cutoff = ap (λ p. p.cutoff) is; indexes = ap (λ p. p.indexes) is }
+      first_fixed listed change None (same, is, left) = record { start = ap (λ (p : Plan). p.start) is; cutoff = ap (λ (p : Plan). p.cutoff) is; indexes = ap (λ (p : Plan). p.indexes) is }
+      first_fixed listed change (Some digest) (inl (stays_there, same, is, left)) = record { start = ap (λ (p : Plan). p.start) is; cutoff = ap (λ (p : Plan). p.cutoff) is; indexes = ap (λ (p : Plan). p.indexes) is }
+      first_fixed listed change (Some digest) (inr (stale, swept, is, left)) = record { start = ap (λ (p : Plan). p.start) is; cutoff = ap (λ (p : Plan). p.cutoff) is; indexes = ap (λ (p : Plan). p.indexes) is }
 
   pub visited_does : (done : Unit {0}) → Serves d.honest d.faults mid new.disk (IsErrOf {T = Unit {0}} (Ok done) disks.Failed) → Visits (Ok done) → CollectDoes d old new u v c f at (Ok None)
   visited_does done serves x =
@@ -365,7 +365,7 @@ module _ {D : Type 0} (d : Ghosts D) (old new : Parts D) (mid : D) (u v : Upkeep
         lane = lane ∙ (finds.further).lane;
         ends = still;
         further = tt;
-        same = fixed_then c e f.plan finds.further (ap (λ p. p.start) plan) (ap (λ p. p.cutoff) plan) (ap (λ p. p.indexes) plan);
+        same = fixed_then c e f.plan finds.further (ap (λ (p : Plan). p.start) plan) (ap (λ (p : Plan). p.cutoff) plan) (ap (λ (p : Plan). p.indexes) plan);
         unread = λ is. cc;
         tells = tells (Err disks.NoMemory) serves x;
       }

@@ -9,6 +9,7 @@ pub mod MarkLemmas
 pub mod Settling
 pub mod Marked
 pub mod VisitLemmas
+pub mod Fitting
 pub mod VisitAnswers
 pub mod EndLemmas
 pub mod Sweepable

@@ -12,7 +12,7 @@ use Rattle.store_types.specs.declared.refusal.Refusal.TheVariants as refusals
 use Rattle.store_types.specs.FileNames.{is_fixed_name, is_index_name}
 use Rattle.store_files.specs.Archive.{Snapshot}
 use Rattle.store_model.specs.Store.{Store}
-use Rattle.gc_plan.specs.Plan.{Plan, Stage, index_in, left_of, marked_at, marking, next_index, next_mark, sweeping}
+use Rattle.gc_plan.specs.Plan.{Plan, Stage, ends_at, index_in, is_over, left_of, marked_at, marking, next_index, next_mark, sweeping}
 use Rattle.gc_plan.specs.declared.IndexAt.{IndexAt}
 use Rattle.snapshot_files.proofs.OnlyReading.{reads_then}
 use Rattle.store_history.specs.Sweeping.{Sweep}
@@ -90,7 +90,12 @@ kept_there i catalogue path found = by_kept (kept_at i.snapshot catalogue) refl 
     by_kept (Some k) at e = (k, at)
 
 pub further_same : (c : Collector) → GoesFurther c c
-further_same c = record { lane = refl; ended = refl; not_more = Rattle.std.proofs.Common.le_refl (left_of c.plan) }
+further_same c = record { lane = refl; ended = refl; start = refl; cutoff = refl; indexes = refl; over = λ going. going; not_more = Rattle.std.proofs.Common.le_refl (left_of c.plan) }
+
+-- where an index is passed over a plan that is not over is not over
+still_going : (stage : Stage) → ends_at stage ≡ false → ends_at (marked_at stage 0 0) ≡ false
+still_going (marking place first) going = refl
+still_going (sweeping names) going = going
 
 module _ {D : Type 0} (d : Ghosts D) (parts : Parts D) where
   abbrev m : Files
@@ -121,7 +126,15 @@ module _ {D : Type 0} (d : Ghosts D) (parts : Parts D) where
   passed_settles : (old new : Collector) (i : IndexAt) → next_index old.plan ≡ Some i → PassesOver old new → (d.honest parts.disk → standing m catalogue old.entries.items i ≡ passed_over)
       → ((s : Store) → Holds d parts s → (k : Kept) → kept_at i.snapshot catalogue ≡ Some k → digests_named k.key i.name s.snapshots ≡ []) → SettlesNext d parts old new (Ok false)
   passed_settles old new i at over stands empty = record {
-    further = record { lane = over.lane; ended = over.ended; not_more = let less = over.less in omega arith };
+    further = record {
+      lane = over.lane;
+      ended = over.ended;
+      start = ap (λ (p : Plan). p.start) over.plan;
+      cutoff = ap (λ (p : Plan). p.cutoff) over.plan;
+      indexes = ap (λ (p : Plan). p.indexes) over.plan;
+      over = λ going. ap is_over over.plan ∙ still_going (old.plan).stage going;
+      not_more = let less = over.less in omega arith;
+    };
     shows = λ acts s sweep holds h. (passed_shows catalogue s.snapshots acts old new sweep i over at (empty s holds) h, tt);
     at_hand = λ e. absurd (false_true e);
     passes = λ _ _. over.less;
@@ -186,7 +199,15 @@ module _ {D : Type 0} (d : Ghosts D) (parts : Parts D) where
   had_settles : (old new : Collector) (i : IndexAt) (path : List ℕ) → next_index old.plan ≡ Some i → path_at i catalogue ≡ Some path → new.plan ≡ old.plan → new.lane ≡ old.lane → new.ended ≡ old.ended
       → (new.entries.items ≡ [] → ⊥) → IsHad old new i path → (d.honest parts.disk → standing m catalogue old.entries.items i ≡ marked_next) → SettlesNext d parts old new (Ok true)
   had_settles old new i path at found plan lane ended some had stands = record {
-    further = record { lane = lane; ended = ended; not_more = Rattle.std.proofs.Common.le_of_eq (ap left_of plan) };
+    further = record {
+      lane = lane;
+      ended = ended;
+      start = ap (λ (p : Plan). p.start) plan;
+      cutoff = ap (λ (p : Plan). p.cutoff) plan;
+      indexes = ap (λ (p : Plan). p.indexes) plan;
+      over = λ going. ap is_over plan ∙ going;
+      not_more = Rattle.std.proofs.Common.le_of_eq (ap left_of plan);
+    };
     shows = λ acts s sweep holds h. had_shows old new i path acts s sweep at found plan some had holds h;
     at_hand = λ _. record { next = ap is_some (ap next_index plan ∙ at); some = some };
     passes = λ e _. absurd (true_false e);
@@ -260,6 +281,10 @@ module _ {D : Type 0} (d : Ghosts D) (parts now : Parts D) (old c : Collector) (
   further_then e next = record {
     lane = next.lane ∙ (h.further).lane;
     ended = next.ended ∙ (h.further).ended;
+    start = next.start ∙ (h.further).start;
+    cutoff = next.cutoff ∙ (h.further).cutoff;
+    indexes = next.indexes ∙ (h.further).indexes;
+    over = λ going. next.over ((h.further).over going);
     not_more = let one = next.not_more in let two = (h.further).not_more in omega arith;
   }
 

@@ -17,7 +17,9 @@ use Rattle.snapshot_files.specs.Forgotten.{MayLose}
 use Rattle.snapshot_files.proofs.Losing.{loses_one}
 use Rattle.gc_plan.specs.Plan.{Plan, next_visit, visited, with_removal}
 use Rattle.core_state.specs.Changes.{drops, stays}
+use Rattle.core_state.specs.Entries.{FitsEntries}
 use Rattle.core_collect.specs.Visiting.{DropsFirst, IsListed, ListsPlan, VisitedFirst, VisitsNext, VisitsOne, goes}
+use Rattle.core_collect.proofs.Fitting.{first_fits}
 use Rattle.core_collect.proofs.VisitLemmas.{goes_so, visited_less}
 
 -- ---- results
@@ -102,6 +104,7 @@ module _ {D : Type 0} (d : Ghosts D) (old mid : D) (book : Book) (p listed : Pla
   -- the chunks were not listed
   pub next_unlisted : (l r : Result (Unit {0}) DiskError) → ListsPlan d old mid p listed l → IsErr l → IsErr r → VisitsNext d old mid book book p listed r
   next_unlisted l r lists unlisted failed = record {
+    fits = λ entries fits. subst (λ x. FitsEntries x entries) (sym (lists.failed unlisted)) fits;
     change = stays;
     going = inl refl;
     crash = (lists.reads).crash;
@@ -109,13 +112,14 @@ module _ {D : Type 0} (d : Ghosts D) (old mid : D) (book : Book) (p listed : Pla
     done = on_error r _ failed;
     want = λ wanting. (lists.failed unlisted, refl);
     unswept = λ _. refl;
-    less = λ open. on_error r _ failed;
+    less = λ ahead. on_error r _ failed;
   }
 
   module _ (F : Type 0) (reads : OnlyReads d old mid F) (are : IsListed d old p listed) where
     -- none is left
     pub next_none : (q : Plan) → next_visit listed ≡ None → q ≡ visited listed → VisitsNext d old mid book book p q (Ok tt)
     next_none q none plan_is = record {
+      fits = λ entries fits. first_fits entries d old p listed q are (inl plan_is) fits;
       change = stays;
       going = inl refl;
       crash = reads.crash;
@@ -123,7 +127,7 @@ module _ {D : Type 0} (d : Ghosts D) (old mid : D) (book : Book) (p listed : Pla
       done = (listed, are, subst (VisitedFirst book book listed q stays) (sym none) (refl, plan_is, refl));
       want = λ wanting. absurd (ok_apart tt NoMemory wanting);
       unswept = λ e. absurd (ok_error tt e);
-      less = λ open. visited_less d old p listed q open are (inl plan_is);
+      less = λ ahead. visited_less d old p listed q ahead are (inl plan_is);
     }
 
     module _ (new : D) (after_ : Book) (behind q : Plan) (digest : Digest32) (first : next_visit listed ≡ Some digest) (behind_is : behind ≡ visited listed) where
@@ -148,6 +152,7 @@ module _ {D : Type 0} (d : Ghosts D) (old mid : D) (book : Book) (p listed : Pla
           by_goes : (b : Bool) → goes book behind digest ≡ b → VisitsNext d old new book after_ p q r
           by_goes false fresh = absurd (ok_both v unvisited ((visit.stays fresh).3))
           by_goes true stale = record {
+            fits = λ entries fits. first_fits entries d old p listed q are (inl ((visit.failed unvisited).1 ∙ behind_is)) fits;
             change = drops (chunk_name digest.0 ∷ []);
             going = inr (drops_first stale);
             crash = reads_then_goes d old mid new (chunk_name digest.0) reads.crash (visit.crash stale);
@@ -155,7 +160,7 @@ module _ {D : Type 0} (d : Ghosts D) (old mid : D) (book : Book) (p listed : Pla
             done = on_error r _ (is_error r Failed is);
             want = λ wanting. absurd (failed_apart r is wanting);
             unswept = λ _. (visit.failed unvisited).0;
-            less = λ open. on_error r _ (is_error r Failed is);
+            less = λ ahead. on_error r _ (is_error r Failed is);
           }
 
       pub next_done : {E : Type 0} → VisitsOne {E = E} d mid new book after_ behind q digest (Ok tt) → VisitsNext d old new book after_ p q (Ok tt)
@@ -165,6 +170,7 @@ module _ {D : Type 0} (d : Ghosts D) (old mid : D) (book : Book) (p listed : Pla
           by_goes false fresh =
               let same = visit.stays fresh in
               record {
+                fits = λ entries fits. first_fits entries d old p listed q are (inl (same.2 ∙ behind_is)) fits;
                 change = stays;
                 going = inl refl;
                 crash = subst (λ (x : D). LeavesSame d old x) (sym same.0) reads.crash;
@@ -172,12 +178,13 @@ module _ {D : Type 0} (d : Ghosts D) (old mid : D) (book : Book) (p listed : Pla
                 done = (listed, are, subst (VisitedFirst book after_ listed q stays) (sym first) (inl (fresh_listed fresh, same.1, same.2 ∙ behind_is, refl)));
                 want = λ wanting. absurd (ok_apart tt NoMemory wanting);
                 unswept = λ e. absurd (ok_error tt e);
-                less = λ open. visited_less d old p listed q open are (inl (same.2 ∙ behind_is));
+                less = λ ahead. visited_less d old p listed q ahead are (inl (same.2 ∙ behind_is));
               }
           by_goes true stale =
               let taken = visit.taken stale in
               let plan_is : q ≡ with_removal (visited listed) = taken.1 ∙ ap with_removal behind_is in
               record {
+                fits = λ entries fits. first_fits entries d old p listed q are (inr plan_is) fits;
                 change = drops (chunk_name digest.0 ∷ []);
                 going = inr (drops_first stale);
                 crash = reads_then_goes d old mid new (chunk_name digest.0) reads.crash (visit.crash stale);
@@ -185,5 +192,5 @@ module _ {D : Type 0} (d : Ghosts D) (old mid : D) (book : Book) (p listed : Pla
                 done = (listed, are, subst (VisitedFirst book after_ listed q (drops (chunk_name digest.0 ∷ []))) (sym first) (inr (stale_listed stale, taken.0, plan_is, refl)));
                 want = λ wanting. absurd (ok_apart tt NoMemory wanting);
                 unswept = λ e. absurd (ok_error tt e);
-                less = λ open. visited_less d old p listed q open are (inr plan_is);
+                less = λ ahead. visited_less d old p listed q ahead are (inr plan_is);
               }

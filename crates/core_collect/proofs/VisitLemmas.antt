@@ -206,7 +206,7 @@ behind_less p = by_stage p.stage refl
     by_stage (sweeping (x ∷ xs)) is = subst (λ (q : Plan). plan_left (visited q) ≤ plan_left q) (sym (ap (λ (x : Stage). record p { stage = x }) is)) (omega arith)
 
 visit_less : (p : Plan) → is_plan_over p ≡ false → has_names p ≡ true → plan_left (visited p) < plan_left p
-visit_less p open has = by_stage p.stage refl open has
+visit_less p ahead has = by_stage p.stage refl ahead has
   where
     by_stage : (stage : Stage) → p.stage ≡ stage → ends_at stage ≡ false → is_sweeping stage ≡ true → plan_left (visited p) < plan_left p
     by_stage (marking place first) is left none = absurd (true≢false (sym none))
@@ -221,14 +221,14 @@ list_less p names none few = by_stage p.stage refl none
     by_stage (sweeping others) is some = absurd (true≢false some)
 
 pub visited_less : {D : Type 0} (d : Ghosts D) (disk : D) (p listed q : Plan) → is_plan_over p ≡ false → IsListed d disk p listed → (q ≡ visited listed) ⊎ (q ≡ with_removal (visited listed)) → plan_left q < plan_left p
-visited_less d disk p listed q open (inl (has, same)) is =
+visited_less d disk p listed q ahead (inl (has, same)) is =
     subst (λ n. n < plan_left p) (sym (left_is is))
-    (subst (λ (x : Plan). plan_left (visited x) < plan_left p) (sym same) (visit_less p open has))
+    (subst (λ (x : Plan). plan_left (visited x) < plan_left p) (sym same) (visit_less p ahead has))
   where
     left_is : (q ≡ visited listed) ⊎ (q ≡ with_removal (visited listed)) → plan_left q ≡ plan_left (visited listed)
     left_is (inl e) = ap plan_left e
     left_is (inr e) = ap plan_left e
-visited_less d disk p listed q open (inr (none, (names, e, are))) is =
+visited_less d disk p listed q ahead (inr (none, (names, e, are))) is =
     let less : plan_left listed < plan_left p = subst (λ (x : Plan). plan_left x < plan_left p) (sym e) (list_less p names none are.few) in
     let behind = behind_less listed in
     let same : plan_left q ≡ plan_left (visited listed) = left_is is in
@@ -265,7 +265,7 @@ stale_there (Some when) cutoff e = refl
 module _ {D : Type 0} (d : Ghosts D) (old new : Parts D) (mid : D) (u v : Upkeep) (e f : Collector) (failed : Type 0) (moment : ℕ) (acts : ℕ) (s : Store) (w : Swept) (sweep : Sweep)
     (reads : OnlyReads d old.disk mid failed) (kept : SameKept old new) (honest : d.honest new.disk) (ended : f.ended ≡ None) (undated : v.undated ≡ u.undated)
     (holds : Holds d old s) (touches_are : SameTouches (touches_kept u) w.touches) (present : IsPresent (d.content old.disk) w.touches) (shows : ShowsSweep acts old.catalogue.items s.snapshots e sweep)
-    (none : sweep.unmarked ≡ []) (open : is_over sweep ≡ false) (is : w.sweep ≡ Some sweep) (able : IsSweepable s w) where
+    (none : sweep.unmarked ≡ []) (ahead : is_over sweep ≡ false) (is : w.sweep ≡ Some sweep) (able : IsSweepable s w) where
   mid_honest : d.honest mid
   mid_honest = (reads.serves).kept.0 holds.honest
 
@@ -353,7 +353,7 @@ module _ {D : Type 0} (d : Ghosts D) (old new : Parts D) (mid : D) (u v : Upkeep
   sweeps_by beside =
       subst (λ (o : Option Sweep). IsSomeAnd o (λ (x : Sweep). (is_over x ≡ false) × (f.ended ≡ None)
       × StandsBeside d new v acts (Some f) s (passed_touches w x moment) (Some (passed w x x.unmarked)))) (sym is)
-      (open, ended, subst After (sym none) beside)
+      (ahead, ended, subst After (sym none) beside)
 
   -- nothing is taken out
   keeps_chunk : (ds : List Digest32) → next_taken w sweep [] ≡ None → behind_first (left_of w sweep) ≡ bytes_of ds → f.plan ≡ with_names e.plan ds → (e.plan).removed + length ds < 2 ^ 63
@@ -439,7 +439,7 @@ want_unfailed e = cc
 
 module _ {D : Type 0} (d : Ghosts D) (old new : Parts D) (mid : D) (u v : Upkeep) (c e f : Collector) (failed : Type 0) (moment : ℕ)
     (reads : OnlyReads d old.disk mid failed) (kept : SameKept old new) (finds : FindsNext d old c e (Ok false)) (ended : f.ended ≡ e.ended) (entries : f.entries ≡ e.entries)
-    (undated : v.undated ≡ u.undated) (open : is_plan_over c.plan ≡ false) (going : c.ended ≡ None) (acts : ℕ) (s : Store) (w : Swept)
+    (undated : v.undated ≡ u.undated) (ahead : is_plan_over c.plan ≡ false) (going : c.ended ≡ None) (acts : ℕ) (s : Store) (w : Swept)
     (beside : StandsBeside d old u acts (Some c) s w.touches w.sweep) (able : IsSweepable s w) (honest : d.honest new.disk) where
   abbrev Tells : Result (Unit {0}) DiskError → Change → Type 0
   Tells r change = IsTheSweeps d new v acts f s w moment (visit_outcome r) × Spares s change
@@ -456,7 +456,7 @@ module _ {D : Type 0} (d : Ghosts D) (old new : Parts D) (mid : D) (u v : Upkeep
       by_sweep None is shows = absurd shows
       by_sweep (Some sweep) is shows =
           let found = finds.shows acts s sweep beside.holds shows in
-          go sweep is found.0 found.1 (sym (over_is acts old.catalogue.items c s sweep shows) ∙ open)
+          go sweep is found.0 found.1 (sym (over_is acts old.catalogue.items c s sweep shows) ∙ ahead)
 
   tells_done : (done : Unit {0}) (x : VisitsNext d mid new.disk u.book v.book e.plan f.plan (Ok done)) → Tells (Ok done) x.change
   tells_done done x = with_sweep (Ok done) x.change (λ sweep is shows none left.
@@ -486,9 +486,9 @@ pub visited_tells : {D : Type 0} (d : Ghosts D) (old new : Parts D) (mid : D) (u
     → (x : VisitsNext d mid new.disk u.book v.book e.plan f.plan r) → f.ended ≡ e.ended → f.entries ≡ e.entries → v.undated ≡ u.undated → is_plan_over c.plan ≡ false → c.ended ≡ None
     → (acts : ℕ) (s : Store) (w : Swept) → StandsBeside d old u acts (Some c) s w.touches w.sweep → IsSweepable s w
     → IsTheSweeps d new v acts f s w moment (visit_outcome r) × Spares s x.change
-visited_tells d old new mid u v c e f failed moment (Ok done) reads kept serves finds x ended entries undated open going acts s w beside able =
-    tells_done d old new mid u v c e f failed moment reads kept finds ended entries undated open going acts s w beside able (serves.kept.0 ((reads.serves).kept.0 (beside.holds).honest)) done x
-visited_tells d old new mid u v c e f failed moment (Err NoMemory) reads kept serves finds x ended entries undated open going acts s w beside able =
-    tells_wanting d old new mid u v c e f failed moment reads kept finds ended entries undated open going acts s w beside able (serves.kept.0 ((reads.serves).kept.0 (beside.holds).honest)) x
-visited_tells d old new mid u v c e f failed moment (Err Failed) reads kept serves finds x ended entries undated open going acts s w beside able =
-    tells_failed d old new mid u v c e f failed moment reads kept finds ended entries undated open going acts s w beside able (serves.kept.0 ((reads.serves).kept.0 (beside.holds).honest)) x
+visited_tells d old new mid u v c e f failed moment (Ok done) reads kept serves finds x ended entries undated ahead going acts s w beside able =
+    tells_done d old new mid u v c e f failed moment reads kept finds ended entries undated ahead going acts s w beside able (serves.kept.0 ((reads.serves).kept.0 (beside.holds).honest)) done x
+visited_tells d old new mid u v c e f failed moment (Err NoMemory) reads kept serves finds x ended entries undated ahead going acts s w beside able =
+    tells_wanting d old new mid u v c e f failed moment reads kept finds ended entries undated ahead going acts s w beside able (serves.kept.0 ((reads.serves).kept.0 (beside.holds).honest)) x
+visited_tells d old new mid u v c e f failed moment (Err Failed) reads kept serves finds x ended entries undated ahead going acts s w beside able =
+    tells_failed d old new mid u v c e f failed moment reads kept finds ended entries undated ahead going acts s w beside able (serves.kept.0 ((reads.serves).kept.0 (beside.holds).honest)) x

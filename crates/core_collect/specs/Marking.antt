@@ -10,7 +10,7 @@ use Rattle.store_types.specs.declared.refusal.Refusal.{Refusal}
 use Rattle.store_types.specs.declared.refusal.Refusal.TheVariants as refusals
 use Rattle.store_files.specs.Book.{Book}
 use Rattle.store_files.specs.DynamicIndex.{Ended}
-use Rattle.gc_plan.specs.Plan.{Plan, Stage, marking, sweeping, left_of, mark_limit, marked_at, next_index, next_mark, with_mark}
+use Rattle.gc_plan.specs.Plan.{Plan, Stage, marking, sweeping, is_over, left_of, mark_limit, marked_at, next_index, next_mark, with_mark}
 use Rattle.gc_plan.specs.declared.IndexAt.{IndexAt}
 use Rattle.snapshot_files.specs.Indexes.{index_at}
 use Rattle.store_files.specs.Archive.{Snapshot}
@@ -161,10 +161,14 @@ TellsUnread next (Ok found) = next ≡ None
 TellsUnread next (Err (Unreadable path)) = next ≡ Some path
 TellsUnread next (Err unread) = Unit {0}
 
--- the lane and what ended it early are as before, and no more is to be done
+-- the lane, what ended it early and what its start fixed are as before, no more is to be done, and it is over no sooner
 pub record GoesFurther (old new : Collector) : Type 0 where
   pub lane : new.lane ≡ old.lane
   pub ended : new.ended ≡ old.ended
+  pub start : (new.plan).start ≡ (old.plan).start
+  pub cutoff : (new.plan).cutoff ≡ (old.plan).cutoff
+  pub indexes : (new.plan).indexes ≡ (old.plan).indexes
+  pub over : is_over old.plan ≡ false → is_over new.plan ≡ false
   pub not_more : left_of new.plan ≤ left_of old.plan
 
 pub record SettlesNext {D : Type 0} (d : Ghosts D) (parts : Parts D) (old new : Collector) (result : Result Bool Unread) : Type 0 where

@@ -9,11 +9,11 @@ use Rattle.core_collect.proofs.stepping.go_on.Goals as goal
 pub returns-in-Answered : goal.returns-in-Answered
 returns-in-Answered g c = not_begun c.in-Answered.ensures.begun c.in-Answered.ensures.text
 
-pub pass-requires-clause-lane : goal.pass-requires-clause-lane
-pass-requires-clause-lane g c = subst (λ l. l < 64) (sym c.in-At.ensures.begun.lane_is) c.requires.lane
+pub pass-ended-requires-clause-lane : goal.pass-ended-requires-clause-lane
+pass-ended-requires-clause-lane g c = subst (λ l. l < 64) (sym c.in-At.ensures.begun.lane_is) c.requires.lane
 
-pub pass-requires-clause-uncut : goal.pass-requires-clause-uncut
-pass-requires-clause-uncut g c =
+pub pass-ended-requires-clause-uncut : goal.pass-ended-requires-clause-uncut
+pass-ended-requires-clause-uncut g c =
     ap (λ l. is_cut l c.begin.new.core.collector) c.in-At.ensures.begun.lane_is ∙ ap (is_cut c.args.lane) c.in-At.ensures.begun.ready.begun.collector ∙ c.requires.uncut
 
 pub enter_pass-requires-clause-lane : goal.enter_pass-requires-clause-lane
