@@ -23,7 +23,7 @@ use Rattle.store_model.specs.JobSteps.{step_outcome}
 use Rattle.store_model.specs.Steps.{answered, step}
 use Rattle.store_model.specs.Store.{Store}
 use Rattle.store_model.specs.Lanes.{Lane, Collecting, Run, new_lane, lane_at, with_lane, say, collects, lane_next, next_beside, next_of}
-use Rattle.store_model.specs.Weave.{Endings, tell, go_on, stepped, short, told_fault, fault_refusal, first_fault, is_end, is_cut_off, faulted, is_replied, end_session, ended_with, unread, ends, entered, with_store, answer, answer_job, want_collector, open_collector, close_collector, collected, opens, closes, passed, begin_sync, remote_failed}
+use Rattle.store_model.specs.Weave.{Endings, tell, go_on, stepped, short, told_fault, fault_refusal, first_fault, is_end, is_cut_off, faulted, is_replied, may_leave_unread, end_session, ended_with, unread, ends, entered, with_store, answer, answer_job, want_collector, open_collector, close_collector, collected, opens, closes, passed, begin_sync, remote_failed}
 use Rattle.plain_lanes.specs.declared.next.Ahead.{Ahead}
 use Rattle.plain_lanes.specs.declared.next.Ahead.TheVariants as ahead
 use Rattle.plain_lanes.specs.declared.next.Next.{Next}
@@ -235,6 +235,17 @@ module _ (r : Run) (k : ℕ) where
   pub untold_at_end : (ending : Ending) (reply : Reply) → is_replied ending ≡ false → ended_with r k ending reply ≡ end_session r k
   unfolding ended_with
   untold_at_end ending reply h = rw h refl
+
+-- ---- an end with commands left unread
+
+module _ (r : Run) (k : ℕ) (ending : Ending) where
+  pub unread_may : may_leave_unread ending ≡ true → unread r k ending ≡ Some (end_session r k)
+  unfolding unread
+  unread_may h = rw (unread, h) refl
+
+  pub unread_not : may_leave_unread ending ≡ false → unread r k ending ≡ None
+  unfolding unread
+  unread_not h = rw (unread, h) refl
 
 -- ---- commands that ask for no step
 

@@ -589,18 +589,17 @@ impl<'a> Run<'a> {
     }
 
     /// The lane's end closes its collector, where the lane's ending may leave commands unread. Whether it may.
-    #[tactic(auto, unfolding(store_model::specs::Weave::unread))]
     fn end_open(&mut self, lane: u32, ending: Ending) -> bool
         requires { lane < 64 }
         ensures enters { Enters self.old self.new result (end_open_at self.old lane ending) }
         ensures lanes { length self.new.lanes ≡ length self.old.lanes }
     {
-        let may = may_leave_unread(ending);
-        if may {
-            self.collecting = None;
-            self.end_session(lane);
+        if !may_leave_unread(ending) {
+            return false;
         }
-        may
+        self.collecting = None;
+        self.end_session(lane);
+        true
     }
 
     /// Takes one entry of a lane whose collector is open. Whether it fits.

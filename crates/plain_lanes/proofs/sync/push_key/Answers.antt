@@ -17,4 +17,4 @@ returns-clause-few c = omega (arith, c.in_ok-push.ensures.len)
 pub returns-clause-spelled : goal.returns-clause-spelled
 returns-clause-spelled c =
     subst (λ (ts : List (List ℕ)). All IsText ts) (sym c.in_ok-push.ensures.items)
-    (All-push IsText c.args.pulled.items c.in_ok-text.field-0 c.requires c.in_ok-text.ensures.short)
+    (All-push IsText c.args.pulled.items c.in_ok-text.field-0 c.requires.spelled c.in_ok-text.ensures.short)
