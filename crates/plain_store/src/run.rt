@@ -214,16 +214,12 @@ impl<'a> Run<'a> {
     }
 
     /// A collector may open on the lane: it has no session, and no collector is open.
-    #[tactic(auto, unfolding(store_model::specs::Weave::want_collector))]
     fn want_collector(&self, lane: u32) -> Result<(), Refusal>
         requires { lane < 64 }
         ensures fits { IfErr result FitsRefusal }
         ensures test { result ≡ wants_collector self.now lane }
     {
-        let held = self.store.held(lane);
-        if let Err(refusal) = held.want_idle() {
-            return Err(refusal);
-        }
+        self.store.held(lane).want_idle()?;
         match &self.collecting {
             None => Ok(()),
             Some(open) => Err(Refusal::CollectorBusy { lane: open.lane }),
