@@ -46,23 +46,23 @@ module _ (row : FileRow) (bytes : List ℕ) (fault : Option FileFault) (total : 
 
 module _ (snapshot name bytes contents : List ℕ) (reads : data_of bytes ≡ Ok contents) where
   pub blob_manifest : bytes_eq name manifest_name ≡ true → manifest_fault snapshot contents ≡ blob_fault snapshot name bytes
-  blob_manifest h = rw (reads, h) refl
+  blob_manifest h = rw (blob_fault, reads, h) refl
 
   pub blob_other : bytes_eq name manifest_name ≡ false → None ≡ blob_fault snapshot name bytes
-  blob_other h = rw (reads, h) refl
+  blob_other h = rw (blob_fault, reads, h) refl
 
 -- ---- by the file's name
 
 module _ (snapshot bytes : List ℕ) (row : FileRow) where
   pub judged_fixed : is_fixed_name row.file ≡ true → fixed_judged row bytes ≡ judged snapshot row bytes
   unfolding judged
-  judged_fixed h = rw (judged, h) refl
+  judged_fixed h = rw h refl
 
   module _ (other : is_fixed_name row.file ≡ false) where
     pub judged_dynamic : is_dynamic_name row.file ≡ true → dynamic_judged row bytes ≡ judged snapshot row bytes
     unfolding judged
-    judged_dynamic h = rw (judged, other, h) refl
+    judged_dynamic h = rw (other, h) refl
 
     pub judged_blob : is_dynamic_name row.file ≡ false → without_entries (blob_fault_of snapshot row.file row bytes) ≡ judged snapshot row bytes
     unfolding judged blob_judged
-    judged_blob h = rw (judged, other, h) refl
+    judged_blob h = rw (other, h) refl

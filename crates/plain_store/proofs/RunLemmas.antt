@@ -241,11 +241,11 @@ module _ (r : Run) (k : ℕ) where
 module _ (r : Run) (k : ℕ) (ending : Ending) where
   pub unread_may : may_leave_unread ending ≡ true → unread r k ending ≡ Some (end_session r k)
   unfolding unread
-  unread_may h = rw (unread, h) refl
+  unread_may h = rw h refl
 
   pub unread_not : may_leave_unread ending ≡ false → unread r k ending ≡ None
   unfolding unread
-  unread_not h = rw (unread, h) refl
+  unread_not h = rw h refl
 
 -- ---- commands that ask for no step
 
@@ -296,16 +296,16 @@ module _ (r : Run) (k : ℕ) (group left : List ℕ) where
 module _ (r : Run) (k : ℕ) where
   pub collector_not_idle : (refusal : Refusal) → want_idle (session r.store k) ≡ Err refusal → Err refusal ≡ want_collector r k
   unfolding want_collector
-  collector_not_idle refusal h = rw (want_collector, h) refl
+  collector_not_idle refusal h = rw h refl
 
   module _ (idle : want_idle (session r.store k) ≡ Ok tt) where
     pub collector_free : r.collecting ≡ None → Ok tt ≡ want_collector r k
     unfolding want_collector
-    collector_free h = rw (want_collector, idle, h) refl
+    collector_free h = rw (idle, h) refl
 
     pub collector_busy : (c : Collecting) → r.collecting ≡ Some c → Err (CollectorBusy c.lane) ≡ want_collector r k
     unfolding want_collector
-    collector_busy c h = rw (want_collector, idle, h) refl
+    collector_busy c h = rw (idle, h) refl
 
 -- what stands there is a GC
 collect_is : (n : model.Next) (left : List ℕ) → left_of_collect n ≡ Some left → n ≡ model.collect left
