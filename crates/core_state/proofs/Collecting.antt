@@ -1,11 +1,12 @@
 -- The core's collector is the history's, with one entry more.
 use Rattle.std.proofs.Common.{◌≡◌, ℕ, Bool, true, false, ◌&&◌, ◌||◌, ◌==◌, cond, is_some, List, Option, Some, None, refl, sym, ap, ◌∙◌}
 use Rattle.std.specs.Prelude.{option_map}
+use Rattle.std.proofs.Props.{props}
 use Rattle.std.proofs.lemmas.Bool.{eqb-true}
 use Rattle.store_types.specs.declared.names.Digest32.{Digest32}
 use Rattle.store_files.specs.Archive.{Snapshot}
 use Rattle.gc_plan.specs.Plan.{Plan}
-use Rattle.store_model.specs.Lanes.{Collecting, collects}
+use Rattle.store_model.specs.Lanes.{Collecting}
 use Rattle.store_history.specs.declared.act.Act.{Act}
 use Rattle.store_history.specs.Acts.{Class, stepping, starting, sweeping, wanting, ending, class_of}
 use Rattle.store_history.specs.History.{World, moved, halted_on, kind_of, open_on}
@@ -64,7 +65,7 @@ cut_before c some = by_ended c.ended refl
 
 -- what is known of its digests has one proof
 fits_one : (plan : Plan) (entries : List Digest32) → IsProp (FitsEntries plan entries)
-fits_one plan entries = hlevel
+fits_one plan entries = hlevel props
 
 pub cut_now : (c : Collector) (fits : FitsEntries c.plan c.entries.items) → is_some c.ended ≡ false → record c { ended = Some NoMemory; fits = fits } ≡ with_cut c
 cut_now c fits none = ap (λ f. record c { ended = Some NoMemory; fits = f }) (fits_one c.plan c.entries.items fits c.fits) ∙ by_ended c.ended refl

@@ -1,6 +1,6 @@
 -- The plan of the open collector stays the sweep of the history with any act but the collector's own.
 use Rattle.disk_trait.specs.declared.disk.Disk.{Ghosts}
-use Rattle.std.proofs.Common.{◌≡◌, ◌≢◌, ◌<◌, ◌≤◌, ◌+◌, ◌^◌, ◌⊎◌, ⊎_elim, inl, inr, ℕ, zero, suc, Bool, true, false, not, ◌||◌, ◌==◌, cond, if◌then◌else◌, List, [], ◌∷◌, ◌++◌, map, filter, length, length-append, Option, Some, None, Result, Ok, Err, refl, sym, ap, subst, ◌∙◌, arith}
+use Rattle.std.proofs.Common.{◌≡◌, ◌≢◌, ◌<◌, ◌≤◌, ◌+◌, ⊎_elim, ℕ, zero, suc, Bool, true, false, not, ◌||◌, ◌==◌, cond, List, [], ◌∷◌, map, filter, length, length-append, Option, Some, None, refl, sym, ap, subst, ◌∙◌, arith}
 use Rattle.std.specs.Prelude.{option_map, AllPairs, IsSomeAnd, slice_get}
 use Rattle.std.specs.List.{All, find}
 use Rattle.std.proofs.lemmas.List.Elements.{All-head, All-map, All-same, All-tail, All-weaker}
@@ -11,13 +11,11 @@ use Rattle.store_types.specs.declared.refusal.Refusal.{Refusal}
 use Rattle.store_types.specs.Names.{key_of, same_key}
 use Rattle.store_types.specs.KeyOrder.{same_key_equiv}
 use Rattle.store_files.specs.Archive.{Snapshot}
-use Rattle.store_files.specs.Manifest.{Manifest}
 use Rattle.wire_commands.specs.declared.command.Command.TheVariants.{Finish, Forget}
 use Rattle.wire_commands.specs.declared.reply.Reply.{Reply}
 use Rattle.wire_commands.specs.declared.reply.Reply.TheVariants as replies
 use Rattle.store_model.specs.AdminSteps.{forget}
 use Rattle.store_model.specs.Lanes.{Collecting}
-use Rattle.store_model.specs.Manifests.{finish_check}
 use Rattle.store_model.specs.Steps.{answered, outcome}
 use Rattle.store_model.specs.Store as model
 use Rattle.store_model.specs.Store.{Outcome, insert_snapshot, session, snapshot_named, without_snapshot}
@@ -38,11 +36,10 @@ use Rattle.store_history.proofs.SweptLonger.{swept_longer}
 use Rattle.core_state.specs.declared.collector.Collector.{Collector}
 use Rattle.core_state.specs.declared.kept.Kept.{Kept}
 use Rattle.core_state.specs.declared.kept.Listed.{Listed}
-use Rattle.core_state.specs.declared.kept.Session.{Session}
 use Rattle.core_state.specs.declared.state.Core.{Core}
 use Rattle.core_state.specs.Answers.{IsAnswered}
 use Rattle.core_state.specs.Applies.{ActKeeps}
-use Rattle.core_state.specs.Catalogue.{Lists, closed, closed_by, forgotten_by, insert_listed, listed_by, listed_of, without_listed, without_named}
+use Rattle.core_state.specs.Catalogue.{closed, closed_by, forgotten_by, insert_listed, listed_by, listed_of, without_listed, without_named}
 use Rattle.core_state.specs.Collectors.{OpenOn, closed_on, collector_by, cut_on, ended_if, open_in, shown_collecting, with_cut}
 use Rattle.core_state.specs.Commands.{is_step}
 use Rattle.core_state.specs.History.{History, StandsFor, event_of, then_event, world}
@@ -50,7 +47,7 @@ use Rattle.core_state.specs.Holds.{Shows}
 use Rattle.core_state.specs.KeepsTouches.{KeepsTouches, swept_of}
 use Rattle.core_state.specs.Numbers.{AreNumbered, DifferInNumber, first_number}
 use Rattle.core_state.specs.Shown.{shown_session, shown_snapshot, shown_writer}
-use Rattle.core_state.specs.Sweeps.{AreEntries, HasEntries, HasNumber, ShowsOpen, ShowsSweep, digests_named, kept_at, unmarked_by}
+use Rattle.core_state.specs.Sweeps.{AreEntries, HasEntries, HasNumber, ShowsOpen, ShowsSweep, kept_at, unmarked_by}
 use Rattle.core_state.specs.Wanted.{session_at}
 use Rattle.core_state.proofs.Commanding.{session_shown}
 use Rattle.core_state.proofs.Completing.{FinishIs, fails as finish_fails, finish_is, finished, gives as finish_gives}
