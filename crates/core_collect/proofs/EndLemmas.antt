@@ -13,7 +13,7 @@ use Rattle.disk_trait.specs.Files.{Files}
 use Rattle.disk_trait.specs.declared.disk.DiskError.{DiskError}
 use Rattle.disk_trait.specs.declared.disk.DiskError.TheVariants.{NoMemory, Failed}
 use Rattle.file_install.specs.Install.{Installs, installed}
-use Rattle.store_files.specs.Book.{Book, book_text}
+use Rattle.store_files.specs.Book.{Book, FitsBook, book_text}
 use Rattle.store_files.specs.Folder.{chunk_name, file_path}
 use Rattle.store_model.specs.Store.{Store}
 use Rattle.wire_commands.specs.declared.reply.Reply.{Reply}
@@ -21,7 +21,7 @@ use Rattle.wire_commands.specs.declared.reply.Reply.TheVariants.{Collected}
 use Rattle.wire_commands.specs.HasText.{FitsReply, ReplyHasText}
 use Rattle.wire_commands.specs.ReplyText.{reply_text}
 use Rattle.atime_book.specs.Counts.{ListsBook, is_since, pending_among as pending_of_book, used_among as used_of_book}
-use Rattle.atime_book.specs.Touches.{as_of, last_of}
+use Rattle.atime_book.specs.Touches.{IsAt, as_of, last_of}
 use Rattle.gc_plan.specs.Plan.{Plan, is_over as is_plan_over}
 use Rattle.gc_plan.specs.declared.GcReport.{GcReport}
 use Rattle.store_history.specs.declared.act.Answer.{Answer}
@@ -130,22 +130,23 @@ collected_has_text start cutoff used pending removed fits = (fits, omega arith)
 module _ {D : Type 0} (d : Ghosts D) (old : D) (book : Book) (plan : Plan) (moment : ℕ) where
   -- the disk was not called
   pub unsaved : (r : Result GcReport DiskError) → IsErr r → EndsPlan d old old book plan moment r
-  unsaved r failed = record { crash = inl refl; installed = λ honest. on_error r _ failed; report = no_report r failed }
+  unsaved r failed = record { crash = inl refl; installed = λ honest. on_error r _ failed; report = no_report r failed; fits = λ at. on_error r _ failed }
     where
       no_report : (x : Result GcReport DiskError) → IsErr x → IfOk x (Reports book plan)
       no_report (Ok report) e = absurd (ok_error e)
       no_report (Err error) e = tt
 
   pub unsaved_by : (new : D) (r : Result GcReport DiskError) → IsErr r → StepsOn d old new (Installs (d.content old) book_name (book_text (as_of moment book))) → EndsPlan d old new book plan moment r
-  unsaved_by new r failed crash = record { crash = inr crash; installed = λ honest. on_error r _ failed; report = no_report r failed }
+  unsaved_by new r failed crash = record { crash = inr crash; installed = λ honest. on_error r _ failed; report = no_report r failed; fits = λ at. on_error r _ failed }
     where
       no_report : (x : Result GcReport DiskError) → IsErr x → IfOk x (Reports book plan)
       no_report (Ok report) e = absurd (ok_error e)
       no_report (Err error) e = tt
 
   pub saved_by : (new : D) (report : GcReport) → StepsOn d old new (Installs (d.content old) book_name (book_text (as_of moment book)))
-      → (d.honest old → d.content new ≡ installed (d.content old) book_name (book_text (as_of moment book))) → Reports book plan report → EndsPlan d old new book plan moment (Ok report)
-  saved_by new report crash saved reports = record { crash = inr crash; installed = saved; report = reports }
+      → (d.honest old → d.content new ≡ installed (d.content old) book_name (book_text (as_of moment book))) → Reports book plan report → (IsAt book moment → FitsBook (as_of moment book))
+      → EndsPlan d old new book plan moment (Ok report)
+  saved_by new report crash saved reports fits = record { crash = inr crash; installed = saved; report = reports; fits = fits }
 
 -- ---- a collector that was ended early
 
