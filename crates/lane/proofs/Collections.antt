@@ -15,7 +15,7 @@ use Rattle.store_history.specs.History.{kind, lane, reply}
 use Rattle.store_history.specs.LaneRun.{Position, next_at, tells, wants, heard_at, heard, may_want_at}
 use Rattle.store_history.specs.Seats.{AreOf}
 use Rattle.store_history.specs.SoFar.{goes_further, Follows, Leads}
-use Rattle.store_history.proofs.Collecting.{follows_step, leads_start, leads_gc, leads_close}
+use Rattle.store_history.proofs.Collecting.{flag, follows_step, leads_start, leads_gc, leads_close}
 use Rattle.store_history.proofs.Ending.{next_shut, next_collecting}
 use Rattle.store_history.proofs.Growing.{leads_more}
 use Rattle.store_history.proofs.Longer.{of_more}
@@ -29,9 +29,6 @@ use Rattle.lane.specs.Fronts.{is_unserved}
 use Rattle.lane.specs.Ran.{with_events}
 use Rattle.lane.proofs.Doing.{leads_then, of_both}
 use Rattle.lane.proofs.Stepping.{job_short}
-
-abbrev flag : Answer → Option Bool → ℕ → Position → Position
-flag a o n q = record q { is_short = wants n o; is_spent = a.last || q.is_spent }
 
 -- ---- a SYNC for which memory was wanting
 
