@@ -23,6 +23,7 @@ pub fn told(report: &GcReport) -> Reply
     ensures value { result ≡ report_reply report.now }
     ensures text { ReplyHasText result }
 {
+    let report = *report;
     Reply::Collected {
         start: report.start,
         cutoff: report.cutoff,

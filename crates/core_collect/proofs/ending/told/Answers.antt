@@ -5,4 +5,4 @@ use Rattle.core_collect.proofs.ending.told.Goals as goal
 pub returns-clause-text : goal.returns-clause-text
 returns-clause-text c =
     let r = c.args.report.now in
-    collected_has_text r.start r.cutoff r.used r.pending r.removed (search rules)
+    collected_has_text r.start r.cutoff r.used r.pending r.removed ?
