@@ -23,13 +23,19 @@ pub fn told(report: &GcReport) -> Reply
     ensures value { result ≡ report_reply report.now }
     ensures text { ReplyHasText result }
 {
-    let report = *report;
+    let GcReport {
+        start,
+        cutoff,
+        used,
+        pending,
+        removed,
+    } = *report;
     Reply::Collected {
-        start: report.start,
-        cutoff: report.cutoff,
-        used: report.used,
-        pending: report.pending,
-        removed: report.removed,
+        start,
+        cutoff,
+        used,
+        pending,
+        removed,
     }
 }
 
