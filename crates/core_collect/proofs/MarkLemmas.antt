@@ -147,9 +147,6 @@ over_zero (sweeping names) = refl
 
 -- ---- what fits the digests at hand
 
-pub fits_over : (p q : Plan) (entries : List Digest32) → FitsEntries p entries → q ≡ with_mark p 0 0 → FitsEntries q entries
-fits_over p q entries fits is = subst (λ x. FitsEntries x entries) (sym is) (record { named = fits.named; within = none_begun (marked_in (marked_at p.stage 0 0)) (length entries) (over_zero p.stage); few = fits.few })
-
 pub fits_none : (p q : Plan) (entries : List Digest32) → FitsEntries p entries → q ≡ with_mark p 0 0 → FitsEntries q []
 fits_none p q entries fits is = subst (λ x. FitsEntries x []) (sym is) (record { named = fits.named; within = none_begun (marked_in (marked_at p.stage 0 0)) 0 (over_zero p.stage); few = omega arith })
 
@@ -159,29 +156,6 @@ fits_read p before after_ fits none few = record { named = fits.named; within = 
   where
     begun : 0 < marked_in p.stage → (0 < marked_in p.stage → marked_in p.stage < length before) → ⊥
     begun some left = let n = ap length none in let lt = left some in omega (arith, lt, n)
-
-positive : (n : ℕ) → (n == 0) ≡ false → 0 < n
-positive zero e = absurd (true≢false e)
-positive (suc n) e = omega arith
-
-marked_within : (stage : Stage) (count left n : ℕ) → marked_in stage + count + left ≡ n → 0 < marked_in (marked_at stage count left) → marked_in (marked_at stage count left) < n
-marked_within (marking place first) count left n whole begun = by_test (left == 0) refl begun
-  where
-    by_test : (b : Bool) → (left == 0) ≡ b → 0 < marked_in (cond b (marking (place + 1) 0) (marking place (first + count)))
-        → marked_in (cond b (marking (place + 1) 0) (marking place (first + count))) < n
-    by_test true is more = absurd (omega (arith, more))
-    by_test false is more = let some = positive left is in omega (arith, some, whole)
-marked_within (sweeping names) count left n whole begun = absurd (omega (arith, begun))
-
--- some were marked
-pub fits_marked : (p q : Plan) (entries : List Digest32) (count left : ℕ) → FitsEntries p entries → marked_in p.stage + count + left ≡ length entries → q ≡ with_mark p count left → FitsEntries q entries
-fits_marked p q entries count left fits whole is =
-    subst (λ x. FitsEntries x entries) (sym is) (record { named = fits.named; within = marked_within p.stage count left (length entries) whole; few = fits.few })
-
--- all were
-pub fits_done : (p q : Plan) (entries : List Digest32) (count left : ℕ) → FitsEntries p entries → left ≡ 0 → q ≡ with_mark p count left → FitsEntries q []
-fits_done p q entries count left fits none is =
-    fits_none p q entries fits (is ∙ ap (λ s. let x : Plan = record p { stage = s } in x) (over_left p.stage count left (eq-eqb left 0 none)))
 
 -- ---- what a mark does
 

@@ -37,7 +37,7 @@ use Rattle.core_state.proofs.Found.{IsThere, is_there, kept_is, not_there, there
 use Rattle.core_collect.specs.Marking.{Reads, digests_read, path_at}
 use Rattle.core_collect.specs.declared.marking.Unread.{Unread}
 use Rattle.core_collect.specs.declared.marking.Unread.TheVariants as unreads
-use Rattle.core_collect.proofs.Lists.{IsLike, each_like, each_named}
+use Rattle.core_collect.proofs.Lists.{each_like, each_named}
 
 -- ---- an index of the plain store
 

@@ -404,14 +404,6 @@ handed_reads d old new r s u is was reads = record {
   same = reads.same;
 }
 
--- no other answer is a fault of the disk
-pub answered_reads : {D A : Type 0} (d : Ghosts D) (old new : D) (found : Bool) (s : Result A Unread) → OnlyReads d old new (IsErrOf s DiskFailed) → OnlyReads d old new (IsErrOf {T = Bool} (Ok found) DiskFailed)
-answered_reads d old new found s reads = record {
-  serves = record { kept = (reads.serves).kept; count = (reads.serves).count; cause = λ failed. absurd (err_ok DiskFailed found (sym failed)) };
-  crash = reads.crash;
-  same = reads.same;
-}
-
 module _ {D : Type 0} (d : Ghosts D) (parts now later : Parts D) (old c e : Collector) (h : HasPassed d parts now old c) (r : Result Bool Unread) (reads : OnlyReads d now.disk later.disk (IsErrOf r DiskFailed))
     (kept : SameKept now later) (settles : SettlesNext d now c e r) where
   pub search_kept : SameKept parts later
