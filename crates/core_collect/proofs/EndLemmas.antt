@@ -166,10 +166,10 @@ cut_early lane (Some c) cut = (and_parts (c.lane == lane) (is_some c.ended) cut)
 time_one : (a b : ℕ) → IsProp (a ≤ b)
 time_one a b = hlevel props
 
-closed_by : {D E C : Type 0} (core : Core D E C) (in_time : core.last ≤ last_moment) (o : Option Collector) → o ≡ None → record core { collector = o; in_time = in_time } ≡ record core { collector = None }
-closed_by core in_time o is =
+pub with_collector : {D E C : Type 0} (core : Core D E C) (in_time : core.last ≤ last_moment) (o p : Option Collector) → o ≡ p → record core { collector = o; in_time = in_time } ≡ record core { collector = p }
+with_collector core in_time o p is =
     ap (λ (x : Option Collector). record core { collector = x; in_time = in_time }) is
-    ∙ ap (λ (t : core.last ≤ last_moment). record core { collector = None; in_time = t }) (time_one core.last last_moment in_time core.in_time)
+    ∙ ap (λ (t : core.last ≤ last_moment). record core { collector = p; in_time = t }) (time_one core.last last_moment in_time core.in_time)
 
 module _ {D E C : Type 0} (d : Ghosts D) (readings : C → Option Readings) (old mid new : Core D E C) (lane : ℕ) (at : Place) (answer : Answer) (next : IsNext readings old mid lane at) where
   -- a fault of the disk came before
@@ -185,7 +185,7 @@ module _ {D E C : Type 0} (d : Ghosts D) (readings : C → Option Readings) (old
       replies_early mid at early (sym next.fault ∙ none) (ap early_in (sym next.collector) ∙ early_is) next
       (subst (λ (k : ℕ). IsEntered d (record mid { collector = None }) new k at.moment 4 (Some (Refused (refusal_of early))) answer) next.lane_is
       (subst (λ (r : Refusal). IsEntered d (record mid { collector = None }) new at.lane at.moment 4 (Some (Refused r)) answer) is
-      (subst (λ (core : Core D E C). IsEntered d core new at.lane at.moment 4 (Some (Refused refusal)) answer) (closed_by mid in_time o gone) entered)))
+      (subst (λ (core : Core D E C). IsEntered d core new at.lane at.moment 4 (Some (Refused refusal)) answer) (with_collector mid in_time o None gone) entered)))
 
 pub entered_text : {D E C : Type 0} (d : Ghosts D) (old new : Core D E C) (lane moment kind : ℕ) (reply : Reply) (answer : Answer) → IsEntered d old new lane moment kind (Some reply) answer → ReplyHasText reply
     → IfSome answer.reply ReplyHasText
