@@ -57,8 +57,11 @@ unmarked_some key name [] some = absurd (some refl)
 unmarked_some key name (d ∷ ds) some = refl
 
 left_some : (first : ℕ) (entries : List Digest32) → (0 < first → first < length entries) → (entries ≡ [] → ⊥) → map (λ (d : Digest32). d.0) (drop first entries) ≡ [] → ⊥
-left_some first entries within some none =
-    some (nil_from_length entries (omega (arith, within, ap length none, length-map (drop first entries) (λ (d : Digest32). d.0), length-drop first entries)))
+left_some zero entries within some none =
+    some (nil_from_length entries (omega (arith, ap length none, length-map (drop 0 entries) (λ (d : Digest32). d.0), length-drop 0 entries)))
+left_some (suc n) entries within some none =
+    let lt = within (omega arith) in
+    omega (arith, lt, ap length none, length-map (drop (suc n) entries) (λ (d : Digest32). d.0), length-drop (suc n) entries)
 
 -- ---- a plan after a mark
 
@@ -130,7 +133,8 @@ fits_pass p entries fits some = by_mark (next_mark p) refl some
     none_is e = cc
 
     within : (m : ℕ) → (0 < m → m < length entries) → m + 0 + 0 ≤ entry_limit
-    within m left = let few = fits.few in omega (arith, left, few)
+    within zero left = omega arith
+    within (suc n) left = let lt = left (omega arith) in let few = fits.few in omega (arith, lt, few)
 
     by_mark : (o : Option (ℕ × ℕ)) → next_mark p ≡ o → IsSome o → IsSomeAnd o (λ mark. mark.1 + 0 + 0 ≤ entry_limit)
     by_mark None is some = absurd (none_is some)
@@ -161,12 +165,12 @@ positive zero e = absurd (true≢false e)
 positive (suc n) e = omega arith
 
 marked_within : (stage : Stage) (count left n : ℕ) → marked_in stage + count + left ≡ n → 0 < marked_in (marked_at stage count left) → marked_in (marked_at stage count left) < n
-marked_within (marking place first) count left n whole = by_test (left == 0) refl
+marked_within (marking place first) count left n whole begun = by_test (left == 0) refl begun
   where
     by_test : (b : Bool) → (left == 0) ≡ b → 0 < marked_in (cond b (marking (place + 1) 0) (marking place (first + count)))
         → marked_in (cond b (marking (place + 1) 0) (marking place (first + count))) < n
-    by_test true is begun = absurd (omega (arith, begun))
-    by_test false is begun = let some = positive left is in omega (arith, some, whole)
+    by_test true is more = absurd (omega (arith, more))
+    by_test false is more = let some = positive left is in omega (arith, some, whole)
 marked_within (sweeping names) count left n whole begun = absurd (omega (arith, begun))
 
 -- some were marked

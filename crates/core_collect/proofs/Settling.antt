@@ -330,7 +330,7 @@ module _ {D : Type 0} (d : Ghosts D) (parts now : Parts D) (old c : Collector) (
     unread = λ honest. h.unread honest ∙ ap (unreadable_in (d.content parts.disk) parts.catalogue.items c.entries.items) (none_marked (c.plan).indexes (c.plan).stage none);
   }
     where
-      by_test : (is : List IndexAt) (place first : ℕ) (b : Bool) → nat_lt place (length is) ≡ b → cond b (Some (place, first)) None ≡ None → drop place is ≡ []
+      by_test : (is : List IndexAt) (place first : ℕ) (b : Bool) → nat_lt place (length is) ≡ b → cond {A = Option (ℕ × ℕ)} b (Some (place, first)) None ≡ None → drop place is ≡ []
       by_test is place first true less e = absurd (none_some (place, first) (sym e))
       by_test is place first false less e = drop_all place is (ltb-false place (length is) less)
 
@@ -388,9 +388,12 @@ pub handed_on : (P : Result Bool Unread → Type 0) (r : Result Bool Unread) (u 
 handed_on P (Ok found) u is p = absurd is
 handed_on P (Err x) u is p = subst (λ y. P (Err y)) (sym is) p
 
+unread_same : (x y : Unread) → ◌≡◌ {A = Result Bool Unread} (Err x) (Err y) → x ≡ y
+unread_same x y e = cc
+
 handed_why : {A : Type 0} (r : Result Bool Unread) (s : Result A Unread) (u : Unread) → IsErrAnd r (λ x. x ≡ u) → s ≡ Err u → IsErrOf r DiskFailed → IsErrOf s DiskFailed
-handed_why (Ok found) s u is was failed = absurd is
-handed_why (Err x) s u is was failed = subst (λ q. IsErrOf q DiskFailed) (sym was) (sym is ∙ failed)
+handed_why {A} (Ok found) s u is was failed = absurd is
+handed_why {A} (Err x) s u is was failed = was ∙ ap (λ y. let q : Result A Unread = Err y in q) (sym is ∙ unread_same x DiskFailed failed)
 
 -- of one call
 pub handed_reads : {D A : Type 0} (d : Ghosts D) (old new : D) (r : Result Bool Unread) (s : Result A Unread) (u : Unread) → IsErrAnd r (λ x. x ≡ u) → s ≡ Err u
@@ -402,9 +405,9 @@ handed_reads d old new r s u is was reads = record {
 }
 
 -- no other answer is a fault of the disk
-pub answered_reads : {D A : Type 0} (d : Ghosts D) (old new : D) (found : Bool) (s : Result A Unread) → OnlyReads d old new (IsErrOf s DiskFailed) → OnlyReads d old new (IsErrOf (Ok found) DiskFailed)
+pub answered_reads : {D A : Type 0} (d : Ghosts D) (old new : D) (found : Bool) (s : Result A Unread) → OnlyReads d old new (IsErrOf s DiskFailed) → OnlyReads d old new (IsErrOf {T = Bool} (Ok found) DiskFailed)
 answered_reads d old new found s reads = record {
-  serves = record { kept = (reads.serves).kept; count = (reads.serves).count; cause = λ failed. absurd failed };
+  serves = record { kept = (reads.serves).kept; count = (reads.serves).count; cause = λ failed. absurd (err_ok DiskFailed found (sym failed)) };
   crash = reads.crash;
   same = reads.same;
 }
@@ -422,7 +425,7 @@ module _ {D : Type 0} (d : Ghosts D) (parts now later : Parts D) (old c e : Coll
   pub search_passed : r ≡ Ok false → HasPassed d parts later old e
   search_passed is =
       let one : SettlesNext d now c e (Ok false) = subst (SettlesNext d now c e) is settles in
-      let why : IsErrOf r DiskFailed → ⊥ = λ failed. (subst (λ q. IsErrOf q DiskFailed) is failed) in
+      let why : IsErrOf r DiskFailed → ⊥ = λ failed. err_ok DiskFailed false (sym failed ∙ is) in
       passed_then d parts now old c h later e (IsErrOf r DiskFailed) why reads kept one
 
   -- one is found
@@ -430,7 +433,7 @@ module _ {D : Type 0} (d : Ghosts D) (parts now later : Parts D) (old c e : Coll
   search_found is = found_then d parts now old c h e (subst (SettlesNext d now c e) is settles)
 
   pub search_found_reads : r ≡ Ok true → OnlyReads d parts.disk later.disk (IsErrOf (Ok true) DiskFailed)
-  search_found_reads is = reads_then d parts.disk now.disk later.disk ⊥ (IsErrOf r DiskFailed) (IsErrOf (Ok true) DiskFailed) h.reads reads (λ failed. absurd failed)
+  search_found_reads is = reads_then d parts.disk now.disk later.disk ⊥ (IsErrOf r DiskFailed) (IsErrOf (Ok true) DiskFailed) h.reads reads (λ failed. absurd (err_ok DiskFailed true (sym failed)))
 
   -- or it is not to be had
   module _ (result : Result Bool Unread) (u : Unread) (handed : IsErrAnd result (λ x. x ≡ u)) (was : r ≡ Err u) where
@@ -442,7 +445,7 @@ module _ {D : Type 0} (d : Ghosts D) (parts now later : Parts D) (old c e : Coll
         reads_then d parts.disk now.disk later.disk ⊥ (IsErrOf r DiskFailed) (IsErrOf result DiskFailed) h.reads reads (λ failed. inr (handed_why result r u handed was failed))
 
 pub search_over_reads : {D : Type 0} (d : Ghosts D) (parts now : Parts D) (old c : Collector) → HasPassed d parts now old c → OnlyReads d parts.disk now.disk (IsErrOf (Ok false) DiskFailed)
-search_over_reads d parts now old c h = reads_then d parts.disk now.disk now.disk ⊥ ⊥ (IsErrOf (Ok false) DiskFailed) h.reads (reads_none d now.disk ⊥ (λ no. no)) (λ failed. absurd failed)
+search_over_reads d parts now old c h = reads_then d parts.disk now.disk now.disk ⊥ ⊥ (IsErrOf (Ok false) DiskFailed) h.reads (reads_none d now.disk ⊥ (λ no. no)) (λ failed. absurd (err_ok DiskFailed false (sym failed)))
 
 -- ---- what is at hand
 

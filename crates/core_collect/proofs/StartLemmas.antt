@@ -1,5 +1,5 @@
 -- The start of a collector: what refuses it, and that its plan is the new sweep of the plain store.
-use Rattle.std.proofs.Common.{◌≡◌, ◌<◌, ◌≤◌, ◌+◌, ◌^◌, get_or, ◌||◌, ◌++◌, ℕ, Bool, true, false, cond, min, List, [], ◌∷◌, append-nil, append_assoc, drop, filter, flat_map, length, map, take, Option, Some, None, Result, Ok, Err, is_some, inl, refl, sym, ap, subst, ◌∙◌, arith}
+use Rattle.std.proofs.Common.{◌≡◌, ◌<◌, ◌≤◌, ◌+◌, ◌^◌, get_or, ◌||◌, ◌++◌, ℕ, Bool, true, false, cond, min, List, [], ◌∷◌, append-nil, append_assoc, drop, filter, flat_map, length, map, take, Option, Some, None, Result, Ok, Err, is_some, refl, sym, ap, subst, ◌∙◌, arith}
 use Rattle.std.specs.Prelude.{AllPairs}
 use Rattle.std.specs.List.{All, find, list_all}
 use Rattle.std.proofs.lemmas.Bool.{and_parts, leb-true, or_parts}
@@ -311,4 +311,4 @@ indexes_next xs i x lt at =
 
 -- of a plan that begins none are at hand
 pub fits_new : (moment : ℕ) (oldest : Option ℕ) (catalogue : List Listed) (p : Plan) → p ≡ begun moment oldest (indexes_in catalogue) → FitsEntries p []
-fits_new moment oldest catalogue p is = subst (λ q. FitsEntries q []) (sym is) (record { named = names_in catalogue; within = inl refl; few = omega arith })
+fits_new moment oldest catalogue p is = subst (λ q. FitsEntries q []) (sym is) (record { named = names_in catalogue; within = λ begun. absurd (omega (arith, begun)); few = omega arith })

@@ -231,13 +231,8 @@ module _ {D E C : Type 0} (d : Ghosts D) (clock : clocks.Ghosts C) where
   -- moments never fall, and the act touches at its own
   pub early_by : (old new : Core D E C) (lane : ℕ) (act : Act) (answer : Answer) → is_step act ≡ false → IsTimely clock.readings old new answer → ActKeeps d old new lane act answer
       → NoneAfter (old.upkeep).book old.last → NoneAfter (new.upkeep).book new.last
-<<<<<<< HEAD
   early_by old new lane act answer unstepped timely keeps early =
       early_more old.upkeep new.upkeep act answer.reply old.last (answer.entry).moment new.last (timely.clock).risen timely.last (keeps.upkeep unstepped) early
-=======
-  early_by old new lane act answer other timely keeps early =
-      early_more old.upkeep new.upkeep act answer.reply old.last (answer.entry).moment new.last (timely.clock).risen timely.last (keeps.upkeep other) early
->>>>>>> refs/wip/A2-3
 
   refused_remote : (old new : Core D E C) (lane : ℕ) (answer : Answer) → Refuses d clock.readings old new lane answer → new.remote ≡ old.remote
   refused_remote old new lane answer (short is) = (is.entered).remote ∙ (is.begun).remote

@@ -1,9 +1,12 @@
 -- The core's collector is the history's, with one entry more.
 use Rattle.std.proofs.Common.{◌≡◌, ℕ, Bool, true, false, ◌&&◌, ◌||◌, ◌==◌, cond, is_some, List, Option, Some, None, refl, sym, ap, ◌∙◌}
 use Rattle.std.specs.Prelude.{option_map}
+use Rattle.std.proofs.Props.{props}
 use Rattle.std.proofs.lemmas.Bool.{eqb-true}
+use Rattle.store_types.specs.declared.names.Digest32.{Digest32}
 use Rattle.store_files.specs.Archive.{Snapshot}
-use Rattle.store_model.specs.Lanes.{Collecting, collects}
+use Rattle.gc_plan.specs.Plan.{Plan}
+use Rattle.store_model.specs.Lanes.{Collecting}
 use Rattle.store_history.specs.declared.act.Act.{Act}
 use Rattle.store_history.specs.Acts.{Class, stepping, starting, sweeping, wanting, ending, class_of}
 use Rattle.store_history.specs.History.{World, moved, halted_on, kind_of, open_on}
@@ -11,6 +14,7 @@ use Rattle.store_history.specs.History as worlds
 use Rattle.core_state.specs.declared.collector.Collector.{Collector}
 use Rattle.core_state.specs.declared.collector.Early.{Early}
 use Rattle.core_state.specs.declared.collector.Early.TheVariants.{NoMemory}
+use Rattle.core_state.specs.Entries.{FitsEntries}
 use Rattle.core_state.specs.Collectors.{OpenOn, closed_on, collector_by, cut_on, first_of, is_cut, is_on, open_in, ended_if, shown_collecting, with_cut}
 
 false_true : false ≡ true → ⊥
@@ -59,8 +63,12 @@ cut_before c some = by_ended c.ended refl
     by_ended None none = absurd (false_true (sym (ap is_some none) ∙ some))
     by_ended (Some early) is = ap (λ o. record c { ended = o }) is ∙ sym (ap (λ o. record c { ended = first_of o NoMemory }) is)
 
-pub cut_now : (c : Collector) → is_some c.ended ≡ false → record c { ended = Some NoMemory } ≡ with_cut c
-cut_now c none = by_ended c.ended refl
+-- what is known of its digests has one proof
+fits_one : (plan : Plan) (entries : List Digest32) → IsProp (FitsEntries plan entries)
+fits_one plan entries = hlevel props
+
+pub cut_now : (c : Collector) (fits : FitsEntries c.plan c.entries.items) → is_some c.ended ≡ false → record c { ended = Some NoMemory; fits = fits } ≡ with_cut c
+cut_now c fits none = ap (λ f. record c { ended = Some NoMemory; fits = f }) (fits_one c.plan c.entries.items fits c.fits) ∙ by_ended c.ended refl
   where
     by_ended : (o : Option Early) → c.ended ≡ o → record c { ended = Some NoMemory } ≡ with_cut c
     by_ended None is = sym (ap (λ o. record c { ended = first_of o NoMemory }) is)

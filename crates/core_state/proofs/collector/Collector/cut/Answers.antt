@@ -6,4 +6,4 @@ pub returns-then-is_some : goal.returns-then-is_some
 returns-then-is_some c = cut_before c.args.self.now (sym c.is_some.ensures ∙ c.if-is_some.true)
 
 pub returns : goal.returns
-returns c = cut_now c.args.self.now (sym c.is_some.ensures ∙ c.if-is_some.false)
+returns c = cut_now c.args.self.now _ (sym c.is_some.ensures ∙ c.if-is_some.false)
