@@ -3,7 +3,7 @@
 ghost use Rattle.std.specs.Prelude.{◌≡◌, map, IfOk, IfSome};
 ghost use Rattle.wire_commands.specs.HasText.{FitsFileFault};
 ghost use Rattle.store_model.specs.VerifyJob as model;
-ghost use Rattle.plain_lanes.specs.Visits.{shown_judged, digests_of, GivesFault, GivesJudged};
+ghost use Rattle.plain_lanes.specs.Visits.{shown_judged, digests_of, blob_fault_of, GivesFault, GivesJudged};
 
 use crate::asked::file_name;
 use blob_codec::decode;
@@ -12,7 +12,7 @@ use fixed_index::FixedView;
 use sha2::{Digest, Sha256};
 use std::alloc::{AllocError, Global};
 use std::collections::VecDeque;
-use store_types::Digest32;
+use store_types::{Digest32, FileName};
 use wire_commands::{FileFault, FileRow};
 
 /// A file's fault, and of an index how many bytes its entries have together, and their digests.
@@ -119,10 +119,11 @@ fn manifest_fault(
     }
 }
 
+/// The fault of a blob of this name, by its data.
 fn blob_fault(
     alloc: Global,
     snapshot: &[u8],
-    name: &[u8],
+    name: &FileName,
     bytes: &[u8],
 ) -> Result<Option<FileFault>, AllocError>
     ensures fault { GivesFault result (model.blob_fault snapshot.now name.now bytes.now) }
@@ -131,32 +132,30 @@ fn blob_fault(
     let Ok(contents) = decode(bytes) else {
         return Ok(Some(FileFault::Unreadable));
     };
-    if name == b"index.json.blob".as_slice() {
-        manifest_fault(alloc, snapshot, contents)
-    } else {
-        Ok(None)
+    if name.is_manifest() {
+        return manifest_fault(alloc, snapshot, contents);
     }
+    Ok(None)
 }
 
-#[tactic(auto, unfolding(store_model::specs::VerifyJob::blob_judged))]
-fn blob_judged(
+/// The fault of a blob of this name: that it differs from what is listed comes first.
+fn listed_fault(
     alloc: Global,
     snapshot: &[u8],
+    name: &FileName,
     row: &FileRow,
     bytes: &[u8],
-) -> Result<Judged, AllocError>
-    ensures judged { GivesJudged result (model.blob_judged snapshot.now row.now bytes.now) }
-    ensures fits { IfOk result (λ judged. IfSome judged.fault FitsFileFault) }
+) -> Result<Option<FileFault>, AllocError>
+    ensures fault { GivesFault result (blob_fault_of snapshot.now name.now row.now bytes.now) }
+    ensures fits { IfOk result (λ fault. IfSome fault FitsFileFault) }
 {
-    if let Some(fault) = compared(row, bytes.len() as u64, &Sha256::digest(bytes)) {
-        return Ok(without_entries(alloc, Some(fault)));
+    match compared(row, bytes.len() as u64, &Sha256::digest(bytes)) {
+        Some(fault) => Ok(Some(fault)),
+        None => blob_fault(alloc, snapshot, name, bytes),
     }
-    let fault = blob_fault(alloc, snapshot, row.file.as_slice(), bytes)?;
-    Ok(without_entries(alloc, fault))
 }
 
 /// What a whole file says, of the snapshot with this text.
-#[tactic(auto, unfolding(store_model::specs::VerifyJob::judged))]
 pub fn judge(
     alloc: Global,
     snapshot: &[u8],
@@ -173,7 +172,8 @@ pub fn judge(
     if name.is_dynamic() {
         return dynamic_judged(alloc, row, bytes);
     }
-    blob_judged(alloc, snapshot, row, bytes)
+    let fault = listed_fault(alloc, snapshot, &name, row, bytes)?;
+    Ok(without_entries(alloc, fault))
 }
 
 /// The bytes are the blob of a piece with this digest, or the chunk is damaged.

@@ -104,12 +104,14 @@ fn file_done(
         faults,
         later,
     } = visit;
+    let files = files.checked_add(1).ok_or(AllocError)?;
+    let faults = push_fault(faults, row, fault)?;
     let visit = Visit {
         snapshot,
-        files: files.checked_add(1).ok_or(AllocError)?,
+        files,
         entries,
         bytes,
-        faults: push_fault(faults, row, fault)?,
+        faults,
         later,
     };
     Ok(next_file(alloc, visit))
@@ -145,22 +147,24 @@ fn next_chunk(
 }
 
 /// So many more entries, with so many bytes together. More than a `u64` counts no memory holds.
-fn counted(visit: Visit, entries: u64, bytes: u64) -> Result<Visit, AllocError>
-    ensures visit { GivesVisit result (counted_of (shown visit) entries bytes) }
+fn counted(visit: Visit, more: u64, longer: u64) -> Result<Visit, AllocError>
+    ensures { GivesVisit result (counted_of (shown visit) more longer) }
 {
     let Visit {
         snapshot,
         files,
-        entries: before,
-        bytes: so_far,
+        entries,
+        bytes,
         faults,
         later,
     } = visit;
+    let entries = entries.checked_add(more).ok_or(AllocError)?;
+    let bytes = bytes.checked_add(longer).ok_or(AllocError)?;
     Ok(Visit {
         snapshot,
         files,
-        entries: before.checked_add(entries).ok_or(AllocError)?,
-        bytes: so_far.checked_add(bytes).ok_or(AllocError)?,
+        entries,
+        bytes,
         faults,
         later,
     })

@@ -9,7 +9,7 @@ use Rattle.store_files.specs.Manifest.Fields.{Fact}
 use Rattle.store_model.specs.AdminSteps.{facts_in}
 use Rattle.plain_lanes.proofs.UploadLemmas.{found_more, found_still, facts_found}
 use Rattle.plain_lanes.proofs.uploads.listed_files.Goals as goal
-use Rattle.plain_lanes.proofs.uploads.listed_files.Goals.{in-Some+in_ok-push, in_default}
+use Rattle.plain_lanes.proofs.uploads.listed_files.Goals.{in-Some+in_ok-clone+in_ok-push, in_default}
 
 pub loop-fact-preserved : goal.loop-fact-preserved
 loop-fact-preserved c =
@@ -21,7 +21,7 @@ loop-fact-preserved c =
     let listed = c.deref-2.ensures.value ∙ ap (λ (s : Snapshot). s.files) c.snapshot.view_is in
     let told = c.file_named.ensures ∙ ap (λ n. file_named n c.deref-2.result.now) c.as_slice.ensures.value ∙ ap (file_named x.name) listed in
     elim c.match-file_named.branch [
-      | in-Some+in_ok-push w ↦
+      | in-Some+in_ok-clone+in_ok-push w ↦
           let file = w.in-Some.file.now in
           let same : w.in_ok-clone.field-0 ≡ file = search rules in
           found_more found facts i x (omega arith) c.fact-item.is c.loop-fact.listed.items c.match-file_named.listed.items file c.loop-fact.invariant

@@ -17,4 +17,4 @@ returns-in-None c =
     let listed = c.deref.ensures.value ∙ ap (λ (x : Snapshot). x.files) c.snapshot.view_is in
     let none : file_named manifest_name c.args.snapshot.now.files ≡ None =
     sym (c.file_named.ensures ∙ ap (file_named manifest_name) listed) ∙ ap (option_map (λ f. f.now)) c.in-None.is in
-    c.new.ensures ∙ ap text_of (sym none)
+    c.new.ensures.items ∙ ap text_of (sym none)

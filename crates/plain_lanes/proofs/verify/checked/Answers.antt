@@ -1,4 +1,5 @@
-use Rattle.std.proofs.Common.{◌≡◌, ◌+◌, sym, ap, subst, ◌∙◌, arith}
+use Rattle.std.proofs.Common.{◌≡◌, ◌+◌, sym, ap, subst, ◌∙◌, arith, rules}
+use Rattle.std.specs.Option.{option_or}
 use Rattle.std.specs.Prelude.{IfOk}
 use Rattle.wire_commands.specs.HasText.{ReplyHasText}
 use Rattle.store_model.specs.Job.{Job}
@@ -12,10 +13,10 @@ pub returns-in-Ok-clause-job : goal.returns-in-Ok-clause-job
 returns-in-Ok-clause-job c =
     let v = shown_visit c.args.visit in
     let later = c.args.later.items in
-    let place : c.in_ok-place.place ≡ c.args.place + 1 = omega arith in
+    let place : c.in_ok-place.place ≡ c.args.place + 1 = search (rules, arith) in
     let told =
     ap (λ fault. next_chunk v c.args.row fault c.in_ok-place.place later) c.first_fault-fault.ensures.first
-    ∙ ap (λ n. next_chunk v c.args.row _ n later) place
+    ∙ ap (λ n. next_chunk v c.args.row (option_or c.args.fault c.in-Ok.found) n later) place
     ∙ chunk_checked v c.args.row c.args.fault c.args.place c.args.digest later c.args.reply c.in-Ok.found c.in-Ok.ensures.fault in
     subst (λ (x : Job). IfOk c.next_chunk.result (λ job. shown_job job ≡ x)) told c.next_chunk.ensures.job
 
