@@ -2,11 +2,11 @@
 use Rattle.disk_trait.specs.declared.disk.Disk.{Ghosts}
 use Rattle.std.proofs.Common.{◌≡◌, ◌⊎◌, ⊎_elim, ◌<◌, ◌≤◌, ◌+◌, ℕ, max, Bool, true, false, cond, is_some, length, List, [], ◌∷◌, Option, Some, None, IfSome, Result, Ok, Err, inl, inr, refl, sym, ap, subst, ◌∙◌, arith}
 use Rattle.std.specs.Prelude.{IfErr, IsErrAnd, IsErrOf, IsSomeAnd, option_map}
-use Rattle.std.proofs.lemmas.Bool.{cases_lt}
 use Rattle.std.proofs.lemmas.List.{length-take}
 use Rattle.disk_trait.specs.Disk.{Same, Serves, Steps}
 use Rattle.disk_trait.specs.Effects.{DiskWantKeeps, LeavesBy, LeavesSame, OnlyReads}
 use Rattle.disk_trait.specs.Files.{Files}
+use Rattle.disk_trait.specs.Runs.{both_serve, step_after}
 use Rattle.disk_trait.specs.declared.disk.DiskError.{DiskError}
 use Rattle.disk_trait.specs.declared.disk.DiskError.TheVariants as disks
 use Rattle.store_types.specs.declared.names.Digest32.{Digest32}
@@ -43,56 +43,29 @@ use Rattle.core_collect.specs.Ending.{EndsPlan}
 use Rattle.core_collect.specs.Marking.{FindsNext, GoesFurther, MarksSome, entries_left, marked_now}
 use Rattle.core_collect.specs.Stepping.{CollectDoes, IsIndex, IsTheSweeps, Outcome, Spares, path_of_early}
 use Rattle.core_collect.specs.Stepping as stepping
-use Rattle.core_collect.specs.Visiting.{DropsFirst, IsListed, VisitedFirst, VisitsNext, goes}
+use Rattle.core_collect.specs.Visiting.{DropsFirst, VisitsNext, goes}
 use Rattle.core_collect.proofs.EndLemmas.{ended_tells}
 use Rattle.core_collect.proofs.Losing.{holds_same, spares_install, spares_same}
 use Rattle.core_collect.proofs.Marked.{marked_tells}
 use Rattle.core_collect.proofs.Outcomes.{end_outcome, visit_outcome}
 use Rattle.core_collect.proofs.Stepped.{none_later}
-use Rattle.core_collect.proofs.VisitLemmas.{drops_goes, first_is, goes_so, visited_early, visited_pass, visited_tells}
+use Rattle.core_collect.proofs.VisitLemmas.{drops_goes, first_is, goes_so, visited_early, visited_keeps, visited_pass, visited_tells}
 
 -- an outcome that is no refusal has no text to be spelled
 pub unrefused_text : (result : Outcome) → ((refusal : Refusal) → result ≡ Err (stops.Refused refusal) → ⊥) → IfErr result StopHasText
-unrefused_text (Ok done) none = tt
+unrefused_text (Ok outcome) none = tt
 unrefused_text (Err stops.NoMemory) none = tt
 unrefused_text (Err stops.DiskFailed) none = tt
 unrefused_text (Err (stops.Refused refusal)) none = absurd (none refusal refl)
 
 -- an error of the disk stops the act
 pub stopped_as : (result : Outcome) (e : DiskError) → IsErrAnd result (λ x. x ≡ stop_of e) → result ≡ Err (stop_of e)
-stopped_as (Ok done) e is = absurd is
+stopped_as (Ok outcome) e is = absurd is
 stopped_as (Err stop) e is = ap (λ x. Err x) is
 
 -- ---- the disk
 
 module _ {D : Type 0} (d : Ghosts D) (old mid new : D) where
-  -- it served as it was read, and then
-  pub serves_then : (P Q R : Type 0) → (R → Q) → Serves d.honest d.faults old mid P → Serves d.honest d.faults mid new Q → Serves d.honest d.faults old new R
-  serves_then P Q R met first next = record {
-    kept = (λ h. next.kept.0 (first.kept.0 h), λ h. first.kept.1 (next.kept.1 h));
-    count = let a = first.count in let z = next.count in omega (arith, a, z);
-    cause = λ r. let a = first.count in let z = next.cause (met r) in omega (arith, a, z);
-  }
-
-  -- what a crash left stays as it was read, and then changes by a step, which may do nothing
-  step_then : (step : Files → Files → Type 0) → ((c : Files) → step c c) → Steps d.calls d.images old mid Same → Steps d.calls d.images mid new step → Steps d.calls d.images old new step
-  step_then step still first next = record {
-    later = let a = first.later in let z = next.later in omega (arith, a, z);
-    past = λ t c le is. let a = first.later in first.past t c le (next.past t c (omega (arith, a, le)) is);
-    stays = λ t c le is. let a = first.later in next.stays t c (omega (arith, a, le)) (first.stays t c le is);
-    each = λ t c le is. ⊎_elim {C = (b : Files) × d.images old (d.calls old) b × step b c}
-        (λ (early : t < d.calls mid). before t c le (next.past t c (omega (arith, early)) is)) (λ (late : d.calls mid ≤ t). since t c late is) (cases_lt t (d.calls mid));
-  }
-    where
-      before : (t : ℕ) (c : Files) → d.calls old ≤ t → d.images mid t c → (b : Files) × d.images old (d.calls old) b × step b c
-      before t c le is = let (a, was, same) = first.each t c le is in (a, was, subst (λ x. step a x) (sym same) (still a))
-
-      since : (t : ℕ) (c : Files) → d.calls mid ≤ t → d.images new t c → (b : Files) × d.images old (d.calls old) b × step b c
-      since t c late is =
-          let (b, at, done) = next.each t c late is in
-          let (a, was, same) = first.each (d.calls mid) b first.later at in
-          (a, was, subst (λ x. step x c) same done)
-
   -- it may stay
   may_stay : (change : Change) (read m : Files) → MayLeave change read m m
   may_stay stays read m = refl
@@ -116,7 +89,9 @@ module _ {D : Type 0} (d : Ghosts D) (old mid new : D) where
     where
       by_next : LeavesSame d old mid → LeavesBy d mid new (MayLeave change (d.content old)) → Steps d.calls d.images old mid Same → LeavesBy d old new (MayLeave change (d.content old))
       by_next first (inl same) steps = subst (λ x. LeavesBy d old x (MayLeave change (d.content old))) (sym same) (same_leaves d old mid change (inr steps))
-      by_next first (inr more) steps = inr (step_then (MayLeave change (d.content old)) (may_stay change (d.content old)) steps more)
+      by_next first (inr more) steps =
+          inr (step_after (MayLeave change (d.content old)) steps more (λ (f c : Files) same. subst (λ x. MayLeave change (d.content old) f x) (sym same) (may_stay change (d.content old) f))
+          (λ (f g c : Files) same left. subst (λ x. MayLeave change (d.content old) x c) same left))
 
       by_first : LeavesSame d old mid → LeavesBy d mid new (MayLeave change (d.content old)) → LeavesBy d old new (MayLeave change (d.content old))
       by_first (inl same) next = subst (λ x. LeavesBy d x new (MayLeave change (d.content old))) same next
@@ -311,27 +286,11 @@ module _ {D : Type 0} (d : Ghosts D) (old new : Parts D) (mid : D) (u v : Upkeep
     tells acts s w beside able =
         visited_tells d old new mid u v c e f (IsErrOf {T = Bool} (Ok false) unread.DiskFailed) at.moment r reads kept serves finds x same_ended entries undated going goes_on acts s w beside able
 
-  -- the chunk that is next was visited, if one is left
-  visited_fixed : (done : Unit {0}) → Visits (Ok done) → KeepsPlan c.plan f.plan
-  visited_fixed done x =
-      let first = x.done in
-      let p = listed_fixed first.0 first.1 in
-      let q = first_fixed first.0 x.change (next_visit first.0) first.2 in
-      fixed_then c e f.plan finds.further (q.start ∙ p.start) (q.cutoff ∙ p.cutoff) (q.indexes ∙ p.indexes)
-    where
-      listed_fixed : (listed : Plan) → IsListed d mid e.plan listed → KeepsPlan e.plan listed
-      listed_fixed listed (inl (has, same)) = record { start = ap (λ (p : Plan). p.start) same; cutoff = ap (λ (p : Plan). p.cutoff) same; indexes = ap (λ (p : Plan). p.indexes) same }
-      listed_fixed listed (inr (none, (names, is, are))) = record { start = ap (λ (p : Plan). p.start) is; cutoff = ap (λ (p : Plan). p.cutoff) is; indexes = ap (λ (p : Plan). p.indexes) is }
-
-      first_fixed : (listed : Plan) (change : Change) (first : Option Digest32) → VisitedFirst u.book v.book listed f.plan change first → KeepsPlan listed f.plan
-      first_fixed listed change None (same, is, left) = record { start = ap (λ (p : Plan). p.start) is; cutoff = ap (λ (p : Plan). p.cutoff) is; indexes = ap (λ (p : Plan). p.indexes) is }
-      first_fixed listed change (Some digest) (inl (stays_there, same, is, left)) = record { start = ap (λ (p : Plan). p.start) is; cutoff = ap (λ (p : Plan). p.cutoff) is; indexes = ap (λ (p : Plan). p.indexes) is }
-      first_fixed listed change (Some digest) (inr (stale, swept, is, left)) = record { start = ap (λ (p : Plan). p.start) is; cutoff = ap (λ (p : Plan). p.cutoff) is; indexes = ap (λ (p : Plan). p.indexes) is }
-
   pub visited_does : (done : Unit {0}) → Serves d.honest d.faults mid new.disk (IsErrOf {T = Unit {0}} (Ok done) disks.Failed) → Visits (Ok done) → CollectDoes d old new u v c f at (Ok None)
   visited_does done serves x =
-      let first = first_is u.book v.book (x.done).0 f.plan x.change (next_visit (x.done).0) (x.done).2 in record {
-        serves = serves_then d old.disk mid new.disk (IsErrOf {T = Bool} (Ok false) unread.DiskFailed) (IsErrOf {T = Unit {0}} (Ok done) disks.Failed) (IsErrOf {T = Option GcReport} (Ok None) stops.DiskFailed) (λ failed. cc) reads.serves serves;
+      let first = first_is u.book v.book (x.done).0 f.plan x.change (next_visit (x.done).0) (x.done).2 in
+      let keeps = visited_keeps d mid u.book v.book e.plan (x.done).0 f.plan x.change (next_visit (x.done).0) (x.done).1 first in record {
+        serves = both_serve d.honest d.faults old.disk mid new.disk (IsErrOf {T = Bool} (Ok false) unread.DiskFailed) (IsErrOf {T = Unit {0}} (Ok done) disks.Failed) (IsErrOf {T = Option GcReport} (Ok None) stops.DiskFailed) reads.serves serves (λ failed. cc);
         kept = kept;
         unrefused = λ refusal is. cc;
         change = x.change;
@@ -343,7 +302,7 @@ module _ {D : Type 0} (d : Ghosts D) (old new : Parts D) (mid : D) (u v : Upkeep
         lane = lane ∙ (finds.further).lane;
         ends = none_ends f still;
         further = goes_down c f goes_on still (let less = x.less ((finds.further).over going) in let most = (finds.further).not_more in omega (arith, less, most));
-        same = visited_fixed done x;
+        same = fixed_then c e f.plan finds.further keeps.start keeps.cutoff keeps.indexes;
         unread = λ _ honest. ap path_of_early still ∙ sym (finds.unread honest);
         tells = tells (Ok done) serves x;
       }
@@ -352,8 +311,8 @@ module _ {D : Type 0} (d : Ghosts D) (old new : Parts D) (mid : D) (u v : Upkeep
   pub unvisited_does : (error : DiskError) → Serves d.honest d.faults mid new.disk (IsErrOf {T = Unit {0}} (Err error) disks.Failed) → Visits (Err error) → CollectDoes d old new u v c f at (visit_outcome (Err error))
   unvisited_does disks.NoMemory serves x =
       let plan : f.plan ≡ e.plan = (x.want refl).0 in record {
-        serves = serves_then d old.disk mid new.disk (IsErrOf {T = Bool} (Ok false) unread.DiskFailed) (IsErrOf {T = Unit {0}} (Err disks.NoMemory) disks.Failed) (IsErrOf {T = Option GcReport} (Err stops.NoMemory) stops.DiskFailed)
-            (λ failed. cc) reads.serves serves;
+        serves = both_serve d.honest d.faults old.disk mid new.disk (IsErrOf {T = Bool} (Ok false) unread.DiskFailed) (IsErrOf {T = Unit {0}} (Err disks.NoMemory) disks.Failed) (IsErrOf {T = Option GcReport} (Err stops.NoMemory) stops.DiskFailed)
+            reads.serves serves (λ failed. cc);
         kept = kept;
         unrefused = λ refusal is. cc;
         change = x.change;
@@ -370,8 +329,8 @@ module _ {D : Type 0} (d : Ghosts D) (old new : Parts D) (mid : D) (u v : Upkeep
         tells = tells (Err disks.NoMemory) serves x;
       }
   unvisited_does disks.Failed serves x = record {
-    serves = serves_then d old.disk mid new.disk (IsErrOf {T = Bool} (Ok false) unread.DiskFailed) (IsErrOf {T = Unit {0}} (Err disks.Failed) disks.Failed) (IsErrOf {T = Option GcReport} (Err stops.DiskFailed) stops.DiskFailed)
-        (λ _. refl) reads.serves serves;
+    serves = both_serve d.honest d.faults old.disk mid new.disk (IsErrOf {T = Bool} (Ok false) unread.DiskFailed) (IsErrOf {T = Unit {0}} (Err disks.Failed) disks.Failed) (IsErrOf {T = Option GcReport} (Err stops.DiskFailed) stops.DiskFailed)
+        reads.serves serves (λ _. inr refl);
     kept = kept;
     unrefused = λ refusal is. cc;
     change = x.change;
@@ -397,7 +356,7 @@ module _ {D : Type 0} (d : Ghosts D) (old new : Parts D) (u : Upkeep) (c : Colle
   abbrev Ends : Result GcReport DiskError → Type 0
   Ends r = EndsPlan d old.disk new.disk u.book c.plan at.moment r
 
-  pub ended_does : (report : GcReport) → Serves d.honest d.faults old.disk new.disk (IsErrOf {T = GcReport} (Ok report) disks.Failed) → Ends (Ok report) → DiskWantKeeps d old.disk new.disk (Ok report)
+  pub ended_does : (report : GcReport) → Serves d.honest d.faults old.disk new.disk (IsErrOf {T = GcReport} (Ok report) disks.Failed) → Ends (Ok report) → DiskWantKeeps {A = GcReport} d old.disk new.disk (Ok report)
       → CollectDoes d old new u u c c at (Ok (Some report))
   ended_does report serves ends keeps = record {
     serves = record { kept = serves.kept; count = serves.count; cause = λ failed. cc };
@@ -417,7 +376,7 @@ module _ {D : Type 0} (d : Ghosts D) (old new : Parts D) (u : Upkeep) (c : Colle
     tells = λ acts s w beside able. (ended_tells d old new u c at.moment (Ok report) kept serves ends keeps over acts s w beside able, spares_install s book_name text);
   }
 
-  pub unended_does : (error : DiskError) → Serves d.honest d.faults old.disk new.disk (IsErrOf {T = GcReport} (Err error) disks.Failed) → Ends (Err error) → DiskWantKeeps d old.disk new.disk (Err error)
+  pub unended_does : (error : DiskError) → Serves d.honest d.faults old.disk new.disk (IsErrOf {T = GcReport} (Err error) disks.Failed) → Ends (Err error) → DiskWantKeeps {A = GcReport} d old.disk new.disk (Err error)
       → CollectDoes d old new u u c c at (end_outcome (Err error))
   unended_does disks.NoMemory serves ends keeps =
       let same = keeps refl in record {

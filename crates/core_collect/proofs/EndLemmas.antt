@@ -133,14 +133,14 @@ module _ {D : Type 0} (d : Ghosts D) (old : D) (book : Book) (plan : Plan) (mome
   unsaved r failed = record { crash = inl refl; installed = λ honest. on_error r _ failed; report = no_report r failed }
     where
       no_report : (x : Result GcReport DiskError) → IsErr x → IfOk x (Reports book plan)
-      no_report (Ok report) e = absurd (ok_error report e)
+      no_report (Ok report) e = absurd (ok_error e)
       no_report (Err error) e = tt
 
   pub unsaved_by : (new : D) (r : Result GcReport DiskError) → IsErr r → StepsOn d old new (Installs (d.content old) book_name (book_text (as_of moment book))) → EndsPlan d old new book plan moment r
   unsaved_by new r failed crash = record { crash = inr crash; installed = λ honest. on_error r _ failed; report = no_report r failed }
     where
       no_report : (x : Result GcReport DiskError) → IsErr x → IfOk x (Reports book plan)
-      no_report (Ok report) e = absurd (ok_error report e)
+      no_report (Ok report) e = absurd (ok_error e)
       no_report (Err error) e = tt
 
   pub saved_by : (new : D) (report : GcReport) → StepsOn d old new (Installs (d.content old) book_name (book_text (as_of moment book)))

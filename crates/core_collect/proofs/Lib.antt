@@ -3,6 +3,7 @@ pub mod Lists
 pub mod Listings
 pub mod Losing
 pub mod StartLemmas
+pub mod StartRefused
 pub mod StartActs
 pub mod ReadLemmas
 pub mod MarkLemmas

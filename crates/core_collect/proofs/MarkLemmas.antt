@@ -1,46 +1,24 @@
 -- Marks: the plan of a collector shows the sweep of the plain store as indexes are passed over, read and marked.
-use Rattle.disk_trait.specs.declared.disk.Disk.{Ghosts}
-use Rattle.std.proofs.Common.{◌≡◌, ◌<◌, ◌≤◌, ◌+◌, ◌-◌, ◌⊎◌, ◌==◌, ◌++◌, ℕ, zero, suc, max, min, Bool, true, false, ◌||◌, cond, List, [], ◌∷◌, drop, flat_map, length, map, take, option_map, Option, Some, None, Result, Ok, Err, IsSome, is_some, IsSomeAnd, inl, inr, refl, sym, ap, subst, ◌∙◌, arith}
-use Rattle.std.specs.Prelude.{slice_get, ◌↔◌}
-use Rattle.std.specs.FinMap.{get}
+use Rattle.std.proofs.Common.{◌≡◌, ◌<◌, ◌≤◌, ◌+◌, ◌-◌, ◌==◌, ◌++◌, ℕ, zero, suc, min, Bool, true, false, cond, List, [], ◌∷◌, drop, length, map, take, Option, Some, None, IsSome, is_some, IsSomeAnd, length-drop, length-take, nat_lt, true≢false, refl, sym, ap, ap₂, subst, ◌∙◌, arith}
+use Rattle.std.specs.Prelude.{slice_get}
 use Rattle.std.specs.List.{All}
-use Rattle.std.specs.Str.{bytes_eq}
-use Rattle.std.proofs.lemmas.Bool.{ne_eqb, eq-eqb}
-use Rattle.std.proofs.lemmas.List.{drop-map, length-map, nil_from_length, take-map, drop-drop}
-use Rattle.disk_trait.specs.Effects.{OnlyReads}
-use Rattle.disk_trait.specs.Files.{Files}
+use Rattle.std.proofs.lemmas.Bool.{eq-eqb, le-ltb, lt-ltb, ltb-false, ne_eqb}
+use Rattle.std.proofs.lemmas.List.{drop_all, drop-map, length-map, nil_from_length, take_min, drop-drop}
 use Rattle.store_types.specs.declared.names.Digest32.{Digest32}
 use Rattle.store_types.specs.declared.names.SnapshotKey.{SnapshotKey}
-use Rattle.store_types.specs.declared.refusal.Refusal.{Refusal}
-use Rattle.store_types.specs.declared.refusal.Refusal.TheVariants as refusals
-use Rattle.store_types.specs.FileNames.{is_fixed_name, is_index_name}
 use Rattle.store_files.specs.Archive.{Snapshot}
 use Rattle.store_files.specs.Book.{Book}
-use Rattle.store_files.specs.Folder.{IsDigest, chunk_name}
-use Rattle.store_model.specs.Store.{Store}
-use Rattle.atime_book.specs.Present.{is_among}
-use Rattle.atime_book.specs.Touches.{last_of}
-use Rattle.gc_plan.specs.Plan.{Plan, Stage, entry_limit, index_in, mark_in, mark_limit, marked_at, marking, next_index, next_mark, sweeping, with_mark}
-use Rattle.gc_plan.specs.Plan as plans
+use Rattle.gc_plan.specs.Plan.{FitsMark, Plan, Stage, entry_limit, index_in, left_of, mark_in, mark_limit, marked_at, marking, next_index, next_mark, sweeping, with_mark}
 use Rattle.gc_plan.specs.declared.IndexAt.{IndexAt}
-use Rattle.store_history.specs.LastTouches.{LastTouches, is_one_of, touched}
-use Rattle.store_history.specs.Sweeping.{Sweep, Swept, Unmarked, is_done, next_marks, next_taken, passed, unmarked_of, without}
+use Rattle.store_history.specs.Sweeping.{Sweep, Swept, Unmarked, passed, unmarked_of}
 use Rattle.core_state.specs.declared.collector.Collector.{Collector}
 use Rattle.core_state.specs.declared.kept.Kept.{Kept}
 use Rattle.core_state.specs.declared.kept.Listed.{Listed}
-use Rattle.core_state.specs.declared.parts.Parts.{Parts}
-use Rattle.core_state.specs.Entries.{marked_in}
-use Rattle.core_state.specs.Found.{path_of_kept}
-use Rattle.core_state.specs.Holds.{Holds}
-use Rattle.core_state.specs.Shown.{shown_snapshot}
+use Rattle.core_state.specs.Entries.{FitsEntries, marked_in}
 use Rattle.core_state.specs.Sweeps.{AreEntries, FitsRemoved, HasEntries, HasNumber, ShowsSweep, digests_named, kept_at, left_at, left_in, left_of_kept, unmarked_by, visits_by}
-use Rattle.core_state.specs.Unchanged.{SameKept}
-use Rattle.core_state.proofs.Acting.{holds_same}
+use Rattle.core_state.specs.Upkeeps.{TouchesEach}
 use Rattle.core_state.proofs.Finding.{some_same}
-use Rattle.core_collect.specs.Marking.{AtHand, BeginsWith, FindsNext, GoesFurther, IsFound, IsSettled, MarksSome, PassesOver, Reads, SettlesNext, SettlesUnread, Standing, at_hand_then, behind_next, bytes_of, digests_read, entries_left, indexes_left, left_then, marked_next, marked_now, next_unreadable, passed_over, path_at, standing, standing_as, standing_at, unless_passed, unreadable, unreadable_in}
-use Rattle.core_collect.specs.declared.marking.Unread.{Unread}
-use Rattle.core_collect.specs.declared.marking.Unread.TheVariants.{DiskFailed, NoMemory, Unreadable}
-use Rattle.core_collect.proofs.ReadLemmas.{index_digests, no_digests}
+use Rattle.core_collect.specs.Marking.{AtHand, BeginsWith, MarksSome, PassesOver, at_hand_then, behind_next, bytes_of, entries_left, left_then, marked_now}
 use Rattle.core_collect.proofs.StartLemmas.{left_all}
 
 -- ---- lists
@@ -56,7 +34,7 @@ drop_from (y ∷ ys) (suc n) x e =
     let more : suc (n + 1) ≡ suc n + 1 = omega arith in
     drop_from ys n x e ∙ ap (λ k. x ∷ drop k (y ∷ ys)) more
 
-drop_none : {A : Type 0} (n : ℕ) → drop n (Rattle.std.proofs.Common.[] {A = A}) ≡ []
+drop_none : (n : ℕ) → ◌≡◌ {A = List (List ℕ)} (drop n []) []
 drop_none zero = refl
 drop_none (suc n) = refl
 
@@ -66,6 +44,11 @@ at_place [] n e = omega arith
 at_place (x ∷ xs) zero e = absurd (none_some x (sym e))
 at_place (x ∷ xs) (suc n) e = let le = at_place xs n e in omega (arith, le)
 
+place_within : {A : Type 0} (xs : List A) (n : ℕ) (x : A) → slice_get xs n ≡ Some x → n < length xs
+place_within [] n x e = absurd (none_some x e)
+place_within (y ∷ ys) zero x e = omega arith
+place_within (y ∷ ys) (suc n) x e = let lt = place_within ys n x e in omega (arith, lt)
+
 unmarked_none : (key : SnapshotKey) (name : List ℕ) (ds : List (List ℕ)) → ds ≡ [] → unmarked_of key name ds ≡ []
 unmarked_none key name ds none = ap (unmarked_of key name) none
 
@@ -73,11 +56,12 @@ unmarked_some : (key : SnapshotKey) (name : List ℕ) (ds : List (List ℕ)) →
 unmarked_some key name [] some = absurd (some refl)
 unmarked_some key name (d ∷ ds) some = refl
 
-left_some : (first : ℕ) (entries : List Digest32) → (first ≡ 0) ⊎ (first < length entries) → (entries ≡ [] → ⊥) → map (λ (d : Digest32). d.0) (drop first entries) ≡ [] → ⊥
-left_some first entries (inl begun) some none =
-    some (nil_from_length entries (omega (arith, begun, ap length none, length-map (drop first entries) (λ (d : Digest32). d.0), Rattle.std.proofs.Common.length-drop first entries)))
-left_some first entries (inr lt) some none =
-    omega (arith, lt, ap length none, length-map (drop first entries) (λ (d : Digest32). d.0), Rattle.std.proofs.Common.length-drop first entries)
+left_some : (first : ℕ) (entries : List Digest32) → (0 < first → first < length entries) → (entries ≡ [] → ⊥) → map (λ (d : Digest32). d.0) (drop first entries) ≡ [] → ⊥
+left_some zero entries within some none =
+    some (nil_from_length entries (omega (arith, ap length none, length-map (drop 0 entries) (λ (d : Digest32). d.0), length-drop 0 entries)))
+left_some (suc n) entries within some none =
+    let lt = within (omega arith) in
+    omega (arith, lt, ap length none, length-map (drop (suc n) entries) (λ (d : Digest32). d.0), length-drop (suc n) entries)
 
 -- ---- a plan after a mark
 
@@ -110,17 +94,133 @@ same_index indexes (sweeping names) count left some = refl
 -- an index is next exactly where a mark is
 pub no_index : (indexes : List IndexAt) (stage : Stage) → index_in indexes stage ≡ None → mark_in indexes stage ≡ None
 no_index indexes (marking place first) none =
-    ap (λ b. cond b (Some (place, first)) None) (Rattle.std.proofs.lemmas.Bool.le-ltb place (length indexes) (at_place indexes place none))
+    ap (λ b. cond b (Some (place, first)) None) (le-ltb place (length indexes) (at_place indexes place none))
 no_index indexes (sweeping names) none = refl
+
+-- a mark is next where an index is
+pub mark_there : (indexes : List IndexAt) (stage : Stage) (i : IndexAt) → index_in indexes stage ≡ Some i → IsSome (mark_in indexes stage)
+mark_there indexes (marking place first) i at = ap (λ b. is_some {T = ℕ × ℕ} (cond b (Some (place, first)) None)) (lt-ltb place (length indexes) (place_within indexes place i at))
+mark_there indexes (sweeping names) i at = absurd (none_some i at)
 
 -- the mark that is next begins where the index is marked up to
 pub mark_is : (indexes : List IndexAt) (stage : Stage) (mark : ℕ × ℕ) → mark_in indexes stage ≡ Some mark → mark.1 ≡ marked_in stage
-mark_is indexes (marking place first) mark e = by_test (Rattle.std.proofs.Common.nat_lt place (length indexes)) e
+mark_is indexes (marking place first) mark e = by_test (nat_lt place (length indexes)) e
   where
     by_test : (b : Bool) → cond b (Some (place, first)) None ≡ Some mark → mark.1 ≡ first
     by_test true e = sym (ap (λ (m : ℕ × ℕ). m.1) (some_same (place, first) mark e))
     by_test false e = absurd (none_some mark e)
 mark_is indexes (sweeping names) mark e = absurd (none_some mark e)
+
+pub at_hand_mark : (c : Collector) → AtHand c → next_mark c.plan ≡ None → ⊥
+at_hand_mark c hand none = by_index (next_index c.plan) refl hand.next
+  where
+    none_is : false ≡ true → ⊥
+    none_is e = cc
+
+    by_index : (o : Option IndexAt) → next_index c.plan ≡ o → IsSome o → ⊥
+    by_index None is some = none_is some
+    by_index (Some i) is some = none_is (sym (ap is_some none) ∙ mark_there (c.plan).indexes (c.plan).stage i is)
+
+-- where none is marked
+none_begun : (m n : ℕ) → m ≡ 0 → 0 < m → m < n
+none_begun m n zero_is begun = absurd (omega (arith, zero_is, begun))
+
+-- a plan may pass over the index that is next
+pub fits_pass : (p : Plan) (entries : List Digest32) → FitsEntries p entries → IsSome (next_mark p) → FitsMark p 0 0
+fits_pass p entries fits some = by_mark (next_mark p) refl some
+  where
+    none_is : false ≡ true → ⊥
+    none_is e = cc
+
+    within : (m : ℕ) → (0 < m → m < length entries) → m + 0 + 0 ≤ entry_limit
+    within zero left = omega arith
+    within (suc n) left = let lt = left (omega arith) in let few = fits.few in omega (arith, lt, few)
+
+    by_mark : (o : Option (ℕ × ℕ)) → next_mark p ≡ o → IsSome o → IsSomeAnd o (λ mark. mark.1 + 0 + 0 ≤ entry_limit)
+    by_mark None is some = absurd (none_is some)
+    by_mark (Some mark) is some = subst (λ n. n + 0 + 0 ≤ entry_limit) (sym (mark_is p.indexes p.stage mark is)) (within (marked_in p.stage) fits.within)
+
+-- and then nothing of the next is marked
+pub over_zero : (stage : Stage) → marked_in (marked_at stage 0 0) ≡ 0
+over_zero (marking place first) = refl
+over_zero (sweeping names) = refl
+
+-- ---- what fits the digests at hand
+
+pub fits_over : (p q : Plan) (entries : List Digest32) → FitsEntries p entries → q ≡ with_mark p 0 0 → FitsEntries q entries
+fits_over p q entries fits is = subst (λ x. FitsEntries x entries) (sym is) (record { named = fits.named; within = none_begun (marked_in (marked_at p.stage 0 0)) (length entries) (over_zero p.stage); few = fits.few })
+
+pub fits_none : (p q : Plan) (entries : List Digest32) → FitsEntries p entries → q ≡ with_mark p 0 0 → FitsEntries q []
+fits_none p q entries fits is = subst (λ x. FitsEntries x []) (sym is) (record { named = fits.named; within = none_begun (marked_in (marked_at p.stage 0 0)) 0 (over_zero p.stage); few = omega arith })
+
+-- none were at hand, and they are read
+pub fits_read : (p : Plan) (before after_ : List Digest32) → FitsEntries p before → before ≡ [] → length after_ ≤ entry_limit → FitsEntries p after_
+fits_read p before after_ fits none few = record { named = fits.named; within = λ some. absurd (begun some fits.within); few = few }
+  where
+    begun : 0 < marked_in p.stage → (0 < marked_in p.stage → marked_in p.stage < length before) → ⊥
+    begun some left = let n = ap length none in let lt = left some in omega (arith, lt, n)
+
+positive : (n : ℕ) → (n == 0) ≡ false → 0 < n
+positive zero e = absurd (true≢false e)
+positive (suc n) e = omega arith
+
+marked_within : (stage : Stage) (count left n : ℕ) → marked_in stage + count + left ≡ n → 0 < marked_in (marked_at stage count left) → marked_in (marked_at stage count left) < n
+marked_within (marking place first) count left n whole begun = by_test (left == 0) refl begun
+  where
+    by_test : (b : Bool) → (left == 0) ≡ b → 0 < marked_in (cond b (marking (place + 1) 0) (marking place (first + count)))
+        → marked_in (cond b (marking (place + 1) 0) (marking place (first + count))) < n
+    by_test true is more = absurd (omega (arith, more))
+    by_test false is more = let some = positive left is in omega (arith, some, whole)
+marked_within (sweeping names) count left n whole begun = absurd (omega (arith, begun))
+
+-- some were marked
+pub fits_marked : (p q : Plan) (entries : List Digest32) (count left : ℕ) → FitsEntries p entries → marked_in p.stage + count + left ≡ length entries → q ≡ with_mark p count left → FitsEntries q entries
+fits_marked p q entries count left fits whole is =
+    subst (λ x. FitsEntries x entries) (sym is) (record { named = fits.named; within = marked_within p.stage count left (length entries) whole; few = fits.few })
+
+-- all were
+pub fits_done : (p q : Plan) (entries : List Digest32) (count left : ℕ) → FitsEntries p entries → left ≡ 0 → q ≡ with_mark p count left → FitsEntries q []
+fits_done p q entries count left fits none is =
+    fits_none p q entries fits (is ∙ ap (λ s. let x : Plan = record p { stage = s } in x) (over_left p.stage count left (eq-eqb left 0 none)))
+
+-- ---- what a mark does
+
+module _ (before after_ : Book) (old new : Collector) (moment count rest : ℕ) (slice : List Digest32) (rest_is : rest ≡ length old.entries.items - marked_in (old.plan).stage)
+    (count_is : count ≡ min rest mark_limit) (slice_is : slice ≡ take count (drop (marked_in (old.plan).stage) old.entries.items)) where
+  whole_left : length (entries_left old) ≡ rest
+  whole_left = omega (arith, rest_is, length-drop (marked_in (old.plan).stage) old.entries.items)
+
+  count_now : count ≡ length (marked_now old)
+  count_now = omega (arith, whole_left, count_is, length-take mark_limit (entries_left old))
+
+  left_now : rest - count ≡ length (left_then old)
+  left_now = omega (arith, whole_left, count_is, length-drop mark_limit (entries_left old))
+
+  slice_now : slice ≡ marked_now old
+  slice_now =
+      let least : count ≡ min mark_limit (length (entries_left old)) = omega (arith, whole_left, count_is) in
+      slice_is ∙ ap (λ n. take n (entries_left old)) least ∙ take_min mark_limit (entries_left old)
+
+  entries_now : (xs : List Digest32) → left_then old ≡ xs → cond (count == rest) [] old.entries.items ≡ at_hand_then xs old.entries.items
+  entries_now [] is =
+      let none = ap length is in
+      let same : count ≡ rest = omega (arith, whole_left, count_is, none, length-drop mark_limit (entries_left old)) in
+      ap (λ b. cond b [] old.entries.items) (eq-eqb count rest same)
+  entries_now (x ∷ xs) is =
+      let some = ap length is in
+      let over : rest ≡ length xs + 1 + mark_limit = omega (arith, whole_left, some, length-drop mark_limit (entries_left old)) in
+      ap (λ b. cond b [] old.entries.items) (ne_eqb count rest (λ e. omega (arith, e, over, count_is)))
+
+  pub marks_some : TouchesEach before after_ slice moment → new.lane ≡ old.lane → new.ended ≡ old.ended → new.plan ≡ with_mark old.plan count (rest - count)
+      → new.entries.items ≡ cond (count == rest) [] old.entries.items → left_of new.plan < left_of old.plan → MarksSome before after_ old new moment
+  marks_some touches lane ended plan entries less = record {
+    touches = subst (λ ds. TouchesEach before after_ ds moment) slice_now touches;
+    lane = lane;
+    ended = ended;
+    plan = plan ∙ ap₂ (λ n m. with_mark old.plan n m) count_now left_now;
+    entries = entries ∙ entries_now (left_then old) refl;
+    less = less;
+  }
 
 module _ (catalogue : List Listed) (snapshots : List Snapshot) where
   abbrev unmarked : List IndexAt → Stage → List Unmarked
@@ -143,11 +243,11 @@ module _ (catalogue : List Listed) (snapshots : List Snapshot) where
 
   -- past the last index nothing is unmarked
   pub all_marked : (indexes : List IndexAt) (stage : Stage) → mark_in indexes stage ≡ None → unmarked indexes stage ≡ []
-  all_marked indexes (marking place first) none = by_test (Rattle.std.proofs.Common.nat_lt place (length indexes)) refl none
+  all_marked indexes (marking place first) none = by_test (nat_lt place (length indexes)) refl none
     where
-      by_test : (b : Bool) → Rattle.std.proofs.Common.nat_lt place (length indexes) ≡ b → cond b (Some (place, first)) None ≡ None → left_in catalogue snapshots first (drop place indexes) ≡ []
+      by_test : (b : Bool) → nat_lt place (length indexes) ≡ b → cond {A = Option (ℕ × ℕ)} b (Some (place, first)) None ≡ None → left_in catalogue snapshots first (drop place indexes) ≡ []
       by_test true is e = absurd (none_some (place, first) (sym e))
-      by_test false is e = ap (left_in catalogue snapshots first) (Rattle.std.proofs.lemmas.List.drop_all place indexes (Rattle.std.proofs.lemmas.Bool.ltb-false place (length indexes) is))
+      by_test false is e = ap (left_in catalogue snapshots first) (drop_all place indexes (ltb-false place (length indexes) is))
   all_marked indexes (sweeping names) none = refl
 
   -- ---- an index that is passed over
@@ -225,7 +325,7 @@ module _ (catalogue : List Listed) (snapshots : List Snapshot) where
     whole : (x : Digest32) (xs : List Digest32) → left_then e ≡ x ∷ xs → count ≡ mark_limit
     whole x xs is =
         let two = ap length is in
-        omega (arith, two, Rattle.std.proofs.Common.length-take mark_limit (entries_left e), Rattle.std.proofs.Common.length-drop mark_limit (entries_left e))
+        omega (arith, two, length-take mark_limit (entries_left e), length-drop mark_limit (entries_left e))
 
     left_is : (x : Digest32) (xs : List Digest32) → left_then e ≡ x ∷ xs → left_at catalogue snapshots (done + count) (b.index) ≡ unmarked_of (b.kept).key (b.index).name (drop mark_limit (map bytes (entries_left e)))
     left_is x xs is =

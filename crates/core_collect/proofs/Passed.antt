@@ -1,11 +1,9 @@
 -- The next act of the lane's collector, by whether it is open, and its entry.
 use Rattle.disk_trait.specs.declared.disk.Disk.{Ghosts}
-use Rattle.std.proofs.Common.{◌≡◌, ◌≤◌, ℕ, Bool, true, false, Option, Some, None, IfSome, Result, Ok, Err, refl, sym, ap, subst, ◌∙◌}
-use Rattle.std.specs.Prelude.{IfErr, IsSomeAnd}
+use Rattle.std.proofs.Common.{◌≡◌, ℕ, true, false, Option, Some, None, IfSome, Err, refl, sym, ap, subst, ◌∙◌}
+use Rattle.std.specs.Prelude.{IfErr}
 use Rattle.store_types.specs.declared.refusal.Refusal.TheVariants.{WrongState}
 use Rattle.wire_commands.specs.HasText.{ReplyHasText}
-use Rattle.wire_commands.specs.declared.reply.Reply.{Reply}
-use Rattle.wire_commands.specs.declared.reply.Reply.TheVariants as replies
 use Rattle.store_history.specs.declared.act.Act.TheVariants.{Step}
 use Rattle.store_history.specs.declared.act.Answer.{Answer}
 use Rattle.core_state.specs.declared.collector.Collector.{Collector}
@@ -18,7 +16,7 @@ use Rattle.core_state.specs.declared.stop.Stop.TheVariants as stops
 use Rattle.core_state.specs.declared.upkeep.Upkeep.{Upkeep}
 use Rattle.core_state.specs.Closing.{closes_by}
 use Rattle.core_state.specs.Collectors.{is_cut, is_on}
-use Rattle.core_state.specs.Settles.{IsEntered, Settles}
+use Rattle.core_state.specs.Settles.{Settles}
 use Rattle.core_state.specs.States.{state_of}
 use Rattle.core_state.specs.Stops.{StopHasText, told}
 use Rattle.core_state.specs.Wanted.{session_at}

@@ -1,17 +1,20 @@
 -- What is read of an index: its digests, or that there is none.
 use Rattle.disk_trait.specs.declared.disk.Disk.{Ghosts}
-use Rattle.std.proofs.Common.{◌≡◌, ◌<◌, ◌≤◌, ◌+◌, ◌||◌, ℕ, Bool, true, false, List, [], ◌∷◌, length, map, option_map, Option, Some, None, Result, Ok, Err, refl, sym, ap, ◌∙◌, arith}
+use Rattle.std.proofs.Common.{◌≡◌, ◌<◌, ◌≤◌, ◌+◌, ◌==◌, ◌||◌, ℕ, Bool, true, false, List, [], ◌∷◌, ◌++◌, get_or, length, map, take, option_map, Option, Some, None, Result, Ok, Err, refl, sym, ap, ◌∙◌, arith}
 use Rattle.std.specs.FinMap.{get}
-use Rattle.std.specs.List.{All}
+use Rattle.std.specs.List.{All, find}
 use Rattle.disk_trait.specs.Files.{Files}
 use Rattle.sha2.specs.Sha256.{sha256}
+use Rattle.std.proofs.lemmas.List.{length-map, map_push, take_all, take_more}
 use Rattle.store_types.specs.Chain.Refusing.{◌>>=◌}
+use Rattle.store_types.specs.declared.names.Digest32.{Digest32}
 use Rattle.store_types.specs.FileNames.{is_blob_name, is_dynamic_name, is_fixed_name, is_index_name}
 use Rattle.store_types.specs.Names.{same_key}
 use Rattle.store_types.specs.declared.refusal.Refusal.{Refusal}
 use Rattle.store_types.specs.declared.refusal.Refusal.TheVariants.{Unreadable}
 use Rattle.store_files.specs.Archive.{Archive, Content, archive, blob, Snapshot, archive_text, ends_from, file_named, file_text}
 use Rattle.store_files.specs.DynamicIndex.{Ended}
+use Rattle.store_files.specs.Entries.{ended_of, ends_of}
 use Rattle.store_model.specs.Stands.{FitsContent, IsSnapshot, StandsFor, keys_rise, names_content}
 use Rattle.store_model.specs.Store.{snapshot_named}
 use Rattle.store_model.specs.WriterSteps.{part_of}
@@ -77,16 +80,16 @@ module _ (catalogue : List Listed) (snapshots : List Snapshot) (same : map (λ x
   abbrev IsNamed : Listed → Type 0
   IsNamed x = kept_named (x.kept).key catalogue ≡ Some (x.kept)
 
-  all_named : (k : ℕ) (d : Listed) → k < length catalogue → IsNamed (Rattle.std.proofs.Common.get_or catalogue k d)
+  all_named : (k : ℕ) (d : Listed) → k < length catalogue → IsNamed (get_or catalogue k d)
   all_named k d within =
-      let x = Rattle.std.proofs.Common.get_or catalogue k d in
+      let x = get_or catalogue k d in
       let like = each_like (λ (x : Listed). x.kept) shown_snapshot (λ y. snapshot_named y.key snapshots ≡ Some y) catalogue snapshots same (each_named snapshots rise) k d within in
       let y = like.0 in
       ap (λ (q : Kept). kept_named q.key catalogue) like.1 ∙ kept_is catalogue snapshots y.key same ∙ ap (option_map shown_snapshot) like.2 ∙ ap Some (sym like.1)
 
   numbered_named : (number : ℕ) (k : Kept) → kept_at number catalogue ≡ Some k → kept_named k.key catalogue ≡ Some k
   numbered_named number k at =
-      let found = mapped (λ (x : Listed). x.kept) _ k at in
+      let found = mapped (λ (x : Listed). x.kept) (find (λ (x : Listed). x.number == number) catalogue) k at in
       let named : IsNamed found.0 = found_in IsNamed _ catalogue found.0 all_named found.1 in
       ap (λ (q : Kept). kept_named q.key catalogue) found.2 ∙ named ∙ ap Some (sym found.2)
 
@@ -135,3 +138,31 @@ unreadable_read m path b r is =
 -- the digests that were read
 pub digests_given : (m : Files) (path : List ℕ) (b : Bool) (x : Indexed) (ds : List (List ℕ)) → index_at m path b 0 ≡ Ok x → ds ≡ map (λ (e : Ended). e.digest) x.entries → digests_read m path b ≡ Ok ds
 digests_given m path b x ds is same = read_as m path b (Ok x) is ∙ ap (λ q. let r : Result (List (List ℕ)) Refusal = Ok q in r) (sym same)
+
+-- ---- the digests of entries
+
+abbrev bytes : Digest32 → List ℕ
+bytes d = d.0
+
+abbrev digest_in : Ended → List ℕ
+digest_in e = e.digest
+
+-- one entry more
+pub digests_more : (xs : List (Digest32 × ℕ)) (i : ℕ) (x : Digest32 × ℕ) (before after_ : List Digest32) → i < length xs → x ≡ get_or xs i x → after_ ≡ before ++ x.0 ∷ []
+    → map bytes before ≡ map digest_in (ends_of (take i xs)) → map bytes after_ ≡ map digest_in (ends_of (take (i + 1) xs))
+digests_more xs i x before after_ lt at pushed so_far =
+    let more : take (i + 1) xs ≡ take i xs ++ x ∷ [] = take_more xs i x lt ∙ ap (λ y. take i xs ++ y ∷ []) (sym at) in
+    ap (map bytes) pushed
+    ∙ map_push bytes before x.0
+    ∙ ap (λ ds. ds ++ (x.0).0 ∷ []) so_far
+    ∙ sym (map_push digest_in (ends_of (take i xs)) (ended_of x))
+    ∙ sym (ap (map digest_in) (map_push ended_of (take i xs) x))
+    ∙ sym (ap (λ ys. map digest_in (ends_of ys)) more)
+
+-- they are as many as the entries
+pub digests_few : (entries : List Ended) (digests : List Digest32) (limit : ℕ) → map bytes digests ≡ map digest_in entries → length entries ≤ limit → length digests ≤ limit
+digests_few entries digests limit same few = let n = ap length same in omega (arith, few, n, length-map digests bytes, length-map entries digest_in)
+
+-- all of them
+pub digests_all : (xs : List (Digest32 × ℕ)) (i : ℕ) (digests : List Digest32) → length xs ≤ i → map bytes digests ≡ map digest_in (ends_of (take i xs)) → map bytes digests ≡ map digest_in (ends_of xs)
+digests_all xs i digests le so_far = so_far ∙ ap (λ ys. map digest_in (ends_of ys)) (take_all i xs le)

@@ -1,8 +1,10 @@
 -- The index that is next is passed over, read or unreadable, and the search for the one that is marked.
 use Rattle.disk_trait.specs.declared.disk.Disk.{Ghosts}
-use Rattle.std.proofs.Common.{◌≡◌, ◌<◌, ◌≤◌, ◌+◌, ℕ, zero, suc, Bool, true, false, List, [], ◌∷◌, drop, length, map, Option, Some, None, Result, Ok, Err, IsSome, is_some, refl, sym, ap, ap₂, subst, ◌∙◌, arith}
+use Rattle.std.proofs.Common.{◌≡◌, ◌<◌, ◌≤◌, ◌+◌, ℕ, zero, suc, Bool, true, false, cond, nat_lt, le_refl, le_of_eq, List, [], ◌∷◌, drop, length, map, Option, Some, None, Result, Ok, Err, IsSome, is_some, IsErrAnd, IsErrOf, Vec, Global, vec_len, ◌==◌, true≢false, inr, refl, sym, ap, ap₂, subst, ◌∙◌, arith}
 use Rattle.std.specs.Prelude.{slice_get}
 use Rattle.std.specs.List.{All}
+use Rattle.std.proofs.lemmas.Bool.{eq-eqb, eqb-true, ltb-false}
+use Rattle.std.proofs.lemmas.List.{drop_all, nil_from_length}
 use Rattle.std.proofs.lemmas.List.Elements.{All-head, All-tail}
 use Rattle.disk_trait.specs.Effects.{OnlyReads}
 use Rattle.disk_trait.specs.Files.{Files}
@@ -12,9 +14,9 @@ use Rattle.store_types.specs.declared.refusal.Refusal.TheVariants as refusals
 use Rattle.store_types.specs.FileNames.{is_fixed_name, is_index_name}
 use Rattle.store_files.specs.Archive.{Snapshot}
 use Rattle.store_model.specs.Store.{Store}
-use Rattle.gc_plan.specs.Plan.{Plan, Stage, ends_at, index_in, is_over, left_of, marked_at, marking, next_index, next_mark, sweeping}
+use Rattle.gc_plan.specs.Plan.{Plan, Stage, ends_at, index_in, is_over, left_of, mark_in, marked_at, marking, next_index, next_mark, sweeping}
 use Rattle.gc_plan.specs.declared.IndexAt.{IndexAt}
-use Rattle.snapshot_files.proofs.OnlyReading.{reads_then}
+use Rattle.snapshot_files.proofs.OnlyReading.{reads_none, reads_then}
 use Rattle.store_history.specs.Sweeping.{Sweep}
 use Rattle.core_state.specs.declared.collector.Collector.{Collector}
 use Rattle.core_state.specs.declared.kept.Kept.{Kept}
@@ -30,7 +32,7 @@ use Rattle.core_collect.specs.Marking.{AtHand, FindsNext, GoesFurther, IsFound, 
 use Rattle.core_collect.specs.declared.marking.Unread.{Unread}
 use Rattle.core_collect.specs.declared.marking.Unread.TheVariants.{DiskFailed, NoMemory, Unreadable}
 use Rattle.core_collect.proofs.ReadLemmas.{index_digests, no_digests}
-use Rattle.core_collect.proofs.MarkLemmas.{all_marked, begins_with, drop_from, no_index, passed_shows}
+use Rattle.core_collect.proofs.MarkLemmas.{all_marked, at_place, begins_with, drop_from, no_index, passed_shows}
 
 none_some : {A : Type 0} (x : A) → None ≡ Some x → ⊥
 none_some x e = cc
@@ -64,7 +66,7 @@ left_from is (marking place first) i e = drop_from is place i e
 left_from is (sweeping names) i e = absurd (none_some i e)
 
 none_left : (is : List IndexAt) (stage : Stage) → index_in is stage ≡ None → indexes_left is stage ≡ []
-none_left is (marking place first) e = Rattle.std.proofs.lemmas.List.drop_all place is (Rattle.core_collect.proofs.MarkLemmas.at_place is place e)
+none_left is (marking place first) e = drop_all place is (at_place is place e)
 none_left is (sweeping names) e = refl
 
 standing_some : (path : List ℕ) (ds : List (List ℕ)) → (ds ≡ [] → ⊥) → standing_as path (Ok ds) ≡ marked_next
@@ -90,7 +92,7 @@ kept_there i catalogue path found = by_kept (kept_at i.snapshot catalogue) refl 
     by_kept (Some k) at e = (k, at)
 
 pub further_same : (c : Collector) → GoesFurther c c
-further_same c = record { lane = refl; ended = refl; start = refl; cutoff = refl; indexes = refl; over = λ going. going; not_more = Rattle.std.proofs.Common.le_refl (left_of c.plan) }
+further_same c = record { lane = refl; ended = refl; start = refl; cutoff = refl; indexes = refl; over = λ going. going; not_more = le_refl (left_of c.plan) }
 
 -- where an index is passed over a plan that is not over is not over
 still_going : (stage : Stage) → ends_at stage ≡ false → ends_at (marked_at stage 0 0) ≡ false
@@ -206,7 +208,7 @@ module _ {D : Type 0} (d : Ghosts D) (parts : Parts D) where
       cutoff = ap (λ (p : Plan). p.cutoff) plan;
       indexes = ap (λ (p : Plan). p.indexes) plan;
       over = λ going. ap is_over plan ∙ going;
-      not_more = Rattle.std.proofs.Common.le_of_eq (ap left_of plan);
+      not_more = le_of_eq (ap left_of plan);
     };
     shows = λ acts s sweep holds h. had_shows old new i path acts s sweep at found plan some had holds h;
     at_hand = λ _. record { next = ap is_some (ap next_index plan ∙ at); some = some };
@@ -328,12 +330,12 @@ module _ {D : Type 0} (d : Ghosts D) (parts now : Parts D) (old c : Collector) (
     unread = λ honest. h.unread honest ∙ ap (unreadable_in (d.content parts.disk) parts.catalogue.items c.entries.items) (none_marked (c.plan).indexes (c.plan).stage none);
   }
     where
-      by_test : (is : List IndexAt) (place first : ℕ) (b : Bool) → Rattle.std.proofs.Common.nat_lt place (length is) ≡ b → Rattle.std.proofs.Common.cond b (Some (place, first)) None ≡ None → drop place is ≡ []
+      by_test : (is : List IndexAt) (place first : ℕ) (b : Bool) → nat_lt place (length is) ≡ b → cond {A = Option (ℕ × ℕ)} b (Some (place, first)) None ≡ None → drop place is ≡ []
       by_test is place first true less e = absurd (none_some (place, first) (sym e))
-      by_test is place first false less e = Rattle.std.proofs.lemmas.List.drop_all place is (Rattle.std.proofs.lemmas.Bool.ltb-false place (length is) less)
+      by_test is place first false less e = drop_all place is (ltb-false place (length is) less)
 
-      none_marked : (is : List IndexAt) (stage : Stage) → Rattle.gc_plan.specs.Plan.mark_in is stage ≡ None → indexes_left is stage ≡ []
-      none_marked is (marking place first) e = by_test is place first (Rattle.std.proofs.Common.nat_lt place (length is)) refl e
+      none_marked : (is : List IndexAt) (stage : Stage) → mark_in is stage ≡ None → indexes_left is stage ≡ []
+      none_marked is (marking place first) e = by_test is place first (nat_lt place (length is)) refl e
       none_marked is (sweeping names) e = refl
 
   -- one is to be marked, or it is not to be had
@@ -368,3 +370,93 @@ module _ {D : Type 0} (d : Ghosts D) (parts now : Parts D) (old c : Collector) (
     all_marked = λ e. absurd (err_ok DiskFailed false e);
     unread = λ honest. tt;
   }
+
+-- nothing is passed over yet
+pub passed_none : {D : Type 0} (d : Ghosts D) (parts : Parts D) (c : Collector) → HasPassed d parts parts c c
+passed_none d parts c = record {
+  reads = reads_none d parts.disk ⊥ (λ no. no);
+  kept = record { catalogue = refl; sessions = refl; locks = refl };
+  further = further_same c;
+  shows = λ acts s sweep holds h. (h, tt);
+  unread = λ honest. refl;
+}
+
+-- ---- by what was returned
+
+-- the error of a call is handed on
+pub handed_on : (P : Result Bool Unread → Type 0) (r : Result Bool Unread) (u : Unread) → IsErrAnd r (λ x. x ≡ u) → P (Err u) → P r
+handed_on P (Ok found) u is p = absurd is
+handed_on P (Err x) u is p = subst (λ y. P (Err y)) (sym is) p
+
+unread_same : (x y : Unread) → ◌≡◌ {A = Result Bool Unread} (Err x) (Err y) → x ≡ y
+unread_same x y e = cc
+
+handed_why : {A : Type 0} (r : Result Bool Unread) (s : Result A Unread) (u : Unread) → IsErrAnd r (λ x. x ≡ u) → s ≡ Err u → IsErrOf r DiskFailed → IsErrOf s DiskFailed
+handed_why {A} (Ok found) s u is was failed = absurd is
+handed_why {A} (Err x) s u is was failed = was ∙ ap (λ y. let q : Result A Unread = Err y in q) (sym is ∙ unread_same x DiskFailed failed)
+
+-- of one call
+pub handed_reads : {D A : Type 0} (d : Ghosts D) (old new : D) (r : Result Bool Unread) (s : Result A Unread) (u : Unread) → IsErrAnd r (λ x. x ≡ u) → s ≡ Err u
+    → OnlyReads d old new (IsErrOf s DiskFailed) → OnlyReads d old new (IsErrOf r DiskFailed)
+handed_reads d old new r s u is was reads = record {
+  serves = record { kept = (reads.serves).kept; count = (reads.serves).count; cause = λ failed. (reads.serves).cause (handed_why r s u is was failed) };
+  crash = reads.crash;
+  same = reads.same;
+}
+
+-- no other answer is a fault of the disk
+pub answered_reads : {D A : Type 0} (d : Ghosts D) (old new : D) (found : Bool) (s : Result A Unread) → OnlyReads d old new (IsErrOf s DiskFailed) → OnlyReads d old new (IsErrOf {T = Bool} (Ok found) DiskFailed)
+answered_reads d old new found s reads = record {
+  serves = record { kept = (reads.serves).kept; count = (reads.serves).count; cause = λ failed. absurd (err_ok DiskFailed found (sym failed)) };
+  crash = reads.crash;
+  same = reads.same;
+}
+
+module _ {D : Type 0} (d : Ghosts D) (parts now later : Parts D) (old c e : Collector) (h : HasPassed d parts now old c) (r : Result Bool Unread) (reads : OnlyReads d now.disk later.disk (IsErrOf r DiskFailed))
+    (kept : SameKept now later) (settles : SettlesNext d now c e r) where
+  pub search_kept : SameKept parts later
+  search_kept = record {
+    catalogue = kept.catalogue ∙ (h.kept).catalogue;
+    sessions = kept.sessions ∙ (h.kept).sessions;
+    locks = kept.locks ∙ (h.kept).locks;
+  }
+
+  -- one was passed over
+  pub search_passed : r ≡ Ok false → HasPassed d parts later old e
+  search_passed is =
+      let one : SettlesNext d now c e (Ok false) = subst (SettlesNext d now c e) is settles in
+      let why : IsErrOf r DiskFailed → ⊥ = λ failed. err_ok DiskFailed false (sym failed ∙ is) in
+      passed_then d parts now old c h later e (IsErrOf r DiskFailed) why reads kept one
+
+  -- one is found
+  pub search_found : r ≡ Ok true → FindsNext d parts old e (Ok true)
+  search_found is = found_then d parts now old c h e (subst (SettlesNext d now c e) is settles)
+
+  pub search_found_reads : r ≡ Ok true → OnlyReads d parts.disk later.disk (IsErrOf (Ok true) DiskFailed)
+  search_found_reads is = reads_then d parts.disk now.disk later.disk ⊥ (IsErrOf r DiskFailed) (IsErrOf (Ok true) DiskFailed) h.reads reads (λ failed. absurd (err_ok DiskFailed true (sym failed)))
+
+  -- or it is not to be had
+  module _ (result : Result Bool Unread) (u : Unread) (handed : IsErrAnd result (λ x. x ≡ u)) (was : r ≡ Err u) where
+    pub search_unread : FindsNext d parts old e result
+    search_unread = handed_on (FindsNext d parts old e) result u handed (unread_then d parts now old c h e u (subst (SettlesNext d now c e) was settles))
+
+    pub search_unread_reads : OnlyReads d parts.disk later.disk (IsErrOf result DiskFailed)
+    search_unread_reads =
+        reads_then d parts.disk now.disk later.disk ⊥ (IsErrOf r DiskFailed) (IsErrOf result DiskFailed) h.reads reads (λ failed. inr (handed_why result r u handed was failed))
+
+pub search_over_reads : {D : Type 0} (d : Ghosts D) (parts now : Parts D) (old c : Collector) → HasPassed d parts now old c → OnlyReads d parts.disk now.disk (IsErrOf (Ok false) DiskFailed)
+search_over_reads d parts now old c h = reads_then d parts.disk now.disk now.disk ⊥ ⊥ (IsErrOf (Ok false) DiskFailed) h.reads (reads_none d now.disk ⊥ (λ no. no)) (λ failed. absurd (err_ok DiskFailed false (sym failed)))
+
+-- ---- what is at hand
+
+pub none_items : (v : Vec Digest32 Global) (b : Bool) → b ≡ (vec_len v == 0) → b ≡ true → v.items ≡ []
+none_items v b is empty = let n = eqb-true (vec_len v) 0 (sym is ∙ empty) in nil_from_length v.items (omega (arith, v.ok.0, n))
+
+pub some_items : (v : Vec Digest32 Global) (b : Bool) → b ≡ (vec_len v == 0) → b ≡ false → v.items ≡ [] → ⊥
+some_items v b is full none =
+    let z = ap length none in
+    let n : vec_len v ≡ 0 = omega (arith, v.ok.0, z) in
+    true≢false (sym (eq-eqb (vec_len v) 0 n) ∙ sym is ∙ full)
+
+pub none_read : (v : Vec Digest32 Global) → v.items ≡ [] → ◌≡◌ {A = Result (List (List ℕ)) Refusal} (Ok (bytes_of v)) (Ok [])
+none_read v none = ap (λ ds. let r : Result (List (List ℕ)) Refusal = Ok (map (λ (d : Digest32). d.0) ds) in r) none

@@ -7,8 +7,10 @@ use Rattle.store_types.specs.Chain.Refusing.{◌>>=◌, if_none}
 use Rattle.store_types.specs.declared.refusal.Refusal.{Refusal}
 use Rattle.store_types.specs.declared.refusal.Refusal.TheVariants as refusals
 use Rattle.store_types.specs.declared.refusal.Refusal.TheVariants.{CollectorBusy, DiskFault, Unreadable}
+use Rattle.store_types.specs.declared.refusal.SessionState.TheVariants as states
 use Rattle.store_files.specs.Archive.{Snapshot}
 use Rattle.store_files.specs.Folder.{IsDigest, chunk_name}
+use Rattle.store_model.specs.Store.{Store}
 use Rattle.wire_commands.specs.declared.reply.Reply.{Reply}
 use Rattle.wire_commands.specs.declared.reply.Reply.TheVariants as replies
 use Rattle.disk_trait.specs.declared.disk.DiskError.TheVariants as disks
@@ -53,7 +55,8 @@ use Rattle.core_state.proofs.Starts.{start_opened_applies, start_opened_keeps, s
 use Rattle.core_state.proofs.Touching.{entry_touches_same, same_back, same_then}
 use Rattle.core_state.proofs.Unswept.{fits_other, unswept_touches}
 use Rattle.core_collect.specs.Starting.{GivesCollector, IsNewCollector, StartTells, first_unreadable, start_told}
-use Rattle.core_collect.proofs.StartLemmas.{start_told_is, started_shows}
+use Rattle.core_collect.proofs.StartLemmas.{started_shows}
+use Rattle.core_collect.proofs.StartRefused.{start_told_is}
 
 no_sweep : class_of Start ≡ sweeping → ⊥
 no_sweep e = cc
@@ -114,7 +117,7 @@ module _ {D E C : Type 0} (d : Ghosts D) (clock : clocks.Ghosts C) (old new : Co
   catalogue = ap (λ p. p.catalogue.items) parts
 
   snapshots : ((world then_h).store).snapshots ≡ ((world h).store).snapshots
-  snapshots = ap (λ (w : World). (w.store).snapshots) (world_more h e) ∙ ap (λ (x : Rattle.store_model.specs.Store.Store). x.snapshots) (opened_store h.remote (world h) answer (d.calls (new.parts).disk) kind_is)
+  snapshots = ap (λ (w : World). (w.store).snapshots) (world_more h e) ∙ ap (λ (x : Store). x.snapshots) (opened_store h.remote (world h) answer (d.calls (new.parts).disk) kind_is)
 
   sweep : (swept_of then_h).sweep ≡ Some (new_sweep (world h).store (answer.entry).moment)
   sweep = ap (λ (w : Swept). w.sweep) longer ∙ opened_sweep h.remote (world h) (swept_of h) answer (d.calls (new.parts).disk) kind_is
@@ -170,8 +173,8 @@ start_refusal c x catalogue refusal is = by_session x is
 
     by_session : (y : Session) → (want_idle y >>= λ _. if_none (λ (z : Collector). CollectorBusy z.lane) c >>= λ _. if_none Unreadable (first_unreadable catalogue)) ≡ Err refusal → refuses_start refusal ≡ true
     by_session Idle e = by_open c e
-    by_session (Writer w) e = ap refuses_start (sym (same (refusals.WrongState Rattle.store_types.specs.declared.refusal.SessionState.TheVariants.Writer) e))
-    by_session (Reader r) e = ap refuses_start (sym (same (refusals.WrongState Rattle.store_types.specs.declared.refusal.SessionState.TheVariants.Reader) e))
+    by_session (Writer w) e = ap refuses_start (sym (same (refusals.WrongState states.Writer) e))
+    by_session (Reader r) e = ap refuses_start (sym (same (refusals.WrongState states.Reader) e))
 
 no_fault : (refusal : Refusal) → refuses_start refusal ≡ true → refusal ≡ DiskFault → ⊥
 no_fault refusal refuses is = false_true (sym (ap refuses_start is) ∙ refuses)

@@ -1,26 +1,27 @@
 -- The start of a collector: what refuses it, and that its plan is the new sweep of the plain store.
-use Rattle.std.proofs.Common.{◌≡◌, ◌<◌, ◌||◌, ◌++◌, ℕ, Bool, true, false, cond, min, List, [], ◌∷◌, drop, filter, flat_map, length, map, Option, Some, None, Result, Ok, Err, is_some, refl, sym, ap, subst, ◌∙◌, arith}
+use Rattle.std.proofs.Common.{◌≡◌, ◌<◌, ◌≤◌, ◌+◌, ◌^◌, get_or, ◌||◌, ◌++◌, ℕ, Bool, true, false, cond, min, List, [], ◌∷◌, append-nil, append_assoc, drop, filter, flat_map, length, map, take, Option, Some, None, Result, Ok, Err, is_some, refl, sym, ap, subst, ◌∙◌, arith}
 use Rattle.std.specs.Prelude.{AllPairs}
-use Rattle.std.specs.List.{All, find}
-use Rattle.std.proofs.lemmas.Bool.{or_parts}
+use Rattle.std.specs.List.{All, find, list_all}
+use Rattle.std.proofs.lemmas.Bool.{and_parts, leb-true, or_parts}
+use Rattle.std.proofs.lemmas.List.{drop_all, drop_more, map-append, take_more}
 use Rattle.std.proofs.lemmas.List.Concat.{flat_map-append}
-use Rattle.std.proofs.lemmas.List.Elements.{All-append, All-head, All-map, All-nil, All-tail, filter_passes}
+use Rattle.std.proofs.lemmas.List.Elements.{All-append, All-head, All-map, All-nil, All-tail, filter-append, filter_passes}
 use Rattle.store_types.specs.Chain.Refusing.{◌>>=◌, if_none}
 use Rattle.store_types.specs.FileNames.{is_dynamic_name, is_fixed_name, is_index_name}
 use Rattle.store_types.specs.declared.refusal.Refusal.{Refusal}
 use Rattle.store_types.specs.declared.refusal.Refusal.TheVariants.{CollectorBusy, Unreadable}
+use Rattle.wire_commands.specs.declared.reply.Reply.TheVariants.{Refused}
+use Rattle.wire_commands.specs.HasText.{ReplyHasText}
+use Rattle.wire_commands.specs.RefusalText.{refusal_text}
+use Rattle.wire_commands.specs.ReplyText.{reply_text}
 use Rattle.store_files.specs.Archive.{Content, archive, blob, File, Layout, dynamic, fixed, Snapshot, file_named}
-use Rattle.store_model.specs.Lanes.{Collecting}
 use Rattle.store_model.specs.Stands.{IsSnapshot, keys_rise, names_content}
 use Rattle.store_model.specs.Store.{Store, session, snapshot_named}
 use Rattle.store_model.specs.Store as model
-use Rattle.store_model.specs.Weave.{want_collector}
 use Rattle.atime_book.specs.Touches.{cutoff_of}
-use Rattle.gc_plan.specs.Plan.{Plan}
+use Rattle.gc_plan.specs.Plan.{Plan, begun}
 use Rattle.gc_plan.specs.declared.IndexAt.{IndexAt}
 use Rattle.backup_session.specs.Shown.{shown}
-use Rattle.store_history.specs.History.{World}
-use Rattle.store_history.specs.Legal.{may_open}
 use Rattle.store_history.specs.Sweeping.{Unmarked, digests_of, earlier, new_sweep, oldest_in, unmarked_of}
 use Rattle.store_history.specs.Sweeping as sweeps
 use Rattle.core_state.specs.declared.collector.Collector.{Collector}
@@ -30,80 +31,15 @@ use Rattle.core_state.specs.declared.kept.Session.{Session}
 use Rattle.core_state.specs.declared.kept.Session.TheVariants.{Idle, Reader, Writer}
 use Rattle.core_state.specs.declared.kept.StoredFile.{StoredFile}
 use Rattle.core_state.specs.declared.parts.Parts.{Parts}
-use Rattle.core_state.specs.Collectors.{OpenOn, ended_if, open_in, shown_collecting}
+use Rattle.core_state.specs.Entries.{FitsEntries}
 use Rattle.core_state.specs.Holds.{Shows}
+use Rattle.core_state.specs.Named.{has_text, is_named_snapshot, is_short_name}
 use Rattle.core_state.specs.Numbers.{AreNumbered, IsGiven}
 use Rattle.core_state.specs.Shown.{files_named, shown_file, shown_files, shown_session, shown_snapshot}
 use Rattle.core_state.specs.Sweeps.{FitsRemoved, HasNumber, ShowsSweep, digests_in, kept_at, left_at, left_in, left_of_kept, unmarked_by, visits_by}
 use Rattle.core_state.specs.Wanted.{session_at, want_idle}
-use Rattle.core_state.proofs.Commanding.{session_shown}
-use Rattle.core_state.proofs.Finding.{find_map, no_mapped}
 use Rattle.core_collect.specs.Starting.{IsNewCollector, earlier_of, first_unreadable, indexes_in, indexes_of, oldest_kept, start_told, unreadable_of}
 use Rattle.core_collect.proofs.Lists.{each_file, each_like, each_named, each_numbered}
-
--- ---- what refuses it
-
-idle_same : (snapshots : List Snapshot) (x : model.Session) → want_idle (shown_session snapshots x) ≡ model.want_idle x
-idle_same snapshots model.none = refl
-idle_same snapshots (model.writer w) = refl
-idle_same snapshots (model.reader r) = refl
-
-none_some : (x : OpenOn) → None ≡ Some x → ⊥
-none_some x e = cc
-
-some_none : (x : OpenOn) → Some x ≡ None → ⊥
-some_none x e = cc
-
-open_same : (x y : OpenOn) → Some x ≡ Some y → x ≡ y
-open_same x y e = cc
-
-abbrev busy : Option Collector → Result (Unit {0}) Refusal
-busy c = if_none (λ (x : Collector). CollectorBusy x.lane) c
-
-abbrev busy_in : Option Collecting → Result (Unit {0}) Refusal
-busy_in w = if_none (λ (x : Collecting). CollectorBusy x.lane) w
-
-busy_same : (c : Option Collector) (w : Option Collecting) → open_in c ≡ shown_collecting w → busy c ≡ busy_in w
-busy_same None None is = refl
-busy_same None (Some w) is = absurd (none_some (record { lane = w.lane; ended = ended_if w.is_short }) is)
-busy_same (Some c) None is = absurd (some_none (record { lane = c.lane; ended = c.ended }) is)
-busy_same (Some c) (Some w) is =
-    ap (λ (x : OpenOn). let r : Result (Unit {0}) Refusal = Err (CollectorBusy x.lane) in r)
-    (open_same (record { lane = c.lane; ended = c.ended }) (record { lane = w.lane; ended = ended_if w.is_short }) is)
-
--- no snapshot of a plain store is damaged
-none_damaged : (snapshots : List Snapshot) → find (λ (k : Kept). is_some k.unreadable) (map shown_snapshot snapshots) ≡ None
-none_damaged [] = refl
-none_damaged (x ∷ xs) = none_damaged xs
-
-none_unreadable : (catalogue : List Listed) (snapshots : List Snapshot) → map (λ x. x.kept) catalogue ≡ map shown_snapshot snapshots → first_unreadable catalogue ≡ None
-none_unreadable catalogue snapshots is =
-    let p : Kept → Bool = λ k. is_some k.unreadable in
-    ap unreadable_of (no_mapped (λ (x : Listed). x.kept) (find (λ (x : Listed). is_some (x.kept).unreadable) catalogue)
-    (sym (find_map (λ (x : Listed). x.kept) p catalogue) ∙ ap (find p) is ∙ none_damaged snapshots))
-
-tests_end : (a b : Result (Unit {0}) Refusal) → (a >>= λ _. b >>= λ _. if_none Unreadable None) ≡ (a >>= λ _. b)
-tests_end (Err e) b = refl
-tests_end (Ok x) (Err e) = refl
-tests_end (Ok x) (Ok y) = refl
-
-tests_same : (a b x y : Result (Unit {0}) Refusal) (o : Option (List ℕ)) → a ≡ b → x ≡ y → o ≡ None
-    → (a >>= λ _. x >>= λ _. if_none Unreadable o) ≡ (b >>= λ _. y)
-tests_same a b x y o first next none =
-    ap (λ q. q >>= λ _. x >>= λ _. if_none Unreadable o) first
-    ∙ ap (λ q. b >>= λ _. q >>= λ _. if_none Unreadable o) next
-    ∙ ap (λ p. b >>= λ _. y >>= λ _. if_none Unreadable p) none
-    ∙ tests_end b y
-
--- a start is refused as the plain store's is
-pub start_told_is : {D : Type 0} (parts : Parts D) (w : World) (k : ℕ) (c : Option Collector) → Shows parts w.store → open_in c ≡ shown_collecting w.collecting → k < 64
-    → start_told c (session_at parts k) parts.catalogue.items ≡ may_open w k
-unfolding start_told want_collector
-start_told_is parts w k c shows is lt =
-    tests_same (want_idle (session_at parts k)) (model.want_idle (session w.store k)) (busy c) (busy_in w.collecting) (first_unreadable parts.catalogue.items)
-    (ap want_idle (session_shown parts w.store k shows lt) ∙ idle_same (w.store).snapshots (session w.store k))
-    (busy_same c w.collecting is)
-    (none_unreadable parts.catalogue.items (w.store).snapshots shows.catalogue)
 
 -- ---- the oldest writer
 
@@ -195,19 +131,20 @@ module _ (catalogue : List Listed) (snapshots : List Snapshot) where
         ∙ ap (λ fs. unmarked_of y.key f.name (digests_in (file_named f.name fs))) files
         ∙ ap (λ o. unmarked_of y.key f.name (digests_in o)) there
 
+    -- of these files
+    abbrev kept_indexes : List File → List StoredFile
+    kept_indexes fs = filter (λ f. is_index_name f.name) (shown_files y.key fs)
+
     files_left : (fs : List File) → All (λ f. file_named f.name y.files ≡ Some f) fs → All (λ f. names_content f.content f.name ≡ true) fs
-        → flat_map left (map of_file (filter (λ f. is_index_name f.name) (shown_files y.key fs))) ≡ flat_map of_model fs
+        → flat_map left (map of_file (kept_indexes fs)) ≡ flat_map of_model fs
     files_left [] there kinds = refl
     files_left (f ∷ fs) there kinds =
         by_name (is_index_name f.name) refl (files_left fs (All-tail (λ g. file_named g.name y.files ≡ Some g) f fs there) (All-tail (λ g. names_content g.content g.name ≡ true) f fs kinds))
       where
-        abbrev behind : List StoredFile
-        behind = filter (λ g. is_index_name g.name) (shown_files y.key fs)
-
-        by_name : (b : Bool) → is_index_name f.name ≡ b → flat_map left (map of_file behind) ≡ flat_map of_model fs
-            → flat_map left (map of_file (cond b (shown_file y.key f ∷ behind) behind)) ≡ of_model f ++ flat_map of_model fs
+        by_name : (b : Bool) → is_index_name f.name ≡ b → flat_map left (map of_file (kept_indexes fs)) ≡ flat_map of_model fs
+            → flat_map left (map of_file (cond b (shown_file y.key f ∷ kept_indexes fs) (kept_indexes fs))) ≡ of_model f ++ flat_map of_model fs
         by_name true is later =
-            ap (λ us. us ++ flat_map left (map of_file behind)) (file_left f (All-head (λ g. file_named g.name y.files ≡ Some g) f fs there))
+            ap (λ us. us ++ flat_map left (map of_file (kept_indexes fs))) (file_left f (All-head (λ g. file_named g.name y.files ≡ Some g) f fs there))
             ∙ ap (λ us. of_model f ++ us) later
         by_name false is later =
             later
@@ -242,9 +179,9 @@ module _ (catalogue : List Listed) (snapshots : List Snapshot) where
   snapshots_left (x ∷ xs) (y ∷ ys) same at whole =
       flat_map-append left (indexes_of x) (indexes_in xs)
       ∙ ap (λ us. us ++ flat_map left (indexes_in xs))
-          (snapshot_left x y (heads x.kept (shown_snapshot y) (map (λ z. z.kept) xs) (map shown_snapshot ys) same) (All-head (λ z. kept_at z.number catalogue ≡ Some (z.kept)) x xs at) (All-head IsWhole y ys whole))
+      (snapshot_left x y (heads x.kept (shown_snapshot y) (map (λ z. z.kept) xs) (map shown_snapshot ys) same) (All-head (λ z. kept_at z.number catalogue ≡ Some (z.kept)) x xs at) (All-head IsWhole y ys whole))
       ∙ ap (λ us. sweeps.indexes_of y ++ us)
-          (snapshots_left xs ys (tails x.kept (shown_snapshot y) (map (λ z. z.kept) xs) (map shown_snapshot ys) same) (All-tail (λ z. kept_at z.number catalogue ≡ Some (z.kept)) x xs at) (All-tail IsWhole y ys whole))
+      (snapshots_left xs ys (tails x.kept (shown_snapshot y) (map (λ z. z.kept) xs) (map shown_snapshot ys) same) (All-tail (λ z. kept_at z.number catalogue ≡ Some (z.kept)) x xs at) (All-tail IsWhole y ys whole))
 
   all_whole : keys_rise snapshots ≡ true → All IsSnapshot snapshots → All IsWhole snapshots
   all_whole rise each k d within =
@@ -274,3 +211,104 @@ started_shows parts s acts lane moment c shows numbers new =
       entries = λ some. absurd (some new.none_read);
       numbers = subst (λ (p : Plan). All (HasNumber acts) p.indexes) (sym new.plan_is) (numbers_in acts catalogue numbers.given);
     }
+
+-- ---- loops
+
+-- one session more
+pub oldest_next : (xs : List Session) (i : ℕ) (x : Session) (oldest next : Option ℕ) → i < length xs → x ≡ get_or xs i x → next ≡ earlier_of oldest x
+    → earliest oldest (oldest_kept (drop i xs)) ≡ oldest_kept xs → earliest next (oldest_kept (drop (i + 1) xs)) ≡ oldest_kept xs
+oldest_next xs i x oldest next lt at is so_far =
+    let rest = drop (i + 1) xs in
+    ap (λ o. earliest o (oldest_kept rest)) is
+    ∙ earliest_step oldest (oldest_kept rest) x
+    ∙ ap (λ y. earliest oldest (earlier_of (oldest_kept rest) y)) at
+    ∙ sym (ap (λ ys. earliest oldest (oldest_kept ys)) (drop_more xs i x lt))
+    ∙ so_far
+
+pub oldest_end : (xs : List Session) (i : ℕ) (oldest : Option ℕ) → length xs ≤ i → earliest oldest (oldest_kept (drop i xs)) ≡ oldest_kept xs → oldest ≡ oldest_kept xs
+oldest_end xs i oldest le so_far = sym (earliest_all oldest) ∙ sym (ap (λ ys. earliest oldest (oldest_kept ys)) (drop_all i xs le)) ∙ so_far
+
+-- ---- what refuses it, test by test
+
+abbrev pub busy : Option Collector → Result (Unit {0}) Refusal
+busy c = if_none (λ (x : Collector). CollectorBusy x.lane) c
+
+module _ (c : Option Collector) (x : Session) (catalogue : List Listed) where
+  abbrev after_session : Result (Unit {0}) Refusal → Result (Unit {0}) Refusal
+  after_session r = r >>= λ _. busy c >>= λ _. if_none Unreadable (first_unreadable catalogue)
+
+  abbrev after_busy : Result (Unit {0}) Refusal → Result (Unit {0}) Refusal
+  after_busy r = r >>= λ _. if_none Unreadable (first_unreadable catalogue)
+
+  pub told_session : (refusal : Refusal) → want_idle x ≡ Err refusal → start_told c x catalogue ≡ Err refusal
+  unfolding start_told
+  told_session refusal is = ap after_session is
+
+  pub told_busy : (ahead : Collector) → want_idle x ≡ Ok tt → c ≡ Some ahead → start_told c x catalogue ≡ Err (CollectorBusy ahead.lane)
+  unfolding start_told
+  told_busy ahead idle is = ap after_session idle ∙ ap (λ o. after_busy (busy o)) is
+
+  pub told_damaged : (name : List ℕ) → want_idle x ≡ Ok tt → c ≡ None → first_unreadable catalogue ≡ Some name → start_told c x catalogue ≡ Err (Unreadable name)
+  unfolding start_told
+  told_damaged name idle none is = ap after_session idle ∙ ap (λ o. after_busy (busy o)) none ∙ ap (if_none Unreadable) is
+
+  pub told_free : want_idle x ≡ Ok tt → c ≡ None → first_unreadable catalogue ≡ None → start_told c x catalogue ≡ Ok tt
+  unfolding start_told
+  told_free idle none whole = ap after_session idle ∙ ap (λ o. after_busy (busy o)) none ∙ ap (if_none Unreadable) whole
+
+-- the name that is told is short
+pub damage_short : (xs : List Listed) (name : List ℕ) → list_all is_named_snapshot xs ≡ true → first_unreadable xs ≡ Some name → length name ≤ 251
+damage_short [] name named is = cc
+damage_short (x ∷ xs) name named is =
+    let both = and_parts (is_named_snapshot x) (list_all is_named_snapshot xs) named in
+    by_test (is_some (x.kept).unreadable) is both.0 (λ later. damage_short xs name both.1 later)
+  where
+    by_test : (b : Bool) → unreadable_of (cond b (Some x) (find (λ (y : Listed). is_some (y.kept).unreadable) xs)) ≡ Some name → is_named_snapshot x ≡ true
+        → (first_unreadable xs ≡ Some name → length name ≤ 251) → length name ≤ 251
+    by_test true is good later =
+        let short = (and_parts (has_text (x.kept).key) (is_short_name (x.kept).unreadable) good).1 in
+        leb-true (length name) 251 (sym (ap is_short_name is) ∙ short)
+    by_test false is good later = later is
+
+pub busy_has_text : (lane : ℕ) → lane < 2 ^ 32 → ReplyHasText (Refused (CollectorBusy lane))
+unfolding reply_text refusal_text
+busy_has_text lane lt = (lt, omega arith)
+
+abbrev pub index_of : ℕ → StoredFile → IndexAt
+index_of number f = record { snapshot = number; name = f.name }
+
+-- one file more
+module _ (number : ℕ) (xs : List StoredFile) (i : ℕ) (x : StoredFile) (old before after_ : List IndexAt) (lt : i < length xs) (at : x ≡ get_or xs i x) where
+  abbrev indexes_among : List StoredFile → List IndexAt
+  indexes_among fs = map (index_of number) (filter (λ f. is_index_name f.name) fs)
+
+  more : indexes_among (take (i + 1) xs) ≡ indexes_among (take i xs) ++ indexes_among (x ∷ [])
+  more =
+      ap indexes_among (take_more xs i x lt ∙ ap (λ y. take i xs ++ y ∷ []) (sym at))
+      ∙ ap (map (index_of number)) (filter-append (λ f. is_index_name f.name) (take i xs) (x ∷ []))
+      ∙ map-append (index_of number) (filter (λ f. is_index_name f.name) (take i xs)) (filter (λ f. is_index_name f.name) (x ∷ []))
+
+  one : (b : Bool) → is_index_name x.name ≡ b → indexes_among (x ∷ []) ≡ map (index_of number) (cond b (x ∷ []) [])
+  one b is = ap (λ t. map (index_of number) (cond t (x ∷ []) [])) is
+
+  pub indexes_pushed : is_index_name x.name ≡ true → after_ ≡ before ++ index_of number x ∷ [] → before ≡ old ++ indexes_among (take i xs) → after_ ≡ old ++ indexes_among (take (i + 1) xs)
+  indexes_pushed is pushed so_far =
+      pushed
+      ∙ ap (λ is. is ++ index_of number x ∷ []) so_far
+      ∙ append_assoc old (indexes_among (take i xs)) (index_of number x ∷ [])
+      ∙ ap (λ is. old ++ is) (sym (more ∙ ap (λ is. indexes_among (take i xs) ++ is) (one true is)))
+
+  pub indexes_kept : is_index_name x.name ≡ false → after_ ≡ before → before ≡ old ++ indexes_among (take i xs) → after_ ≡ old ++ indexes_among (take (i + 1) xs)
+  indexes_kept is same so_far =
+      same ∙ so_far ∙ ap (λ is. old ++ is) (sym (more ∙ ap (λ is. indexes_among (take i xs) ++ is) (one false is) ∙ append-nil (indexes_among (take i xs))))
+
+-- one snapshot more
+pub indexes_next : (xs : List Listed) (i : ℕ) (x : Listed) → i < length xs → x ≡ get_or xs i x → indexes_in (take i xs) ++ indexes_of x ≡ indexes_in (take (i + 1) xs)
+indexes_next xs i x lt at =
+    ap (λ is. indexes_in (take i xs) ++ is) (sym (append-nil (indexes_of x)))
+    ∙ sym (flat_map-append indexes_of (take i xs) (x ∷ []))
+    ∙ sym (ap indexes_in (take_more xs i x lt ∙ ap (λ y. take i xs ++ y ∷ []) (sym at)))
+
+-- of a plan that begins none are at hand
+pub fits_new : (moment : ℕ) (oldest : Option ℕ) (catalogue : List Listed) (p : Plan) → p ≡ begun moment oldest (indexes_in catalogue) → FitsEntries p []
+fits_new moment oldest catalogue p is = subst (λ q. FitsEntries q []) (sym is) (record { named = names_in catalogue; within = λ begun. absurd (omega (arith, begun)); few = omega arith })

@@ -1,6 +1,6 @@
 -- An act of a collector after its start, by how it ended.
 use Rattle.disk_trait.specs.declared.disk.Disk.{Ghosts}
-use Rattle.std.proofs.Common.{◌≡◌, ◌↔◌, ⊎_elim, ◌<◌, ◌≤◌, ◌==◌, ◌&&◌, ℕ, Bool, true, false, is_some, length, List, [], ◌∷◌, Option, Some, None, IfSome, IsTrue, Result, Ok, Err, inl, inr, refl, sym, ap, subst, ◌∙◌, arith}
+use Rattle.std.proofs.Common.{◌≡◌, ◌↔◌, ⊎_elim, ◌<◌, ◌≤◌, ◌==◌, ◌&&◌, ℕ, Bool, true, false, is_some, length, [], ◌∷◌, Option, Some, None, IfSome, IsTrue, Ok, Err, inl, inr, refl, sym, ap, subst, ◌∙◌, arith}
 use Rattle.std.specs.Prelude.{IsErrOf, IsSomeAnd}
 use Rattle.std.specs.FinMap.{get}
 use Rattle.std.specs.Option.{IsSome}
@@ -33,7 +33,7 @@ use Rattle.core_state.specs.declared.state.Core.{Core}
 use Rattle.core_state.specs.declared.stop.Stop.TheVariants as stops
 use Rattle.core_state.specs.Answers.{StepHasCause, done, failed, fault_after, halted, short, step_as_any, step_ends, step_passes}
 use Rattle.core_state.specs.Applies.{ActApplies, ActKeeps}
-use Rattle.core_state.specs.Begins.{AdmittedHasText, IsBegun, IsNext, IsReady, IsShort, IsHalted, Refuses, short as is_short, halted as is_halted}
+use Rattle.core_state.specs.Begins.{AdmittedHasText, IsBegun, IsNext, IsReady, IsShort, Refuses, short as is_short, halted as is_halted}
 use Rattle.core_state.specs.Changes.{Change, LeavesChange, after, drops, stays}
 use Rattle.core_state.specs.Chunks.{HoldsOnly}
 use Rattle.core_state.specs.Collectors.{OpenOn, closed_on, cut_on, is_cut, is_on, open_in, refusal_of, shown_collecting}

@@ -1,12 +1,10 @@
 -- What the core knows of the sweep of a history that it stands for.
 use Rattle.disk_trait.specs.declared.disk.Disk.{Ghosts}
-use Rattle.std.proofs.Common.{◌≡◌, ℕ, false, List, Option, Some, None, sym, ap, ◌∙◌}
+use Rattle.std.proofs.Common.{◌≡◌, ℕ, false, List, Option, Some, None, ap, ◌∙◌}
 use Rattle.port_traits.specs.Readings.{Readings}
 use Rattle.store_history.specs.declared.act.Act.TheVariants.{Step}
-use Rattle.store_history.specs.declared.act.Answer.{Answer}
 use Rattle.store_history.specs.declared.act.Event.{Event}
 use Rattle.store_history.specs.Sweeping.{Sweep, next_taken, taken_by, taken_in}
-use Rattle.store_upkeep.specs.Safety.{IsNeeded}
 use Rattle.store_upkeep.proofs.Digests.{chunks_digests}
 use Rattle.store_upkeep.proofs.Listing.{lists_chunks, swept_rising}
 use Rattle.store_upkeep.proofs.Stocking.{taken_unneeded}

@@ -24,11 +24,11 @@ use Rattle.core_collect.proofs.VisitLemmas.{goes_so, visited_less}
 
 -- ---- results
 
-pub ok_error : {A E : Type 0} (x : A) → IsErr (Ok {E = E} x) → ⊥
-ok_error x e = true≢false (sym e)
+pub ok_error : false ≡ true → ⊥
+ok_error e = true≢false (sym e)
 
 pub on_error : {A E : Type 0} (r : Result A E) (P : Type 0) → IsErr r → OnOk r P
-on_error (Ok x) P e = absurd (ok_error x e)
+on_error (Ok x) P e = absurd (ok_error e)
 on_error (Err error) P e = tt
 
 pub ok_apart : {A E : Type 0} (x : A) (error : E) → ◌≡◌ {A = Result A E} (Ok x) (Err error) → ⊥
@@ -49,7 +49,7 @@ module _ {D : Type 0} (d : Ghosts D) where
     crash = λ stale. absurd (true≢false (sym stale ∙ fresh));
     dropped = λ stale. absurd (true≢false (sym stale ∙ fresh));
     taken = λ stale. absurd (true≢false (sym stale ∙ fresh));
-    failed = λ e. absurd (ok_error tt e);
+    failed = λ e. absurd (ok_error e);
   }
 
   pub visits_taken : {E : Type 0} (old new : D) (before after_ : Book) (p q : Plan) (digest : Digest32) → goes before p digest ≡ true → StepsOn d old new (MayGo (chunk_name digest.0))
@@ -60,7 +60,7 @@ module _ {D : Type 0} (d : Ghosts D) where
     crash = λ _. crash;
     dropped = λ _. dropped;
     taken = λ _. (swept, plan_is);
-    failed = λ e. absurd (ok_error tt e);
+    failed = λ e. absurd (ok_error e);
   }
 
   pub visits_failed : {E : Type 0} (old new : D) (book : Book) (p : Plan) (digest : Digest32) (r : Result (Unit {0}) E) → IsErr r → goes book p digest ≡ true
@@ -126,7 +126,7 @@ module _ {D : Type 0} (d : Ghosts D) (old mid : D) (book : Book) (p listed : Pla
       content = λ unfailed honest. reads.same honest;
       done = (listed, are, subst (VisitedFirst book book listed q stays) (sym none) (refl, plan_is, refl));
       want = λ wanting. absurd (ok_apart tt NoMemory wanting);
-      unswept = λ e. absurd (ok_error tt e);
+      unswept = λ e. absurd (ok_error e);
       less = λ ahead. visited_less d old p listed q ahead are (inl plan_is);
     }
 
@@ -177,7 +177,7 @@ module _ {D : Type 0} (d : Ghosts D) (old mid : D) (book : Book) (p listed : Pla
                 content = λ unfailed honest. ap d.content same.0 ∙ reads.same honest;
                 done = (listed, are, subst (VisitedFirst book after_ listed q stays) (sym first) (inl (fresh_listed fresh, same.1, same.2 ∙ behind_is, refl)));
                 want = λ wanting. absurd (ok_apart tt NoMemory wanting);
-                unswept = λ e. absurd (ok_error tt e);
+                unswept = λ e. absurd (ok_error e);
                 less = λ ahead. visited_less d old p listed q ahead are (inl (same.2 ∙ behind_is));
               }
           by_goes true stale =
@@ -191,6 +191,6 @@ module _ {D : Type 0} (d : Ghosts D) (old mid : D) (book : Book) (p listed : Pla
                 content = λ unfailed honest. visit.dropped stale ((reads.serves).kept.0 honest) ∙ ap (λ (m : Files). remove m (chunk_name digest.0)) (reads.same honest);
                 done = (listed, are, subst (VisitedFirst book after_ listed q (drops (chunk_name digest.0 ∷ []))) (sym first) (inr (stale_listed stale, taken.0, plan_is, refl)));
                 want = λ wanting. absurd (ok_apart tt NoMemory wanting);
-                unswept = λ e. absurd (ok_error tt e);
+                unswept = λ e. absurd (ok_error e);
                 less = λ ahead. visited_less d old p listed q ahead are (inr plan_is);
               }

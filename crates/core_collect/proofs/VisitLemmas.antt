@@ -1,6 +1,6 @@
 -- A visit of the collector is that of the sweep.
 use Rattle.disk_trait.specs.declared.disk.Disk.{Ghosts}
-use Rattle.std.proofs.Common.{◌≡◌, ◌⊎◌, ◌×◌, inl, inr, ℕ, suc, ◌<◌, ◌≤◌, ◌+◌, ◌^◌, min, Bool, true, false, cond, List, [], ◌∷◌, length, Option, Some, None, Result, Ok, Err, refl, sym, subst, ap, ◌∙◌, arith, true≢false}
+use Rattle.std.proofs.Common.{◌≡◌, ◌⊎◌, inl, inr, ℕ, suc, ◌<◌, ◌≤◌, ◌+◌, ◌^◌, min, Bool, true, false, cond, List, [], ◌∷◌, length, Option, Some, None, Result, Ok, Err, refl, sym, subst, ap, ◌∙◌, arith, true≢false}
 use Rattle.std.specs.Prelude.{IfSome, IsErrOf, IsSomeAnd, Vec, unwrap_or}
 use Rattle.std.specs.declared.alloc.Global.{Global}
 use Rattle.std.specs.FinMap.{remove}
@@ -124,11 +124,6 @@ visited_touches u v touches (Some digest) are undated swept = record {
   last = λ x. swept.last x ∙ ap (λ o. cond (bytes_eq digest x) None o) (are.last x);
   undated = λ x. ap (λ us. is_among x us.items) undated ∙ are.undated x;
 }
-
--- the chunk that is taken out of the book
-abbrev pub taken_of : Option Digest32 → Option (List ℕ)
-taken_of None = None
-taken_of (Some digest) = Some digest.0
 
 -- On any disk a visit takes out one chunk, which goes, or none.
 pub data FirstIs (before after_ : Book) (p q : Plan) (change : Change) (first : Option Digest32) : Type 0 where

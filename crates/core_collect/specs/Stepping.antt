@@ -14,11 +14,10 @@ use Rattle.wire_commands.specs.HasText.{ReplyHasText}
 use Rattle.store_model.specs.Store.{Store}
 use Rattle.atime_book.specs.Touches.{NoneAfter, as_of}
 use Rattle.gc_plan.specs.declared.GcReport.{GcReport}
-use Rattle.store_history.specs.LastTouches.{LastTouches, SameTouches, touched}
 use Rattle.store_history.specs.Saved.{book_name}
 use Rattle.store_history.specs.declared.act.Answer.{Answer}
 use Rattle.store_upkeep.specs.Safety.{IsNeeded}
-use Rattle.store_history.specs.Sweeping.{Sweep, Swept, is_over, passed, report_of}
+use Rattle.store_history.specs.Sweeping.{Swept, is_over, passed, report_of}
 use Rattle.core_state.specs.declared.collector.Collector.{Collector}
 use Rattle.core_state.specs.declared.collector.Early.{Early}
 use Rattle.core_state.specs.declared.collector.Early.TheVariants.{Unreadable}

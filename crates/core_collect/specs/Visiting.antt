@@ -1,5 +1,5 @@
 -- The visits of a collector.
-use Rattle.std.specs.Prelude.{◌≡◌, ◌<◌, ◌^◌, ◌⊎◌, ℕ, Bool, true, false, List, [], ◌∷◌, length, Option, Some, None, Result, IsOk, IsErr, IsErrOf, OnOk}
+use Rattle.std.specs.Prelude.{◌≡◌, ◌<◌, ◌^◌, ◌⊎◌, Bool, true, false, List, [], ◌∷◌, length, Option, Some, None, Result, IsOk, IsErr, IsErrOf, OnOk}
 use Rattle.disk_trait.specs.Disk.{MayGo}
 use Rattle.disk_trait.specs.Effects.{DiskDrops, OnlyReads, StepsOn}
 use Rattle.disk_trait.specs.declared.disk.Disk.{Ghosts}

@@ -91,8 +91,8 @@ fn may_open<D>(parts: &Parts<D>, collector: &Option<Collector>, lane: u32) -> Re
     ensures text { IfErr result StopHasText }
 {
     parts.idle(lane)?;
-    if let Some(open) = collector {
-        return Err(Stop::Refused(Refusal::CollectorBusy { lane: open.lane }));
+    if let Some(other) = collector {
+        return Err(Stop::Refused(Refusal::CollectorBusy { lane: other.lane }));
     }
     if let Some(name) = first_damage(&parts.catalogue) {
         let name = name.clone()?;

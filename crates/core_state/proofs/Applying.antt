@@ -1,5 +1,5 @@
 -- The two records of a command, lifted once over the beginning and the entry of an act.
-use Rattle.std.proofs.Common.{◌≡◌, ◌<◌, ◌≤◌, ◌||◌, ℕ, Bool, true, false, length, is_some, Option, Some, None, Result, Ok, Err, IfOk, IfSome, IsSome, IsTrue, IsErrOf, inl, inr, refl, sym, ap, subst, ◌∙◌}
+use Rattle.std.proofs.Common.{◌≡◌, ◌<◌, ◌≤◌, ◌||◌, ℕ, Bool, true, false, length, is_some, Option, Some, None, Result, Ok, Err, IfOk, IfSome, IsSome, IsTrue, IsErrOf, inl, inr, refl, sym, ap, subst, ◌∙◌, arith}
 use Rattle.store_files.specs.Folder.{HasWholeChunks}
 use Rattle.core_state.specs.Chunks.{HoldsOnly, IsSafe}
 use Rattle.disk_trait.specs.Disk.{Serves}
@@ -231,8 +231,8 @@ module _ {D E C : Type 0} (d : Ghosts D) (clock : clocks.Ghosts C) where
   -- moments never fall, and the act touches at its own
   pub early_by : (old new : Core D E C) (lane : ℕ) (act : Act) (answer : Answer) → is_step act ≡ false → IsTimely clock.readings old new answer → ActKeeps d old new lane act answer
       → NoneAfter (old.upkeep).book old.last → NoneAfter (new.upkeep).book new.last
-  early_by old new lane act answer no timely keeps early =
-      early_more old.upkeep new.upkeep act answer.reply old.last (answer.entry).moment new.last (timely.clock).risen timely.last (keeps.upkeep no) early
+  early_by old new lane act answer unstepped timely keeps early =
+      early_more old.upkeep new.upkeep act answer.reply old.last (answer.entry).moment new.last (timely.clock).risen timely.last (keeps.upkeep unstepped) early
 
   refused_remote : (old new : Core D E C) (lane : ℕ) (answer : Answer) → Refuses d clock.readings old new lane answer → new.remote ≡ old.remote
   refused_remote old new lane answer (short is) = (is.entered).remote ∙ (is.begun).remote

@@ -1,6 +1,6 @@
 -- The plan of the open collector stays the sweep of the history with any act but the collector's own.
 use Rattle.disk_trait.specs.declared.disk.Disk.{Ghosts}
-use Rattle.std.proofs.Common.{◌≡◌, ◌≢◌, ◌<◌, ◌≤◌, ◌+◌, ◌^◌, ◌⊎◌, ⊎_elim, inl, inr, ℕ, zero, suc, Bool, true, false, not, ◌||◌, ◌==◌, cond, if◌then◌else◌, List, [], ◌∷◌, ◌++◌, map, filter, length, length-append, Option, Some, None, Result, Ok, Err, refl, sym, ap, subst, ◌∙◌, arith}
+use Rattle.std.proofs.Common.{◌≡◌, ◌≢◌, ◌<◌, ◌≤◌, ◌+◌, ⊎_elim, ℕ, zero, suc, Bool, true, false, not, ◌||◌, ◌==◌, cond, List, [], ◌∷◌, map, filter, length, length-append, Option, Some, None, refl, sym, ap, subst, ◌∙◌, arith}
 use Rattle.std.specs.Prelude.{option_map, AllPairs, IsSomeAnd, slice_get}
 use Rattle.std.specs.List.{All, find}
 use Rattle.std.proofs.lemmas.List.Elements.{All-head, All-map, All-same, All-tail, All-weaker}
@@ -11,13 +11,11 @@ use Rattle.store_types.specs.declared.refusal.Refusal.{Refusal}
 use Rattle.store_types.specs.Names.{key_of, same_key}
 use Rattle.store_types.specs.KeyOrder.{same_key_equiv}
 use Rattle.store_files.specs.Archive.{Snapshot}
-use Rattle.store_files.specs.Manifest.{Manifest}
 use Rattle.wire_commands.specs.declared.command.Command.TheVariants.{Finish, Forget}
 use Rattle.wire_commands.specs.declared.reply.Reply.{Reply}
 use Rattle.wire_commands.specs.declared.reply.Reply.TheVariants as replies
 use Rattle.store_model.specs.AdminSteps.{forget}
 use Rattle.store_model.specs.Lanes.{Collecting}
-use Rattle.store_model.specs.Manifests.{finish_check}
 use Rattle.store_model.specs.Steps.{answered, outcome}
 use Rattle.store_model.specs.Store as model
 use Rattle.store_model.specs.Store.{Outcome, insert_snapshot, session, snapshot_named, without_snapshot}
@@ -38,11 +36,10 @@ use Rattle.store_history.proofs.SweptLonger.{swept_longer}
 use Rattle.core_state.specs.declared.collector.Collector.{Collector}
 use Rattle.core_state.specs.declared.kept.Kept.{Kept}
 use Rattle.core_state.specs.declared.kept.Listed.{Listed}
-use Rattle.core_state.specs.declared.kept.Session.{Session}
 use Rattle.core_state.specs.declared.state.Core.{Core}
 use Rattle.core_state.specs.Answers.{IsAnswered}
 use Rattle.core_state.specs.Applies.{ActKeeps}
-use Rattle.core_state.specs.Catalogue.{Lists, closed, closed_by, forgotten_by, insert_listed, listed_by, listed_of, without_listed, without_named}
+use Rattle.core_state.specs.Catalogue.{closed, closed_by, forgotten_by, insert_listed, listed_by, listed_of, without_listed, without_named}
 use Rattle.core_state.specs.Collectors.{OpenOn, closed_on, collector_by, cut_on, ended_if, open_in, shown_collecting, with_cut}
 use Rattle.core_state.specs.Commands.{is_step}
 use Rattle.core_state.specs.History.{History, StandsFor, event_of, then_event, world}
@@ -50,7 +47,7 @@ use Rattle.core_state.specs.Holds.{Shows}
 use Rattle.core_state.specs.KeepsTouches.{KeepsTouches, swept_of}
 use Rattle.core_state.specs.Numbers.{AreNumbered, DifferInNumber, first_number}
 use Rattle.core_state.specs.Shown.{shown_session, shown_snapshot, shown_writer}
-use Rattle.core_state.specs.Sweeps.{AreEntries, HasEntries, HasNumber, ShowsOpen, ShowsSweep, digests_named, kept_at, unmarked_by}
+use Rattle.core_state.specs.Sweeps.{AreEntries, HasEntries, HasNumber, ShowsOpen, ShowsSweep, kept_at, unmarked_by}
 use Rattle.core_state.specs.Wanted.{session_at}
 use Rattle.core_state.proofs.Commanding.{session_shown}
 use Rattle.core_state.proofs.Completing.{FinishIs, fails as finish_fails, finish_is, finished, gives as finish_gives}
@@ -225,11 +222,11 @@ sifts_finished acts c s new x p few at key all = record {
 -- its key is that of none in the catalogue
 kept_passes : (P : Kept → Type 0) (c : List Listed) (number : ℕ) (k : Kept) → All P (map (λ x. x.kept) c) → kept_at number c ≡ Some k → P k
 kept_passes P [] number k all at = absurd (none_some k at)
-kept_passes P (x ∷ xs) number k all at = by_test (x.number == number) at
+kept_passes P (x ∷ xs) number k all at = by_test (x.number == number) (kept_passes P xs number k (All-tail P x.kept (map (λ y. y.kept) xs) all)) at
   where
-    by_test : (b : Bool) → option_map (λ y. y.kept) (cond b (Some x) (find (λ y. y.number == number) xs)) ≡ Some k → P k
-    by_test true e = subst P (some_same x.kept k e) (All-head P x.kept (map (λ y. y.kept) xs) all)
-    by_test false e = kept_passes P xs number k (All-tail P x.kept (map (λ y. y.kept) xs) all) e
+    by_test : (b : Bool) → (kept_at number xs ≡ Some k → P k) → option_map (λ y. y.kept) (cond b (Some x) (find (λ y. y.number == number) xs)) ≡ Some k → P k
+    by_test true later e = subst P (some_same x.kept k e) (All-head P x.kept (map (λ y. y.kept) xs) all)
+    by_test false later e = later e
 
 -- ---- an act
 
@@ -392,7 +389,7 @@ pub plans_more : {D E C : Type 0} (d : Ghosts D) (clock : clocks.Ghosts C) (old 
     → ((answer.entry).kind ≡ 3 → ⊥) → StandsFor d clock.readings old h → StandsFor d clock.readings new (then_event h (event_of act answer (d.calls (new.parts).disk))) → KeepsTouches d old h
     → ShowsOpen (length (new.journal).entries.items) (new.parts).catalogue.items (world (then_event h (event_of act answer (d.calls (new.parts).disk)))).store.snapshots new.collector
     (swept_of (then_event h (event_of act answer (d.calls (new.parts).disk)))).sweep
-plans_more d clock old new lane act answer h lt formed answers keeps no collector opens_none s so touches = by_open new.collector refl
+plans_more d clock old new lane act answer h lt formed answers keeps unstepped collector opens_none s so touches = by_open new.collector refl
   where
     e : Event
     e = event_of act answer (d.calls (new.parts).disk)
@@ -416,7 +413,7 @@ plans_more d clock old new lane act answer h lt formed answers keeps no collecto
     count = let n = ap length answers.entries in omega (arith, n, length-append (old.journal).entries.items (answer.entry ∷ []))
 
     later : (swept_of (then_event h e)).sweep ≡ while_open (world (then_event h e)).collecting (option_map (spared act answer.reply) (swept_of h).sweep)
-    later = ap (λ (v : Swept). v.sweep) (swept_longer h.remote h.opening h.events e) ∙ sweep_after h.remote (world h) (swept_of h) e (no_sweep act no) opens_none
+    later = ap (λ (v : Swept). v.sweep) (swept_longer h.remote h.opening h.events e) ∙ sweep_after h.remote (world h) (swept_of h) e (no_sweep act unstepped) opens_none
         ∙ sym (ap (λ (v : World). while_open v.collecting (option_map (spared act answer.reply) (swept_of h).sweep)) (world_more h e))
 
     listed : c2 ≡ listed_by act answer.reply was (session_at old.parts (answer.entry).lane) c

@@ -1,10 +1,9 @@
 -- The open collector shows the sweep of a history that is longer by one event, which is none of a collector's acts.
-use Rattle.std.proofs.Common.{◌≡◌, ◌≢◌, ◌<◌, ◌≤◌, ◌+◌, ◌⊎◌, ⊎_elim, inl, inr, ℕ, Bool, true, false, not, ◌==◌, cond, List, [], ◌∷◌, map, drop, filter, length, Option, Some, None, refl, sym, ap, subst, ◌∙◌, arith}
+use Rattle.std.proofs.Common.{◌≡◌, ◌≢◌, ◌<◌, ◌+◌, ⊎_elim, inl, inr, ℕ, Bool, not, List, drop, filter, refl, sym, ap, subst, ◌∙◌, arith}
 use Rattle.std.specs.List.{All}
 use Rattle.std.specs.Prelude.{AllPairs}
 use Rattle.std.proofs.lemmas.List.Elements.{All-drop, All-weaker}
 use Rattle.store_types.specs.declared.names.SnapshotKey.{SnapshotKey}
-use Rattle.store_types.specs.declared.names.Digest32.{Digest32}
 use Rattle.store_types.specs.Names.{same_key}
 use Rattle.store_files.specs.Archive.{Snapshot}
 use Rattle.store_model.specs.Store.{insert_snapshot, without_snapshot}
@@ -12,7 +11,6 @@ use Rattle.gc_plan.specs.Plan.{Stage, marking, sweeping, next_index}
 use Rattle.gc_plan.specs.declared.IndexAt.{IndexAt}
 use Rattle.store_history.specs.Sweeping.{Sweep, Unmarked}
 use Rattle.core_state.specs.declared.collector.Collector.{Collector}
-use Rattle.core_state.specs.declared.kept.Kept.{Kept}
 use Rattle.core_state.specs.declared.kept.Listed.{Listed}
 use Rattle.core_state.specs.Catalogue.{insert_listed, without_listed}
 use Rattle.core_state.specs.Numbers.{DifferInNumber}

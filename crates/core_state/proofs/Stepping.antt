@@ -1,6 +1,6 @@
 -- The records of an act of a collector after its start, by what it was entered on.
 use Rattle.disk_trait.specs.declared.disk.Disk.{Ghosts}
-use Rattle.std.proofs.Common.{◌≡◌, ◌==◌, ℕ, Bool, true, false, if◌then◌else◌, is_some, IfSome, Option, Some, None, inl, inr, refl, sym, ap, subst, ◌∙◌, arith}
+use Rattle.std.proofs.Common.{◌≡◌, ◌==◌, ℕ, true, false, if◌then◌else◌, is_some, IfSome, Option, None, inl, inr, refl, sym, ap, subst, ◌∙◌, arith}
 use Rattle.port_traits.specs.declared.clock.Clock as clocks
 use Rattle.wire_commands.specs.declared.reply.Reply.{Reply}
 use Rattle.wire_commands.specs.HasText.{ReplyHasText}

@@ -56,8 +56,9 @@ impl Collector {
     pub fn cut(&mut self)
         ensures { self.new ≡ with_cut self.old }
     {
-        if self.ended.is_none() {
-            self.ended = Some(Early::NoMemory);
+        if self.ended.is_some() {
+            return;
         }
+        self.ended = Some(Early::NoMemory);
     }
 }

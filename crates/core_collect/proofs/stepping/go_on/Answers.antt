@@ -1,4 +1,4 @@
-use Rattle.std.proofs.Common.{◌<◌, ◌∙◌, false, ◌≡◌, sym, ap, refl, subst}
+use Rattle.std.proofs.Common.{◌<◌, ◌∙◌, sym, ap, refl, subst}
 use Rattle.core_state.specs.Collectors.{is_cut}
 use Rattle.core_state.specs.Reserved.{HasRoom}
 use Rattle.core_state.specs.Wanted.{session_at}

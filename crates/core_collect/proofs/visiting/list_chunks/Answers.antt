@@ -11,11 +11,11 @@ returns-then-is_listed g c =
     record {
       reads = reads_none g.D.Disk c.args.disk.now _ (λ e. ok_apart tt Failed e);
       listed = inl (has, refl);
-      failed = λ e. absurd (ok_error tt e);
+      failed = λ e. absurd (ok_error e);
     }
 
 pub returns-in_err-names : goal.returns-in_err-names
-returns-in_err-names g c = lists_failed g.D.Disk c.args.disk.now c.scan-names.new.disk c.args.plan.now _ _ (search rules) c.scan-names.ensures.reads (search rules)
+returns-in_err-names g c = lists_failed g.D.Disk c.args.disk.now c.scan.new.disk c.args.plan.now _ _ (search rules) c.scan.ensures.reads (search rules)
 
 pub returns : goal.returns
 returns g c =
@@ -23,7 +23,7 @@ returns g c =
     let names = c.in_ok-names.names in
     let few : length names.items < 2 ^ 63 = omega (arith, names.ok.0, names.ok.1, names.small) in
     record {
-      reads = reads_so g.D.Disk c.args.disk.now c.scan-names.new.disk _ _ c.scan-names.ensures.reads (λ e. absurd (ok_apart tt Failed e));
+      reads = reads_so g.D.Disk c.args.disk.now c.scan.new.disk _ _ c.scan.ensures.reads (λ e. absurd (ok_apart tt Failed e));
       listed = inr (none, (names.items, c.listed.ensures.value, record { few = few; lists = c.in_ok-names.ensures.digests }));
-      failed = λ e. absurd (ok_error tt e);
+      failed = λ e. absurd (ok_error e);
     }
