@@ -19,7 +19,6 @@ use Rattle.store_model.specs.Store.{snapshot_named}
 use Rattle.core_state.specs.declared.kept.Listed.{Listed}
 use Rattle.core_state.specs.Numbers.{DifferInNumber}
 use Rattle.core_state.specs.Sweeps.{kept_at}
-use Rattle.core_state.proofs.Numbering.{head_differs, tail_differs}
 
 -- ---- each is the first that passes its own test
 

@@ -1,5 +1,5 @@
 -- The start of a collector: what refuses it, and that its plan is the new sweep of the plain store.
-use Rattle.std.proofs.Common.{◌≡◌, ◌<◌, ◌≤◌, ◌+◌, ◌^◌, get_or, ◌||◌, ◌++◌, ℕ, Bool, true, false, cond, min, List, [], ◌∷◌, append-nil, append_assoc, drop, filter, flat_map, length, map, take, Option, Some, None, Result, Ok, Err, is_some, refl, sym, ap, subst, ◌∙◌, arith}
+use Rattle.std.proofs.Common.{◌≡◌, ◌<◌, ◌≤◌, ◌+◌, ◌^◌, get_or, ◌||◌, ◌++◌, ℕ, Bool, true, false, cond, min, List, [], ◌∷◌, append-nil, append_assoc, drop, filter, flat_map, length, map, take, Option, Some, None, Result, Ok, Err, IsErrAnd, is_some, refl, sym, ap, subst, ◌∙◌, arith}
 use Rattle.std.specs.Prelude.{AllPairs}
 use Rattle.std.specs.List.{All, find, list_all}
 use Rattle.std.proofs.lemmas.Bool.{and_parts, leb-true, or_parts}
@@ -30,7 +30,10 @@ use Rattle.core_state.specs.declared.kept.Listed.{Listed}
 use Rattle.core_state.specs.declared.kept.Session.{Session}
 use Rattle.core_state.specs.declared.kept.Session.TheVariants.{Idle, Reader, Writer}
 use Rattle.core_state.specs.declared.kept.StoredFile.{StoredFile}
+use Rattle.core_state.specs.declared.entering.Place.{Place}
 use Rattle.core_state.specs.declared.parts.Parts.{Parts}
+use Rattle.core_state.specs.declared.stop.Stop.{Stop}
+use Rattle.core_state.specs.declared.stop.Stop.TheVariants as stops
 use Rattle.core_state.specs.Entries.{FitsEntries}
 use Rattle.core_state.specs.Holds.{Shows}
 use Rattle.core_state.specs.Named.{has_text, is_named_snapshot, is_short_name}
@@ -38,7 +41,7 @@ use Rattle.core_state.specs.Numbers.{AreNumbered, IsGiven}
 use Rattle.core_state.specs.Shown.{files_named, shown_file, shown_files, shown_session, shown_snapshot}
 use Rattle.core_state.specs.Sweeps.{FitsRemoved, HasNumber, ShowsSweep, digests_in, kept_at, left_at, left_in, left_of_kept, unmarked_by, visits_by}
 use Rattle.core_state.specs.Wanted.{session_at, want_idle}
-use Rattle.core_collect.specs.Starting.{IsNewCollector, earlier_of, first_unreadable, indexes_in, indexes_of, oldest_kept, start_told, unreadable_of}
+use Rattle.core_collect.specs.Starting.{GivesCollector, IsNewCollector, MayOpen, earlier_of, first_unreadable, indexes_in, indexes_of, oldest_kept, start_told, unreadable_of}
 use Rattle.core_collect.proofs.Lists.{each_file, each_like, each_named, each_numbered}
 
 -- ---- the oldest writer
@@ -312,3 +315,14 @@ indexes_next xs i x lt at =
 -- of a plan that begins none are at hand
 pub fits_new : (moment : ℕ) (oldest : Option ℕ) (catalogue : List Listed) (p : Plan) → p ≡ begun moment oldest (indexes_in catalogue) → FitsEntries p []
 fits_new moment oldest catalogue p is = subst (λ q. FitsEntries q []) (sym is) (record { named = names_in catalogue; within = λ begun. absurd (omega (arith, begun)); few = omega arith })
+
+-- what refuses it is handed on
+pub opening_stops : {D : Type 0} (parts : Parts D) (before : Option Collector) (at : Place) (stop : Stop) (r : Result Collector Stop) → IsErrAnd r (λ x. x ≡ stop) → MayOpen parts before at.lane (Err stop)
+    → (stop ≡ stops.DiskFailed → ⊥) → GivesCollector parts before at r
+opening_stops parts before at stop (Ok c) is gives unfailed = absurd is
+opening_stops parts before at stop (Err x) is gives unfailed = subst (λ y. GivesCollector parts before at (Err y)) (sym is) (by_stop stop gives unfailed)
+  where
+    by_stop : (y : Stop) → MayOpen parts before at.lane (Err y) → (y ≡ stops.DiskFailed → ⊥) → GivesCollector parts before at (Err y)
+    by_stop (stops.Refused refusal) given fine = given
+    by_stop stops.NoMemory given fine = tt
+    by_stop stops.DiskFailed given fine = absurd (fine refl)

@@ -1,10 +1,11 @@
 //! The start of a collector.
 
-ghost use Rattle.std.specs.Prelude.{◌≡◌, ◌<◌, ◌++◌, IfErr, IfOk, OnOk, option_map};
+ghost use Rattle.std.specs.Prelude.{◌≡◌, ◌<◌, ◌++◌, IfErr, IfOk, IsErrOf, OnOk, option_map};
 ghost use Rattle.store_history.specs.declared.act.Act.TheVariants.{Start};
 ghost use Rattle.core_state.specs.Applies.{ActApplies, ActKeeps};
 ghost use Rattle.core_state.specs.Reserved.{HasRoom};
 ghost use Rattle.core_state.specs.Stops.{StopHasText};
+ghost use Rattle.core_state.specs.declared.stop.Stop.TheVariants.{DiskFailed};
 ghost use Rattle.core_collect.specs.Starting.{GivesCollector, IsNewCollector, MayOpen, earlier_of, first_unreadable, indexes_in as indexes_listed, indexes_of as indexes_kept, oldest_kept, StartTells};
 
 use core_state::{
@@ -89,6 +90,7 @@ fn may_open<D>(parts: &Parts<D>, collector: &Option<Collector>, lane: u32) -> Re
     requires { lane < 64 }
     ensures value { MayOpen parts.now collector.now lane result }
     ensures text { IfErr result StopHasText }
+    ensures unfailed { IsErrOf result DiskFailed → ⊥ }
 {
     parts.idle(lane)?;
     if let Some(other) = collector {

@@ -7,12 +7,15 @@ use crate::calls::{DONE, FIRST_BASE, IN_NONE, IN_WRITER, NO_BASE, UNREADABLE};
 use crate::damage::{ABC_BLOB, ABC_CHUNK, AT_END, DE_BLOB, DE_CHUNK, ROOT_PATH};
 use crate::fixtures::{ABC, CoreOver, DE, FIRST, MANIFEST_PATH, OTHER, SECOND, opened_over};
 use crate::steps::{Step, do_step, try_step};
+use core_laws::play;
+use core_state::Act;
 use disk_trait::{Disk, FailingDisk, MemoryDisk};
 use dynamic_index::DynamicWriter;
 use std::alloc::Global;
 use std::process::Abort;
 use std::test::Fail;
 use store_types::{Digest32, Entry};
+use wire_commands::Reply;
 
 /// Acts of lanes: each with the frame of its reply, and the kind of its entry.
 type Steps = &'static [(u32, Step, &'static [u8], u8)];
@@ -476,6 +479,34 @@ fn unused_chunks_are_collected(rt: HostRuntime) -> Result<(), Fail> {
     for row in &COLLECTIONS {
         try_collection(&rt, rt.alloc(), row)?;
     }
+    Ok(())
+}
+
+/// A collection without chunks, and another lane's GC: the lanes, and the kinds of the entries.
+static PLAYED: [(u32, u8); 4] = [(5, 3), (6, 0), (5, 1), (5, 4)];
+
+#[test]
+fn lists_of_acts_are_played(rt: HostRuntime) -> Result<(), Fail> {
+    let alloc = rt.alloc();
+    let mut core = opened_over(alloc, MemoryDisk::new(alloc), &[], 1_000_000)?;
+    let acts = vec![in alloc; (5, Act::Start), (6, Act::Start), (5, Act::Step), (5, Act::Step)]?;
+    let answers = play(&mut core, alloc, acts).ok().ok_or("not played")?;
+    same(&rt, answers.len(), PLAYED.len());
+    for (answer, row) in answers.iter().zip(&PLAYED) {
+        same(&rt, (answer.entry.lane, answer.entry.kind), *row);
+    }
+    let end = answers.last().ok_or("no answer")?;
+    let is_told = matches!(
+        &end.reply,
+        Some(Reply::Collected {
+            start: 1_000_000,
+            cutoff: 913_300,
+            used: 0,
+            pending: 0,
+            removed: 0,
+        })
+    );
+    same(&rt, is_told, true);
     Ok(())
 }
 

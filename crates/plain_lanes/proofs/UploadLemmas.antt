@@ -1,9 +1,10 @@
 -- The commands by which a SYNC uploads a snapshot, one by one.
-use Rattle.std.proofs.Common.{◌≡◌, ℕ, zero, suc, ◌+◌, ◌≤◌, ◌<◌, Bool, true, false, cond, List, [], ◌∷◌, ◌++◌, map, length, get_or, take, drop, drop-cons, add-one, refl, sym, ap, ◌∙◌, arith, append_assoc, append-nil, length-drop}
-use Rattle.std.specs.List.{list_any}
+use Rattle.std.proofs.Common.{◌≡◌, ℕ, zero, suc, ◌+◌, ◌≤◌, ◌<◌, Bool, true, false, cond, eqb, List, [], ◌∷◌, ◌++◌, map, length, get_or, Option, Some, None, take, drop, drop-cons, add-one, refl, sym, ap, ◌∙◌, arith, append_assoc, append-nil, length-drop}
+use Rattle.std.specs.List.{list_any, filter_map, cons_option}
 use Rattle.std.specs.Str.{bytes_eq}
 use Rattle.std.specs.Prelude.{min}
-use Rattle.std.proofs.lemmas.List.{map-append, take_min, drop_min, drop_all}
+use Rattle.std.proofs.lemmas.List.{map-append, take_min, drop_min, drop_all, take_more}
+use Rattle.std.proofs.lemmas.List.Elements.{filter_map-append}
 use Rattle.sha2.specs.Sha256.{sha256}
 use Rattle.store_types.specs.declared.append.AppendEntry.{AppendEntry}
 use Rattle.store_types.specs.declared.names.Digest32.{Digest32}
@@ -12,7 +13,7 @@ use Rattle.store_files.specs.Archive.{Archive, Content, archive, blob, File, Sna
 use Rattle.wire_commands.specs.declared.command.Command.{Command}
 use Rattle.wire_commands.specs.declared.command.Command.TheVariants.{Append, Blob, Finish}
 use Rattle.store_model.specs.SyncJob.{has_digest_of, unsent, entries_from, appends, file_commands, archive_commands, new_index, uploads, listed_files, text_of, commands_of}
-use Rattle.plain_lanes.specs.Uploading.{is_sent, unsent_by, sent_after, chunk_of, close_of, archive_commands_by, file_commands_by, uploads_by}
+use Rattle.plain_lanes.specs.Uploading.{is_sent, unsent_by, sent_after, chunk_of, close_of, file_commands_by, uploads_by}
 
 -- ---- by digests, as by pieces
 
@@ -76,6 +77,22 @@ append_first (e ∷ es) h =
 pub all_done : {A B : Type 0} (f : List A → List B) (before r : List B) (xs : List A) (n : ℕ) → f [] ≡ [] → length xs ≤ n → before ++ f (drop n xs) ≡ r → before ≡ r
 all_done f before r xs n none le h = sym (append-nil before) ∙ sym (ap (λ l. before ++ l) (ap f (drop_all n xs le) ∙ none)) ∙ h
 
+-- a piece whose digest is sent, or is not
+module _ (sent : List Digest32) (p : List ℕ) where
+  pub chunk_sent : (commands : List Command) → is_sent p sent ≡ true → commands ≡ commands ++ map chunk_of (unsent_by sent (p ∷ []))
+  chunk_sent commands h = sym (append-nil commands) ∙ ap (λ b. commands ++ map chunk_of (cond b [] (p ∷ []))) (sym h)
+
+  pub chunk_unsent : (commands new : List Command) (one : Command) → is_sent p sent ≡ false → one ≡ chunk_of p → new ≡ commands ++ one ∷ []
+      → new ≡ commands ++ map chunk_of (unsent_by sent (p ∷ []))
+  chunk_unsent commands new one h own pushed =
+      pushed ∙ ap (λ (x : Command). commands ++ x ∷ []) own ∙ ap (λ b. commands ++ map chunk_of (cond b [] (p ∷ []))) (sym h)
+
+  pub sent_already : is_sent p sent ≡ true → sent ≡ sent_after p sent
+  sent_already h = ap (λ b. cond b sent (digest_of p ∷ sent)) (sym h)
+
+  pub sent_now : (new : List Digest32) → is_sent p sent ≡ false → new ≡ digest_of p ∷ sent → new ≡ sent_after p sent
+  sent_now new h pushed = pushed ∙ ap (λ b. cond b sent (digest_of p ∷ sent)) (sym h)
+
 chunk_more : (sent : List Digest32) (p : List ℕ) (ps : List (List ℕ)) → unsent_by sent (p ∷ ps) ≡ unsent_by sent (p ∷ []) ++ unsent_by (sent_after p sent) ps
 chunk_more sent p ps = by_test (is_sent p sent)
   where
@@ -92,6 +109,10 @@ chunk_pushed commands new sent more p pieces rest next pushed is =
     ∙ ap (λ ds. commands ++ one ++ map chunk_of (unsent_by ds rest)) is
     ∙ ap (λ cs. commands ++ cs) (sym (map-append chunk_of (unsent_by sent (p ∷ [])) (unsent_by (sent_after p sent) rest)) ∙ ap (map chunk_of) (sym (chunk_more sent p rest)))
     ∙ sym (ap (λ ps. commands ++ map chunk_of (unsent_by sent ps)) next)
+
+pub entries_count : (start : ℕ) (pieces : List (List ℕ)) → length (entries_from start pieces) ≡ length pieces
+entries_count start [] = refl
+entries_count start (p ∷ ps) = ap suc (entries_count (start + length p) ps)
 
 pub entry_pushed : (entries new : List AppendEntry) (e : AppendEntry) (offset further : ℕ) (p : List ℕ) (pieces rest : List (List ℕ)) → pieces ≡ p ∷ rest
     → new ≡ entries ++ e ∷ [] → e ≡ record { digest = digest_of p; offset = offset } → further ≡ offset + length p
@@ -132,10 +153,41 @@ archive_pushed commands one two three four begin close chunks appended first sec
     ∙ append_assoc (commands ++ begin ∷ []) chunks (appended ++ close ∷ [])
     ∙ append_assoc commands (begin ∷ []) (chunks ++ appended ++ close ∷ [])
 
+-- whether some are left
+pub some_left : (entries : List AppendEntry) → eqb (length entries) 0 ≡ false → 0 < length entries
+some_left [] h = cc
+some_left (e ∷ es) h = omega arith
+
 pub appends_done : (before r : List Command) (left : List AppendEntry) → length left ≡ 0 → before ++ appends (length left) left ≡ r → before ≡ r
 unfolding appends
 appends_done before r [] none h = sym (append-nil before) ∙ h
 appends_done before r (e ∷ es) none h = absurd (omega arith)
+
+-- the APPENDs of an archive's pieces
+pub appends_of : (pieces : List (List ℕ)) (entries : List AppendEntry) → entries ≡ entries_from 0 pieces
+    → appends (length entries) entries ≡ appends (length pieces) (entries_from 0 pieces)
+appends_of pieces entries is =
+    ap (λ es. appends (length es) es) is ∙ ap (λ n. appends n (entries_from 0 pieces)) (entries_count 0 pieces)
+
+-- ---- the files that a manifest lists
+
+module _ {A B : Type 0} (found : A → Option B) (xs : List A) (i : ℕ) (x : A) (below : i < length xs) (is : x ≡ get_or xs i x) where
+  one_more : (o : Option B) → found x ≡ o → filter_map found (take (i + 1) xs) ≡ filter_map found (take i xs) ++ cons_option o []
+  one_more o same =
+      ap (filter_map found) (take_more xs i x below ∙ ap (λ y. take i xs ++ y ∷ []) (sym is)) ∙ filter_map-append found (take i xs) (x ∷ [])
+      ∙ ap (λ q. filter_map found (take i xs) ++ cons_option q []) same
+
+  pub found_more : (listed new : List B) (y : B) → listed ≡ filter_map found (take i xs) → found x ≡ Some y → new ≡ listed ++ y ∷ []
+      → new ≡ filter_map found (take (i + 1) xs)
+  found_more listed new y so_far there pushed = pushed ∙ ap (λ l. l ++ y ∷ []) so_far ∙ sym (one_more (Some y) there)
+
+  pub found_still : (listed : List B) → listed ≡ filter_map found (take i xs) → found x ≡ None → listed ≡ filter_map found (take (i + 1) xs)
+  found_still listed so_far none = so_far ∙ sym (one_more None none ∙ append-nil (filter_map found (take i xs)))
+
+-- by what the facts mean
+pub facts_found : {A B C : Type 0} (found : B → Option C) (view : A → B) (xs : List A) → filter_map (λ x. found (view x)) xs ≡ filter_map found (map view xs)
+facts_found found view [] = refl
+facts_found found view (x ∷ xs) = ap (cons_option (found (view x))) (facts_found found view xs)
 
 -- behind the files come the manifest and FINISH
 pub all_pushed : (x : Snapshot) (files : List File) (cs one two : List Command) (name contents : List ℕ) → files ≡ listed_files x → cs ≡ uploads_by [] files

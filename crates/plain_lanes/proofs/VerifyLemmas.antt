@@ -1,10 +1,10 @@
 -- What a VERIFY makes of the replies to its steps.
-use Rattle.std.proofs.Common.{◌≡◌, ℕ, ◌*◌, ◌≤◌, true, false, List, [], ◌∷◌, ◌++◌, length, Option, None, Some, refl, sym, ap, ◌∙◌, arith, length-append}
-use Rattle.std.specs.Prelude.{◌+◌, ◌<◌, ◌^◌, All}
+use Rattle.std.proofs.Common.{◌≡◌, ℕ, ◌*◌, ◌≤◌, Bool, true, false, cond, List, [], ◌∷◌, ◌++◌, length, Option, None, Some, refl, sym, ap, ◌∙◌, arith, length-append}
+use Rattle.std.specs.Prelude.{◌+◌, ◌<◌, ◌^◌, ◌&&◌, All}
 use Rattle.std.specs.List.{flat_map}
 use Rattle.std.specs.Option.{option_or}
 use Rattle.std.specs.Prelude.{nat_lt}
-use Rattle.std.proofs.lemmas.Bool.{and_parts, ltb-true, eqb-true}
+use Rattle.std.proofs.lemmas.Bool.{and_parts, ltb-true, lt-ltb, eqb-true, eq-eqb}
 use Rattle.std.proofs.lemmas.List.Elements.{All-nil, All-cons, All-head, All-tail}
 use Rattle.store_types.specs.declared.names.Digest32.{Digest32}
 use Rattle.store_types.specs.declared.refusal.Refusal.{Refusal}
@@ -18,10 +18,10 @@ use Rattle.wire_commands.specs.declared.reply.Reply.TheVariants.{Done, Part, Dat
 use Rattle.wire_commands.specs.ReplyText.{file_fault_text, fault_row_text, reply_text}
 use Rattle.wire_commands.specs.HasText.{FitsFileFault, FitsFaultRow, ReplyHasText}
 use Rattle.store_model.specs.Job.{Visit, Job, over, asking, listing, reading, closing}
-use Rattle.store_model.specs.VerifyJob.{next_file, file_done, next_chunk, with_fault, tally, opened, begun, listed, part_read, read_part, chunk_fault, checked}
+use Rattle.store_model.specs.VerifyJob.{next_file, file_done, next_chunk, with_fault, tally, judged, file_read, opened, begun, listed, part_read, read_part, chunk_fault, checked}
 use Rattle.plain_lanes.specs.Closes.{ended_by}
 use Rattle.plain_lanes.specs.FaultRows.{fault_fits, IsFitRow}
-use Rattle.plain_lanes.specs.Visits.{is_done, is_files, is_part, fault_told, unreadable_told, chunk_judged, with_faults, read_by, checked_by}
+use Rattle.plain_lanes.specs.Visits.{is_done, is_files, is_part, is_data, fault_told, chunk_told, unreadable_told, chunk_judged, with_faults, read_by, checked_by}
 
 -- ---- the report
 
@@ -47,6 +47,13 @@ rows_of_test [] fit = All-nil FitsFaultRow
 rows_of_test (r ∷ rs) fit =
     let parts = and_parts (nat_lt (length r.file) 256) (fault_fits r.fault) (All-head IsFitRow r rs fit) in
     All-cons FitsFaultRow r rs (ltb-true (length r.file) 256 parts.0, fault_of_test r.fault parts.1) (rows_of_test rs (All-tail IsFitRow r rs fit))
+
+fault_tested : (f : FileFault) → FitsFileFault f → fault_fits f ≡ true
+fault_tested (faults.Damaged d) h = eq-eqb (length d.0) 32 h
+fault_tested f h = refl
+
+pub row_tested : (file : List ℕ) (f : FileFault) → length file < 256 → FitsFileFault f → (nat_lt (length file) 256 && fault_fits f) ≡ true
+row_tested file f short fits = rw (lt-ltb (length file) 256 short, fault_tested f fits) refl
 
 pub verified_spelled : (files entries bytes : ℕ) (rows : List FaultRow) → files < 256 → entries < 2 ^ 64 → bytes < 2 ^ 64 → length rows ≤ files → All FitsFaultRow rows
     → ReplyHasText (Verified files entries bytes rows)
@@ -97,6 +104,20 @@ listed_not snapshot (Refused refusal) h = refl
 listed_not snapshot reply h = refl
 
 module _ (v : Visit) (row : FileRow) where
+  -- more of the file is to come
+  pub part_more : (bytes : List ℕ) (total : ℕ) → length bytes < total → asking (reading v row bytes) ≡ part_read v row bytes total
+  unfolding part_read
+  part_more bytes total h = rw (lt-ltb (length bytes) total h) refl
+
+  pub part_whole : (bytes : List ℕ) (total : ℕ) → total ≤ length bytes → file_read v row (judged v.snapshot row bytes) ≡ part_read v row bytes total
+  unfolding part_read
+  part_whole bytes total within = by_test (nat_lt (length bytes) total) refl
+    where
+      by_test : (b : Bool) → nat_lt (length bytes) total ≡ b
+          → file_read v row (judged v.snapshot row bytes) ≡ cond b (asking (reading v row bytes)) (file_read v row (judged v.snapshot row bytes))
+      by_test true h = absurd (omega (arith, ltb-true (length bytes) total h))
+      by_test false h = refl
+
   -- a fault ends the file
   pub fault_read : (reply : Reply) (fault : FileFault) → fault_told reply ≡ Some fault → file_done v row (Some fault) ≡ read_by v row reply
   fault_read reply fault h = rw h refl
@@ -139,3 +160,16 @@ module _ (v : Visit) (row : FileRow) where
       not_checked (Refused (Unreadable name)) h = refl
       not_checked (Refused refusal) h = refl
       not_checked reply h = refl
+
+-- the fault of a chunk that a reply tells
+pub fault_judged : (reply : Reply) (d : Digest32) (f : FileFault) → chunk_told reply d ≡ Some f → chunk_judged reply d ≡ Some (Some f)
+fault_judged (Data bytes) d f h = cc
+fault_judged (Refused (Damaged asked given)) d f h = ap (λ o. (let x : Option (Option FileFault) = Some o in x)) h
+fault_judged (Refused refusal) d f h = cc
+fault_judged reply d f h = cc
+
+pub none_judged : (reply : Reply) (d : Digest32) → is_data reply ≡ false → chunk_told reply d ≡ None → chunk_judged reply d ≡ None
+none_judged (Data bytes) d other h = cc
+none_judged (Refused (Damaged asked given)) d other h = cc
+none_judged (Refused refusal) d other h = refl
+none_judged reply d other h = refl

@@ -1,5 +1,6 @@
 -- What stands next on a lane.
-use Rattle.std.specs.Prelude.{◌≡◌, ℕ, Bool, true, false, List, Option, Some, None}
+use Rattle.std.specs.Prelude.{◌≡◌, ℕ, Bool, true, false, List, Option, Some, None, option_map}
+use Rattle.std.specs.Borrow.{Bor}
 use Rattle.wire_frames.specs.Frames as frames
 use Rattle.wire_commands.specs.declared.command.Command.{Command}
 use Rattle.wire_commands.specs.declared.command.Command.TheVariants as commands
@@ -58,6 +59,9 @@ abbrev pub is_sync_next : model.Next → Bool
 is_sync_next (model.job_step j left) = is_sync j
 is_sync_next (model.sync group left) = true
 is_sync_next _ = false
+
+abbrev pub shown_left : Option (Bor (List ℕ)) → Option (List ℕ)
+shown_left found = option_map (λ left. left.now) found
 
 -- what is left behind a GC, where that stands next
 abbrev pub left_of_collect : model.Next → Option (List ℕ)

@@ -5,11 +5,12 @@ use Rattle.std.specs.List.{list_any}
 use Rattle.std.specs.Str.{bytes_eq}
 use Rattle.sha2.specs.Sha256.{sha256}
 use Rattle.store_types.specs.declared.names.Digest32.{Digest32}
+use Rattle.store_types.specs.FileNames.{manifest_name}
 use Rattle.blob_codec.specs.Blob as blobs
-use Rattle.store_files.specs.Archive.{Archive, Content, archive, blob, File, digest_of, pieces_of, size_of, csum_of}
+use Rattle.store_files.specs.Archive.{Archive, Content, archive, blob, File, digest_of, pieces_of, size_of, csum_of, file_named}
 use Rattle.wire_commands.specs.declared.command.Command.{Command}
 use Rattle.wire_commands.specs.declared.command.Command.TheVariants.{Chunk, CloseIndex, Blob}
-use Rattle.store_model.specs.SyncJob.{entries_from, appends, new_index}
+use Rattle.store_model.specs.SyncJob.{entries_from, appends, new_index, text_of}
 
 -- where memory is not wanting, these commands come behind those before
 abbrev pub Pushes : {A E : Type 0} → Vec Command Global → Vec Command Global → List Command → Result A E → Type 0
@@ -28,17 +29,32 @@ sent_after p sent = if is_sent p sent then sent else digest_of p ∷ sent
 abbrev pub chunk_of : List ℕ → Command
 chunk_of p = Chunk (digest_of p) (blobs.blob p)
 
+-- the uploads of the pieces whose digests are not sent
+abbrev pub chunks_of : List Digest32 → List (List ℕ) → List Command
+chunks_of sent pieces = map chunk_of (unsent_by sent pieces)
+
+-- of one piece
+abbrev pub one_chunk : List Digest32 → List ℕ → List Command
+one_chunk sent p = chunks_of sent (p ∷ [])
+
 abbrev pub close_of : Archive → Command
 close_of a = CloseIndex 0 (length a.pieces) (size_of (archive a)) (csum_of (archive a))
 
-abbrev pub archive_commands_by : List Digest32 → List ℕ → Archive → List Command
-archive_commands_by sent name a =
-    new_index a.layout name ∷ map chunk_of (unsent_by sent a.pieces) ++ appends (length a.pieces) (entries_from 0 a.pieces) ++ close_of a ∷ []
+abbrev pub archive_by : List Digest32 → List ℕ → Archive → List Command
+archive_by sent name a =
+    new_index a.layout name ∷ chunks_of sent a.pieces ++ appends (length a.pieces) (entries_from 0 a.pieces) ++ close_of a ∷ []
 
 abbrev pub file_commands_by : List Digest32 → List ℕ → Content → List Command
-file_commands_by sent name (archive a) = archive_commands_by sent name a
+file_commands_by sent name (archive a) = archive_by sent name a
 file_commands_by sent name (blob bytes) = Blob name (blobs.blob bytes) ∷ []
+
+abbrev pub file_by : List Digest32 → File → List Command
+file_by sent f = file_commands_by sent f.name f.content
 
 abbrev pub uploads_by : List Digest32 → List File → List Command
 uploads_by sent [] = []
-uploads_by sent (f ∷ fs) = file_commands_by sent f.name f.content ++ uploads_by (map digest_of (pieces_of f.content) ++ sent) fs
+uploads_by sent (f ∷ fs) = file_by sent f ++ uploads_by (map digest_of (pieces_of f.content) ++ sent) fs
+
+-- the text of the manifest among the files, or nothing
+abbrev pub manifest_text_in : List File → List ℕ
+manifest_text_in files = text_of (file_named manifest_name files)

@@ -1,8 +1,10 @@
 -- What a VERIFY makes of the replies to its steps.
-use Rattle.std.specs.Prelude.{◌≡◌, ℕ, ◌+◌, Bool, true, false, List, [], ◌∷◌, ◌++◌, Option, Some, None, Result, IfOk, MatchResult}
+use Rattle.std.specs.Prelude.{◌≡◌, ℕ, ◌+◌, Bool, true, false, List, [], ◌∷◌, ◌++◌, map, length, Option, Some, None, Result, IfOk, MatchResult}
 use Rattle.std.specs.Option.{option_or}
+use Rattle.sha2.specs.Sha256.{sha256}
 use Rattle.store_types.specs.declared.names.Digest32.{Digest32}
 use Rattle.store_types.specs.declared.refusal.Refusal.TheVariants.{Damaged, Unreadable}
+use Rattle.store_files.specs.DynamicIndex.{Ended}
 use Rattle.wire_commands.specs.declared.rows.FileRow.{FileRow}
 use Rattle.wire_commands.specs.declared.rows.FileFault.{FileFault}
 use Rattle.wire_commands.specs.declared.rows.FileFault.TheVariants as faults
@@ -31,6 +33,18 @@ shown_judged j = record { fault = j.fault; bytes = j.bytes; digests = j.digests.
 -- where memory is not wanting, this is what the file says
 abbrev pub GivesJudged : {E : Type 0} → Result Judged E → verify.Judged → Type 0
 GivesJudged result judged = IfOk result (λ given. shown_judged given ≡ judged)
+
+-- the digests of a dynamic index's entries
+abbrev pub digests_of : List Ended → List Digest32
+digests_of entries = map (λ e. verify.digest e.digest) entries
+
+-- where memory is not wanting, this is the fault
+abbrev pub GivesFault : {E : Type 0} → Result (Option FileFault) E → Option FileFault → Type 0
+GivesFault result fault = IfOk result (λ given. given ≡ fault)
+
+-- the fault of a blob of this name: that it differs from what is listed comes first
+abbrev pub blob_fault_of : List ℕ → List ℕ → FileRow → List ℕ → Option FileFault
+blob_fault_of snapshot name row bytes = option_or (verify.compared row (length bytes) (sha256 bytes)) (verify.blob_fault snapshot name bytes)
 
 abbrev pub GivesVisit : {E : Type 0} → Result Visit E → model.Visit → Type 0
 GivesVisit result visit = IfOk result (λ given. shown_visit given ≡ visit)

@@ -7,11 +7,9 @@ ghost use Rattle.plain_lanes.specs.Jobs.{shown_job, FitsAsked, IsSpelledJob};
 
 use crate::asked::{chunk_step, copied, file_step};
 use crate::ending::{Close, closed};
-use crate::prune;
 use crate::pull::Pull;
-use crate::sync;
-use crate::verify;
 use crate::visit::Visit;
+use crate::{prune, sync, verify};
 use std::alloc::{AllocError, Global};
 use std::collections::VecDeque;
 use std::marker::Model;
@@ -35,9 +33,13 @@ pub(crate) enum Stage {
         later: VecDeque<PruneRow>,
     },
     /// VERIFY asks for a reader of this snapshot.
-    Opening { snapshot: Bytes },
+    Opening {
+        snapshot: Bytes,
+    },
     /// VERIFY asks for the snapshot's files.
-    Listing { snapshot: Bytes },
+    Listing {
+        snapshot: Bytes,
+    },
     /// VERIFY reads this file, behind these bytes of it.
     Reading {
         visit: Visit,
@@ -54,9 +56,13 @@ pub(crate) enum Stage {
         later: VecDeque<Digest32>,
     },
     /// VERIFY closes its reader, and then this is its report.
-    Closing { report: Reply },
+    Closing {
+        report: Reply,
+    },
     /// SYNC asks for a writer of its snapshot.
-    Beginning { pull: Pull },
+    Beginning {
+        pull: Pull,
+    },
     /// SYNC asks for this command of its snapshot's, before the others.
     Sending {
         pull: Pull,
@@ -64,7 +70,9 @@ pub(crate) enum Stage {
         later: VecDeque<Command>,
     },
     /// SYNC ends its writer, and then this is its report.
-    Aborting { report: Reply },
+    Aborting {
+        report: Reply,
+    },
 }
 
 /// A job that asks for a step.
@@ -139,9 +147,11 @@ impl Asking {
                 snapshot: Bytes::from_slice(alloc, snapshot.as_slice())?,
             })),
             Stage::Reading { row, bytes, .. } => {
-                file_step(alloc, row.file.as_slice(), bytes.len() as u64)
+                Ok(file_step(alloc, row.file.as_slice(), bytes.len() as u64)?)
             }
-            Stage::Checking { row, place, .. } => chunk_step(alloc, row.file.as_slice(), *place),
+            Stage::Checking { row, place, .. } => {
+                Ok(chunk_step(alloc, row.file.as_slice(), *place)?)
+            }
             Stage::Closing { .. } => Ok(Step::Command(Command::CloseReader)),
             Stage::Beginning { pull } => Ok(Step::Command(Command::OpenWriter {
                 snapshot: pull.snapshot.key.text(alloc)?,

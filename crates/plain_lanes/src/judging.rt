@@ -3,7 +3,7 @@
 ghost use Rattle.std.specs.Prelude.{◌≡◌, map, IfOk, IfSome};
 ghost use Rattle.wire_commands.specs.HasText.{FitsFileFault};
 ghost use Rattle.store_model.specs.VerifyJob as model;
-ghost use Rattle.plain_lanes.specs.Visits.{shown_judged, GivesJudged};
+ghost use Rattle.plain_lanes.specs.Visits.{shown_judged, digests_of, blob_fault_of, GivesFault, GivesJudged};
 
 use crate::asked::file_name;
 use blob_codec::decode;
@@ -12,7 +12,7 @@ use fixed_index::FixedView;
 use sha2::{Digest, Sha256};
 use std::alloc::{AllocError, Global};
 use std::collections::VecDeque;
-use store_types::Digest32;
+use store_types::{Digest32, FileName};
 use wire_commands::{FileFault, FileRow};
 
 /// A file's fault, and of an index how many bytes its entries have together, and their digests.
@@ -56,7 +56,7 @@ fn fixed_digests(alloc: Global, view: &FixedView) -> Result<Vec<Digest32>, Alloc
 }
 
 fn dynamic_digests(alloc: Global, view: &DynamicView) -> Result<Vec<Digest32>, AllocError>
-    ensures { IfOk result (λ digests. digests.items ≡ map (λ e. model.digest e.digest) view.now.entries) }
+    ensures { IfOk result (λ digests. digests.items ≡ digests_of view.now.entries) }
 {
     let mut digests = Vec::new(alloc);
     for i in 0..view.len() {
@@ -74,14 +74,15 @@ fn fixed_judged(alloc: Global, row: &FileRow, bytes: &[u8]) -> Result<Judged, Al
         return Ok(without_entries(alloc, Some(FileFault::Unreadable)));
     };
     let digests = fixed_digests(alloc, &view)?;
+    let total = view.size();
     Ok(Judged {
-        fault: compared(row, view.size(), &view.csum().0),
-        bytes: view.size(),
+        fault: compared(row, total, &view.csum().0),
+        bytes: total,
         digests: VecDeque::from_vec(digests),
     })
 }
 
-#[tactic(auto, unfolding(store_model::specs::VerifyJob::dynamic_judged), using(crate::proofs::JudgingLemmas::last_same))]
+#[tactic(auto, unfolding(store_model::specs::VerifyJob::dynamic_judged))]
 fn dynamic_judged(alloc: Global, row: &FileRow, bytes: &[u8]) -> Result<Judged, AllocError>
     ensures judged { GivesJudged result (model.dynamic_judged row.now bytes.now) }
     ensures fits { IfOk result (λ judged. IfSome judged.fault FitsFileFault) }
@@ -90,9 +91,10 @@ fn dynamic_judged(alloc: Global, row: &FileRow, bytes: &[u8]) -> Result<Judged, 
         return Ok(without_entries(alloc, Some(FileFault::Unreadable)));
     };
     let digests = dynamic_digests(alloc, &view)?;
+    let total = view.size();
     Ok(Judged {
-        fault: compared(row, view.size(), &view.csum().0),
-        bytes: view.size(),
+        fault: compared(row, total, &view.csum().0),
+        bytes: total,
         digests: VecDeque::from_vec(digests),
     })
 }
@@ -103,7 +105,7 @@ fn manifest_fault(
     snapshot: &[u8],
     contents: &[u8],
 ) -> Result<Option<FileFault>, AllocError>
-    ensures fault { IfOk result (λ fault. fault ≡ model.manifest_fault snapshot.now contents.now) }
+    ensures fault { GivesFault result (model.manifest_fault snapshot.now contents.now) }
     ensures fits { IfOk result (λ fault. IfSome fault FitsFileFault) }
 {
     let Ok(listed) = manifest::read(alloc, contents)? else {
@@ -117,44 +119,43 @@ fn manifest_fault(
     }
 }
 
+/// The fault of a blob of this name, by its data.
 fn blob_fault(
     alloc: Global,
     snapshot: &[u8],
-    name: &[u8],
+    name: &FileName,
     bytes: &[u8],
 ) -> Result<Option<FileFault>, AllocError>
-    ensures fault { IfOk result (λ fault. fault ≡ model.blob_fault snapshot.now name.now bytes.now) }
+    ensures fault { GivesFault result (model.blob_fault snapshot.now name.now bytes.now) }
     ensures fits { IfOk result (λ fault. IfSome fault FitsFileFault) }
 {
     let Ok(contents) = decode(bytes) else {
         return Ok(Some(FileFault::Unreadable));
     };
-    if name == b"index.json.blob".as_slice() {
-        manifest_fault(alloc, snapshot, contents)
-    } else {
-        Ok(None)
+    if name.is_manifest() {
+        return manifest_fault(alloc, snapshot, contents);
     }
+    Ok(None)
 }
 
-#[tactic(auto, unfolding(store_model::specs::VerifyJob::blob_judged))]
-fn blob_judged(
+/// The fault of a blob of this name: that it differs from what is listed comes first.
+fn listed_fault(
     alloc: Global,
     snapshot: &[u8],
+    name: &FileName,
     row: &FileRow,
     bytes: &[u8],
-) -> Result<Judged, AllocError>
-    ensures judged { GivesJudged result (model.blob_judged snapshot.now row.now bytes.now) }
-    ensures fits { IfOk result (λ judged. IfSome judged.fault FitsFileFault) }
+) -> Result<Option<FileFault>, AllocError>
+    ensures fault { GivesFault result (blob_fault_of snapshot.now name.now row.now bytes.now) }
+    ensures fits { IfOk result (λ fault. IfSome fault FitsFileFault) }
 {
-    if let Some(fault) = compared(row, bytes.len() as u64, &Sha256::digest(bytes)) {
-        return Ok(without_entries(alloc, Some(fault)));
+    match compared(row, bytes.len() as u64, &Sha256::digest(bytes)) {
+        Some(fault) => Ok(Some(fault)),
+        None => blob_fault(alloc, snapshot, name, bytes),
     }
-    let fault = blob_fault(alloc, snapshot, row.file.as_slice(), bytes)?;
-    Ok(without_entries(alloc, fault))
 }
 
 /// What a whole file says, of the snapshot with this text.
-#[tactic(auto, unfolding(store_model::specs::VerifyJob::judged))]
 pub fn judge(
     alloc: Global,
     snapshot: &[u8],
@@ -171,7 +172,8 @@ pub fn judge(
     if name.is_dynamic() {
         return dynamic_judged(alloc, row, bytes);
     }
-    blob_judged(alloc, snapshot, row, bytes)
+    let fault = listed_fault(alloc, snapshot, &name, row, bytes)?;
+    Ok(without_entries(alloc, fault))
 }
 
 /// The bytes are the blob of a piece with this digest, or the chunk is damaged.

@@ -107,8 +107,10 @@ impl<'a> Lane<'a> {
         requires { ReplyHasText reply.now }
         ensures { OnOk result (self.new ≡ said reply.now (record self.old { job = None })) }
     {
-        let left = self.left;
-        self.tell(alloc, left, reply)
+        let bytes = reply_bytes(alloc, reply)?;
+        self.told.extend_from_slice(&bytes)?;
+        self.job = None;
+        Ok(())
     }
 
     /// The job is open, with this left of the input.

@@ -1,10 +1,10 @@
 //! What stands next on a lane.
 
-ghost use Rattle.std.specs.Prelude.{◌≡◌, ◌-◌, length, option_map, IfOk};
+ghost use Rattle.std.specs.Prelude.{◌≡◌, IfOk};
 ghost use Rattle.wire_frames.specs.Frames.{cut as cut_of};
 ghost use Rattle.wire_commands.specs.Inputs.{front};
 ghost use Rattle.store_model.specs.Lanes.{front_next, command_next as next_by};
-ghost use Rattle.plain_lanes.specs.Nexts.{shown_front, shown_next, is_sync_next, left_of_collect, IsFitNext};
+ghost use Rattle.plain_lanes.specs.Nexts.{shown_front, shown_left, shown_next, is_sync_next, left_of_collect, IsFitNext};
 
 use crate::job::Asking;
 use std::alloc::{AllocError, Global};
@@ -60,7 +60,7 @@ impl<'a> Next<'a> {
 
     /// What is left of the input behind a GC, where this is one.
     pub fn into_collect(self) -> Option<&'a [u8]>
-        ensures { option_map (λ left. left.now) result ≡ left_of_collect (shown_next self.entry) }
+        ensures { shown_left result ≡ left_of_collect (shown_next self.entry) }
     {
         match self {
             Next::Command(Ahead::Collect, left) => Some(left),

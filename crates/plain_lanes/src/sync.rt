@@ -1,12 +1,11 @@
 //! SYNC: the snapshots that are pulled, each by the commands that upload it.
 
-ghost use Rattle.std.specs.Prelude.{◌≡◌, ◌<◌, ◌++◌, ◌∷◌, [], length, All, IfOk};
-ghost use Rattle.store_types.specs.Names.{key_text};
+ghost use Rattle.std.specs.Prelude.{◌≡◌, ◌<◌, [], length, All, IfOk};
 ghost use Rattle.wire_commands.specs.HasText.{IsText, ReplyHasText};
 ghost use Rattle.store_model.specs.SyncJob as model;
 ghost use Rattle.plain_lanes.specs.Jobs.{shown_job, GivesJob, IsSpelledJob};
 ghost use Rattle.plain_lanes.specs.Closes.{is_refused as has_refusal};
-ghost use Rattle.plain_lanes.specs.Pulls.{shown_pull, is_base as tells_base};
+ghost use Rattle.plain_lanes.specs.Pulls.{shown_pull, keys_with, is_base as tells_base};
 
 use crate::ending::{Close, ended, is_refused};
 use crate::job::{Asking, Job, Stage};
@@ -54,7 +53,7 @@ fn push_key(
     snapshot: &Snapshot,
 ) -> Result<Vec<Bytes>, AllocError>
     requires spelled { All IsText pulled.items }
-    ensures keys { IfOk result (λ after. after.items ≡ pulled.items ++ key_text snapshot.now.key ∷ []) }
+    ensures keys { IfOk result (λ after. after.items ≡ keys_with pulled.items snapshot.now.key) }
     ensures few { IfOk result (λ after. length after.items < 65536) }
     ensures spelled { IfOk result (λ after. All IsText after.items) }
 {
@@ -67,11 +66,7 @@ fn push_key(
 }
 
 /// On to the next command of the snapshot, or to the next snapshot where none is left.
-fn next_command(
-    alloc: Global,
-    pull: Pull,
-    commands: VecDeque<Command>,
-) -> Result<Job, AllocError>
+fn next_command(alloc: Global, pull: Pull, commands: VecDeque<Command>) -> Result<Job, AllocError>
     ensures job { GivesJob result (model.next_command (shown_pull pull) commands.items) }
     ensures spelled { IfOk result IsSpelledJob }
 {

@@ -1,13 +1,10 @@
 //! The commands by which a SYNC uploads a snapshot.
 
-ghost use Rattle.std.specs.Prelude.{◌≡◌, ◌++◌, ◌∷◌, [], length, map, option_map, IfOk, OnOk};
-ghost use Rattle.std.specs.List.{filter_map};
-ghost use Rattle.store_files.specs.Archive.{digest_of, file_named as file_of};
-ghost use Rattle.manifest.specs.Views.{fact_view};
-ghost use Rattle.store_types.specs.FileNames.{manifest_name};
-ghost use Rattle.store_model.specs.SyncJob.{appends, entries_from, new_index, text_of as text_in, commands_of as commands_for, listed_files as files_listed};
+ghost use Rattle.std.specs.Prelude.{◌≡◌, ◌++◌, [], length, map, IfOk, OnOk};
+ghost use Rattle.store_files.specs.Archive.{digest_of};
+ghost use Rattle.store_model.specs.SyncJob.{appends, entries_from, new_index, commands_of as commands_for, listed_files as files_listed};
 ghost use Rattle.plain_snapshots.specs.Shown.{shown_layout};
-ghost use Rattle.plain_lanes.specs.Uploading.{Pushes, is_sent as was_sent, chunk_of, close_of, unsent_by, sent_after, archive_commands_by, file_commands_by, uploads_by};
+ghost use Rattle.plain_lanes.specs.Uploading.{Pushes, is_sent as was_sent, chunk_of, chunks_of, one_chunk, close_of, sent_after, archive_by, file_by, uploads_by, manifest_text_in};
 
 use plain_snapshots::{Archive, BlobData, Content, File, Layout, Snapshot, facts_in, file_named};
 use sha2::{Digest, Sha256};
@@ -58,7 +55,7 @@ fn push_chunk(
     sent: &mut Vec<Digest32>,
     piece: &BlobData,
 ) -> Result<(), AllocError>
-    ensures commands { Pushes commands.old commands.new (map chunk_of (unsent_by sent.old.items (piece.now ∷ []))) result }
+    ensures pushes { Pushes commands.old commands.new (one_chunk sent.old.items piece.now) result }
     ensures sent { OnOk result (sent.new.items ≡ sent_after piece.now sent.old.items) }
 {
     if is_sent(piece, sent) {
@@ -76,7 +73,7 @@ fn push_chunks(
     sent: &[Digest32],
     pieces: &[BlobData],
 ) -> Result<(), AllocError>
-    ensures { Pushes commands.old commands.new (map chunk_of (unsent_by sent.now pieces.now)) result }
+    ensures { Pushes commands.old commands.new (chunks_of sent.now pieces.now) result }
 {
     let mut sent = Vec::from_slice(alloc, sent)?;
     for piece in pieces {
@@ -97,7 +94,8 @@ fn entries_of(alloc: Global, pieces: &[BlobData]) -> Result<Vec<AppendEntry>, Al
             digest: Digest32(Sha256::digest(piece)),
             offset,
         })?;
-        offset = offset.checked_add(piece.len() as u64).ok_or(AllocError)?;
+        let size = piece.len() as u64;
+        offset = offset.checked_add(size).ok_or(AllocError)?;
     }
     Ok(entries)
 }
@@ -141,7 +139,7 @@ fn push_archive(
     name: &[u8],
     archive: &Archive,
 ) -> Result<(), AllocError>
-    ensures { Pushes commands.old commands.new (archive_commands_by sent.now name.now archive.now) result }
+    ensures { Pushes commands.old commands.new (archive_by sent.now name.now archive.now) result }
 {
     commands.push(begins(alloc, archive.layout, name)?)?;
     push_chunks(alloc, commands, sent, &archive.pieces)?;
@@ -159,11 +157,14 @@ fn push_file(
     sent: &[Digest32],
     file: &File,
 ) -> Result<(), AllocError>
-    ensures { Pushes commands.old commands.new (file_commands_by sent.now file.now.name file.now.content) result }
+    ensures { Pushes commands.old commands.new (file_by sent.now file.now) result }
 {
     let name = file.name.as_slice();
     match &file.content {
-        Content::Archive(archive) => push_archive(alloc, commands, sent, name, archive),
+        Content::Archive(archive) => {
+            push_archive(alloc, commands, sent, name, archive)?;
+            Ok(())
+        }
         Content::Blob(contents) => {
             commands.push(Command::Blob {
                 file: Bytes::from_slice(alloc, name)?,
@@ -218,10 +219,10 @@ fn uploads(alloc: Global, files: &[File]) -> Result<Vec<Command>, AllocError>
 
 /// The text of the manifest, or nothing.
 fn manifest_text(alloc: Global, snapshot: &Snapshot) -> Result<Vec<u8>, AllocError>
-    ensures { IfOk result (λ text. text.items ≡ text_in (file_of manifest_name snapshot.now.files)) }
+    ensures { IfOk result (λ text. text.items ≡ manifest_text_in snapshot.now.files) }
 {
     match file_named(b"index.json.blob", &snapshot.files) {
-        Some(file) => file.content.text(alloc),
+        Some(file) => Ok(file.content.text(alloc)?),
         None => Ok(Vec::new(alloc)),
     }
 }

@@ -7,7 +7,7 @@ ghost use Rattle.wire_commands.specs.declared.reply.Reply.TheVariants as replies
 ghost use Rattle.store_model.specs.VerifyJob as model;
 ghost use Rattle.plain_lanes.specs.FaultRows.{IsFitRow};
 ghost use Rattle.plain_lanes.specs.Jobs.{shown_job, GivesJob, IsSpelledJob};
-ghost use Rattle.plain_lanes.specs.Visits.{GivesOrBack, GivesVisit, JudgesChunk, shown_visit, shown_judged, is_done as tells_done, is_part, is_files, is_data, fault_told as told_of, chunk_told as told_of_chunk, unreadable_told, with_faults, counted_of, read_by, checked_by};
+ghost use Rattle.plain_lanes.specs.Visits.{GivesOrBack, GivesVisit, JudgesChunk, shown_visit as shown, shown_judged, is_done as tells_done, is_part, is_files, is_data, fault_told as told_of, chunk_told as told_of_chunk, unreadable_told, with_faults, counted_of, read_by, checked_by};
 
 use crate::ending::{Close, asked, ended};
 use crate::job::{Asking, Job, Stage};
@@ -22,7 +22,7 @@ use wire_commands::{FaultRow, FileFault, FileRow, Reply};
 
 /// On to the next of the files to come. Behind the last the reader is closed, and then what was read is the report.
 fn next_file(alloc: Global, visit: Visit) -> Job
-    ensures job { shown_job result ≡ model.next_file (shown_visit visit) visit.later.items }
+    ensures job { shown_job result ≡ model.next_file (shown visit) visit.later.items }
     ensures spelled { IsSpelledJob result }
 {
     let Visit {
@@ -93,7 +93,7 @@ fn file_done(
 ) -> Result<Job, AllocError>
     requires row { FitsFileRow row }
     requires fault { IfSome fault FitsFileFault }
-    ensures job { GivesJob result (model.file_done (shown_visit visit) row fault) }
+    ensures job { GivesJob result (model.file_done (shown visit) row fault) }
     ensures spelled { IfOk result IsSpelledJob }
 {
     let Visit {
@@ -104,12 +104,14 @@ fn file_done(
         faults,
         later,
     } = visit;
+    let files = files.checked_add(1).ok_or(AllocError)?;
+    let faults = push_fault(faults, row, fault)?;
     let visit = Visit {
         snapshot,
-        files: files.checked_add(1).ok_or(AllocError)?,
+        files,
         entries,
         bytes,
-        faults: push_fault(faults, row, fault)?,
+        faults,
         later,
     };
     Ok(next_file(alloc, visit))
@@ -126,7 +128,7 @@ fn next_chunk(
 ) -> Result<Job, AllocError>
     requires row { FitsFileRow row }
     requires fault { IfSome fault FitsFileFault }
-    ensures job { GivesJob result (model.next_chunk (shown_visit visit) row fault place digests.items) }
+    ensures job { GivesJob result (model.next_chunk (shown visit) row fault place digests.items) }
     ensures spelled { IfOk result IsSpelledJob }
 {
     let mut later = digests;
@@ -145,37 +147,34 @@ fn next_chunk(
 }
 
 /// So many more entries, with so many bytes together. More than a `u64` counts no memory holds.
-fn counted(visit: Visit, entries: u64, bytes: u64) -> Result<Visit, AllocError>
-    ensures visit { GivesVisit result (counted_of (shown_visit visit) entries bytes) }
+fn counted(visit: Visit, more: u64, longer: u64) -> Result<Visit, AllocError>
+    ensures { GivesVisit result (counted_of (shown visit) more longer) }
 {
     let Visit {
         snapshot,
         files,
-        entries: before,
-        bytes: so_far,
+        entries,
+        bytes,
         faults,
         later,
     } = visit;
+    let entries = entries.checked_add(more).ok_or(AllocError)?;
+    let bytes = bytes.checked_add(longer).ok_or(AllocError)?;
     Ok(Visit {
         snapshot,
         files,
-        entries: before.checked_add(entries).ok_or(AllocError)?,
-        bytes: so_far.checked_add(bytes).ok_or(AllocError)?,
+        entries,
+        bytes,
         faults,
         later,
     })
 }
 
 /// The file is read, and of an index the chunks come next.
-fn file_read(
-    alloc: Global,
-    visit: Visit,
-    row: FileRow,
-    judged: Judged,
-) -> Result<Job, AllocError>
+fn file_read(alloc: Global, visit: Visit, row: FileRow, judged: Judged) -> Result<Job, AllocError>
     requires row { FitsFileRow row }
     requires fault { IfSome judged.fault FitsFileFault }
-    ensures job { GivesJob result (model.file_read (shown_visit visit) row (shown_judged judged)) }
+    ensures job { GivesJob result (model.file_read (shown visit) row (shown_judged judged)) }
     ensures spelled { IfOk result IsSpelledJob }
 {
     let Judged {
@@ -283,10 +282,11 @@ fn part_read(
     total: u64,
 ) -> Result<Job, AllocError>
     requires { FitsFileRow row }
-    ensures job { GivesJob result (model.part_read (shown_visit visit) row bytes.items total) }
+    ensures job { GivesJob result (model.part_read (shown visit) row bytes.items total) }
     ensures spelled { IfOk result IsSpelledJob }
 {
-    if (bytes.len() as u64) < total {
+    let so_far = bytes.len() as u64;
+    if so_far < total {
         let stage = Stage::Reading { visit, row, bytes };
         return Ok(Job::Asking(Asking { stage }));
     }
@@ -295,15 +295,10 @@ fn part_read(
 }
 
 /// The job after any other reply to the read of a file's part.
-fn unread(
-    alloc: Global,
-    visit: Visit,
-    row: FileRow,
-    reply: Reply,
-) -> Result<Job, AllocError>
+fn unread(alloc: Global, visit: Visit, row: FileRow, reply: Reply) -> Result<Job, AllocError>
     requires row { FitsFileRow row }
     requires reply { ReplyHasText reply }
-    ensures job { GivesJob result (read_by (shown_visit visit) row reply) }
+    ensures job { GivesJob result (read_by (shown visit) row reply) }
     ensures spelled { IfOk result IsSpelledJob }
 {
     let Some(fault) = fault_told(&reply) else {
@@ -322,7 +317,7 @@ pub fn read_part(
 ) -> Result<Job, AllocError>
     requires row { FitsFileRow row }
     requires reply { ReplyHasText reply }
-    ensures job { GivesJob result (model.read_part (shown_visit visit) row bytes.items reply) }
+    ensures job { GivesJob result (model.read_part (shown visit) row bytes.items reply) }
     ensures spelled { IfOk result IsSpelledJob }
 {
     match part_in(reply) {
@@ -376,7 +371,7 @@ fn unchecked(
     requires row { FitsFileRow row }
     requires fault { IfSome fault FitsFileFault }
     requires reply { ReplyHasText reply }
-    ensures job { GivesJob result (checked_by (shown_visit visit) row fault reply) }
+    ensures job { GivesJob result (checked_by (shown visit) row fault reply) }
     ensures spelled { IfOk result IsSpelledJob }
 {
     if is_unreadable(&reply) {
@@ -416,7 +411,8 @@ pub fn checked(
     requires row { FitsFileRow row }
     requires fault { IfSome fault FitsFileFault }
     requires reply { ReplyHasText reply }
-    ensures job { GivesJob result (model.checked (shown_visit visit) row fault place digest later.items reply) }
+    ensures job { GivesJob result
+        (model.checked (shown visit) row fault place digest later.items reply) }
     ensures spelled { IfOk result IsSpelledJob }
 {
     match chunk_in(reply, digest) {

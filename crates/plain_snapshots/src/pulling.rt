@@ -29,7 +29,7 @@ pub fn members(
 }
 
 fn last_key(snapshots: &[Snapshot]) -> Option<&PlainKey>
-    ensures { option_map (λ key. key.now) result ≡ last_or None (map (λ x. x.key) snapshots.now) }
+    ensures { option_map (λ k. k.now) result ≡ last_or None (map (λ x. x.key) snapshots.now) }
 {
     let mut last = None;
     for snapshot in snapshots {

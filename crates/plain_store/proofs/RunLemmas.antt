@@ -7,7 +7,7 @@ use Rattle.std.proofs.lemmas.Bool.Decides.{eqb_tells}
 use Rattle.std.proofs.lemmas.List.{get_or_default, get_or-set_same, set-get_or, set-set}
 use Rattle.store_types.specs.declared.order.Entry.{Entry}
 use Rattle.store_types.specs.declared.refusal.Refusal.{Refusal}
-use Rattle.store_types.specs.declared.refusal.Refusal.TheVariants.{NoMemory, RemoteFault}
+use Rattle.store_types.specs.declared.refusal.Refusal.TheVariants.{CollectorBusy, NoMemory, RemoteFault}
 use Rattle.store_files.specs.Archive.{Snapshot}
 use Rattle.wire_commands.specs.declared.command.Command.{Command}
 use Rattle.wire_commands.specs.declared.reply.Reply.{Reply}
@@ -21,9 +21,9 @@ use Rattle.store_model.specs.Jobs.{take}
 use Rattle.store_model.specs.SyncJob.{to_pull, next_snapshot}
 use Rattle.store_model.specs.JobSteps.{step_outcome}
 use Rattle.store_model.specs.Steps.{answered, step}
-use Rattle.store_model.specs.Store.{Store}
+use Rattle.store_model.specs.Store.{Store, session, want_idle}
 use Rattle.store_model.specs.Lanes.{Lane, Collecting, Run, new_lane, lane_at, with_lane, say, collects, lane_next, next_beside, next_of}
-use Rattle.store_model.specs.Weave.{Endings, tell, go_on, stepped, short, told_fault, fault_refusal, first_fault, is_end, is_cut_off, faulted, is_replied, end_session, ended_with, unread, ends, entered, with_store, answer, answer_job, want_collector, open_collector, close_collector, collected, opens, closes, passed, begin_sync, remote_failed}
+use Rattle.store_model.specs.Weave.{Endings, tell, go_on, stepped, short, told_fault, fault_refusal, first_fault, is_end, is_cut_off, faulted, is_replied, may_leave_unread, end_session, ended_with, unread, ends, entered, with_store, answer, answer_job, want_collector, open_collector, close_collector, collected, opens, closes, passed, begin_sync, remote_failed}
 use Rattle.plain_lanes.specs.declared.next.Ahead.{Ahead}
 use Rattle.plain_lanes.specs.declared.next.Ahead.TheVariants as ahead
 use Rattle.plain_lanes.specs.declared.next.Next.{Next}
@@ -236,6 +236,17 @@ module _ (r : Run) (k : ℕ) where
   unfolding ended_with
   untold_at_end ending reply h = rw h refl
 
+-- ---- an end with commands left unread
+
+module _ (r : Run) (k : ℕ) (ending : Ending) where
+  pub unread_may : may_leave_unread ending ≡ true → unread r k ending ≡ Some (end_session r k)
+  unfolding unread
+  unread_may h = rw h refl
+
+  pub unread_not : may_leave_unread ending ≡ false → unread r k ending ≡ None
+  unfolding unread
+  unread_not h = rw h refl
+
 -- ---- commands that ask for no step
 
 module _ (r : Run) (k : ℕ) (left : List ℕ) where
@@ -280,6 +291,21 @@ module _ (r : Run) (k : ℕ) (group left : List ℕ) where
   pulls_refused refusal h = rw (begin_sync, h) refl
 
 -- ---- GC
+
+-- whether a collector may open
+module _ (r : Run) (k : ℕ) where
+  pub collector_not_idle : (refusal : Refusal) → want_idle (session r.store k) ≡ Err refusal → Err refusal ≡ want_collector r k
+  unfolding want_collector
+  collector_not_idle refusal h = rw h refl
+
+  module _ (idle : want_idle (session r.store k) ≡ Ok tt) where
+    pub collector_free : r.collecting ≡ None → Ok tt ≡ want_collector r k
+    unfolding want_collector
+    collector_free h = rw (idle, h) refl
+
+    pub collector_busy : (c : Collecting) → r.collecting ≡ Some c → Err (CollectorBusy c.lane) ≡ want_collector r k
+    unfolding want_collector
+    collector_busy c h = rw (idle, h) refl
 
 -- what stands there is a GC
 collect_is : (n : model.Next) (left : List ℕ) → left_of_collect n ≡ Some left → n ≡ model.collect left

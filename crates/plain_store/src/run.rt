@@ -214,16 +214,12 @@ impl<'a> Run<'a> {
     }
 
     /// A collector may open on the lane: it has no session, and no collector is open.
-    #[tactic(auto, unfolding(store_model::specs::Weave::want_collector))]
     fn want_collector(&self, lane: u32) -> Result<(), Refusal>
         requires { lane < 64 }
         ensures fits { IfErr result FitsRefusal }
         ensures test { result ≡ wants_collector self.now lane }
     {
-        let held = self.store.held(lane);
-        if let Err(refusal) = held.want_idle() {
-            return Err(refusal);
-        }
+        self.store.held(lane).want_idle()?;
         match &self.collecting {
             None => Ok(()),
             Some(open) => Err(Refusal::CollectorBusy { lane: open.lane }),
@@ -589,18 +585,17 @@ impl<'a> Run<'a> {
     }
 
     /// The lane's end closes its collector, where the lane's ending may leave commands unread. Whether it may.
-    #[tactic(auto, unfolding(store_model::specs::Weave::unread))]
     fn end_open(&mut self, lane: u32, ending: Ending) -> bool
         requires { lane < 64 }
         ensures enters { Enters self.old self.new result (end_open_at self.old lane ending) }
         ensures lanes { length self.new.lanes ≡ length self.old.lanes }
     {
-        let may = may_leave_unread(ending);
-        if may {
-            self.collecting = None;
-            self.end_session(lane);
+        if !may_leave_unread(ending) {
+            return false;
         }
-        may
+        self.collecting = None;
+        self.end_session(lane);
+        true
     }
 
     /// Takes one entry of a lane whose collector is open. Whether it fits.

@@ -7,20 +7,21 @@ use Rattle.store_files.specs.Archive.{Snapshot}
 use Rattle.wire_commands.specs.declared.reply.Reply.{Reply}
 use Rattle.wire_commands.specs.declared.reply.Reply.TheVariants.{Refused}
 use Rattle.store_model.specs.Lanes.{Collecting}
+use Rattle.atime_book.specs.Touches.{cutoff_of}
 use Rattle.store_history.specs.declared.act.Act.{Act}
 use Rattle.store_history.specs.declared.act.Act.TheVariants as acts
 use Rattle.store_history.specs.declared.act.Event.{Event}
 use Rattle.store_history.specs.Acts.{Class, starting, sweeping, class_of}
 use Rattle.store_history.specs.History.{World, Opening, opened, moved, after, after_all, lane, moment, kind, reply, EntryKind, kind_of, pass_kind, short_kind, start_kind, close_kind, fault_kind, end_kind, open_on, new_collecting, cut_on, closed_on, halted_on}
 use Rattle.store_history.specs.Legal.{Right, Reports, IsRight, IsLegal, collecting_on}
-use Rattle.store_history.specs.Sweeping.{Sweep, Swept, swept_at, passed, spared, is_over, swept_by, while_open, swept_after, swept_all, world, swept, report_of, IsSwept}
+use Rattle.store_history.specs.Sweeping.{Sweep, Swept, swept_at, oldest_in, passed, spared, is_over, swept_by, while_open, swept_after, swept_all, world, swept, report_of, IsSwept}
 use Rattle.store_history.proofs.Collectors.{may_open_none}
 use Rattle.store_history.proofs.Longer.{after_all_append}
 use Rattle.store_upkeep.specs.Laws.{StaysOpen, IsWhole, ReportsWhole}
 use Rattle.store_upkeep.proofs.Members.{none_some}
 use Rattle.store_upkeep.proofs.Marking.{open_same}
 use Rattle.store_upkeep.proofs.Reporting.{ends_reported}
-use Rattle.store_upkeep.proofs.Whole.{stays_some, legal_parts, opens, sweeps_leave}
+use Rattle.store_upkeep.proofs.Whole.{stays_some, legal_parts, opens, whole_numbers, sweeps_leave}
 
 -- ---- the event that opens a sweep
 
@@ -260,6 +261,9 @@ module _ (R : Option (List Snapshot)) (o : Opening) (es : List Event) (e : Event
       (sym (ap (λ xs. after_all R (opened o) xs) f.parts ∙ after_all_append R (opened o) f.before (f.start ∷ f.since)))
       (start_on R (world R o f.before) (swept R o f.before) f.start f.since (legal_parts R (opened o) f.before (f.start ∷ f.since) legal_since).1 f.act f.kind_is f.stays)
 
+  numbers : ((x.sweep).start ≡ moment f.start) × ((x.sweep).cutoff ≡ cutoff_of (moment f.start) (oldest_in ((world R o f.before).store).sessions))
+  numbers = whole_numbers R (world R o f.before) (swept R o f.before) f.start f.since x.sweep (legal_parts R (opened o) f.before (f.start ∷ f.since) legal_since).1 whole
+
   reports_whole : ReportsWhole R o es e
   reports_whole = record {
     before = f.before;
@@ -269,6 +273,8 @@ module _ (R : Option (List Snapshot)) (o : Opening) (es : List Event) (e : Event
     parts = f.parts;
     own = one_lane (lane f.start) (lane e) (after_all R (opened o) es).collecting on (ends_on R (after_all R (opened o) es) e right is);
     whole = whole;
+    started = numbers.0;
+    cutoff = numbers.1;
     leaves = λ stocked. sweeps_leave R o f.before f.start f.since x.sweep legal_since stocked whole;
     reported = x.told;
   }

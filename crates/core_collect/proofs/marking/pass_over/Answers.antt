@@ -9,8 +9,10 @@ marked-requires c = fits_pass c.args.collector.now.plan c.args.collector.now.ent
 pub invariant_of-collector : goal.invariant_of-collector
 invariant_of-collector c =
     let none : c.clear.new.self.items ≡ [] = search rules in
-    subst (FitsEntries c.marked.new.self) (sym none)
-    (fits_none c.args.collector.now.plan c.marked.new.self c.args.collector.now.entries.items c.args.collector.now.fits c.marked.ensures.value)
+    record {
+      fits = subst (FitsEntries c.marked.new.self) (sym none)
+          (fits_none c.args.collector.now.plan c.marked.new.self c.args.collector.now.entries.items c.args.collector.now.fits c.marked.ensures.value);
+    }
 
 pub returns : goal.returns
 returns c =

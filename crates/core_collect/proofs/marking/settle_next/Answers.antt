@@ -59,7 +59,7 @@ returns-in_err-collector-clause-next g c =
 pub invariant_of-collector : goal.invariant_of-collector
 invariant_of-collector g c =
     let old = c.args.collector.now in
-    fits_read old.plan old.entries.items _ old.fits (none_items old.entries c.is_empty.result c.is_empty.ensures c.if-not-is_empty.false) c.in_ok-collector.ensures.few
+    record { fits = fits_read old.plan old.entries.items _ old.fits (none_items old.entries c.is_empty.result c.is_empty.ensures c.if-not-is_empty.false) c.in_ok-collector.ensures.few }
 
 pub pass_over-requires-then-is_empty : goal.pass_over-requires-then-is_empty
 pass_over-requires-then-is_empty g c =

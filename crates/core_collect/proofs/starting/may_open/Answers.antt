@@ -13,8 +13,8 @@ returns-in_err-idle-clause-value g c =
 pub returns-in-Some-clause-value : goal.returns-in-Some-clause-value
 returns-in-Some-clause-value g c =
     let idle : want_idle (session_at c.args.parts.now c.args.lane) ≡ Ok tt = c.in_ok-idle.ensures.value in
-    let ahead : c.args.collector.now ≡ Some c.in-Some.other.now = search rules in
-    told_busy c.args.collector.now (session_at c.args.parts.now c.args.lane) c.args.parts.now.catalogue.items c.in-Some.other.now idle ahead
+    let ahead : c.args.collector.now ≡ Some c.in-Some.other = search rules in
+    told_busy c.args.collector.now (session_at c.args.parts.now c.args.lane) c.args.parts.now.catalogue.items c.in-Some.other idle ahead
 
 pub returns-in-Some-first_damage-clause-value : goal.returns-in-Some-first_damage-clause-value
 returns-in-Some-first_damage-clause-value g c =

@@ -1,4 +1,4 @@
-use Rattle.std.proofs.Common.{◌≡◌, ◌∙◌, ◌++◌, filter, map, sym, ap, arith}
+use Rattle.std.proofs.Common.{◌≡◌, ◌∙◌, ◌++◌, ◌∷◌, [], filter, map, sym, ap, arith, rules}
 use Rattle.std.proofs.lemmas.List.{take_all}
 use Rattle.store_types.specs.FileNames.{is_index_name}
 use Rattle.core_collect.proofs.StartLemmas.{index_of, indexes_kept, indexes_pushed}
@@ -13,8 +13,9 @@ loop-file-preserved c =
     let old = c.args.indexes.now.items in
     elim c.if-is_index.branch [
       | then-is_index+in_ok-clone+in_ok-push w ↦
+          let cloned : w.in_ok-clone.field-0 ≡ x.name = search rules in
           indexes_pushed c.args.listed.now.number xs i x old c.loop-file.indexes.items c.if-is_index.indexes.items (omega arith) c.file-item.is (sym c.is_index.ensures ∙ w.if-is_index.true)
-          (ap (λ v. v.items) w.indexes-is ∙ w.in_ok-push.ensures.items) c.loop-file.invariant
+          (ap (λ v. v.items) w.indexes-is ∙ w.in_ok-push.ensures.items ∙ ap (λ name. c.loop-file.indexes.items ++ record { snapshot = c.args.listed.now.number; name = name } ∷ []) cloned) c.loop-file.invariant
       | else-is_index w ↦
           indexes_kept c.args.listed.now.number xs i x old c.loop-file.indexes.items c.if-is_index.indexes.items (omega arith) c.file-item.is (sym c.is_index.ensures ∙ w.if-is_index.false)
           (ap (λ v. v.items) w.indexes-is) c.loop-file.invariant

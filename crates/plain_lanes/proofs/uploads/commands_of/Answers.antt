@@ -5,7 +5,7 @@ use Rattle.plain_lanes.proofs.uploads.commands_of.Goals as goal
 
 pub returns : goal.returns
 returns c =
-    c.from_vec-result.ensures
-    ∙ all_pushed c.args.snapshot.now c.in_ok-files.files.items c.in_ok-commands.commands.items c.push.new.commands.items c.push-2.new.commands.items _ _ c.in_ok-files.ensures
-    (c.in_ok-commands.ensures ∙ ap (uploads_by []) c.deref.ensures.value) c.in_ok-push.ensures.items c.in_ok-push-2.ensures.items c.in_ok-from_slice.ensures
+    c.from_vec-2.ensures.items
+    ∙ all_pushed c.args.snapshot.now c.in_ok-files.files.items c.in_ok-commands.commands.items c.push.new.self.items c.push-2.new.self.items c.in_ok-from_slice.field-0 c.from_vec.result
+    c.in_ok-files.ensures (c.in_ok-commands.ensures ∙ ap (uploads_by []) c.deref.ensures.value) c.in_ok-push.ensures.items c.in_ok-push-2.ensures.items c.in_ok-from_slice.ensures
     (c.from_vec.ensures ∙ c.in_ok-manifest_text.ensures)

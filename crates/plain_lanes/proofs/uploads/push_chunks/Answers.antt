@@ -9,7 +9,7 @@ loop-piece-preserved c =
     let i = c.loop-piece.piece-index in
     let p = c.piece-item.result in
     chunk_pushed c.loop-piece.commands.items c.push_chunk.new.commands.items c.loop-piece.sent.items c.push_chunk.new.sent.items p (drop i ps) (drop (i + 1) ps)
-    (from_place ps i p (omega arith) c.piece-item.is) c.in_ok-push_chunk.ensures.commands c.in_ok-push_chunk.ensures.sent
+    (from_place ps i p (omega arith) c.piece-item.is) c.in_ok-push_chunk.ensures.pushes c.in_ok-push_chunk.ensures.sent
     ∙ c.loop-piece.invariant
 
 pub returns : goal.returns

@@ -1,11 +1,11 @@
-use Rattle.std.proofs.Common.{◌≡◌, List, length, sym, ap, subst, ◌∙◌, arith}
+use Rattle.std.proofs.Common.{◌≡◌, ℕ, List, length, sym, ap, subst, ◌∙◌, arith}
 use Rattle.wire_commands.specs.declared.rows.FaultRow.{FaultRow}
 use Rattle.wire_commands.specs.declared.reply.Reply.TheVariants.{Verified}
 use Rattle.wire_commands.specs.declared.rows.FileRow.{FileRow}
 use Rattle.wire_commands.specs.HasText.{FitsFileRow, ReplyHasText}
 use Rattle.std.specs.Prelude.{All}
 use Rattle.std.proofs.lemmas.List.Elements.{All-head, All-tail, All-same}
-use Rattle.store_model.specs.Job.{asking, closing}
+use Rattle.store_model.specs.Job.{Visit, asking, reading, closing}
 use Rattle.plain_lanes.specs.Visits.{shown_visit}
 use Rattle.plain_lanes.proofs.VerifyLemmas.{rows_of_test, verified_spelled, next_none, next_some}
 use Rattle.plain_lanes.proofs.verify.next_file.Goals as goal
@@ -25,7 +25,9 @@ returns-in_default-clause-job c =
 pub returns-clause-job : goal.returns-clause-job
 returns-clause-job c =
     let v = c.args.visit in
-    next_some (shown_visit v) v.later.items c.pop_front.new.self.items c.in-Some.row c.in-Some.ensures.items
+    let rest = c.pop_front.new.self.items in
+    let at : Visit = record (shown_visit v) { later = rest } in
+    ap (λ (b : List ℕ). asking (reading at c.in-Some.row b)) c.new.ensures.items ∙ next_some (shown_visit v) v.later.items rest c.in-Some.row c.in-Some.ensures.items
 
 pub invariant_of-visit : goal.invariant_of-visit
 invariant_of-visit c =

@@ -1,5 +1,6 @@
 use Rattle.std.proofs.Common.{◌≡◌, ◌++◌, sym, ap, subst, ◌∙◌}
 use Rattle.std.specs.Prelude.{IfOk}
+use Rattle.wire_commands.specs.HasText.{ReplyHasText}
 use Rattle.store_model.specs.Job.{Job}
 use Rattle.store_model.specs.VerifyJob.{part_read, read_part}
 use Rattle.plain_lanes.specs.Jobs.{shown_job}
@@ -21,3 +22,6 @@ returns-in-Err-clause-job c =
     let v = shown_visit c.args.visit in
     let told = ap (read_by v c.args.row) c.in-Err.ensures.1 ∙ read_not v c.args.row c.args.bytes.items c.args.reply c.in-Err.ensures.0 in
     subst (λ (x : Job). IfOk c.unread.result (λ job. shown_job job ≡ x)) told c.unread.ensures.job
+
+pub unread-requires-clause-reply : goal.unread-requires-clause-reply
+unread-requires-clause-reply c = subst ReplyHasText (sym c.in-Err.ensures.1) c.requires.reply

@@ -11,7 +11,7 @@ pub returns-then-is_unreadable-clause-job : goal.returns-then-is_unreadable-clau
 returns-then-is_unreadable-clause-job c =
     let v = shown_visit c.args.visit in
     let told =
-    ap (file_done v c.args.row) c.first_fault.ensures.first
+    ap (file_done v c.args.row) c.first_fault-fault.ensures.first
     ∙ unreadable_done v c.args.row c.args.fault c.args.reply (sym c.is_unreadable.ensures ∙ c.if-is_unreadable.true) in
     subst (λ (x : Job). IfOk c.file_done.result (λ job. shown_job job ≡ x)) told c.file_done.ensures.job
 

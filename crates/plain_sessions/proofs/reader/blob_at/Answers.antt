@@ -7,4 +7,4 @@ returns-then-place-ge-clause-gives c = entry_beyond c.args.pieces.now c.args.ent
 
 pub returns-clause-gives : goal.returns-clause-gives
 returns-clause-gives c =
-    entry_there c.args.pieces.now c.args.entry c.index.result c.in_ok-blob_of.field-0 (omega arith) c.index.is c.in_ok-blob_of.ensures.blob
+    entry_there c.args.pieces.now c.args.entry c.index-pieces-place.result c.in_ok-blob_of.field-0 (omega arith) c.index-pieces-place.is c.in_ok-blob_of.ensures.blob

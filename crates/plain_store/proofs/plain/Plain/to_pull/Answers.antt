@@ -13,21 +13,21 @@ returns-in_err-want_idle-clause-gives c =
     let r = c.in_err-want_idle.field-0.0 in
     let is : c.from_residual.result ≡ Err (Refused r) = search rules in
     let busy : want_idle (session s c.args.lane) ≡ Err r = search rules in
-    gives_refusal (λ found. found.items) _ r _ is (pull_not_idle _ s c.args.lane c.args.group.now r busy)
+    gives_refusal (λ found. found.items) _ r _ is (pull_not_idle (option_map (λ p. p.now.snapshots) c.args.remote) s c.args.lane c.args.group.now r busy)
 
 pub returns-in_default-clause-gives : goal.returns-in_default-clause-gives
 returns-in_default-clause-gives c =
     let s = c.args.self.now in
     let idle : want_idle (session s c.args.lane) ≡ Ok tt = search rules in
     let bad : group_of c.args.group.now ≡ None = search rules in
-    pull_no_name _ s c.args.lane c.args.group.now idle bad
+    pull_no_name (option_map (λ p. p.now.snapshots) c.args.remote) s c.args.lane c.args.group.now idle bad
 
 pub returns-in_default-2-clause-gives : goal.returns-in_default-2-clause-gives
 returns-in_default-2-clause-gives c =
     let s = c.args.self.now in
     let idle : want_idle (session s c.args.lane) ≡ Ok tt = search rules in
     let named : group_of c.args.group.now ≡ Some c.in-Ok.group = search rules in
-    pull_no_remote _ s c.args.lane c.args.group.now idle c.in-Ok.group named (ap (option_map (λ p. p.now.snapshots)) c.in_default-2.is)
+    pull_no_remote (option_map (λ p. p.now.snapshots) c.args.remote) s c.args.lane c.args.group.now idle c.in-Ok.group named (ap (option_map (λ p. p.now.snapshots)) c.in_default-2.is)
 
 pub returns-clause-gives : goal.returns-clause-gives
 returns-clause-gives c =
@@ -37,5 +37,5 @@ returns-clause-gives c =
     let named : group_of c.args.group.now ≡ Some g = search rules in
     let here = c.in_ok-here.ensures ∙ ap (in_group g) (c.deref.ensures.value ∙ ap (λ (x : Store). x.snapshots) c.self.view_is) in
     let there = c.in_ok-there.ensures ∙ ap (in_group g) (c.deref-2.ensures.value ∙ ap (λ (x : Store). x.snapshots) c.remote.view_is) in
-    pull_goes _ s c.args.lane c.args.group.now idle g named c.in-Some.remote.now.snapshots c.in_ok-here.here.items c.in_ok-there.there.items c.in_ok-found.found.items
+    pull_goes (option_map (λ p. p.now.snapshots) c.args.remote) s c.args.lane c.args.group.now idle g named c.in-Some.remote.now.snapshots c.in_ok-here.here.items c.in_ok-there.there.items c.in_ok-found.found.items
     (option_map (λ key. key.now) c.newest_told.result) (ap (option_map (λ p. p.now.snapshots)) c.in-Some.is) here there c.newest_told.ensures c.in_ok-found.ensures
