@@ -1,4 +1,4 @@
-use Rattle.std.proofs.Common.{◌≡◌, true, false, refl, ◌∙◌}
+use Rattle.std.proofs.Common.{◌≡◌, true, refl, ◌∙◌}
 use Rattle.lane.proofs.Collections.{swept_none, swept_more, swept_ends}
 use Rattle.lane.proofs.Entries.{none_entered, more_entered}
 use Rattle.lane.proofs.Sweeping.{want_before}

@@ -1,4 +1,4 @@
-use Rattle.std.proofs.Common.{◌≡◌, sym, subst, ◌∙◌}
+use Rattle.std.proofs.Common.{sym, subst, ◌∙◌}
 use Rattle.store_history.specs.Acts.{IsWellFormed}
 use Rattle.store_history.proofs.Ending.{is_formed}
 use Rattle.wire_commands.specs.declared.command.Command.{Command}
