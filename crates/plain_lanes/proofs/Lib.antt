@@ -1,3 +1,4 @@
+pub mod NextLemmas
 pub mod LaneLemmas
 pub mod PruneLemmas
 pub mod EndingLemmas

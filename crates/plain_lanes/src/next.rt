@@ -59,11 +59,11 @@ impl<'a> Next<'a> {
     }
 
     /// What is left of the input behind a GC, where this is one.
-    pub fn into_collect(self) -> Option<&'a [u8]>
-        ensures { shown_left result ≡ left_of_collect (shown_next self.entry) }
+    pub fn behind_collect(&self) -> Option<&'a [u8]>
+        ensures { shown_left result ≡ left_of_collect (shown_next self.now) }
     {
         match self {
-            Next::Command(Ahead::Collect, left) => Some(left),
+            Next::Command(Ahead::Collect, left) => Some(*left),
             _ => None,
         }
     }
@@ -88,7 +88,6 @@ fn cut(bytes: &[u8]) -> Front<'_>
     Front::Whole(body, rest)
 }
 
-#[tactic(auto, unfolding(store_model::specs::Lanes::command_next))]
 fn command_next(command: Command, left: &[u8]) -> Next<'_>
     ensures next { shown_next result ≡ next_by command left.now }
     ensures fits { IsFitNext result }

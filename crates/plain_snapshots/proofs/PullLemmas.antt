@@ -1,7 +1,7 @@
 -- Which snapshots a SYNC pulls, one by one.
 use Rattle.std.proofs.Common.{◌≡◌, ℕ, ◌+◌, ◌<◌, Bool, true, false, cond, List, [], ◌∷◌, ◌++◌, map, take, filter, length, get_or, Option, Some, None, refl, sym, ap, ◌∙◌, append-nil}
 use Rattle.std.specs.List.{last_or}
-use Rattle.std.proofs.lemmas.List.{take_min, take-map, take_more}
+use Rattle.std.proofs.lemmas.List.{take-map, take_more}
 use Rattle.std.proofs.lemmas.List.Elements.{filter-append}
 use Rattle.store_types.specs.declared.names.SnapshotKey.{SnapshotKey}
 use Rattle.store_files.specs.Archive.{Snapshot}

@@ -1,6 +1,5 @@
 -- Which snapshots of a group a SYNC pulls.
-use Rattle.std.specs.Prelude.{◌≡◌, List, filter, map, take, Option, None, option_map, Result, IfOk, Vec}
-use Rattle.std.specs.declared.alloc.Global.{Global}
+use Rattle.std.specs.Prelude.{List, filter, map, take, Option, None, option_map}
 use Rattle.std.specs.Borrow.{Bor}
 use Rattle.std.specs.List.{last_or}
 use Rattle.store_types.specs.declared.names.SnapshotKey.{SnapshotKey}

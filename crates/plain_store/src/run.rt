@@ -391,7 +391,7 @@ impl<'a> Run<'a> {
             return Ok(false);
         }
         let next = self.take_next(alloc, lane)?;
-        let Some(left) = next.into_collect() else {
+        let Some(left) = next.behind_collect() else {
             return Ok(false);
         };
         Ok(self.open_allowed(lane, left))

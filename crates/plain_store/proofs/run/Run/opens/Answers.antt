@@ -8,11 +8,11 @@ returns-then-has_job-clause-enters c = (opens_open c.args.self.now c.args.lane c
 
 pub returns-in_default-clause-enters : goal.returns-in_default-clause-enters
 returns-in_default-clause-enters c =
-    let none = sym c.into_collect.ensures ∙ ap (option_map (λ left. left.now)) c.in_default.is in
+    let none = sym c.behind_collect.ensures ∙ ap (option_map (λ left. left.now)) c.in_default.is in
     opens_nothing c.args.self.now c.args.lane c.in_ok-next.next c.in_ok-next.ensures.next (sym c.has_job.ensures ∙ c.if-has_job.false) c.take_next-next.new.self c.in_ok-next.ensures.left none
 
 pub returns-clause-enters : goal.returns-clause-enters
 returns-clause-enters c =
-    let found = sym c.into_collect.ensures ∙ ap (option_map (λ left. left.now)) c.in-Some.is in
+    let found = sym c.behind_collect.ensures ∙ ap (option_map (λ left. left.now)) c.in-Some.is in
     opens_by c.args.self.now c.args.lane c.in_ok-next.next c.in_ok-next.ensures.next (sym c.has_job.ensures ∙ c.if-has_job.false) c.take_next-next.new.self c.in_ok-next.ensures.left
     c.in-Some.left.now c.open_allowed.new.self c.open_allowed.result found c.open_allowed.ensures.enters
