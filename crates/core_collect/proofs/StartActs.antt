@@ -271,8 +271,8 @@ module _ {D E C : Type 0} (d : Ghosts D) (clock : clocks.Ghosts C) (old mid new 
   -- ---- it is refused, or memory was wanting
 
   module _ (stop : Stop) (gives : GivesCollector mid.parts mid.collector at (Err stop)) (text : StopHasText stop) (settled : Settles d mid new at.lane at.moment (told (Err stop)) answer) where
-    settles : Settles d mid new k at.moment (told (Err stop)) answer
-    settles = subst (λ n. Settles d mid new n at.moment (told (Err stop)) answer) admitted.lane_is settled
+    settles_here : Settles d mid new k at.moment (told (Err stop)) answer
+    settles_here = subst (λ n. Settles d mid new n at.moment (told (Err stop)) answer) admitted.lane_is settled
 
   stopped_keeps : (stop : Stop) → GivesCollector mid.parts mid.collector at (Err stop) → Settles d mid new k at.moment (told (Err stop)) answer → ActKeeps d old new k Start answer
   stopped_keeps (stops.Refused refusal) gives settles =
@@ -312,10 +312,10 @@ module _ {D E C : Type 0} (d : Ghosts D) (clock : clocks.Ghosts C) (old mid new 
 
   module _ (stop : Stop) (gives : GivesCollector mid.parts mid.collector at (Err stop)) (text : StopHasText stop) (settled : Settles d mid new at.lane at.moment (told (Err stop)) answer) where
     pub stop_keeps : ActKeeps d old new k Start answer
-    stop_keeps = stopped_keeps stop gives (settles stop gives text settled)
+    stop_keeps = stopped_keeps stop gives (settles_here stop gives text settled)
 
     pub stop_applies : ActApplies d clock old new k Start answer
-    stop_applies = stopped_applies stop gives text (settles stop gives text settled)
+    stop_applies = stopped_applies stop gives text (settles_here stop gives text settled)
 
     pub stop_tells : StartTells old new k answer
-    stop_tells = stopped_tells stop gives (settles stop gives text settled)
+    stop_tells = stopped_tells stop gives (settles_here stop gives text settled)
