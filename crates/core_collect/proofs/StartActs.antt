@@ -1,6 +1,6 @@
 -- The start of a collector, entered: what it leaves of the core, and that the collector shows the history's sweep.
 use Rattle.disk_trait.specs.declared.disk.Disk.{Ghosts}
-use Rattle.std.proofs.Common.{◌≡◌, ◌<◌, ◌≤◌, ◌↔◌, ◌+◌, ◌++◌, ℕ, max, Bool, true, false, cond, is_some, length, List, [], ◌∷◌, option_map, Option, Some, None, IsSome, IsSomeAnd, Result, Ok, Err, refl, sym, ap, ap₂, subst, ◌∙◌, arith}
+use Rattle.std.proofs.Common.{◌≡◌, ◌<◌, ◌≤◌, ◌↔◌, ◌++◌, ℕ, max, Bool, true, false, cond, is_some, length, List, [], ◌∷◌, option_map, Option, Some, None, IsSome, IsSomeAnd, Result, Ok, Err, refl, sym, ap, subst, ◌∙◌, arith}
 use Rattle.std.specs.FinMap.{get}
 use Rattle.port_traits.specs.declared.clock.Clock as clocks
 use Rattle.store_types.specs.Chain.Refusing.{◌>>=◌, if_none}
@@ -11,21 +11,19 @@ use Rattle.store_types.specs.declared.refusal.SessionState.TheVariants as states
 use Rattle.store_files.specs.Archive.{Snapshot}
 use Rattle.store_files.specs.Folder.{IsDigest, chunk_name}
 use Rattle.store_model.specs.Store.{Store}
-use Rattle.wire_commands.specs.declared.reply.Reply.{Reply}
 use Rattle.wire_commands.specs.declared.reply.Reply.TheVariants as replies
 use Rattle.disk_trait.specs.declared.disk.DiskError.TheVariants as disks
-use Rattle.store_history.specs.declared.act.Act.{Act}
 use Rattle.store_history.specs.declared.act.Act.TheVariants.{Start}
 use Rattle.store_history.specs.declared.act.Answer.{Answer}
 use Rattle.store_history.specs.declared.act.Event.{Event}
 use Rattle.store_history.specs.Acts.{class_of, sweeping}
-use Rattle.store_history.specs.History.{World, after, kind, kind_of, lane as lane_of, moment, moved, opened}
+use Rattle.store_history.specs.History.{World, after, kind_of, lane as lane_of, moment, moved, opened}
 use Rattle.store_history.specs.Legal.{may_open}
-use Rattle.store_history.specs.LastTouches.{LastTouches, SameTouches, dated, touches_by_entry}
-use Rattle.store_history.specs.Sweeping.{Sweep, Swept, new_sweep, swept_after, swept_at, swept_by, while_open}
+use Rattle.store_history.specs.LastTouches.{LastTouches, SameTouches, touches_by_entry}
+use Rattle.store_history.specs.Sweeping.{Swept, new_sweep, swept_after, swept_at, swept_by, while_open}
 use Rattle.store_history.proofs.SweptLonger.{is_swept_longer, swept_longer}
 use Rattle.core_state.specs.declared.collector.Collector.{Collector}
-use Rattle.core_state.specs.declared.entering.Admitted.TheVariants.{Answered, At}
+use Rattle.core_state.specs.declared.entering.Admitted.TheVariants.{At}
 use Rattle.core_state.specs.declared.entering.Place.{Place}
 use Rattle.core_state.specs.declared.kept.Listed.{Listed}
 use Rattle.core_state.specs.declared.kept.Session.{Session}
@@ -36,7 +34,7 @@ use Rattle.core_state.specs.declared.stop.Stop.{Stop}
 use Rattle.core_state.specs.declared.stop.Stop.TheVariants as stops
 use Rattle.core_state.specs.Applies.{ActApplies, ActKeeps}
 use Rattle.core_state.specs.Begins.{FillsUp, IsAdmitted, Refuses, halted, short}
-use Rattle.core_state.specs.Closing.{closes_by, is_closing}
+use Rattle.core_state.specs.Closing.{closes_by}
 use Rattle.core_state.specs.Collectors.{collector_by}
 use Rattle.core_state.specs.Entering.{held_by}
 use Rattle.core_state.specs.History.{History, StandsFor, event_of, then_event, world}

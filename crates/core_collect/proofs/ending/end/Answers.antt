@@ -1,4 +1,4 @@
-use Rattle.std.proofs.Common.{◌≡◌, ap, refl, subst, sym, ◌∙◌, rules}
+use Rattle.std.proofs.Common.{ap, refl, subst, ◌∙◌, rules}
 use Rattle.disk_trait.specs.Effects.{StepsOn}
 use Rattle.file_install.specs.Install.{Installs, installed}
 use Rattle.store_history.specs.Saved.{book_name}
