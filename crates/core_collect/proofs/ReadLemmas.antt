@@ -1,26 +1,23 @@
 -- What is read of an index: its digests, or that there is none.
-use Rattle.disk_trait.specs.declared.disk.Disk.{Ghosts}
 use Rattle.std.proofs.Common.{◌≡◌, ◌<◌, ◌≤◌, ◌+◌, ◌==◌, ◌||◌, ℕ, Bool, true, false, List, [], ◌∷◌, ◌++◌, get_or, length, map, take, option_map, Option, Some, None, Result, Ok, Err, refl, sym, ap, subst, ◌∙◌, arith}
 use Rattle.std.specs.FinMap.{get}
-use Rattle.std.specs.List.{All, find}
+use Rattle.std.specs.List.{find}
 use Rattle.disk_trait.specs.Files.{Files}
 use Rattle.sha2.specs.Sha256.{sha256}
 use Rattle.std.proofs.lemmas.List.{length-map, map_push, take_all, take_more}
 use Rattle.store_types.specs.Chain.Refusing.{◌>>=◌}
 use Rattle.store_types.specs.declared.names.Digest32.{Digest32}
 use Rattle.store_types.specs.FileNames.{is_blob_name, is_dynamic_name, is_fixed_name, is_index_name}
-use Rattle.store_types.specs.Names.{same_key}
 use Rattle.store_types.specs.declared.refusal.Refusal.{Refusal}
 use Rattle.store_types.specs.declared.refusal.Refusal.TheVariants.{Unreadable}
-use Rattle.store_files.specs.Archive.{Archive, Content, archive, blob, Snapshot, archive_text, ends_from, file_named, file_text}
+use Rattle.store_files.specs.Archive.{Archive, Content, archive, blob, Snapshot, archive_text, ends_from, file_text}
 use Rattle.store_files.specs.DynamicIndex.{Ended}
 use Rattle.store_files.specs.Entries.{ended_of, ends_of}
-use Rattle.store_model.specs.Stands.{FitsContent, IsSnapshot, StandsFor, keys_rise, names_content}
+use Rattle.store_model.specs.Stands.{FitsContent, StandsFor, keys_rise, names_content}
 use Rattle.store_model.specs.Store.{snapshot_named}
 use Rattle.store_model.specs.WriterSteps.{part_of}
-use Rattle.snapshot_files.specs.Indexes.{Indexed, entries_in, index_at, index_in, is_fixed_layout, shown_index}
+use Rattle.snapshot_files.specs.Indexes.{Indexed, entries_in, index_at, is_fixed_layout, shown_index}
 use Rattle.snapshot_files.specs.Reads as reads
-use Rattle.snapshot_files.specs.declared.index.IndexPart.{IndexPart}
 use Rattle.snapshot_files.specs.declared.read_error.ReadError.{ReadError}
 use Rattle.snapshot_files.specs.declared.read_error.ReadError.TheVariants as errors
 use Rattle.snapshot_files.proofs.Archives.{archive_read, blob_no_dynamic, blob_no_fixed, layout_named}

@@ -1,4 +1,4 @@
-use Rattle.std.proofs.Common.{◌≡◌, ◌<◌, ◌∙◌, [], get_or, length, ap, arith}
+use Rattle.std.proofs.Common.{◌<◌, [], get_or, length, arith}
 use Rattle.std.proofs.lemmas.List.{get_or_default}
 use Rattle.core_collect.proofs.ReadLemmas.{digests_all, digests_more}
 use Rattle.core_collect.proofs.marking.digests_of.Goals as goal

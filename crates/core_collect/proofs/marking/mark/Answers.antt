@@ -1,4 +1,4 @@
-use Rattle.std.proofs.Common.{◌≡◌, ◌+◌, ◌-◌, ◌==◌, ◌∙◌, [], cond, drop, length, take, Some, None, inl, inr, refl, sym, ap, rules, arith}
+use Rattle.std.proofs.Common.{◌≡◌, ◌+◌, ◌-◌, ◌∙◌, [], cond, drop, length, take, Some, None, inl, inr, refl, sym, ap, rules, arith}
 use Rattle.std.proofs.lemmas.Bool.{eq-eqb, ne_eqb}
 use Rattle.gc_plan.specs.Plan.{next_mark}
 use Rattle.core_state.specs.Entries.{marked_in}

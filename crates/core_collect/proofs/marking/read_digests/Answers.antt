@@ -1,4 +1,4 @@
-use Rattle.std.proofs.Common.{◌≡◌, ◌∙◌, map, sym, ap, subst}
+use Rattle.std.proofs.Common.{◌∙◌, map, sym, ap, subst}
 use Rattle.store_files.specs.DynamicIndex.{Ended}
 use Rattle.store_files.specs.Entries.{ends_of}
 use Rattle.snapshot_files.specs.Indexes.{index_at, shown_index}

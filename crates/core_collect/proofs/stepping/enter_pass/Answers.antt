@@ -1,6 +1,5 @@
-use Rattle.std.proofs.Common.{◌≡◌, ◌∙◌, IfSome, Ok, Option, Some, ap, sym, subst}
+use Rattle.std.proofs.Common.{◌≡◌, IfSome, Ok, Some, rules, sym, subst}
 use Rattle.std.specs.Prelude.{IfErr}
-use Rattle.gc_plan.specs.declared.GcReport.{GcReport}
 use Rattle.core_state.specs.Stops.{StopHasText}
 use Rattle.core_collect.specs.Stepping.{EntersPass, Outcome}
 use Rattle.wire_commands.specs.HasText.{ReplyHasText}
@@ -13,8 +12,8 @@ returns-in-Ok-None-clause-text g c = subst (λ r. IfSome r ReplyHasText) (sym c.
 
 pub returns-in-Ok-Some-clause-enters : goal.returns-in-Ok-Some-clause-enters
 returns-in-Ok-Some-clause-enters g c =
-    let is : c.args.ended ≡ Ok (Some c.in-Ok-Some.report) = c.in-Ok-Some.is ∙ ap (λ (o : Option GcReport). let r : Outcome = Ok o in r) c.in-Ok-Some.field-0-is in
-    subst (λ (r : Outcome). EntersPass g.D.Disk c.args.core.now _ c.args.at r _) (sym is) (entered_as g.D.Disk _ _ _ _ _ _ _ _ c.told.ensures.value c.enter-in-Ok-Some.ensures)
+    let is : c.args.ended ≡ Ok (Some c.in-Ok-Some.report) = search rules in
+    subst (λ (r : Outcome). EntersPass g.D.Disk c.args.core.now c.enter-in-Ok-Some.new.core c.args.at r c.enter-in-Ok-Some.result) (sym is) (entered_as g.D.Disk _ _ _ _ _ _ _ _ c.told.ensures.value c.enter-in-Ok-Some.ensures)
 
 pub returns-in-Ok-Some-clause-text : goal.returns-in-Ok-Some-clause-text
 returns-in-Ok-Some-clause-text g c = subst (λ r. IfSome r ReplyHasText) (sym c.enter-in-Ok-Some.ensures.reply_is) c.told.ensures.text
