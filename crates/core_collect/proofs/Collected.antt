@@ -156,6 +156,7 @@ module _ {D : Type 0} (d : Ghosts D) (old new : Parts D) (u v : Upkeep) (c e f :
         crash = same_leaves d old.disk new.disk stays reads.crash;
         touches = inl (marked_now e, refl, few_marked e, marked_touches u v (marked_now e) at.moment marks.touches undated);
         early = λ before le early. marked_early u.book v.book (marked_now e) at.moment marks.touches (none_later u.book before at.moment le early);
+        fits = λ before le in_time early. tt;
         lane = marks.lane ∙ (finds.further).lane;
         ends = none_ends f still;
         further = goes_down c f goes still (let less = marks.less in let most = (finds.further).not_more in omega (arith, less, most));
@@ -196,6 +197,7 @@ module _ {D : Type 0} (d : Ghosts D) (old new : Parts D) (u : Upkeep) (c e : Col
     crash = same_leaves d old.disk new.disk stays reads.crash;
     touches = inr (None, refl, same_touches (touches_kept u));
     early = λ before le early. none_later u.book before at.moment le early;
+    fits = λ before le in_time early. tt;
     lane = lane ∙ (finds.further).lane;
     ends = subst (λ o. IfSome o IsIndex) (sym ended) tt;
     further = ends_down c f path goes ended;
@@ -216,6 +218,7 @@ module _ {D : Type 0} (d : Ghosts D) (old new : Parts D) (u : Upkeep) (c e : Col
     crash = same_leaves d old.disk new.disk stays reads.crash;
     touches = refl;
     early = λ before le early. none_later u.book before at.moment le early;
+    fits = λ before le in_time early. tt;
     lane = (finds.further).lane;
     ends = (finds.further).ended ∙ goes;
     further = tt;
@@ -244,6 +247,7 @@ module _ {D : Type 0} (d : Ghosts D) (old new : Parts D) (u : Upkeep) (c e : Col
     crash = same_leaves d old.disk new.disk stays reads.crash;
     touches = refl;
     early = λ before le early. none_later u.book before at.moment le early;
+    fits = λ before le in_time early. tt;
     lane = (finds.further).lane;
     ends = (finds.further).ended ∙ goes;
     further = tt;
@@ -299,6 +303,7 @@ module _ {D : Type 0} (d : Ghosts D) (old new : Parts D) (mid : D) (u v : Upkeep
         crash = crash (Ok done) serves x;
         touches = visited_pass u v (x.done).0 f.plan x.change (next_visit (x.done).0) at.moment undated first;
         early = λ before le early. visited_early u.book v.book (x.done).0 f.plan x.change (next_visit (x.done).0) at.moment first (none_later u.book before at.moment le early);
+        fits = λ before le in_time early. tt;
         lane = lane ∙ (finds.further).lane;
         ends = none_ends f still;
         further = goes_down c f goes_on still (let less = x.less ((finds.further).over going) in let most = (finds.further).not_more in omega (arith, less, most));
@@ -321,6 +326,7 @@ module _ {D : Type 0} (d : Ghosts D) (old new : Parts D) (mid : D) (u v : Upkeep
         crash = crash (Err disks.NoMemory) serves x;
         touches = same_upkeep u v (x.unswept refl) undated;
         early = λ before le early. subst (λ b. NoneAfter b at.moment) (sym (x.unswept refl)) (none_later u.book before at.moment le early);
+        fits = λ before le in_time early. tt;
         lane = lane ∙ (finds.further).lane;
         ends = still;
         further = tt;
@@ -339,6 +345,7 @@ module _ {D : Type 0} (d : Ghosts D) (old new : Parts D) (mid : D) (u v : Upkeep
     crash = crash (Err disks.Failed) serves x;
     touches = same_upkeep u v (x.unswept refl) undated;
     early = λ before le early. subst (λ b. NoneAfter b at.moment) (sym (x.unswept refl)) (none_later u.book before at.moment le early);
+    fits = λ before le in_time early. tt;
     lane = lane ∙ (finds.further).lane;
     ends = still;
     further = tt;
@@ -368,6 +375,7 @@ module _ {D : Type 0} (d : Ghosts D) (old new : Parts D) (u : Upkeep) (c : Colle
     crash = ends.crash;
     touches = refl;
     early = λ before le early. none_later u.book before at.moment le early;
+    fits = λ before le in_time early. ends.fits (record { touches = none_later u.book before at.moment le early; in_time = in_time });
     lane = refl;
     ends = goes_on;
     further = tt;
@@ -389,6 +397,7 @@ module _ {D : Type 0} (d : Ghosts D) (old new : Parts D) (u : Upkeep) (c : Colle
         crash = same_leaves d old.disk new.disk stays (inr same.1);
         touches = refl;
         early = λ before le early. none_later u.book before at.moment le early;
+        fits = λ before le in_time early. tt;
         lane = refl;
         ends = goes_on;
         further = tt;
@@ -406,6 +415,7 @@ module _ {D : Type 0} (d : Ghosts D) (old new : Parts D) (u : Upkeep) (c : Colle
     crash = ends.crash;
     touches = refl;
     early = λ before le early. none_later u.book before at.moment le early;
+    fits = λ before le in_time early. tt;
     lane = refl;
     ends = goes_on;
     further = tt;

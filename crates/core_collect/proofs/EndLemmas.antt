@@ -1,10 +1,11 @@
 -- The end of a collector whose sweep is over: its report is the sweep's, and the saved book matters for nothing.
 use Rattle.disk_trait.specs.declared.disk.Disk.{Ghosts}
-use Rattle.std.proofs.Common.{◌≡◌, ◌↔◌, ◌==◌, inl, inr, ℕ, true, not, List, length, Option, Some, None, is_some, Result, Ok, Err, refl, sym, subst, ap, ◌∙◌, arith, true≢false}
+use Rattle.std.proofs.Common.{◌≡◌, ◌≤◌, ◌↔◌, ◌==◌, inl, inr, ℕ, true, not, List, length, Option, Some, None, is_some, Result, Ok, Err, refl, sym, subst, ap, ◌∙◌, arith, true≢false}
 use Rattle.std.specs.Prelude.{IfOk, IfSome, IsErr, IsErrOf, IsSomeAnd}
 use Rattle.std.specs.FinMap.{get}
 use Rattle.std.specs.List.{Contains}
 use Rattle.std.specs.Option.{IsSome}
+use Rattle.std.proofs.Props.{props}
 use Rattle.std.proofs.lemmas.Bool.{and_parts}
 use Rattle.std.proofs.lemmas.List.Elements.{filter_agree}
 use Rattle.disk_trait.specs.Disk.{Serves}
@@ -13,15 +14,19 @@ use Rattle.disk_trait.specs.Files.{Files}
 use Rattle.disk_trait.specs.declared.disk.DiskError.{DiskError}
 use Rattle.disk_trait.specs.declared.disk.DiskError.TheVariants.{NoMemory, Failed}
 use Rattle.file_install.specs.Install.{Installs, installed}
-use Rattle.store_files.specs.Book.{Book, book_text}
+use Rattle.port_traits.specs.Readings.{Readings}
+use Rattle.store_types.specs.Times.{last_moment}
+use Rattle.store_types.specs.declared.refusal.Refusal.{Refusal}
+use Rattle.store_types.specs.declared.refusal.Refusal.TheVariants.{Halted}
+use Rattle.store_files.specs.Book.{Book, FitsBook, book_text}
 use Rattle.store_files.specs.Folder.{chunk_name, file_path}
 use Rattle.store_model.specs.Store.{Store}
 use Rattle.wire_commands.specs.declared.reply.Reply.{Reply}
-use Rattle.wire_commands.specs.declared.reply.Reply.TheVariants.{Collected}
+use Rattle.wire_commands.specs.declared.reply.Reply.TheVariants.{Collected, Refused}
 use Rattle.wire_commands.specs.HasText.{FitsReply, ReplyHasText}
 use Rattle.wire_commands.specs.ReplyText.{reply_text}
 use Rattle.atime_book.specs.Counts.{ListsBook, is_since, pending_among as pending_of_book, used_among as used_of_book}
-use Rattle.atime_book.specs.Touches.{as_of, last_of}
+use Rattle.atime_book.specs.Touches.{IsAt, as_of, last_of}
 use Rattle.gc_plan.specs.Plan.{Plan, is_over as is_plan_over}
 use Rattle.gc_plan.specs.declared.GcReport.{GcReport}
 use Rattle.store_history.specs.declared.act.Answer.{Answer}
@@ -34,14 +39,17 @@ use Rattle.core_state.specs.declared.parts.Parts.{Parts}
 use Rattle.core_state.specs.declared.upkeep.Upkeep.{Upkeep}
 use Rattle.core_state.specs.declared.state.Core.{Core}
 use Rattle.core_state.specs.declared.stop.Stop.TheVariants as stops
-use Rattle.core_state.specs.Collectors.{is_cut}
+use Rattle.core_state.specs.declared.collector.Early.{Early}
+use Rattle.core_state.specs.declared.entering.Place.{Place}
+use Rattle.core_state.specs.Begins.{IsNext}
+use Rattle.core_state.specs.Collectors.{is_cut, refusal_of}
 use Rattle.core_state.specs.Settles.{IsEntered}
 use Rattle.core_state.specs.Sweeps.{ShowsOpen, ShowsSweep}
 use Rattle.core_state.specs.Unchanged.{SameKept}
 use Rattle.core_state.specs.Upkeeps.{touches_kept}
 use Rattle.core_state.proofs.SavingNames.{SameStore, same_installed}
 use Rattle.core_collect.specs.Beside.{IsSweepable, StandsBeside}
-use Rattle.core_collect.specs.Ending.{EndsPlan, Reports, early_in, report_reply}
+use Rattle.core_collect.specs.Ending.{EndsPlan, Reports, TellsEarly, early_in, halts_early, replies_early, report_reply}
 use Rattle.core_collect.specs.Stepping.{IsTheSweeps}
 use Rattle.core_collect.proofs.Losing.{holds_saved}
 use Rattle.core_collect.proofs.Outcomes.{end_outcome}
@@ -130,28 +138,54 @@ collected_has_text start cutoff used pending removed fits = (fits, omega arith)
 module _ {D : Type 0} (d : Ghosts D) (old : D) (book : Book) (plan : Plan) (moment : ℕ) where
   -- the disk was not called
   pub unsaved : (r : Result GcReport DiskError) → IsErr r → EndsPlan d old old book plan moment r
-  unsaved r failed = record { crash = inl refl; installed = λ honest. on_error r _ failed; report = no_report r failed }
+  unsaved r failed = record { crash = inl refl; installed = λ honest. on_error r _ failed; report = no_report r failed; fits = λ at. on_error r _ failed }
     where
       no_report : (x : Result GcReport DiskError) → IsErr x → IfOk x (Reports book plan)
       no_report (Ok report) e = absurd (ok_error e)
       no_report (Err error) e = tt
 
   pub unsaved_by : (new : D) (r : Result GcReport DiskError) → IsErr r → StepsOn d old new (Installs (d.content old) book_name (book_text (as_of moment book))) → EndsPlan d old new book plan moment r
-  unsaved_by new r failed crash = record { crash = inr crash; installed = λ honest. on_error r _ failed; report = no_report r failed }
+  unsaved_by new r failed crash = record { crash = inr crash; installed = λ honest. on_error r _ failed; report = no_report r failed; fits = λ at. on_error r _ failed }
     where
       no_report : (x : Result GcReport DiskError) → IsErr x → IfOk x (Reports book plan)
       no_report (Ok report) e = absurd (ok_error e)
       no_report (Err error) e = tt
 
   pub saved_by : (new : D) (report : GcReport) → StepsOn d old new (Installs (d.content old) book_name (book_text (as_of moment book)))
-      → (d.honest old → d.content new ≡ installed (d.content old) book_name (book_text (as_of moment book))) → Reports book plan report → EndsPlan d old new book plan moment (Ok report)
-  saved_by new report crash saved reports = record { crash = inr crash; installed = saved; report = reports }
+      → (d.honest old → d.content new ≡ installed (d.content old) book_name (book_text (as_of moment book))) → Reports book plan report → (IsAt book moment → FitsBook (as_of moment book))
+      → EndsPlan d old new book plan moment (Ok report)
+  saved_by new report crash saved reports fits = record { crash = inr crash; installed = saved; report = reports; fits = fits }
 
 -- ---- a collector that was ended early
 
 pub cut_early : (lane : ℕ) (c : Option Collector) → is_cut lane c ≡ true → IsSome (early_in c)
 cut_early lane None cut = absurd (true≢false (sym cut))
 cut_early lane (Some c) cut = (and_parts (c.lane == lane) (is_some c.ended) cut).1
+
+-- between the last moment and the greatest one there is one proof
+time_one : (a b : ℕ) → IsProp (a ≤ b)
+time_one a b = hlevel props
+
+pub with_collector : {D E C : Type 0} (core : Core D E C) (in_time : core.last ≤ last_moment) (o p : Option Collector) → o ≡ p → record core { collector = o; in_time = in_time } ≡ record core { collector = p }
+with_collector core in_time o p is =
+    ap (λ (x : Option Collector). record core { collector = x; in_time = in_time }) is
+    ∙ ap (λ (t : core.last ≤ last_moment). record core { collector = p; in_time = t }) (time_one core.last last_moment in_time core.in_time)
+
+module _ {D E C : Type 0} (d : Ghosts D) (readings : C → Option Readings) (old mid new : Core D E C) (lane : ℕ) (at : Place) (answer : Answer) (next : IsNext readings old mid lane at) where
+  -- a fault of the disk came before
+  pub halts_so : (place : ℕ) (reply : Reply) → mid.fault ≡ Some place → reply ≡ Refused (Halted place) → IsEntered d mid new at.lane at.moment 5 (Some reply) answer → TellsEarly d readings old new lane answer
+  halts_so place reply fault is entered =
+      halts_early mid at place (sym next.fault ∙ fault) next
+      (subst (λ (k : ℕ). IsEntered d mid new k at.moment 5 (Some (Refused (Halted place))) answer) next.lane_is
+      (subst (λ (r : Reply). IsEntered d mid new at.lane at.moment 5 (Some r) answer) is entered))
+
+  pub closes_early : (early : Early) (o : Option Collector) (refusal : Refusal) (in_time : mid.last ≤ last_moment) → mid.fault ≡ None → early_in mid.collector ≡ Some early → o ≡ None → refusal ≡ refusal_of early
+      → IsEntered d (record mid { collector = o; in_time = in_time }) new at.lane at.moment 4 (Some (Refused refusal)) answer → TellsEarly d readings old new lane answer
+  closes_early early o refusal in_time none early_is gone is entered =
+      replies_early mid at early (sym next.fault ∙ none) (ap early_in (sym next.collector) ∙ early_is) next
+      (subst (λ (k : ℕ). IsEntered d (record mid { collector = None }) new k at.moment 4 (Some (Refused (refusal_of early))) answer) next.lane_is
+      (subst (λ (r : Refusal). IsEntered d (record mid { collector = None }) new at.lane at.moment 4 (Some (Refused r)) answer) is
+      (subst (λ (core : Core D E C). IsEntered d core new at.lane at.moment 4 (Some (Refused refusal)) answer) (with_collector mid in_time o None gone) entered)))
 
 pub entered_text : {D E C : Type 0} (d : Ghosts D) (old new : Core D E C) (lane moment kind : ℕ) (reply : Reply) (answer : Answer) → IsEntered d old new lane moment kind (Some reply) answer → ReplyHasText reply
     → IfSome answer.reply ReplyHasText

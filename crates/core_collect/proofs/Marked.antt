@@ -1,12 +1,12 @@
 -- What a mark leaves shows the sweep of the history after its next mark.
 use Rattle.disk_trait.specs.declared.disk.Disk.{Ghosts}
-use Rattle.std.proofs.Common.{◌≡◌, ◌↔◌, ◌||◌, ℕ, max, Bool, true, false, cond, List, [], ◌∷◌, map, option_map, Option, Some, None, Result, Ok, IsSome, is_some, IsSomeAnd, refl, sym, ap, ap₂, subst, ◌∙◌}
+use Rattle.std.proofs.Common.{◌≡◌, ◌↔◌, ◌||◌, ℕ, max, Bool, true, false, cond, List, [], ◌∷◌, map, option_map, Option, Some, None, Ok, IsSome, is_some, IsSomeAnd, refl, sym, ap, subst, ◌∙◌}
 use Rattle.std.specs.FinMap.{get}
 use Rattle.std.specs.Str.{bytes_eq}
 use Rattle.std.proofs.lemmas.List.{take-map}
 use Rattle.disk_trait.specs.Effects.{OnlyReads}
 use Rattle.store_types.specs.declared.names.Digest32.{Digest32}
-use Rattle.store_files.specs.Folder.{IsDigest, chunk_name}
+use Rattle.store_files.specs.Folder.{chunk_name}
 use Rattle.store_model.specs.Store.{Store}
 use Rattle.atime_book.specs.Present.{is_among}
 use Rattle.gc_plan.specs.Plan.{is_over, mark_limit}
@@ -20,7 +20,7 @@ use Rattle.core_state.specs.Unchanged.{SameKept}
 use Rattle.core_state.specs.Upkeeps.{touches_kept}
 use Rattle.core_state.proofs.Acting.{holds_same}
 use Rattle.core_collect.specs.Beside.{IsPresent, StandsBeside}
-use Rattle.core_collect.specs.Marking.{BeginsWith, FindsNext, MarksSome, behind_next, bytes_of, entries_left, marked_now}
+use Rattle.core_collect.specs.Marking.{BeginsWith, FindsNext, MarksSome, behind_next, entries_left, marked_now}
 use Rattle.core_collect.specs.Stepping.{IsTheSweeps}
 use Rattle.core_collect.proofs.MarkLemmas.{marked_shows}
 

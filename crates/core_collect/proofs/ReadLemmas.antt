@@ -1,26 +1,24 @@
 -- What is read of an index: its digests, or that there is none.
-use Rattle.disk_trait.specs.declared.disk.Disk.{Ghosts}
-use Rattle.std.proofs.Common.{◌≡◌, ◌<◌, ◌≤◌, ◌+◌, ◌==◌, ◌||◌, ℕ, Bool, true, false, List, [], ◌∷◌, ◌++◌, get_or, length, map, take, option_map, Option, Some, None, Result, Ok, Err, refl, sym, ap, ◌∙◌, arith}
+use Rattle.std.proofs.Common.{◌≡◌, ◌<◌, ◌≤◌, ◌+◌, ◌==◌, ◌||◌, ℕ, Bool, true, false, List, [], ◌∷◌, ◌++◌, get_or, length, map, take, option_map, Option, Some, None, Result, Ok, Err, refl, sym, ap, subst, ◌∙◌, arith}
 use Rattle.std.specs.FinMap.{get}
-use Rattle.std.specs.List.{All, find}
+use Rattle.std.specs.List.{find}
 use Rattle.disk_trait.specs.Files.{Files}
 use Rattle.sha2.specs.Sha256.{sha256}
 use Rattle.std.proofs.lemmas.List.{length-map, map_push, take_all, take_more}
 use Rattle.store_types.specs.Chain.Refusing.{◌>>=◌}
 use Rattle.store_types.specs.declared.names.Digest32.{Digest32}
 use Rattle.store_types.specs.FileNames.{is_blob_name, is_dynamic_name, is_fixed_name, is_index_name}
-use Rattle.store_types.specs.Names.{same_key}
 use Rattle.store_types.specs.declared.refusal.Refusal.{Refusal}
 use Rattle.store_types.specs.declared.refusal.Refusal.TheVariants.{Unreadable}
-use Rattle.store_files.specs.Archive.{Archive, Content, archive, blob, Snapshot, archive_text, ends_from, file_named, file_text}
+use Rattle.store_files.specs.Archive.{Archive, Content, archive, blob, Snapshot, archive_text, ends_from, file_text}
 use Rattle.store_files.specs.DynamicIndex.{Ended}
 use Rattle.store_files.specs.Entries.{ended_of, ends_of}
-use Rattle.store_model.specs.Stands.{FitsContent, IsSnapshot, StandsFor, keys_rise, names_content}
+use Rattle.store_model.specs.Stands.{FitsContent, StandsFor, keys_rise, names_content}
 use Rattle.store_model.specs.Store.{snapshot_named}
 use Rattle.store_model.specs.WriterSteps.{part_of}
-use Rattle.snapshot_files.specs.Indexes.{Indexed, entries_in, index_at, index_in, is_fixed_layout, shown_index}
+use Rattle.snapshot_files.specs.Indexes.{Indexed, entries_in, index_at, is_fixed_layout, shown_index}
 use Rattle.snapshot_files.specs.Reads as reads
-use Rattle.snapshot_files.specs.declared.index.IndexPart.{IndexPart}
+use Rattle.snapshot_files.specs.declared.read_error.ReadError.{ReadError}
 use Rattle.snapshot_files.specs.declared.read_error.ReadError.TheVariants as errors
 use Rattle.snapshot_files.proofs.Archives.{archive_read, blob_no_dynamic, blob_no_fixed, layout_named}
 use Rattle.snapshot_files.proofs.Indexed.{at_nothing, at_text, index_is, no_index}
@@ -33,8 +31,10 @@ use Rattle.core_state.specs.Shown.{shown_snapshot}
 use Rattle.core_state.specs.Sweeps.{digests_in, digests_named, kept_at}
 use Rattle.core_state.proofs.Finding.{found_in, mapped}
 use Rattle.core_state.proofs.Found.{IsThere, is_there, kept_is, not_there, there_fits, there_kind, there_named, there_text}
-use Rattle.core_collect.specs.Marking.{digests_read, path_at}
-use Rattle.core_collect.proofs.Lists.{IsLike, each_like, each_named}
+use Rattle.core_collect.specs.Marking.{Reads, digests_read, path_at}
+use Rattle.core_collect.specs.declared.marking.Unread.{Unread}
+use Rattle.core_collect.specs.declared.marking.Unread.TheVariants as unreads
+use Rattle.core_collect.proofs.Lists.{each_like, each_named}
 
 -- ---- an index of the plain store
 
@@ -135,6 +135,11 @@ pub unreadable_read : (m : Files) (path : List ℕ) (b : Bool) (r : Refusal) →
 unreadable_read m path b r is =
     read_as m path b (Err r) is ∙ ap (λ q. let x : Result (List (List ℕ)) Refusal = Err q in x) (only_unreadable m path b r is)
 
+abbrev pub IsRefusal : ReadError → Type 0
+IsRefusal (errors.Refused r) = Unit {0}
+IsRefusal errors.NoMemory = ⊥
+IsRefusal errors.Failed = ⊥
+
 -- the digests that were read
 pub digests_given : (m : Files) (path : List ℕ) (b : Bool) (x : Indexed) (ds : List (List ℕ)) → index_at m path b 0 ≡ Ok x → ds ≡ map (λ (e : Ended). e.digest) x.entries → digests_read m path b ≡ Ok ds
 digests_given m path b x ds is same = read_as m path b (Ok x) is ∙ ap (λ q. let r : Result (List (List ℕ)) Refusal = Ok q in r) (sym same)
@@ -166,3 +171,11 @@ digests_few entries digests limit same few = let n = ap length same in omega (ar
 -- all of them
 pub digests_all : (xs : List (Digest32 × ℕ)) (i : ℕ) (digests : List Digest32) → length xs ≤ i → map bytes digests ≡ map digest_in (ends_of (take i xs)) → map bytes digests ≡ map digest_in (ends_of xs)
 digests_all xs i digests le so_far = so_far ∙ ap (λ ys. map digest_in (ends_of ys)) (take_all i xs le)
+
+-- a refused read: no index stands there
+pub refused_read : (m : Files) (path q : List ℕ) (b : Bool) (e : ReadError) (unread : Unread) → q ≡ path → unread ≡ unreads.Unreadable path → IsRefusal e → reads.Gives shown_index (Err e) (index_at m q b 0)
+    → Reads (digests_read m path b) (Err unread)
+refused_read m path q b (errors.Refused r) unread same is refused gives =
+    subst (λ u. Reads (digests_read m path b) (Err u)) (sym is) (unreadable_read m path b r (ap (λ p. index_at m p b 0) (sym same) ∙ gives))
+refused_read m path q b errors.NoMemory unread same is refused gives = absurd refused
+refused_read m path q b errors.Failed unread same is refused gives = absurd refused

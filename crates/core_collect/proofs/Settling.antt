@@ -1,6 +1,6 @@
 -- The index that is next is passed over, read or unreadable, and the search for the one that is marked.
 use Rattle.disk_trait.specs.declared.disk.Disk.{Ghosts}
-use Rattle.std.proofs.Common.{◌≡◌, ◌<◌, ◌≤◌, ◌+◌, ℕ, zero, suc, Bool, true, false, cond, nat_lt, le_refl, le_of_eq, List, [], ◌∷◌, drop, length, map, Option, Some, None, Result, Ok, Err, IsSome, is_some, IsErrAnd, IsErrOf, Vec, Global, vec_len, ◌==◌, true≢false, inr, refl, sym, ap, ap₂, subst, ◌∙◌, arith}
+use Rattle.std.proofs.Common.{◌≡◌, ℕ, zero, suc, Bool, true, false, cond, nat_lt, le_refl, le_of_eq, List, [], ◌∷◌, drop, length, map, Option, Some, None, Result, Ok, Err, is_some, IsErrAnd, IsErrOf, Vec, Global, vec_len, ◌==◌, true≢false, inr, refl, sym, ap, ap₂, subst, ◌∙◌, arith}
 use Rattle.std.specs.Prelude.{slice_get}
 use Rattle.std.specs.List.{All}
 use Rattle.std.proofs.lemmas.Bool.{eq-eqb, eqb-true, ltb-false}
@@ -12,7 +12,6 @@ use Rattle.store_types.specs.declared.names.Digest32.{Digest32}
 use Rattle.store_types.specs.declared.refusal.Refusal.{Refusal}
 use Rattle.store_types.specs.declared.refusal.Refusal.TheVariants as refusals
 use Rattle.store_types.specs.FileNames.{is_fixed_name, is_index_name}
-use Rattle.store_files.specs.Archive.{Snapshot}
 use Rattle.store_model.specs.Store.{Store}
 use Rattle.gc_plan.specs.Plan.{Plan, Stage, ends_at, index_in, is_over, left_of, mark_in, marked_at, marking, next_index, next_mark, sweeping}
 use Rattle.gc_plan.specs.declared.IndexAt.{IndexAt}
@@ -28,7 +27,7 @@ use Rattle.core_state.specs.Sweeps.{AreEntries, FitsRemoved, HasEntries, HasNumb
 use Rattle.core_state.specs.Unchanged.{SameKept}
 use Rattle.core_state.proofs.Acting.{holds_same}
 use Rattle.core_state.proofs.Finding.{some_same}
-use Rattle.core_collect.specs.Marking.{AtHand, FindsNext, GoesFurther, IsFound, IsSettled, IfUnreadable, PassesOver, Reads, SettlesNext, SettlesUnread, ShowsStill, Standing, TellsUnread, bytes_of, digests_read, indexes_left, marked_next, next_unreadable, passed_over, path_at, standing, standing_as, standing_at, unless_passed, unreadable, unreadable_in}
+use Rattle.core_collect.specs.Marking.{FindsNext, GoesFurther, IsSettled, IfUnreadable, PassesOver, Reads, SettlesNext, ShowsStill, bytes_of, digests_read, indexes_left, marked_next, next_unreadable, passed_over, path_at, standing, standing_as, standing_at, unless_passed, unreadable_in}
 use Rattle.core_collect.specs.declared.marking.Unread.{Unread}
 use Rattle.core_collect.specs.declared.marking.Unread.TheVariants.{DiskFailed, NoMemory, Unreadable}
 use Rattle.core_collect.proofs.ReadLemmas.{index_digests, no_digests}

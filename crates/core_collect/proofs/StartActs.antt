@@ -1,6 +1,6 @@
 -- The start of a collector, entered: what it leaves of the core, and that the collector shows the history's sweep.
 use Rattle.disk_trait.specs.declared.disk.Disk.{Ghosts}
-use Rattle.std.proofs.Common.{◌≡◌, ◌<◌, ◌≤◌, ◌↔◌, ◌+◌, ◌++◌, ℕ, max, Bool, true, false, cond, is_some, length, List, [], ◌∷◌, option_map, Option, Some, None, IsSome, IsSomeAnd, Result, Ok, Err, refl, sym, ap, ap₂, subst, ◌∙◌, arith}
+use Rattle.std.proofs.Common.{◌≡◌, ◌<◌, ◌≤◌, ◌↔◌, ◌++◌, ℕ, max, Bool, true, false, cond, is_some, length, List, [], ◌∷◌, option_map, Option, Some, None, IsSome, IsSomeAnd, Result, Ok, Err, refl, sym, ap, subst, ◌∙◌, arith}
 use Rattle.std.specs.FinMap.{get}
 use Rattle.port_traits.specs.declared.clock.Clock as clocks
 use Rattle.store_types.specs.Chain.Refusing.{◌>>=◌, if_none}
@@ -11,21 +11,19 @@ use Rattle.store_types.specs.declared.refusal.SessionState.TheVariants as states
 use Rattle.store_files.specs.Archive.{Snapshot}
 use Rattle.store_files.specs.Folder.{IsDigest, chunk_name}
 use Rattle.store_model.specs.Store.{Store}
-use Rattle.wire_commands.specs.declared.reply.Reply.{Reply}
 use Rattle.wire_commands.specs.declared.reply.Reply.TheVariants as replies
 use Rattle.disk_trait.specs.declared.disk.DiskError.TheVariants as disks
-use Rattle.store_history.specs.declared.act.Act.{Act}
 use Rattle.store_history.specs.declared.act.Act.TheVariants.{Start}
 use Rattle.store_history.specs.declared.act.Answer.{Answer}
 use Rattle.store_history.specs.declared.act.Event.{Event}
 use Rattle.store_history.specs.Acts.{class_of, sweeping}
-use Rattle.store_history.specs.History.{World, after, kind, kind_of, lane as lane_of, moment, moved, opened}
+use Rattle.store_history.specs.History.{World, after, kind_of, lane as lane_of, moment, moved, opened}
 use Rattle.store_history.specs.Legal.{may_open}
-use Rattle.store_history.specs.LastTouches.{LastTouches, SameTouches, dated, touches_by_entry}
-use Rattle.store_history.specs.Sweeping.{Sweep, Swept, new_sweep, swept_after, swept_at, swept_by, while_open}
+use Rattle.store_history.specs.LastTouches.{LastTouches, SameTouches, touches_by_entry}
+use Rattle.store_history.specs.Sweeping.{Swept, new_sweep, swept_after, swept_at, swept_by, while_open}
 use Rattle.store_history.proofs.SweptLonger.{is_swept_longer, swept_longer}
 use Rattle.core_state.specs.declared.collector.Collector.{Collector}
-use Rattle.core_state.specs.declared.entering.Admitted.TheVariants.{Answered, At}
+use Rattle.core_state.specs.declared.entering.Admitted.TheVariants.{At}
 use Rattle.core_state.specs.declared.entering.Place.{Place}
 use Rattle.core_state.specs.declared.kept.Listed.{Listed}
 use Rattle.core_state.specs.declared.kept.Session.{Session}
@@ -36,7 +34,7 @@ use Rattle.core_state.specs.declared.stop.Stop.{Stop}
 use Rattle.core_state.specs.declared.stop.Stop.TheVariants as stops
 use Rattle.core_state.specs.Applies.{ActApplies, ActKeeps}
 use Rattle.core_state.specs.Begins.{FillsUp, IsAdmitted, Refuses, halted, short}
-use Rattle.core_state.specs.Closing.{closes_by, is_closing}
+use Rattle.core_state.specs.Closing.{closes_by}
 use Rattle.core_state.specs.Collectors.{collector_by}
 use Rattle.core_state.specs.Entering.{held_by}
 use Rattle.core_state.specs.History.{History, StandsFor, event_of, then_event, world}
@@ -271,8 +269,8 @@ module _ {D E C : Type 0} (d : Ghosts D) (clock : clocks.Ghosts C) (old mid new 
   -- ---- it is refused, or memory was wanting
 
   module _ (stop : Stop) (gives : GivesCollector mid.parts mid.collector at (Err stop)) (text : StopHasText stop) (settled : Settles d mid new at.lane at.moment (told (Err stop)) answer) where
-    settles : Settles d mid new k at.moment (told (Err stop)) answer
-    settles = subst (λ n. Settles d mid new n at.moment (told (Err stop)) answer) admitted.lane_is settled
+    settles_here : Settles d mid new k at.moment (told (Err stop)) answer
+    settles_here = subst (λ n. Settles d mid new n at.moment (told (Err stop)) answer) admitted.lane_is settled
 
   stopped_keeps : (stop : Stop) → GivesCollector mid.parts mid.collector at (Err stop) → Settles d mid new k at.moment (told (Err stop)) answer → ActKeeps d old new k Start answer
   stopped_keeps (stops.Refused refusal) gives settles =
@@ -312,10 +310,10 @@ module _ {D E C : Type 0} (d : Ghosts D) (clock : clocks.Ghosts C) (old mid new 
 
   module _ (stop : Stop) (gives : GivesCollector mid.parts mid.collector at (Err stop)) (text : StopHasText stop) (settled : Settles d mid new at.lane at.moment (told (Err stop)) answer) where
     pub stop_keeps : ActKeeps d old new k Start answer
-    stop_keeps = stopped_keeps stop gives (settles stop gives text settled)
+    stop_keeps = stopped_keeps stop gives (settles_here stop gives text settled)
 
     pub stop_applies : ActApplies d clock old new k Start answer
-    stop_applies = stopped_applies stop gives text (settles stop gives text settled)
+    stop_applies = stopped_applies stop gives text (settles_here stop gives text settled)
 
     pub stop_tells : StartTells old new k answer
-    stop_tells = stopped_tells stop gives (settles stop gives text settled)
+    stop_tells = stopped_tells stop gives (settles_here stop gives text settled)

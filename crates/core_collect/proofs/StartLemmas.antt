@@ -1,5 +1,5 @@
 -- The start of a collector: what refuses it, and that its plan is the new sweep of the plain store.
-use Rattle.std.proofs.Common.{◌≡◌, ◌<◌, ◌≤◌, ◌+◌, ◌^◌, get_or, ◌||◌, ◌++◌, ℕ, Bool, true, false, cond, min, List, [], ◌∷◌, append-nil, append_assoc, drop, filter, flat_map, length, map, take, Option, Some, None, Result, Ok, Err, IsErrAnd, is_some, refl, sym, ap, subst, ◌∙◌, arith}
+use Rattle.std.proofs.Common.{◌≡◌, ◌<◌, ◌≤◌, ◌+◌, ◌^◌, get_or, ◌++◌, ℕ, Bool, true, false, cond, min, List, [], ◌∷◌, append-nil, append_assoc, drop, filter, flat_map, length, map, take, Option, Some, None, Result, Ok, Err, IsErrAnd, is_some, refl, sym, ap, subst, ◌∙◌, arith}
 use Rattle.std.specs.Prelude.{AllPairs}
 use Rattle.std.specs.List.{All, find, list_all}
 use Rattle.std.proofs.lemmas.Bool.{and_parts, leb-true, or_parts}
@@ -40,9 +40,9 @@ use Rattle.core_state.specs.Named.{has_text, is_named_snapshot, is_short_name}
 use Rattle.core_state.specs.Numbers.{AreNumbered, IsGiven}
 use Rattle.core_state.specs.Shown.{files_named, shown_file, shown_files, shown_session, shown_snapshot}
 use Rattle.core_state.specs.Sweeps.{FitsRemoved, HasNumber, ShowsSweep, digests_in, kept_at, left_at, left_in, left_of_kept, unmarked_by, visits_by}
-use Rattle.core_state.specs.Wanted.{session_at, want_idle}
+use Rattle.core_state.specs.Wanted.{want_idle}
 use Rattle.core_collect.specs.Starting.{GivesCollector, IsNewCollector, MayOpen, earlier_of, first_unreadable, indexes_in, indexes_of, oldest_kept, start_told, unreadable_of}
-use Rattle.core_collect.proofs.Lists.{each_file, each_like, each_named, each_numbered}
+use Rattle.core_collect.proofs.Lists.{each_file, each_named, each_numbered}
 
 -- ---- the oldest writer
 

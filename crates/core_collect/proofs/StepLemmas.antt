@@ -9,7 +9,7 @@ use Rattle.disk_trait.specs.Disk.{Rose}
 use Rattle.port_traits.specs.declared.clock.Clock as clocks
 use Rattle.store_types.specs.declared.refusal.Refusal.TheVariants as refusals
 use Rattle.store_types.specs.declared.names.Digest32.{Digest32}
-use Rattle.store_files.specs.Book.{Book, book_text}
+use Rattle.store_files.specs.Book.{Book, FitsBook, book_text}
 use Rattle.store_files.specs.Folder.{chunk_name}
 use Rattle.wire_commands.specs.HasText.{ReplyHasText}
 use Rattle.wire_commands.specs.declared.reply.Reply.{Reply}
@@ -102,6 +102,7 @@ tells_none d old new lane n answer is other0 other1 other4 = record {
   refused = λ zero. absurd (other0 (sym is ∙ zero));
   ends = λ _ four. absurd (other4 (sym is ∙ four));
   reports = λ _ four. absurd (other4 (sym is ∙ four));
+  fits = λ _ four. absurd (other4 (sym is ∙ four));
   unread = λ _ one. absurd (other1 (sym is ∙ one));
 }
 
@@ -273,6 +274,7 @@ module _ {D E C : Type 0} (d : Ghosts D) (clock : clocks.Ghosts C) (old between 
         refused = λ zero. absurd (omega (arith, kind, zero));
         ends = λ _ _. subst (λ o. IsSomeAnd o (λ q. answer.reply ≡ Some (Refused (refusal_of q)))) (sym has) entered.reply_is;
         reports = λ uncut. absurd (true_false (sym cut ∙ uncut));
+        fits = λ uncut. absurd (true_false (sym cut ∙ uncut));
         unread = λ uncut. absurd (true_false (sym cut ∙ uncut));
       })
 
@@ -389,6 +391,7 @@ module _ {D E C : Type 0} (d : Ghosts D) (clock : clocks.Ghosts C) (old mid acte
         refused = λ _. (off_before, entered.reply_is);
         ends = λ cut. not_cut cut;
         reports = λ _ four. absurd (omega (arith, kind, four));
+        fits = λ _ four. absurd (omega (arith, kind, four));
         unread = λ _ one. absurd (omega (arith, kind, one));
       })
 
@@ -512,6 +515,7 @@ module _ {D E C : Type 0} (d : Ghosts D) (clock : clocks.Ghosts C) (old mid acte
           refused = λ zero. absurd (omega (arith, kind, zero));
           ends = λ cut. not_cut cut;
           reports = λ _ four. absurd (omega (arith, kind, four));
+          fits = λ _ four. absurd (omega (arith, kind, four));
           unread = λ _ _ honest. subst (λ o. IsSomeAnd o (λ c. path_ended new.collector ≡ next_unreadable (d.content (old.parts).disk) (old.parts).catalogue.items c)) (sym was)
               (ap path_ended now ∙ subst (λ p. d.honest p.disk → path_ended (Some y) ≡ next_unreadable (d.content p.disk) p.catalogue.items x) b.parts (does.unread refl) honest);
         })
@@ -561,9 +565,13 @@ module _ {D E C : Type 0} (d : Ghosts D) (clock : clocks.Ghosts C) (old mid acte
           refused = λ zero. absurd (omega (arith, kind, zero));
           ends = λ cut. not_cut cut;
           reports = λ _ _. subst IsReport (sym entered.reply_is) tt;
+          fits = λ _ _ early. subst (λ n. FitsBook (as_of n (old.upkeep).book)) (sym (ap (λ x. x.moment) entered.entry)) (fits_so (subst (λ u. NoneAfter u.book old.last) (sym b.upkeep) early));
           unread = λ _ one. absurd (omega (arith, kind, one));
         })
       where
+        fits_so : NoneAfter (mid.upkeep).book old.last → FitsBook (as_of m (old.upkeep).book)
+        fits_so early = subst (λ u. FitsBook (as_of m u.book)) b.upkeep (does.fits old.last (b.clock).risen (b.clock).in_time early)
+
         ends_so : (h : History) → answer.reply ≡ Some (report_reply report) → IsSomeAnd (swept_of h).sweep (λ sweep. (is_over sweep ≡ true) × (report_reply report ≡ report_of (swept_of h) sweep))
             → IsSomeAnd (swept_of h).sweep (λ sweep. (is_over sweep ≡ true) × (answer.reply ≡ Some (report_of (swept_of h) sweep)))
         ends_so h told said =

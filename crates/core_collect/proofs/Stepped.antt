@@ -7,7 +7,6 @@ use Rattle.disk_trait.specs.Laws.{by_name, placed_other, placed_same}
 use Rattle.port_traits.specs.Readings.{Readings}
 use Rattle.sha2.specs.Sha256.{sha256}
 use Rattle.store_types.specs.declared.refusal.Refusal.TheVariants.{DiskFault}
-use Rattle.blob_codec.specs.Blob.{blob}
 use Rattle.store_files.specs.Folder.{chunk_name}
 use Rattle.wire_commands.specs.declared.reply.Reply.{Reply}
 use Rattle.wire_commands.specs.declared.reply.Reply.TheVariants.{Refused}
@@ -175,15 +174,12 @@ collects_faulted lane before after is = by_lane (on_lane lane before)
 
 -- ---- the chunk files
 
-has_some : (p : List ℕ) → None ≡ Some (blob p) → ⊥
-has_some p e = none_some (blob p) e
-
 -- none comes
 pub only_after : (change : Change) (m : Files) (pieces : List (List ℕ)) → MayPass change → HoldsOnly m pieces → HoldsOnly (after change m) pieces
 only_after change m pieces (inl none) only = subst (λ (c : Change). HoldsOnly (after c m) pieces) (sym none) only
 only_after change m pieces (inr (inl dropped)) only =
     subst (λ (c : Change). HoldsOnly (after c m) pieces) (sym dropped.1) (λ p there. only p (by_name (chunk_name (sha256 p)) (chunk_name (dropped.0).0) (HasChunk m p)
-    (λ same. absurd (has_some p (sym (ap (get (remove m (chunk_name (dropped.0).0))) same ∙ placed_same m (chunk_name (dropped.0).0) None) ∙ there)))
+    (λ same. absurd (none_some _ (sym (ap (get (remove m (chunk_name (dropped.0).0))) same ∙ placed_same m (chunk_name (dropped.0).0) None) ∙ there)))
     (λ other. sym (placed_other m (chunk_name (dropped.0).0) None (chunk_name (sha256 p)) other) ∙ there)))
 only_after change m pieces (inr (inr saved)) only =
     subst (λ (c : Change). HoldsOnly (after c m) pieces) (sym saved.1) (only_as_before m (after (installs book_name saved.0) m) (same_installed m saved.0) pieces only)

@@ -4,9 +4,10 @@ use Rattle.std.specs.Prelude.{◌≡◌, ◌<◌, ◌≤◌, ◌⊎◌, ◌∷�
 use Rattle.disk_trait.specs.Disk.{Serves}
 use Rattle.port_traits.specs.Readings.{Readings}
 use Rattle.store_types.specs.declared.names.Digest32.{Digest32}
+use Rattle.store_types.specs.Times.{last_moment}
 use Rattle.store_types.specs.declared.refusal.Refusal.{Refusal}
 use Rattle.store_types.specs.declared.refusal.Refusal.TheVariants.{WrongState}
-use Rattle.store_files.specs.Book.{Book, book_text}
+use Rattle.store_files.specs.Book.{Book, FitsBook, book_text}
 use Rattle.store_files.specs.Folder.{chunk_name}
 use Rattle.wire_commands.specs.declared.reply.Reply.{Reply}
 use Rattle.wire_commands.specs.declared.reply.Reply.TheVariants as replies
@@ -86,6 +87,11 @@ abbrev pub GoesDown : Collector → Collector → Outcome → Type 0
 GoesDown c e (Ok None) = steps_left (Some e) < steps_left (Some c)
 GoesDown c e result = Unit {0}
 
+-- what the end saves is a book
+abbrev pub FitsSaved : Book → ℕ → Outcome → Type 0
+FitsSaved book moment (Ok (Some report)) = FitsBook (as_of moment book)
+FitsSaved book moment result = Unit {0}
+
 -- unless the disk failed, what its start fixed is as before
 abbrev pub KeepsFixed : Collector → Collector → Outcome → Type 0
 KeepsFixed c e (Err DiskFailed) = Unit {0}
@@ -121,6 +127,7 @@ pub record CollectDoes {D : Type 0} (d : Ghosts D) (old new : Parts D) (u v : Up
   pub touches : MayTouch change u v at.moment result
   -- no chunk is touched after the act's moment
   pub early : (before : ℕ) → before ≤ at.moment → NoneAfter u.book before → NoneAfter v.book at.moment
+  pub fits : (before : ℕ) → before ≤ at.moment → at.moment ≤ last_moment → NoneAfter u.book before → FitsSaved u.book at.moment result
   pub lane : e.lane ≡ c.lane
   pub ends : MayEnd e result
   pub further : GoesDown c e result
@@ -195,6 +202,8 @@ pub record StepTells {D E C : Type 0} (d : Ghosts D) (old new : Core D E C) (lan
   -- the end of a collector replies what ended it early, or its report
   pub ends : is_cut lane old.collector ≡ true → (answer.entry).kind ≡ 4 → IsSomeAnd (early_in old.collector) (λ early. answer.reply ≡ Some (replies.Refused (refusal_of early)))
   pub reports : is_cut lane old.collector ≡ false → (answer.entry).kind ≡ 4 → IsReport answer.reply
+  -- what such an end saved is a book
+  pub fits : is_cut lane old.collector ≡ false → (answer.entry).kind ≡ 4 → NoneAfter (old.upkeep).book old.last → FitsBook (as_of (answer.entry).moment (old.upkeep).book)
   -- An honest disk's index that does not decode ends it early as it comes to be marked, and nothing else does so in a mark or a visit.
   pub unread : is_cut lane old.collector ≡ false → (answer.entry).kind ≡ 1 → d.honest (old.parts).disk
       → IsSomeAnd old.collector (λ c. path_ended new.collector ≡ next_unreadable (d.content (old.parts).disk) (old.parts).catalogue.items c)

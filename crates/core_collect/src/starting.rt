@@ -1,6 +1,9 @@
 //! The start of a collector.
 
 ghost use Rattle.std.specs.Prelude.{◌≡◌, ◌<◌, ◌++◌, IfErr, IfOk, IsErrOf, OnOk, option_map};
+ghost use Rattle.store_types.specs.declared.refusal.Refusal.TheVariants.{CollectorBusy};
+ghost use Rattle.wire_commands.specs.declared.reply.Reply.TheVariants.{Refused};
+ghost use Rattle.wire_commands.specs.HasText.{ReplyHasText};
 ghost use Rattle.store_history.specs.declared.act.Act.TheVariants.{Start};
 ghost use Rattle.core_state.specs.Applies.{ActApplies, ActKeeps};
 ghost use Rattle.core_state.specs.Reserved.{HasRoom};
@@ -82,6 +85,15 @@ fn first_damage(catalogue: &[Listed]) -> Option<&Bytes>
     }
 }
 
+/// The refusal while a collector is open on a lane.
+#[tactic(auto, using(crate::proofs::StartLemmas::busy_has_text))]
+fn busy_on(lane: u32) -> Refusal
+    ensures value { result ≡ CollectorBusy lane }
+    ensures text { ReplyHasText (Refused result) }
+{
+    Refusal::CollectorBusy { lane }
+}
+
 /// A collector may open on the lane.
 ///
 /// The refusals, in the order in which they are tested: the lane has a session; a collector is open, on whatever lane; a
@@ -94,7 +106,7 @@ fn may_open<D>(parts: &Parts<D>, collector: &Option<Collector>, lane: u32) -> Re
 {
     parts.idle(lane)?;
     if let Some(other) = collector {
-        return Err(Stop::Refused(Refusal::CollectorBusy { lane: other.lane }));
+        return Err(Stop::Refused(busy_on(other.lane)));
     }
     if let Some(name) = first_damage(&parts.catalogue) {
         let name = name.clone()?;

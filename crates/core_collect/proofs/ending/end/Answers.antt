@@ -1,4 +1,4 @@
-use Rattle.std.proofs.Common.{◌≡◌, ap, refl, subst, sym, ◌∙◌, rules}
+use Rattle.std.proofs.Common.{ap, refl, subst, ◌∙◌, rules}
 use Rattle.disk_trait.specs.Effects.{StepsOn}
 use Rattle.file_install.specs.Install.{Installs, installed}
 use Rattle.store_history.specs.Saved.{book_name}
@@ -32,4 +32,4 @@ returns-clause-ends g c =
     saved_by d old c.args.book.now c.args.plan.now c.args.moment new c.report.result
     (subst (λ b. StepsOn d old new (Installs (d.content old) book_name b)) bytes c.install.ensures.crash)
     (λ honest. c.in_ok-install.ensures.installed honest ∙ ap (installed (d.content old) book_name) bytes)
-    (c.counts.result.used, c.counts.result.pending, subst (λ n. Divides c.args.book.now n c.counts.result.used c.counts.result.pending) c.start.ensures c.counts.ensures, c.report.ensures)
+    (c.counts-used.result.used, c.counts-used.result.pending, subst (λ n. Divides c.args.book.now n c.counts-used.result.used c.counts-used.result.pending) c.start.ensures c.counts-used.ensures, c.report.ensures) c.in_ok-text.ensures.fits

@@ -1,4 +1,4 @@
-use Rattle.std.proofs.Common.{◌≡◌, true, false, Ok, Err, None, IsSome, rules}
+use Rattle.std.proofs.Common.{◌≡◌, true, false, Ok, None, IsSome, rules}
 use Rattle.gc_plan.specs.Plan.{next_mark}
 use Rattle.core_collect.proofs.Settling.{all_passed, passed_none, search_found, search_found_reads, search_kept, search_over_reads, search_passed, search_unread, search_unread_reads}
 use Rattle.core_collect.proofs.marking.find_next.Goals as goal

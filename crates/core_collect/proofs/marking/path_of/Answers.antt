@@ -1,4 +1,4 @@
-use Rattle.std.proofs.Common.{◌≡◌, ◌∙◌, ◌==◌, Some, None, option_map, find, sym, ap, rules, tests}
+use Rattle.std.proofs.Common.{◌≡◌, ◌∙◌, ◌==◌, Some, option_map, sym, ap, rules, tests}
 use Rattle.std.proofs.lemmas.Iterator.{YieldsList-from_slice}
 use Rattle.std.proofs.lemmas.Iterator.Search.{find_from_yields_List}
 use Rattle.core_state.specs.declared.kept.Listed.{Listed}

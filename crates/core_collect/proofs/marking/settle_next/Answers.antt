@@ -1,4 +1,4 @@
-use Rattle.std.proofs.Common.{◌≡◌, ◌∙◌, [], true, false, Some, None, Ok, Err, subst, rules}
+use Rattle.std.proofs.Common.{◌≡◌, ◌∙◌, Some, None, Ok, Err, refl, subst, rules}
 use Rattle.store_types.specs.FileNames.{is_fixed_name}
 use Rattle.gc_plan.specs.Plan.{next_index}
 use Rattle.core_collect.specs.Marking.{Reads, SettlesNext, digests_read, path_at}

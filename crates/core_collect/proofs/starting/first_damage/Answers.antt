@@ -1,4 +1,4 @@
-use Rattle.std.proofs.Common.{◌≡◌, ◌∙◌, Some, None, is_some, option_map, find, sym, ap, rules, tests}
+use Rattle.std.proofs.Common.{◌≡◌, ◌∙◌, Some, is_some, option_map, sym, ap, rules, tests}
 use Rattle.std.proofs.lemmas.Iterator.{YieldsList-from_slice}
 use Rattle.std.proofs.lemmas.Iterator.Search.{find_from_yields_List}
 use Rattle.core_collect.specs.Starting.{unreadable_of}

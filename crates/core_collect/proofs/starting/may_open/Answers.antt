@@ -1,9 +1,10 @@
-use Rattle.std.proofs.Common.{◌≡◌, Some, None, Ok, rules, sym, ap, arith}
+use Rattle.std.proofs.Common.{◌≡◌, ◌∙◌, Some, None, Result, Ok, Err, rules, sym, ap, arith}
+use Rattle.store_types.specs.declared.refusal.Refusal.{Refusal}
 use Rattle.core_state.specs.Wanted.{session_at, want_idle}
 use Rattle.core_state.proofs.Commanding.{gives_by}
 use Rattle.core_state.proofs.Texts.{unreadable_has_text}
 use Rattle.core_collect.specs.Starting.{first_unreadable}
-use Rattle.core_collect.proofs.StartLemmas.{busy_has_text, damage_short, told_busy, told_damaged, told_free, told_session}
+use Rattle.core_collect.proofs.StartLemmas.{damage_short, told_busy, told_damaged, told_free, told_session}
 use Rattle.core_collect.proofs.starting.may_open.Goals as goal
 
 pub returns-in_err-idle-clause-value : goal.returns-in_err-idle-clause-value
@@ -15,6 +16,7 @@ returns-in-Some-clause-value g c =
     let idle : want_idle (session_at c.args.parts.now c.args.lane) ≡ Ok tt = c.in_ok-idle.ensures.value in
     let ahead : c.args.collector.now ≡ Some c.in-Some.other = search rules in
     told_busy c.args.collector.now (session_at c.args.parts.now c.args.lane) c.args.parts.now.catalogue.items c.in-Some.other idle ahead
+    ∙ ap (λ r. let x : Result (Unit {0}) Refusal = Err r in x) (sym c.busy_on.ensures.value)
 
 pub returns-in-Some-first_damage-clause-value : goal.returns-in-Some-first_damage-clause-value
 returns-in-Some-first_damage-clause-value g c =

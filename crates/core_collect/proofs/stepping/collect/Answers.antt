@@ -1,6 +1,8 @@
-use Rattle.std.proofs.Common.{◌≡◌, ◌∙◌, Bool, Ok, Err, Result, ap, refl, sym, subst}
+use Rattle.std.proofs.Common.{◌≡◌, ◌∙◌, Bool, true, false, Some, Ok, Err, Result, ap, refl, sym, subst}
 use Rattle.std.specs.Prelude.{IsErrOf}
 use Rattle.disk_trait.specs.Effects.{OnlyReads}
+use Rattle.snapshot_files.specs.declared.path.FilePath.{FilePath}
+use Rattle.core_state.specs.declared.collector.Early.TheVariants as earlies
 use Rattle.core_state.specs.Unchanged.{SameKept}
 use Rattle.core_collect.specs.Marking.{FindsNext}
 use Rattle.core_collect.specs.Stepping.{CollectDoes}
@@ -61,16 +63,17 @@ returns-in_ok-visit_next-in-Ok-false g c =
     c.in_ok-visit_next-in-Ok-false.ensures.serves c.in_ok-visit_next-in-Ok-false.ensures.visits
 
 pub invariant_of-collector : goal.invariant_of-collector
-invariant_of-collector g c = c.visit_next.ensures.visits.fits _ c.find_next.new.collector.fits
+invariant_of-collector g c = record { fits = c.visit_next.ensures.visits.fits _ c.find_next.new.collector.fits }
 
 pub returns-in-Err-Unreadable : goal.returns-in-Err-Unreadable
 returns-in-Err-Unreadable g c =
     let old = c.args.parts.now in
     let mid = c.find_next.new.parts in
-    let is : c.find_next.result ≡ Err (unread.Unreadable c.in-Err-Unreadable.path.now) = c.in-Err-Unreadable.is ∙ ap (λ (u : Unread). Err u) c.in-Err-Unreadable.field-0-is in
-    unread_does g.D.Disk old mid c.args.upkeep.now c.args.collector.now c.find_next.new.collector c.args.at _ _
+    let is : c.find_next.result ≡ Err (unread.Unreadable c.in-Err-Unreadable.path) = c.in-Err-Unreadable.is ∙ ap (λ (u : Unread). Err u) c.in-Err-Unreadable.field-0-is in
+    let ended = ap (λ (q : FilePath). Some (earlies.Unreadable q)) c.in-Err-Unreadable.path-is in
+    unread_does g.D.Disk old mid c.args.upkeep.now c.args.collector.now c.find_next.new.collector c.args.at _ c.in-Err-Unreadable.path
     (subst (λ (r : Result Bool Unread). OnlyReads g.D.Disk old.disk mid.disk (IsErrOf r unread.DiskFailed)) is c.find_next.ensures.reads) c.find_next.ensures.kept
-    (subst (FindsNext g.D.Disk old c.args.collector.now c.find_next.new.collector) is c.find_next.ensures.next) refl refl refl c.requires
+    (subst (FindsNext g.D.Disk old c.args.collector.now c.find_next.new.collector) is c.find_next.ensures.next) refl refl ended c.requires
 
 pub returns-in-Err-NoMemory : goal.returns-in-Err-NoMemory
 returns-in-Err-NoMemory g c =

@@ -32,7 +32,7 @@ pub returns-in-At : goal.returns-in-At
 returns-in-At g c =
     has_passed (record {
       mid = c.begin.new.core;
-      acted = record (c.begin.new.core) { parts = c.pass-ended.new.parts; upkeep = c.pass-ended.new.upkeep; collector = c.pass-ended.new.collector };
+      acted = record (c.begin.new.core) { parts = c.pass-ended.new.parts; upkeep = c.pass-ended.new.upkeep; collector = c.pass-ended.new.collector; in_time = _ };
       at = c.in-At.at;
       result = c.pass-ended.result;
       admitted = c.in-At.ensures.begun;

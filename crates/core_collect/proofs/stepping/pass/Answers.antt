@@ -13,8 +13,8 @@ returns-then-not-is_on g c =
     let old = c.args.parts.now in
     let within : c.args.at.lane < length old.sessions.items = omega (arith, old.lanes, old.sessions.ok.0, c.requires.lane) in
     let session = c.index.ensures ∙ get_or_default old.sessions.items c.args.at.lane c.index.result.now Idle within in
-    is_refused g.D.Disk old c.args.upkeep.now c.args.collector.now c.args.at (sym c.is_on.ensures ∙ c.if-not-is_on.true)
-    (ap (λ x. Err (Refused (WrongState x))) (c.state-state.ensures ∙ ap state_of (sym session))) (wrong_state_has_text c.state-state.result)
+    is_refused g.D.Disk old c.args.upkeep.now c.args.collector.now c.args.at _ (sym c.is_on.ensures ∙ c.if-not-is_on.true)
+    (ap (λ x. Err (Refused (WrongState x))) (c.state-state.ensures ∙ ap state_of session)) (wrong_state_has_text c.state-state.result)
 
 pub collect-requires : goal.collect-requires
 collect-requires g c = goes_uncut c.args.at.lane c.args.collector.now _ c.in-Some.is (sym c.is_on.ensures ∙ c.if-not-is_on.false) c.requires.uncut

@@ -1,4 +1,4 @@
-use Rattle.std.proofs.Common.{◌≡◌, None, Some, sym, ap, ◌∙◌, rules}
+use Rattle.std.proofs.Common.{◌≡◌, None, Some, sym, ◌∙◌, rules}
 use Rattle.core_collect.proofs.VisitAnswers.{is_error, next_done, next_failed, next_none, next_unlisted}
 use Rattle.core_collect.proofs.visiting.visit_next.Goals as goal
 
