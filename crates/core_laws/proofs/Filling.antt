@@ -8,7 +8,14 @@ use Rattle.core_laws.specs.Playing.{SameCore}
 
 pub same_core : {D E C : Type 0} (core : Core D E C) → SameCore core core
 same_core core = record {
-  parts = refl; remote = refl; clock = refl; entries = record { entries = refl; calls = refl }; upkeep = refl; collector = refl; last = refl; fault = refl;
+  parts = refl;
+  remote = refl;
+  clock = refl;
+  entries = record { entries = refl; calls = refl };
+  upkeep = refl;
+  collector = refl;
+  last = refl;
+  fault = refl;
 }
 
 pub none_filled : {D E C : Type 0} (core : Core D E C) (other : ℕ) → other < 0 → 3 ≤ held_by core.journal other
