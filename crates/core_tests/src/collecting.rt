@@ -489,7 +489,12 @@ static PLAYED: [(u32, u8); 4] = [(5, 3), (6, 0), (5, 1), (5, 4)];
 fn lists_of_acts_are_played(rt: HostRuntime) -> Result<(), Fail> {
     let alloc = rt.alloc();
     let mut core = opened_over(alloc, MemoryDisk::new(alloc), &[], 1_000_000)?;
-    let acts = vec![in alloc; (5, Act::Start), (6, Act::Start), (5, Act::Step), (5, Act::Step)]?;
+    let acts = vec![in alloc;
+        (5, Act::Start),
+        (6, Act::Start),
+        (5, Act::Step),
+        (5, Act::Step),
+    ]?;
     let answers = play(&mut core, alloc, acts).ok().ok_or("not played")?;
     same(&rt, answers.len(), PLAYED.len());
     for (answer, row) in answers.iter().zip(&PLAYED) {
