@@ -2,3 +2,4 @@ mod Filling
 mod Reserving
 mod Played
 mod LeftChunks
+mod SavedBook

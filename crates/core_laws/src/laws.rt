@@ -1,6 +1,6 @@
 //! What holds of the disk after every list of acts.
 
-ghost use Rattle.core_laws.specs.Laws.{SweepsLeaveChunkFiles};
+ghost use Rattle.core_laws.specs.Laws.{EndsSaveTheBook, SweepsLeaveChunkFiles};
 
 use core_state::Core;
 use disk_trait::Disk;
@@ -10,4 +10,10 @@ use port_traits::Clock;
 /// sent since, whose last touch is not before its cutoff.
 pub fn sweeps_leave_chunk_files<D: Disk, E, C: Clock>(core: &Core<D, E, C>)
     ensures { SweepsLeaveChunkFiles D.Disk C.readings core.now }
+{}
+
+/// Once the end of a collector that was not ended early is answered its report, the folder has the book as of the end's moment,
+/// with the last touch of each chunk that is there.
+pub fn ends_save_the_book<D: Disk, E, C: Clock>(old: &Core<D, E, C>, new: &Core<D, E, C>)
+    ensures { EndsSaveTheBook D.Disk C.Clock old.now new.now }
 {}

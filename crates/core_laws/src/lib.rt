@@ -4,5 +4,5 @@
 mod laws;
 mod playing;
 
-pub use laws::sweeps_leave_chunk_files;
+pub use laws::{ends_save_the_book, sweeps_leave_chunk_files};
 pub use playing::play;
