@@ -80,6 +80,8 @@ pub writers_ask : (act : Act) (lane : ℕ) (collector : Option Collector) (sessi
 writers_ask (Plain (Download file offset)) lane collector session catalogue h = absurd h
 writers_ask (Plain (OpenReader snapshot)) lane collector session catalogue h = absurd h
 writers_ask (Plain (FilesOf snapshot)) lane collector session catalogue h = absurd h
+writers_ask Start lane collector session catalogue h = absurd h
+writers_ask Step lane collector session catalogue h = absurd h
 writers_ask act lane collector session catalogue h = refl
 
 -- an act of a collector asks for what core_collect says
@@ -93,6 +95,8 @@ collectors_ask act lane collector session catalogue h = absurd h
 pub readers_ask : (act : Act) (lane : ℕ) (collector : Option Collector) (session : Session) (catalogue : List Listed) → IsReaders act → asked act lane collector session catalogue ≡ asked_file act session catalogue
 readers_ask (Plain (Previous file offset)) lane collector session catalogue h = absurd h
 readers_ask (Plain (FilesOf snapshot)) lane collector session catalogue h = absurd h
+readers_ask Start lane collector session catalogue h = absurd h
+readers_ask Step lane collector session catalogue h = absurd h
 readers_ask act lane collector session catalogue h = refl
 
 pub admins_ask : (act : Act) (lane : ℕ) (collector : Option Collector) (session : Session) (catalogue : List Listed) → IsAdmins act → asked act lane collector session catalogue ≡ asked_of_admin act catalogue

@@ -4,7 +4,7 @@ use Rattle.std.proofs.Common.{◌≡◌, ℕ, true, false, List, [], Option, Non
 use Rattle.disk_trait.specs.Files.{Files}
 use Rattle.store_types.specs.declared.names.Digest32.{Digest32}
 use Rattle.store_types.specs.declared.refusal.ChunkFault.{ChunkFault}
-use Rattle.store_types.specs.declared.refusal.Refusal.TheVariants.{Damaged, NoMemory, DiskFault, Halted}
+use Rattle.store_types.specs.declared.refusal.Refusal.TheVariants.{Damaged, Unreadable, NoMemory, DiskFault, Halted}
 use Rattle.wire_commands.specs.declared.reply.Reply.{Reply}
 use Rattle.wire_commands.specs.declared.reply.Reply.TheVariants.{Refused}
 use Rattle.store_history.specs.declared.act.Act.{Act}
@@ -13,6 +13,8 @@ use Rattle.store_history.specs.declared.act.Answer.{Answer}
 use Rattle.core_state.specs.declared.state.Core.{Core}
 use Rattle.core_state.specs.Answers.{HasCause, done, short, failed, halted, EndHasCause, ended, end_failed, StartHasCause, start_opens, start_as_any, StepHasCause, step_passes, step_ends, step_as_any, IsCaused}
 use Rattle.core_state.specs.Replies.{may_answer, may_end}
+use Rattle.core_state.specs.Unreadables.{TellsUnreadable}
+use Rattle.core_state.proofs.Unreadables.{tells_other as none_asked}
 use Rattle.core_reader.specs.Damages.{TellsDamaged, first_damage}
 use Rattle.core_collect.specs.Acts.{IsCollectors}
 
@@ -67,6 +69,18 @@ end_tells_whole d old new disk chunks answer (ended kind is) none =
     tells_other d disk chunks _ answer.reply (λ digest found e. apart_none digest found (sym is ∙ e)) none
 end_tells_whole d old new disk chunks answer (end_failed before kind is fault risen) none =
     tells_other d disk chunks _ answer.reply (λ digest found e. apart_fault digest found (sym is ∙ e)) none
+
+-- a lane's end asks for no file
+unreadable_none : (name : List ℕ) → None ≡ Some (Refused (Unreadable name)) → ⊥
+unreadable_none name e = cc
+
+unreadable_fault : (name : List ℕ) → Some (Refused DiskFault) ≡ Some (Refused (Unreadable name)) → ⊥
+unreadable_fault name e = cc
+
+pub end_asks_none : {D E C : Type 0} (d : Ghosts D) (old new : Core D E C) (disk : D) (answer : Answer) → EndHasCause d old new answer
+    → TellsUnreadable d disk None (answer.entry).kind answer.reply
+end_asks_none d old new disk answer (ended kind is) = none_asked d disk None _ answer.reply (λ name e. unreadable_none name (sym is ∙ e)) refl
+end_asks_none d old new disk answer (end_failed before kind is fault risen) = none_asked d disk None _ answer.reply (λ name e. unreadable_fault name (sym is ∙ e)) refl
 
 -- nor does an act of a collector tell of one
 pub start_tells_whole : {D E C : Type 0} (d : Ghosts D) (old new : Core D E C) (disk : D) (chunks : List Digest32) (answer : Answer)

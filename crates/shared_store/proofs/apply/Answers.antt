@@ -1,4 +1,4 @@
-use Rattle.std.proofs.Common.{◌≡◌, ◌∙◌, true, false, ap, sym, subst}
+use Rattle.std.proofs.Common.{◌≡◌, ◌∙◌, true, false, [], ap, refl, sym, subst}
 use Rattle.store_history.specs.declared.act.Act.{Act}
 use Rattle.store_history.specs.declared.act.Act.TheVariants as acts
 use Rattle.store_history.specs.Acts.{class_of}
@@ -9,10 +9,11 @@ use Rattle.core_state.specs.Unreadables.{TellsUnreadable}
 use Rattle.core_state.specs.Wanted.{session_at}
 use Rattle.core_state.proofs.Applying.{short_applies, short_keeps_all}
 use Rattle.shared_store.specs.AnsweredBy.{CoreAnswersBy}
-use Rattle.shared_store.specs.Asked.{is_readers}
+use Rattle.core_reader.specs.Damages.{TellsDamaged, needed}
+use Rattle.shared_store.specs.Asked.{asked, is_readers}
 use Rattle.shared_store.proofs.Answering.{admins_answer, collectors_answer, end_answers, readers_answer, short_answers, writers_answer}
 use Rattle.shared_store.proofs.Asking.{are_readers, are_admins, are_collectors, are_writers, is_step, readers_ask, admins_ask, collectors_ask, collectors_need, writers_ask, writers_need}
-use Rattle.shared_store.proofs.Damages.{collectors_tell_whole, tells_whole}
+use Rattle.shared_store.proofs.Damages.{collectors_tell_whole, end_asks_none, end_tells_whole, tells_whole}
 use Rattle.shared_store.proofs.apply.Goals as goal
 
 short_reads : (act : Act) → act ≡ acts.Short → is_readers act ≡ true → ⊥
@@ -110,6 +111,18 @@ returns-in-Short-clause-by_kept g c =
     subst (λ a. CoreAnswersBy g.D.Disk c.args.core.now c.short.new.core c.args.lane a c.short.result) (sym c.in-Short.is) (short_answers g.D.Disk c.args.core.now c.short.new.core c.args.lane c.short.result)
 
 -- ---- a lane's end
+
+pub returns-in-End-clause-unreadable : goal.returns-in-End-clause-unreadable
+returns-in-End-clause-unreadable g c =
+    let old = (c.args.core.now).parts in
+    subst (λ a. TellsUnreadable g.D.Disk old.disk (asked a c.args.lane c.args.core.now.collector (session_at old c.args.lane) old.catalogue.items) (c.end_act.result.entry).kind c.end_act.result.reply)
+    (sym c.in-End.is) (end_asks_none g.D.Disk c.args.core.now c.end_act.new.core old.disk c.end_act.result (c.end_act.ensures.applies).cause)
+
+pub returns-in-End-clause-damaged : goal.returns-in-End-clause-damaged
+returns-in-End-clause-damaged g c =
+    let old = (c.args.core.now).parts in
+    subst (λ a. TellsDamaged g.D.Disk old.disk (needed a (session_at old c.args.lane) old.catalogue.items) (c.end_act.result.entry).kind c.end_act.result.reply)
+    (sym c.in-End.is) (end_tells_whole g.D.Disk c.args.core.now c.end_act.new.core old.disk [] c.end_act.result (c.end_act.ensures.applies).cause refl)
 
 pub returns-in-End-clause-by_kept : goal.returns-in-End-clause-by_kept
 returns-in-End-clause-by_kept g c =
