@@ -22,18 +22,6 @@ pub none_filled : {D E C : Type 0} (core : Core D E C) (other : ℕ) → other <
 none_filled core other below = absurd (omega (arith, below))
 
 -- one reserve more is filled
-pub filled_same : {D E C : Type 0} (first old new : Core D E C) → SameCore first old → SameCore old new → SameCore first new
-filled_same first old new a b = record {
-  parts = b.parts ∙ a.parts;
-  remote = b.remote ∙ a.remote;
-  clock = b.clock ∙ a.clock;
-  entries = record { entries = (b.entries).entries ∙ (a.entries).entries; calls = (b.entries).calls ∙ (a.entries).calls };
-  upkeep = b.upkeep ∙ a.upkeep;
-  collector = b.collector ∙ a.collector;
-  last = b.last ∙ a.last;
-  fault = b.fault ∙ a.fault;
-}
-
 pub filled_more : (old new : Journal) (lane : ℕ) → ((other : ℕ) → other < lane → 3 ≤ held_by old other) → Fills old new lane
     → (other : ℕ) → other < lane + 1 → 3 ≤ held_by new other
 filled_more old new lane whole fills other below = ⊎_elim {C = 3 ≤ held_by new other}

@@ -9,7 +9,7 @@ use Rattle.store_files.specs.Folder.{IsDigest, chunk_name}
 use Rattle.store_history.specs.declared.act.Event.{Event}
 use Rattle.store_history.specs.History.{World, after, after_all}
 use Rattle.store_history.specs.Sweeping.{Sweep, Swept, swept_after, swept_all}
-use Rattle.store_upkeep.specs.Laws.{IsWhole}
+use Rattle.store_upkeep.specs.Laws.{IsWhole, LeavesRight}
 use Rattle.store_upkeep.specs.Safety.{OpensStocked}
 use Rattle.store_upkeep.proofs.Whole.{sweeps_leave}
 use Rattle.core_state.specs.declared.state.Core.{Core}
@@ -24,15 +24,16 @@ swept_joined R w s [] fs = refl
 swept_joined R w s (e ∷ es) fs = swept_joined R (after R w e) (swept_after R w s e) es fs
 
 some_is : (o : Option ℕ) → IsSome o → (when : ℕ) × (o ≡ Some when)
+some_is None some = absurd cc
 some_is (Some when) some = (when, refl)
 
 is_some : (o : Option ℕ) (when : ℕ) → o ≡ Some when → IsSome o
-is_some o when is = subst IsSome (sym is) tt
+is_some o when is = subst (λ (x : Option ℕ). IsSome x) (sym is) refl
 
 pub left_chunks : {D E C : Type 0} (d : Ghosts D) (readings : C → Option Readings) (core : Core D E C) → SweepsLeaveChunkFiles d readings core
 left_chunks d readings core h start since sweep s m none stocked whole x digest = (recent, present)
   where
-    leaves : _
+    leaves : LeavesRight h.remote (world h) (swept_of h) start since sweep
     leaves = sweeps_leave h.remote h.opening h.events start since sweep s.legal stocked whole
 
     there : IsSome (get (d.content (core.parts).disk) (chunk_name x)) ↔ IsSome ((touches_of_history (with_more h (start ∷ since))).last x)

@@ -1,5 +1,5 @@
 -- The book that the end of a whole sweep saves.
-use Rattle.std.proofs.Common.{◌≡◌, ◌↔◌, ℕ, Bool, true, false, if◌then◌else◌, List, [], ◌∷◌, ◌++◌, max, Option, Some, None, option_map, IsTrue, refl, sym, ap, subst, ◌∙◌}
+use Rattle.std.proofs.Common.{◌≡◌, ◌↔◌, ℕ, Bool, true, false, if◌then◌else◌, List, [], ◌∷◌, ◌++◌, length, max, Option, Some, None, option_map, IsTrue, refl, sym, ap, subst, ◌∙◌}
 use Rattle.std.specs.Option.{IsSome}
 use Rattle.std.specs.FinMap.{get}
 use Rattle.disk_trait.specs.Files.{Files}
@@ -84,8 +84,11 @@ module _ {D E C : Type 0} (d : Ghosts D) (old new : Core D E C) (answer : Answer
       some_same : {x y : Reply} → Some x ≡ Some y → x ≡ y
       some_same e = cc
 
+      no_end : IsTrue (may_end (Refused DiskFault)) → ⊥
+      no_end e = cc
+
       no_fault : (r : Reply) → IsTrue (may_end r) → r ≡ Refused DiskFault → ⊥
-      no_fault r may is = subst (λ x. IsTrue (may_end x)) is may
+      no_fault r may is = no_end (subst (λ x. IsTrue (may_end x)) is may)
   unfailed (step_as_any (done before is r told may)) = absurd (zero_four (other_kind 0 is))
     where
       zero_four : ◌≡◌ {A = ℕ} 0 4 → ⊥
@@ -134,7 +137,7 @@ saved_book d clock old new h lane answer applies keeps tells early s m closes un
     caused = unfailed d old new answer closes applies.cause
 
     none : new.fault ≡ None
-    none = (applies.answers).fault ∙ ap (λ n. fault_after _ n old.fault) closes ∙ caused.0
+    none = (applies.answers).fault ∙ ap (λ n. fault_after (length (old.journal).entries.items) n old.fault) closes ∙ caused.0
 
     content : d.content (new.parts).disk ≡ installed (d.content (old.parts).disk) book_name (book_text book)
     content = leaves.content caused.1 s.honest ∙ ap (λ (c : Change). after c (d.content (old.parts).disk)) (leaves.saves closes uncut)

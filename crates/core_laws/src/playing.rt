@@ -29,7 +29,8 @@ pub fn play<D: Disk, E, C: Clock>(
     acts: Vec<(u32, Act)>,
 ) -> Result<Vec<Answer>, Vec<(u32, Act)>>
     requires { ArePlayable acts.items }
-    ensures played { IfOk result (HasPlayed D.Disk C.Clock core.old core.new acts.items) }
+    ensures played { IfOk result
+        (λ answers. HasPlayed D.Disk C.Clock core.old core.new acts.items answers.items) }
     ensures whole { OnOk result (AllWhole core.new) }
     ensures handed { IfErr result (λ back. back ≡ acts) }
     ensures unchanged { IfErr result (λ back. SameCore core.old core.new) }
