@@ -4,7 +4,8 @@ use Rattle.std.proofs.lemmas.Bool.{cases_lt}
 use Rattle.core_state.specs.declared.journal.Journal.{Journal}
 use Rattle.core_state.specs.declared.state.Core.{Core}
 use Rattle.core_state.specs.Entering.{Fills, SameEntries, held_by}
-use Rattle.core_laws.specs.Playing.{SameCore}
+use Rattle.std.specs.Prelude.{slice_index}
+use Rattle.core_laws.specs.Playing.{AllWhole, SameCore}
 
 pub same_core : {D E C : Type 0} (core : Core D E C) → SameCore core core
 same_core core = record {
@@ -17,6 +18,21 @@ same_core core = record {
   last = refl;
   fault = refl;
 }
+
+pub same_then : {D E C : Type 0} (first old new : Core D E C) → SameCore first old → SameCore old new → SameCore first new
+same_then first old new a b = record {
+  parts = b.parts ∙ a.parts;
+  remote = b.remote ∙ a.remote;
+  clock = b.clock ∙ a.clock;
+  entries = record { entries = (b.entries).entries ∙ (a.entries).entries; calls = (b.entries).calls ∙ (a.entries).calls };
+  upkeep = b.upkeep ∙ a.upkeep;
+  collector = b.collector ∙ a.collector;
+  last = b.last ∙ a.last;
+  fault = b.fault ∙ a.fault;
+}
+
+pub whole_same : {D E C : Type 0} (old new : Core D E C) → (new.journal).held ≡ (old.journal).held → AllWhole old → AllWhole new
+whole_same old new same whole lane lt = subst (λ held. 3 ≤ slice_index held lane) (sym same) (whole lane lt)
 
 pub none_filled : {D E C : Type 0} (core : Core D E C) (other : ℕ) → other < 0 → 3 ≤ held_by core.journal other
 none_filled core other below = absurd (omega (arith, below))

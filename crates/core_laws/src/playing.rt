@@ -1,6 +1,6 @@
 //! Lists of acts, done one after another.
 
-ghost use Rattle.std.specs.Prelude.{◌≡◌, IfErr, IfOk, OnOk};
+ghost use Rattle.std.specs.Prelude.{◌≡◌, ◌≤◌, IfErr, IfOk, OnOk};
 ghost use Rattle.core_laws.specs.Playing.{AllWhole, ArePlayable, HasPlayed, SameCore};
 
 use core_state::{Act, Answer, Core};
@@ -21,8 +21,20 @@ fn fill_all<D, E, C>(core: &mut Core<D, E, C>) -> Result<(), AllocError>
     Ok(())
 }
 
+/// Fills up the reserve of every lane, and makes so many entries besides.
+#[tactic(auto, using(crate::proofs::Filling::same_then, crate::proofs::Filling::whole_same))]
+fn make_room<D, E, C>(core: &mut Core<D, E, C>, count: u32) -> Result<(), AllocError>
+    ensures same { SameCore core.old core.new }
+    ensures whole { OnOk result (AllWhole core.new) }
+    ensures spare { OnOk result (count ≤ core.new.journal.spare) }
+{
+    fill_all(core)?;
+    core.reserve(count)
+}
+
 /// Does acts one after another, each on its lane, and gives their answers. Entries and answers are reserved first: where
 /// memory for them is wanting, nothing is done, and the acts are handed back.
+#[tactic(auto, using(crate::proofs::Played::none_played, crate::proofs::Played::played_more, crate::proofs::Played::stays_whole, crate::proofs::Played::one_spare))]
 pub fn play<D: Disk, E, C: Clock>(
     core: &mut Core<D, E, C>,
     alloc: Global,
@@ -41,9 +53,9 @@ pub fn play<D: Disk, E, C: Clock>(
     let Ok(count) = u32::try_from(acts.len()) else {
         return Err(acts);
     };
-    if fill_all(core).is_err() || core.reserve(count).is_err() {
+    let Ok(()) = make_room(core, count) else {
         return Err(acts);
-    }
+    };
     for (lane, act) in acts {
         answers.push_reserved(apply(core, alloc, lane, act));
     }
