@@ -33,14 +33,14 @@ module _ (row : FileRow) (bytes : List ℕ) (fault : Option FileFault) (total : 
   pub fixed_read : (x : FixedIndex) → fixed_of bytes ≡ Ok x → total ≡ x.size → csum ≡ fixed_index.csum_of x → digests ≡ map digest x.digests
       → (let j : Judged = record { fault = fault; bytes = total; digests = digests } in j) ≡ fixed_judged row bytes
   unfolding fixed_judged
-  fixed_read x reads sized summed named = rw reads (made (compared_so x.size (fixed_index.csum_of x) sized summed) sized named)
+  fixed_read x reads sized summed named = rw (reads, fixed_judged) (made (compared_so x.size (fixed_index.csum_of x) sized summed) sized named)
 
   pub dynamic_read : (x : DynamicIndex) → dynamic_of bytes ≡ Ok x → total ≡ pieces.size_of x → csum ≡ dynamic_index.csum_of x → digests ≡ digests_of x.entries
       → (let j : Judged = record { fault = fault; bytes = total; digests = digests } in j) ≡ dynamic_judged row bytes
   unfolding dynamic_judged
   dynamic_read x reads sized summed named =
       let ends = sized ∙ last_same x.entries in
-      rw reads (made (compared_so (last_end x.entries) (dynamic_index.csum_of x) ends summed) ends named)
+      rw (reads, dynamic_judged) (made (compared_so (last_end x.entries) (dynamic_index.csum_of x) ends summed) ends named)
 
 -- ---- a blob
 

@@ -8,7 +8,7 @@ pub returns-in-Some : goal.returns-in-Some
 returns-in-Some c =
     let inside = c.self.inside in
     let lane : Lane = record { size = inside.size; left = inside.left.now; job = inside.job; told = inside.told.items } in
-    c.is_sync.ensures ∙ ap is_sync_next (sym (job_stands lane c.in-Some.asking.now c.in-Some.is)) ∙ ap (λ l. is_sync_next (lane_next l)) c.self.view_is
+    c.is_sync.ensures ∙ ap is_sync_next (sym (job_stands lane c.in-Some.asking c.in-Some.is)) ∙ ap (λ l. is_sync_next (lane_next l)) c.self.view_is
 
 pub returns : goal.returns
 returns c =
