@@ -3,16 +3,19 @@
 A session goes to the store through a named pipe, part by part. A part has ended when all its commands are answered.
 """
 import fcntl, hashlib, os, random, struct, subprocess, sys, time
+from datetime import datetime, timedelta, timezone
 
 TOP = os.path.dirname(os.path.dirname(os.path.abspath(__file__)))
 sys.path.insert(0, os.path.join(TOP, "examples"))
-from session import APPEND_LIMIT, append_digests, blob, bye, chunk_as, close_index, entries_of, finish, frame, listed
-from session import new_dynamic, open_writer, previous, put_manifest, sha256
+from session import APPEND_LIMIT, MANIFEST, append_digests, blob, bye, chunk_as, close_index, dynamic_csum, dynamic_index
+from session import entries_of, finish, frame, listed, manifest, new_dynamic, open_writer, previous, put_manifest, sha256
 
 MIB = 1 << 20
 INDEX = "root.didx"
 # (snapshots that follow one another)
 SNAPSHOTS = ["host/bench/2020-01-15T06:30:03Z", "host/bench/2020-01-15T06:30:04Z"]
+# (a folder of many small snapshots has so many chunks of each, and the first is of this second)
+CHUNKS_OF_ONE, FIRST = 100, datetime(2020, 1, 15, 6, 30, 3, tzinfo=timezone.utc)
 
 
 class Part:
@@ -61,6 +64,43 @@ def make_backup(path, snapshot, pieces, sent, over_base):
         part.add(out, put_manifest(snapshot, listed(INDEX, size, csum)))
         part.add(out, finish())
     return part
+
+
+def write(path, data):
+    os.makedirs(os.path.dirname(path), exist_ok=True)
+    with open(path, "wb") as out:
+        out.write(data)
+
+
+def make_snapshot(root, number):
+    """A snapshot of one archive, with its chunks, of 8 bytes each."""
+    snapshot = f"host/bench{number // 1000}/{(FIRST + timedelta(seconds=number)).strftime('%Y-%m-%dT%H:%M:%SZ')}"
+    pieces = [(number * CHUNKS_OF_ONE + place).to_bytes(8, "little") for place in range(CHUNKS_OF_ONE)]
+    for piece in pieces:
+        digest = sha256(piece).hex()
+        write(f"{root}/.chunks/{digest[:4]}/{digest}", blob(piece))
+    write(f"{root}/{snapshot}/{INDEX}", dynamic_index(snapshot, INDEX, 0, pieces))
+    write(f"{root}/{snapshot}/{MANIFEST}", blob(manifest(snapshot, listed(INDEX, 8 * CHUNKS_OF_ONE, dynamic_csum(pieces)))))
+
+
+def run_on(root, session):
+    """Runs the session on the folder, and gives the greatest resident memory of the run, in bytes."""
+    run = subprocess.Popen([f"{TOP}/pbstore", "run", root, session])
+    _, status, usage = os.wait4(run.pid, 0)
+    if status:
+        sys.exit(f"{os.path.basename(sys.argv[0])}: the store ended with the status {os.waitstatus_to_exitcode(status)}")
+    return usage.ru_maxrss * 1024
+
+
+def least(call, times=3):
+    """Seconds that the fastest of some calls takes, after one that is not counted."""
+    call()
+    found = []
+    for _ in range(times):
+        before = time.monotonic()
+        call()
+        found.append(time.monotonic() - before)
+    return min(found)
 
 
 def timed(call):

@@ -475,6 +475,10 @@ def unreadable(path):
     return refused(24, text(path))
 
 
+def collector_busy(lane):
+    return refused(25, u32(lane))
+
+
 def disk_fault():
     return refused(26)
 

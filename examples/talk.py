@@ -41,6 +41,7 @@ WORDS = {
     "BadRange": "that is beyond the end",
     "Damaged": "a chunk is damaged on the disk",
     "Unreadable": "a file of the snapshot is missing or cannot be read",
+    "CollectorBusy": "another collection runs",
     "DiskFault": "the disk failed",
     "Halted": "the disk failed before",
     "NoMemory": "the store is out of memory",

@@ -2,6 +2,19 @@
 from session import *
 from tables.common import *
 
+# Pieces of the first snapshot's archive.
+OF_TWO, OF_MANY = [b"de", b"abc"], 1000 * [b"de"] + [b"abc"]
+
+
+def root(*pieces):
+    """The archive of these pieces, as a manifest lists it."""
+    return listed("root.didx", sum(map(len, pieces)), dynamic_csum(pieces))
+
+
+def report(*numbers):
+    return frame(collected(*numbers))
+
+
 TABLES = {
     "core_tests/src/admin.rt": {
         "LATER_BLOB": [blob(manifest(A_LATER))],
@@ -56,6 +69,38 @@ TABLES = {
         "NONE_THERE": [frame(keys())],
         "ONE_LISTED": [frame(rows((A, 1)))],
     },
+    "core_tests/src/collecting.rt": {
+        "NO_MEMORY": [frame(no_memory())],
+        "BUSY": [frame(collector_busy(5))],
+        "AT_CUTOFF": [book(913300, (b"abc", 913300), (b"de", 913299))],
+        "BY_CUTOFF": [report(1000000, 913300, 0, 1, 1)],
+        "RUNNING": [book(900000, (b"abc", 900000), (b"de", 899699))],
+        "BESIDE_WRITERS": [report(1000000, 899700, 0, 1, 1)],
+        "EARLY": [report(100, 0, 0, 2, 0)],
+        "WITHOUT_BOOK": [report(1000000, 913300, 2, 0, 0)],
+        "WITHOUT_CHUNKS": [report(1000000, 913300, 0, 0, 0)],
+        "OF_ONE": [blob(manifest(A, root(b"abc")))],
+        "OF_TWO": [blob(manifest(A, root(*OF_TWO)))],
+        "OF_MANY": [blob(manifest(A, root(*OF_MANY)))],
+        "FORGOTTEN_BETWEEN": [report(1000000, 913300, 2, 0, 0), report(1100000, 1013300, 0, 0, 2)],
+        "IN_TWO_MARKS": [report(1000000, 913300, 2, 0, 0)],
+        "FORGOTTEN_HALF_MARKED": [report(1000000, 913300, 1, 0, 1)],
+        "BEFORE": [book(100, (b"abc", 100), (b"de", 100))],
+        "TAKE_OVER": [previous("root.didx", 4176)],
+        "NEW": [new_dynamic("root.didx")],
+        "NUMBER": [frame(number(0))],
+        "APPEND": [append(0, (b"abc", 0))],
+        "CLOSE": [close_index(0, 1, 3, dynamic_csum([b"abc"]))],
+        "PUT": [put_manifest(A_LATER, root(b"abc"))],
+        "FROM_END": [download("root.didx", 4136)],
+        "ALL_THREE": [range_of("root.didx", 0, 3)],
+        "TAKEN_OVER": [
+            report(1000000, 913300, 1, 0, 1),
+            frame(part(bytes(4136), 4136)),
+            frame(rest(b"abc")),
+        ],
+        "UNDECODED": [frame(unreadable(f"{A}/root.didx"))],
+    },
     "core_tests/src/damage.rt": {
         "ABC_BLOB": [blob(b"abc")],
         "DE_BLOB": [blob(b"de")],
@@ -78,6 +123,7 @@ TABLES = {
             frame(snapshot_busy(2)),
             frame(no_memory()),
         ],
+        "CLOSINGS": [frame(no_memory()), frame(no_memory())],
         "HOLDERS": [
             frame(snapshot_busy(2)),
             frame(group_busy(4)),

@@ -1,6 +1,6 @@
 -- The acts of a collector, and what is told of them by what the core keeps.
 use Rattle.disk_trait.specs.declared.disk.Disk.{Ghosts}
-use Rattle.std.specs.Prelude.{◌≡◌, ℕ, Bool, true, false, ◌==◌, if◌then◌else◌, List, Option, Some, None, option_map, Result, Ok, Err}
+use Rattle.std.specs.Prelude.{ℕ, if◌then◌else◌, List, Option, Some, None, option_map, Result, Ok, Err}
 use Rattle.store_types.specs.declared.refusal.Refusal.{Refusal}
 use Rattle.store_types.specs.declared.refusal.Refusal.TheVariants.{Unreadable}
 use Rattle.store_history.specs.declared.act.Act.{Act}
@@ -21,11 +21,11 @@ IsCollectors Start = Unit {0}
 IsCollectors Step = Unit {0}
 IsCollectors _ = ⊥
 
--- on any disk: what refuses it, and which collector opens
-abbrev pub CoreAnswersBy : {D E C : Type 0} → Core D E C → Core D E C → ℕ → Act → Answer → Type 0
-CoreAnswersBy old new lane Start answer = StartTells old new lane answer
-CoreAnswersBy old new lane Step answer = StepTells old lane answer
-CoreAnswersBy old new lane _ answer = Unit {0}
+-- on any disk: what it answers by what the core keeps, and which collector opens
+abbrev pub CoreAnswersBy : {D E C : Type 0} → Ghosts D → Core D E C → Core D E C → ℕ → Act → Answer → Type 0
+CoreAnswersBy d old new lane Start answer = StartTells old new lane answer
+CoreAnswersBy d old new lane Step answer = StepTells d old new lane answer
+CoreAnswersBy d old new lane _ answer = Unit {0}
 
 -- ---- the file that is told to be unreadable
 

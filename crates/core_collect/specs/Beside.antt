@@ -1,14 +1,13 @@
 -- What a history tells of parts, book and collector, beside the plain store.
 use Rattle.disk_trait.specs.declared.disk.Disk.{Ghosts}
-use Rattle.std.specs.Prelude.{◌≡◌, ◌↔◌, ℕ, Bool, true, ◌&&◌, List, [], ◌∷◌, Option, Some, IsSome, IsTrue}
-use Rattle.std.specs.List.{All, Contains}
+use Rattle.std.specs.Prelude.{◌≡◌, ◌↔◌, ℕ, List, Option, Some, IsSome}
+use Rattle.std.specs.List.{All}
 use Rattle.std.specs.FinMap.{get}
 use Rattle.disk_trait.specs.Files.{Files}
-use Rattle.store_types.specs.Names.{name_lt}
 use Rattle.store_files.specs.Folder.{IsDigest, chunk_name}
 use Rattle.store_model.specs.Store.{Store}
 use Rattle.store_history.specs.LastTouches.{LastTouches, SameTouches, is_one_of, touched}
-use Rattle.store_upkeep.specs.Laws.{Lists}
+use Rattle.store_upkeep.specs.Laws.{Lists, Rising}
 use Rattle.store_upkeep.specs.Safety.{IsNeeded}
 use Rattle.store_history.specs.Sweeping.{Sweep, Swept, chunks, next_marks, next_taken, without}
 use Rattle.core_state.specs.declared.collector.Collector.{Collector}
@@ -17,12 +16,6 @@ use Rattle.core_state.specs.declared.upkeep.Upkeep.{Upkeep}
 use Rattle.core_state.specs.Holds.{Holds}
 use Rattle.core_state.specs.Sweeps.{ShowsOpen}
 use Rattle.core_state.specs.Upkeeps.{touches_kept}
-
--- each digest is above the one before it, in byte order
-abbrev pub digests_rise : List (List ℕ) → Bool
-digests_rise [] = true
-digests_rise (x ∷ []) = true
-digests_rise (x ∷ y ∷ ys) = name_lt x y && digests_rise (y ∷ ys)
 
 -- a chunk's file is there exactly where the chunk has a last touch
 abbrev pub IsPresent : Files → LastTouches → Type 0
@@ -38,7 +31,7 @@ pub record StandsBeside {D : Type 0} (d : Ghosts D) (parts : Parts D) (u : Upkee
 -- What holds of the chunks and the sweep of a legal history: the chunks are listed in byte order, each once; and the one that the next visit
 -- takes out is not needed.
 pub record IsSweepable (s : Store) (w : Swept) : Type 0 where
-  pub rise : IsTrue (digests_rise (chunks w))
+  pub rise : Rising (chunks w)
   pub digests : All IsDigest (chunks w)
   pub lists : Lists w.touches (chunks w)
   pub unneeded : (sweep : Sweep) (x : List ℕ) → w.sweep ≡ Some sweep → next_taken w sweep sweep.unmarked ≡ Some x → IsNeeded s x → ⊥

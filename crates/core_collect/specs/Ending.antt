@@ -1,16 +1,16 @@
 -- The end of a collector: its report, and what ended it early.
-use Rattle.std.specs.Prelude.{◌≡◌, ℕ, Option, Some, None, Result, IfOk}
+use Rattle.std.specs.Prelude.{◌≡◌, ℕ, Option, Some, None, Result, IfOk, OnOk}
 use Rattle.disk_trait.specs.declared.disk.Disk.{Ghosts}
 use Rattle.disk_trait.specs.declared.disk.DiskError.{DiskError}
 use Rattle.disk_trait.specs.Effects.{LeavesBy}
 use Rattle.file_install.specs.Install.{Installs, OkInstalls}
 use Rattle.port_traits.specs.Readings.{Readings}
 use Rattle.store_types.specs.declared.refusal.Refusal.TheVariants.{Halted}
-use Rattle.store_files.specs.Book.{Book, book_text}
+use Rattle.store_files.specs.Book.{Book, FitsBook, book_text}
 use Rattle.wire_commands.specs.declared.reply.Reply.{Reply}
 use Rattle.wire_commands.specs.declared.reply.Reply.TheVariants.{Collected, Refused}
 use Rattle.atime_book.specs.Counts.{Divides}
-use Rattle.atime_book.specs.Touches.{as_of}
+use Rattle.atime_book.specs.Touches.{IsAt, as_of}
 use Rattle.gc_plan.specs.Plan.{Plan, report_of}
 use Rattle.gc_plan.specs.declared.GcReport.{GcReport}
 use Rattle.store_history.specs.Saved.{book_name}
@@ -37,6 +37,8 @@ pub record EndsPlan {D : Type 0} (d : Ghosts D) (old new : D) (book : Book) (pla
   pub crash : LeavesBy d old new (Installs (d.content old) book_name (book_text (as_of moment book)))
   pub installed : OkInstalls d old new book_name (book_text (as_of moment book)) result
   pub report : IfOk result (Reports book plan)
+  -- what is saved is a book
+  pub fits : IsAt book moment → OnOk result (FitsBook (as_of moment book))
 
 -- ---- one that was ended early
 

@@ -1,20 +1,23 @@
 -- The marks of a collector: the index that is next, and what is marked of it.
-use Rattle.std.specs.Prelude.{◌≡◌, ◌<◌, ◌≤◌, ℕ, Bool, true, false, List, [], ◌∷◌, map, take, drop, length, if◌then◌else◌, Option, Some, None, IsSome, Result, Ok, Err, IfOk, Vec}
+use Rattle.std.specs.Prelude.{◌≡◌, ◌<◌, ◌≤◌, ℕ, Bool, true, false, List, [], ◌∷◌, map, take, drop, length, Option, Some, None, IsSome, Result, Ok, Err, Vec}
 use Rattle.std.specs.declared.alloc.Global.{Global}
 use Rattle.disk_trait.specs.Files.{Files}
 use Rattle.disk_trait.specs.declared.disk.Disk.{Ghosts}
 use Rattle.store_types.specs.Chain.Refusing.{◌>>=◌}
+use Rattle.store_types.specs.FileNames.{is_fixed_name}
 use Rattle.store_types.specs.declared.names.Digest32.{Digest32}
 use Rattle.store_types.specs.declared.refusal.Refusal.{Refusal}
 use Rattle.store_types.specs.declared.refusal.Refusal.TheVariants as refusals
 use Rattle.store_files.specs.Book.{Book}
 use Rattle.store_files.specs.DynamicIndex.{Ended}
-use Rattle.gc_plan.specs.Plan.{Plan, left_of, mark_limit, next_index, next_mark, with_mark}
+use Rattle.gc_plan.specs.Plan.{Plan, Stage, marking, sweeping, is_over, left_of, mark_limit, marked_at, next_index, next_mark, with_mark}
 use Rattle.gc_plan.specs.declared.IndexAt.{IndexAt}
 use Rattle.snapshot_files.specs.Indexes.{index_at}
+use Rattle.store_files.specs.Archive.{Snapshot}
 use Rattle.store_model.specs.Store.{Store}
 use Rattle.store_history.specs.Sweeping.{Sweep, Unmarked}
 use Rattle.core_state.specs.declared.collector.Collector.{Collector}
+use Rattle.core_state.specs.declared.kept.Kept.{Kept}
 use Rattle.core_state.specs.declared.kept.Listed.{Listed}
 use Rattle.core_state.specs.declared.parts.Parts.{Parts}
 use Rattle.core_collect.specs.declared.marking.Unread.{Unread}
@@ -22,7 +25,7 @@ use Rattle.core_collect.specs.declared.marking.Unread.TheVariants.{Unreadable}
 use Rattle.core_state.specs.Entries.{marked_in}
 use Rattle.core_state.specs.Found.{path_of_kept}
 use Rattle.core_state.specs.Holds.{Holds}
-use Rattle.core_state.specs.Sweeps.{ShowsSweep, kept_at}
+use Rattle.core_state.specs.Sweeps.{ShowsSweep, digests_named, kept_at, unmarked_by}
 use Rattle.core_state.specs.Upkeeps.{TouchesEach}
 
 -- ---- an index
@@ -57,6 +60,46 @@ abbrev pub IfUnreadable : (List ℕ → Type 0) → Unread → Type 0
 IfUnreadable P (Unreadable path) = P path
 IfUnreadable P unread = Unit {0}
 
+-- ---- the next one that is unreadable
+
+-- an index that was forgotten or has no entries, one that has some, and one that does not decode
+pub data Standing : Type 0 where
+  passed_over : Standing
+  marked_next : Standing
+  unreadable : List ℕ → Standing
+
+abbrev pub standing_as : List ℕ → Result (List (List ℕ)) Refusal → Standing
+standing_as path (Ok []) = passed_over
+standing_as path (Ok (d ∷ ds)) = marked_next
+standing_as path (Err refusal) = unreadable path
+
+-- where digests are at hand it is not read
+abbrev pub standing_at : Files → Bool → List Digest32 → Option (List ℕ) → Standing
+standing_at m is_fixed entries None = passed_over
+standing_at m is_fixed [] (Some path) = standing_as path (digests_read m path is_fixed)
+standing_at m is_fixed (d ∷ ds) (Some path) = marked_next
+
+abbrev pub standing : Files → List Listed → List Digest32 → IndexAt → Standing
+standing m catalogue entries i = standing_at m (is_fixed_name i.name) entries (path_at i catalogue)
+
+abbrev pub unless_passed : Standing → Option (List ℕ) → Option (List ℕ)
+unless_passed passed_over later = later
+unless_passed marked_next later = None
+unless_passed (unreadable path) later = Some path
+
+-- The path of the first of these indexes that is not passed over, where it does not decode. The digests at hand are the first's.
+abbrev pub unreadable_in : Files → List Listed → List Digest32 → List IndexAt → Option (List ℕ)
+unreadable_in m catalogue entries [] = None
+unreadable_in m catalogue entries (i ∷ is) = unless_passed (standing m catalogue entries i) (unreadable_in m catalogue [] is)
+
+abbrev pub indexes_left : List IndexAt → Stage → List IndexAt
+indexes_left indexes (marking place first) = drop place indexes
+indexes_left indexes (sweeping names) = []
+
+-- the path of the index that is to be marked next, where it does not decode
+abbrev pub next_unreadable : Files → List Listed → Collector → Option (List ℕ)
+next_unreadable m catalogue c = unreadable_in m catalogue c.entries.items (indexes_left (c.plan).indexes (c.plan).stage)
+
 -- ---- the index that is next
 
 -- an index is next, and its digests are at hand
@@ -74,45 +117,74 @@ pub record PassesOver (old new : Collector) : Type 0 where
   pub ended : new.ended ≡ old.ended
   pub plan : new.plan ≡ with_mark old.plan 0 0
   pub none : new.entries.items ≡ []
+  pub less : left_of new.plan < left_of old.plan
 
--- what is unmarked begins with the digests at hand
-abbrev pub BeginsWith : Collector → List Unmarked → Type 0
-BeginsWith c [] = ⊥
-BeginsWith c (u ∷ us) = u.digests ≡ map (λ d. d.0) (entries_left c)
+-- what is unmarked but for the index that is next
+abbrev pub behind_next : List Listed → List Snapshot → Plan → List Unmarked
+behind_next catalogue snapshots plan = unmarked_by catalogue snapshots plan.indexes (marked_at plan.stage 0 0)
 
--- For each store and sweep that the collector showed it shows them still, and this is known of it.
-abbrev pub ShowsStill : {D : Type 0} → Ghosts D → Parts D → Collector → Collector → (Sweep → Type 0) → Type 0
+-- The snapshot of the index that is next is still there, and the digests at hand are the index's. With those that are not marked begins
+-- what is unmarked.
+pub record BeginsWith (catalogue : List Listed) (snapshots : List Snapshot) (c : Collector) (unmarked : List Unmarked) : Type 0 where
+  pub index : IndexAt
+  pub kept : Kept
+  pub next : next_index c.plan ≡ Some index
+  pub there : kept_at index.snapshot catalogue ≡ Some kept
+  pub digests : digests_named kept.key index.name snapshots ≡ bytes_of c.entries
+  pub begins : unmarked ≡ record { key = kept.key; name = index.name; digests = map (λ d. d.0) (entries_left c) } ∷ behind_next catalogue snapshots c.plan
+
+-- For each store and sweep that the collector showed it shows them still, and this is known of them.
+abbrev pub ShowsStill : {D : Type 0} → Ghosts D → Parts D → Collector → Collector → (List Snapshot → Sweep → Type 0) → Type 0
 ShowsStill d parts old new known = (acts : ℕ) (s : Store) (sweep : Sweep) → Holds d parts s → ShowsSweep acts parts.catalogue.items s.snapshots old sweep
-    → ShowsSweep acts parts.catalogue.items s.snapshots new sweep × known sweep
+    → ShowsSweep acts parts.catalogue.items s.snapshots new sweep × known s.snapshots sweep
 
 -- each index of a plain store decodes
-abbrev pub IsSettled : Collector → Result Bool Unread → Sweep → Type 0
-IsSettled c (Ok true) sweep = BeginsWith c sweep.unmarked
-IsSettled c (Ok false) sweep = Unit {0}
-IsSettled c (Err (Unreadable path)) sweep = ⊥
-IsSettled c (Err unread) sweep = Unit {0}
+abbrev pub IsSettled : List Listed → Collector → Result Bool Unread → List Snapshot → Sweep → Type 0
+IsSettled catalogue c (Ok true) snapshots sweep = BeginsWith catalogue snapshots c sweep.unmarked
+IsSettled catalogue c (Ok false) snapshots sweep = Unit {0}
+IsSettled catalogue c (Err (Unreadable path)) snapshots sweep = ⊥
+IsSettled catalogue c (Err unread) snapshots sweep = Unit {0}
 
-abbrev pub IsFound : Collector → Result Bool Unread → Sweep → Type 0
-IsFound c (Ok false) sweep = sweep.unmarked ≡ []
-IsFound c result sweep = IsSettled c result sweep
+abbrev pub IsFound : List Listed → Collector → Result Bool Unread → List Snapshot → Sweep → Type 0
+IsFound catalogue c (Ok false) snapshots sweep = sweep.unmarked ≡ []
+IsFound catalogue c result snapshots sweep = IsSettled catalogue c result snapshots sweep
 
--- the lane and what ended it early are as before, and no more is to be done
+-- On an honest disk, whatever it holds, the next one is told to be unreadable exactly where it is.
+abbrev pub SettlesUnread : Option (List ℕ) → Option (List ℕ) → Result Bool Unread → Type 0
+SettlesUnread before after (Ok true) = before ≡ None
+SettlesUnread before after (Ok false) = before ≡ after
+SettlesUnread before after (Err (Unreadable path)) = before ≡ Some path
+SettlesUnread before after (Err unread) = Unit {0}
+
+abbrev pub TellsUnread : Option (List ℕ) → Result Bool Unread → Type 0
+TellsUnread next (Ok found) = next ≡ None
+TellsUnread next (Err (Unreadable path)) = next ≡ Some path
+TellsUnread next (Err unread) = Unit {0}
+
+-- the lane, what ended it early and what its start fixed are as before, no more is to be done, and it is over no sooner
 pub record GoesFurther (old new : Collector) : Type 0 where
   pub lane : new.lane ≡ old.lane
   pub ended : new.ended ≡ old.ended
+  pub start : (new.plan).start ≡ (old.plan).start
+  pub cutoff : (new.plan).cutoff ≡ (old.plan).cutoff
+  pub indexes : (new.plan).indexes ≡ (old.plan).indexes
+  pub over : is_over old.plan ≡ false → is_over new.plan ≡ false
   pub not_more : left_of new.plan ≤ left_of old.plan
 
 pub record SettlesNext {D : Type 0} (d : Ghosts D) (parts : Parts D) (old new : Collector) (result : Result Bool Unread) : Type 0 where
   pub further : GoesFurther old new
-  pub shows : ShowsStill d parts old new (IsSettled new result)
+  pub shows : ShowsStill d parts old new (IsSettled parts.catalogue.items new result)
   pub at_hand : result ≡ Ok true → AtHand new
   pub passes : result ≡ Ok false → IsSome (next_mark old.plan) → left_of new.plan < left_of old.plan
+  pub unread : d.honest parts.disk
+      → SettlesUnread (next_unreadable (d.content parts.disk) parts.catalogue.items old) (next_unreadable (d.content parts.disk) parts.catalogue.items new) result
 
 pub record FindsNext {D : Type 0} (d : Ghosts D) (parts : Parts D) (old new : Collector) (result : Result Bool Unread) : Type 0 where
   pub further : GoesFurther old new
-  pub shows : ShowsStill d parts old new (IsFound new result)
+  pub shows : ShowsStill d parts old new (IsFound parts.catalogue.items new result)
   pub at_hand : result ≡ Ok true → AtHand new
   pub all_marked : result ≡ Ok false → next_mark new.plan ≡ None
+  pub unread : d.honest parts.disk → TellsUnread (next_unreadable (d.content parts.disk) parts.catalogue.items old) result
 
 -- ---- a mark
 

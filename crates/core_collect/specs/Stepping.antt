@@ -1,24 +1,24 @@
 -- The acts of a collector after its start.
 use Rattle.disk_trait.specs.declared.disk.Disk.{Ghosts}
-use Rattle.std.specs.Prelude.{◌≡◌, ◌<◌, ◌≤◌, ◌⊎◌, ◌∷◌, [], ℕ, true, false, Option, Some, None, IsSomeAnd, IfSome, IfErr, Result, Ok, Err, IsErrOf}
+use Rattle.std.specs.Prelude.{◌≡◌, ◌<◌, ◌≤◌, ◌⊎◌, ◌∷◌, [], ℕ, true, false, List, Option, Some, None, IsSomeAnd, IfSome, IfErr, Result, Ok, Err, IsErrOf}
 use Rattle.disk_trait.specs.Disk.{Serves}
 use Rattle.port_traits.specs.Readings.{Readings}
 use Rattle.store_types.specs.declared.names.Digest32.{Digest32}
+use Rattle.store_types.specs.Times.{last_moment}
 use Rattle.store_types.specs.declared.refusal.Refusal.{Refusal}
 use Rattle.store_types.specs.declared.refusal.Refusal.TheVariants.{WrongState}
-use Rattle.store_files.specs.Book.{Book, book_text}
+use Rattle.store_files.specs.Book.{Book, FitsBook, book_text}
 use Rattle.store_files.specs.Folder.{chunk_name}
 use Rattle.wire_commands.specs.declared.reply.Reply.{Reply}
 use Rattle.wire_commands.specs.declared.reply.Reply.TheVariants as replies
+use Rattle.wire_commands.specs.HasText.{ReplyHasText}
 use Rattle.store_model.specs.Store.{Store}
 use Rattle.atime_book.specs.Touches.{NoneAfter, as_of}
-use Rattle.gc_plan.specs.Plan.{left_of}
 use Rattle.gc_plan.specs.declared.GcReport.{GcReport}
-use Rattle.store_history.specs.LastTouches.{LastTouches, SameTouches, touched}
 use Rattle.store_history.specs.Saved.{book_name}
 use Rattle.store_history.specs.declared.act.Answer.{Answer}
 use Rattle.store_upkeep.specs.Safety.{IsNeeded}
-use Rattle.store_history.specs.Sweeping.{Sweep, Swept, is_over, passed, report_of}
+use Rattle.store_history.specs.Sweeping.{Swept, is_over, passed, report_of}
 use Rattle.core_state.specs.declared.collector.Collector.{Collector}
 use Rattle.core_state.specs.declared.collector.Early.{Early}
 use Rattle.core_state.specs.declared.collector.Early.TheVariants.{Unreadable}
@@ -31,9 +31,9 @@ use Rattle.core_state.specs.declared.stop.Stop.TheVariants.{Refused, NoMemory, D
 use Rattle.core_state.specs.declared.upkeep.Upkeep.{Upkeep}
 use Rattle.core_state.specs.Begins.{AdmittedHasText, IsAdmitted, Refuses}
 use Rattle.core_state.specs.Changes.{Change, LeavesChange, after, drops, installs, stays}
-use Rattle.core_state.specs.Collectors.{is_on, steps_left}
+use Rattle.core_state.specs.Collectors.{is_cut, is_on, refusal_of, steps_left}
 use Rattle.core_state.specs.Entering.{held_by}
-use Rattle.core_state.specs.Passes.{PassTouches}
+use Rattle.core_state.specs.Passes.{KeepsPlan, PassTouches}
 use Rattle.core_state.specs.Settles.{IsEntered, Settles}
 use Rattle.core_state.specs.States.{state_of}
 use Rattle.core_state.specs.Stops.{StopHasText, told}
@@ -41,7 +41,8 @@ use Rattle.core_state.specs.Unchanged.{SameKept}
 use Rattle.core_state.specs.Upkeeps.{touches_kept}
 use Rattle.core_state.specs.Wanted.{session_at}
 use Rattle.core_collect.specs.Beside.{IsSweepable, StandsBeside, passed_touches}
-use Rattle.core_collect.specs.Ending.{report_reply}
+use Rattle.core_collect.specs.Ending.{TellsEarly, early_in, report_reply}
+use Rattle.core_collect.specs.Marking.{next_unreadable}
 use Rattle.core_collect.specs.Visiting.{goes}
 
 -- ---- an open collector, on any disk
@@ -59,14 +60,23 @@ MayChange book c moment change (Err DiskFailed) =
 MayChange book c moment change (Err stop) = change ≡ stays
 
 -- a mark or a visit touches some chunks, or takes one out; nothing else does
-abbrev pub MayTouch : Upkeep → Upkeep → ℕ → Outcome → Type 0
-MayTouch u v moment (Ok None) = PassTouches (touches_kept u) (touches_kept v) moment
-MayTouch u v moment result = v ≡ u
+abbrev pub MayTouch : Change → Upkeep → Upkeep → ℕ → Outcome → Type 0
+MayTouch change u v moment (Ok None) = PassTouches change (touches_kept u) (touches_kept v) moment
+MayTouch change u v moment result = v ≡ u
 
 -- an index did not decode
 abbrev pub IsIndex : Early → Type 0
 IsIndex (Unreadable path) = Unit {0}
 IsIndex early = ⊥
+
+-- and stands at this path
+abbrev pub path_of_early : Option Early → Option (List ℕ)
+path_of_early (Some (Unreadable path)) = Some path
+path_of_early ended = None
+
+abbrev pub path_ended : Option Collector → Option (List ℕ)
+path_ended None = None
+path_ended (Some c) = path_of_early c.ended
 
 -- it goes on, but where that is so
 abbrev pub MayEnd : Collector → Outcome → Type 0
@@ -75,7 +85,17 @@ MayEnd c result = c.ended ≡ None
 
 abbrev pub GoesDown : Collector → Collector → Outcome → Type 0
 GoesDown c e (Ok None) = steps_left (Some e) < steps_left (Some c)
-GoesDown c e result = left_of e.plan ≤ left_of c.plan
+GoesDown c e result = Unit {0}
+
+-- what the end saves is a book
+abbrev pub FitsSaved : Book → ℕ → Outcome → Type 0
+FitsSaved book moment (Ok (Some report)) = FitsBook (as_of moment book)
+FitsSaved book moment result = Unit {0}
+
+-- unless the disk failed, what its start fixed is as before
+abbrev pub KeepsFixed : Collector → Collector → Outcome → Type 0
+KeepsFixed c e (Err DiskFailed) = Unit {0}
+KeepsFixed c e result = KeepsPlan c.plan e.plan
 
 -- ---- and for what a history tells
 
@@ -104,12 +124,16 @@ pub record CollectDoes {D : Type 0} (d : Ghosts D) (old new : Parts D) (u v : Up
   pub may_change : MayChange u.book c at.moment change result
   pub content : (IsErrOf result DiskFailed → ⊥) → d.honest old.disk → d.content new.disk ≡ after change (d.content old.disk)
   pub crash : LeavesChange d old.disk new.disk change
-  pub touches : MayTouch u v at.moment result
+  pub touches : MayTouch change u v at.moment result
   -- no chunk is touched after the act's moment
   pub early : (before : ℕ) → before ≤ at.moment → NoneAfter u.book before → NoneAfter v.book at.moment
+  pub fits : (before : ℕ) → before ≤ at.moment → at.moment ≤ last_moment → NoneAfter u.book before → FitsSaved u.book at.moment result
   pub lane : e.lane ≡ c.lane
   pub ends : MayEnd e result
   pub further : GoesDown c e result
+  pub same : KeepsFixed c e result
+  -- an honest disk's index that is next does not decode, or there is none such
+  pub unread : result ≡ Ok None → d.honest old.disk → path_of_early e.ended ≡ next_unreadable (d.content old.disk) old.catalogue.items c
   pub tells : (acts : ℕ) (s : Store) (w : Swept) → StandsBeside d old u acts (Some c) s w.touches w.sweep → IsSweepable s w
       → IsTheSweeps d new v acts e s w at.moment result × Spares s change
 
@@ -153,13 +177,33 @@ pub record HasPassed {D E C : Type 0} (d : Ghosts D) (readings : C → Option Re
   pub others : KeepsOthers mid acted
   pub passes : PassDoes d mid.parts acted.parts mid.upkeep acted.upkeep mid.collector acted.collector at result
   pub enters : EntersPass d acted new at result answer
+  pub text : IfSome answer.reply ReplyHasText
 
 pub data GoesOn {D E C : Type 0} (d : Ghosts D) (readings : C → Option Readings) (old new : Core D E C) (lane : ℕ) (answer : Answer) : Type 0 where
   not_begun : Refuses d readings old new lane answer → AdmittedHasText (Answered answer) → GoesOn d readings old new lane answer
   has_passed : HasPassed d readings old new lane answer → GoesOn d readings old new lane answer
 
+-- The end of a collector that was ended early, or the next act of one that goes on.
+pub record TakesNext {D E C : Type 0} (d : Ghosts D) (readings : C → Option Readings) (old new : Core D E C) (lane : ℕ) (answer : Answer) : Type 0 where
+  pub ends : is_cut lane old.collector ≡ true → TellsEarly d readings old new lane answer × IfSome answer.reply ReplyHasText
+  pub goes : is_cut lane old.collector ≡ false → GoesOn d readings old new lane answer
+
 -- ---- what is told
 
--- it is refused with the lane's session, where the lane's collector is not open
-abbrev pub StepTells : {D E C : Type 0} → Core D E C → ℕ → Answer → Type 0
-StepTells old lane answer = (answer.entry).kind ≡ 0 → (is_on lane old.collector ≡ false) × (answer.reply ≡ Some (replies.Refused (WrongState (state_of (session_at old.parts lane)))))
+-- a whole collection's report
+abbrev pub IsReport : Option Reply → Type 0
+IsReport (Some (replies.Collected start cutoff used pending removed)) = Unit {0}
+IsReport reply = ⊥
+
+-- What it answers by what the core keeps, on any disk.
+pub record StepTells {D E C : Type 0} (d : Ghosts D) (old new : Core D E C) (lane : ℕ) (answer : Answer) : Type 0 where
+  -- it is refused with the lane's session, where the lane's collector is not open
+  pub refused : (answer.entry).kind ≡ 0 → (is_on lane old.collector ≡ false) × (answer.reply ≡ Some (replies.Refused (WrongState (state_of (session_at old.parts lane)))))
+  -- the end of a collector replies what ended it early, or its report
+  pub ends : is_cut lane old.collector ≡ true → (answer.entry).kind ≡ 4 → IsSomeAnd (early_in old.collector) (λ early. answer.reply ≡ Some (replies.Refused (refusal_of early)))
+  pub reports : is_cut lane old.collector ≡ false → (answer.entry).kind ≡ 4 → IsReport answer.reply
+  -- what such an end saved is a book
+  pub fits : is_cut lane old.collector ≡ false → (answer.entry).kind ≡ 4 → NoneAfter (old.upkeep).book old.last → FitsBook (as_of (answer.entry).moment (old.upkeep).book)
+  -- An honest disk's index that does not decode ends it early as it comes to be marked, and nothing else does so in a mark or a visit.
+  pub unread : is_cut lane old.collector ≡ false → (answer.entry).kind ≡ 1 → d.honest (old.parts).disk
+      → IsSomeAnd old.collector (λ c. path_ended new.collector ≡ next_unreadable (d.content (old.parts).disk) (old.parts).catalogue.items c)

@@ -1,5 +1,5 @@
 -- The visits of a collector.
-use Rattle.std.specs.Prelude.{◌≡◌, ◌≤◌, ◌<◌, ◌⊎◌, ℕ, Bool, true, false, List, [], ◌∷◌, Option, Some, None, Result, Ok, Err, IsOk, IsErr, IsErrOf, OnOk}
+use Rattle.std.specs.Prelude.{◌≡◌, ◌<◌, ◌^◌, ◌⊎◌, Bool, true, false, List, [], ◌∷◌, length, Option, Some, None, Result, IsOk, IsErr, IsErrOf, OnOk}
 use Rattle.disk_trait.specs.Disk.{MayGo}
 use Rattle.disk_trait.specs.Effects.{DiskDrops, OnlyReads, StepsOn}
 use Rattle.disk_trait.specs.declared.disk.Disk.{Ghosts}
@@ -10,8 +10,9 @@ use Rattle.store_files.specs.Book.{Book}
 use Rattle.store_files.specs.Folder.{chunk_name}
 use Rattle.atime_book.specs.Touches.{SweptAt, is_stale, last_of}
 use Rattle.chunk_store.specs.Listed.{Lists}
-use Rattle.gc_plan.specs.Plan.{Plan, has_names, left_of, next_visit, visited, with_names, with_removal}
+use Rattle.gc_plan.specs.Plan.{Plan, has_names, is_over, left_of, next_visit, visited, with_names, with_removal}
 use Rattle.core_state.specs.Changes.{Change, LeavesChange, after, drops, stays}
+use Rattle.core_state.specs.Entries.{FitsEntries}
 
 -- ---- one chunk
 
@@ -29,11 +30,16 @@ pub record VisitsOne {D E : Type 0} (d : Ghosts D) (old new : D) (before after :
 
 -- ---- the chunks that are there
 
+-- these are an honest disk's, and no more than a list may have
+pub record AreListed {D : Type 0} (d : Ghosts D) (disk : D) (names : List Digest32) : Type 0 where
+  pub few : length names < 2 ^ 63
+  pub lists : d.honest disk → Lists (d.content disk) names
+
 -- they are listed now, in byte order, or were listed before
 abbrev pub IsListed : {D : Type 0} → Ghosts D → D → Plan → Plan → Type 0
 IsListed d disk p q =
     ((has_names p ≡ true) × (q ≡ p))
-    ⊎ ((has_names p ≡ false) × ((names : List Digest32) × (q ≡ with_names p names) × (d.honest disk → Lists (d.content disk) names)))
+    ⊎ ((has_names p ≡ false) × ((names : List Digest32) × (q ≡ with_names p names) × AreListed d disk names))
 
 pub record ListsPlan {D : Type 0} (d : Ghosts D) (old new : D) (p q : Plan) (result : Result (Unit {0}) DiskError) : Type 0 where
   pub reads : OnlyReads d old new (IsErrOf result Failed)
@@ -44,22 +50,30 @@ pub record ListsPlan {D : Type 0} (d : Ghosts D) (old new : D) (p q : Plan) (res
 
 -- the first chunk of a plan that has them listed is visited, if one is left
 abbrev pub VisitedFirst : Book → Book → Plan → Plan → Change → Option Digest32 → Type 0
-VisitedFirst before after p q change None = (after ≡ before) × (q ≡ p) × (change ≡ stays)
+VisitedFirst before after p q change None = (after ≡ before) × (q ≡ visited p) × (change ≡ stays)
 VisitedFirst before after p q change (Some digest) =
     ((goes before p digest ≡ false) × (after ≡ before) × (q ≡ visited p) × (change ≡ stays))
     ⊎ ((goes before p digest ≡ true) × SweptAt before after digest.0 true × (q ≡ with_removal (visited p)) × (change ≡ drops (chunk_name digest.0 ∷ [])))
 
--- what an honest disk may lose: nothing, or a chunk that goes
-abbrev pub IsGoing : Book → Plan → Change → Type 0
-IsGoing book p change = (change ≡ stays) ⊎ ((digest : Digest32) × (goes book p digest ≡ true) × (change ≡ drops (chunk_name digest.0 ∷ [])))
+-- the first chunk of those that are listed goes, and is lost
+pub record DropsFirst {D : Type 0} (d : Ghosts D) (disk : D) (book : Book) (p : Plan) (change : Change) : Type 0 where
+  pub listed : Plan
+  pub digest : Digest32
+  pub is_listed : IsListed d disk p listed
+  pub first : next_visit listed ≡ Some digest
+  pub stale : goes book listed digest ≡ true
+  pub change_is : change ≡ drops (chunk_name digest.0 ∷ [])
 
 pub record VisitsNext {D : Type 0} (d : Ghosts D) (old new : D) (before after_ : Book) (p q : Plan) (result : Result (Unit {0}) DiskError) : Type 0 where
   pub change : Change
-  pub going : IsGoing before p change
+  -- an honest disk loses nothing, or the first chunk where it goes
+  pub going : (change ≡ stays) ⊎ DropsFirst d old before p change
   pub crash : LeavesChange d old new change
   pub content : (IsErrOf result Failed → ⊥) → d.honest old → d.content new ≡ after change (d.content old)
   pub done : OnOk result ((listed : Plan) × IsListed d old p listed × VisitedFirst before after_ listed q change (next_visit listed))
   -- want of memory has changed nothing; where the disk failed the book is as before
   pub want : IsErrOf result NoMemory → (q ≡ p) × (change ≡ stays)
   pub unswept : IsErr result → after_ ≡ before
-  pub less : OnOk result (left_of q < left_of p)
+  pub less : is_over p ≡ false → OnOk result (left_of q < left_of p)
+  -- what fits a collector's entries fits them still, also where the disk failed
+  pub fits : (entries : List Digest32) → FitsEntries p entries → FitsEntries q entries

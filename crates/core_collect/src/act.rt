@@ -24,8 +24,8 @@ pub fn collect_act<D: Disk, E, C: Clock>(
     requires kind { IsCollectors act }
     ensures applies { ActApplies D.Disk C.Clock core.old core.new lane act result }
     ensures keeps { ActKeeps D.Disk core.old core.new lane act result }
-    // on any disk: what refuses it, by what the core keeps, and which collector opens
-    ensures by_kept { CoreAnswersBy core.old core.new lane act result }
+    // on any disk: what it answers by what the core keeps, which collector opens, and what ends one early
+    ensures by_kept { CoreAnswersBy D.Disk core.old core.new lane act result }
     // a snapshot is told as damaged exactly where one is, and an index as unreadable exactly where one ended the collector
     ensures unreadable { CollectUnreadable D.Disk core.old lane act result }
 {

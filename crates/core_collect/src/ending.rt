@@ -1,9 +1,10 @@
 //! The end of a collector.
 
-ghost use Rattle.std.specs.Prelude.{◌≡◌, ◌<◌, IsErrOf, IsSome, Some, true};
+ghost use Rattle.std.specs.Prelude.{◌≡◌, ◌<◌, IfSome, IsErrOf, IsSome, Some, true};
 ghost use Rattle.disk_trait.specs.Disk.{Serves};
 ghost use Rattle.disk_trait.specs.Effects.{DiskWantKeeps};
 ghost use Rattle.wire_commands.specs.HasText.{ReplyHasText};
+ghost use Rattle.wire_commands.specs.declared.reply.Reply.TheVariants.{Collected};
 ghost use Rattle.core_state.specs.Collectors.{is_cut};
 ghost use Rattle.core_state.specs.Reserved.{HasRoom};
 ghost use Rattle.core_collect.specs.Ending.{EndsPlan, TellsEarly, early_in, report_reply};
@@ -18,18 +19,32 @@ use std::alloc::Global;
 use store_types::{FAULT_KIND, STOP_KIND};
 use wire_commands::Reply;
 
+/// The report in these numbers.
+fn collected(start: u64, cutoff: u64, used: u64, pending: u64, removed: u64) -> Reply
+    ensures value { result ≡ Collected start cutoff used pending removed }
+    ensures text { ReplyHasText result }
+{
+    Reply::Collected {
+        start,
+        cutoff,
+        used,
+        pending,
+        removed,
+    }
+}
+
 /// The report of a whole collection, as it is told.
 pub fn told(report: &GcReport) -> Reply
     ensures value { result ≡ report_reply report.now }
     ensures text { ReplyHasText result }
 {
-    Reply::Collected {
-        start: report.start,
-        cutoff: report.cutoff,
-        used: report.used,
-        pending: report.pending,
-        removed: report.removed,
-    }
+    collected(
+        report.start,
+        report.cutoff,
+        report.used,
+        report.pending,
+        report.removed,
+    )
 }
 
 /// The report of a whole collection, once the book is saved as of this moment. At want of memory nothing has changed.
@@ -68,7 +83,8 @@ pub fn end_early<D: Disk, E, C: Clock>(core: &mut Core<D, E, C>, lane: u32) -> A
     requires lane { lane < 64 }
     requires room { HasRoom core.old lane }
     requires cut { is_cut lane core.old.collector ≡ true }
-    ensures { TellsEarly D.Disk C.readings core.old core.new lane result }
+    ensures told { TellsEarly D.Disk C.readings core.old core.new lane result }
+    ensures text { IfSome result.reply ReplyHasText }
 {
     let at = next_place(core, lane);
     if let Some(place) = core.fault {

@@ -114,9 +114,10 @@ fn settle_next<D: Disk>(
         pass_over(collector);
         return Ok(false);
     };
-    if collector.entries.is_empty() {
-        collector.entries = read_digests(&mut parts.disk, alloc, path, is_fixed)?;
+    if !collector.entries.is_empty() {
+        return Ok(true);
     }
+    collector.entries = read_digests(&mut parts.disk, alloc, path, is_fixed)?;
     if collector.entries.is_empty() {
         pass_over(collector);
         return Ok(false);

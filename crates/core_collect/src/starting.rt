@@ -1,10 +1,14 @@
 //! The start of a collector.
 
-ghost use Rattle.std.specs.Prelude.{◌≡◌, ◌<◌, ◌++◌, IfErr, IfOk, OnOk, option_map};
+ghost use Rattle.std.specs.Prelude.{◌≡◌, ◌<◌, ◌++◌, IfErr, IfOk, IsErrOf, OnOk, option_map};
+ghost use Rattle.store_types.specs.declared.refusal.Refusal.TheVariants.{CollectorBusy};
+ghost use Rattle.wire_commands.specs.declared.reply.Reply.TheVariants.{Refused};
+ghost use Rattle.wire_commands.specs.HasText.{ReplyHasText};
 ghost use Rattle.store_history.specs.declared.act.Act.TheVariants.{Start};
 ghost use Rattle.core_state.specs.Applies.{ActApplies, ActKeeps};
 ghost use Rattle.core_state.specs.Reserved.{HasRoom};
 ghost use Rattle.core_state.specs.Stops.{StopHasText};
+ghost use Rattle.core_state.specs.declared.stop.Stop.TheVariants.{DiskFailed};
 ghost use Rattle.core_collect.specs.Starting.{GivesCollector, IsNewCollector, MayOpen, earlier_of, first_unreadable, indexes_in as indexes_listed, indexes_of as indexes_kept, oldest_kept, StartTells};
 
 use core_state::{
@@ -81,6 +85,15 @@ fn first_damage(catalogue: &[Listed]) -> Option<&Bytes>
     }
 }
 
+/// The refusal while a collector is open on a lane.
+#[tactic(auto, using(crate::proofs::StartLemmas::busy_has_text))]
+fn busy_on(lane: u32) -> Refusal
+    ensures value { result ≡ CollectorBusy lane }
+    ensures text { ReplyHasText (Refused result) }
+{
+    Refusal::CollectorBusy { lane }
+}
+
 /// A collector may open on the lane.
 ///
 /// The refusals, in the order in which they are tested: the lane has a session; a collector is open, on whatever lane; a
@@ -89,10 +102,11 @@ fn may_open<D>(parts: &Parts<D>, collector: &Option<Collector>, lane: u32) -> Re
     requires { lane < 64 }
     ensures value { MayOpen parts.now collector.now lane result }
     ensures text { IfErr result StopHasText }
+    ensures unfailed { IsErrOf result DiskFailed → ⊥ }
 {
     parts.idle(lane)?;
-    if let Some(open) = collector {
-        return Err(Stop::Refused(Refusal::CollectorBusy { lane: open.lane }));
+    if let Some(other) = collector {
+        return Err(Stop::Refused(busy_on(other.lane)));
     }
     if let Some(name) = first_damage(&parts.catalogue) {
         let name = name.clone()?;

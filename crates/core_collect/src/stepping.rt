@@ -1,12 +1,14 @@
 //! The acts of a collector after its start.
 
-ghost use Rattle.std.specs.Prelude.{◌≡◌, ◌<◌, ◌≤◌, if◌then◌else◌, ◌==◌, false, None};
+ghost use Rattle.std.specs.Prelude.{◌≡◌, ◌<◌, ◌≤◌, if◌then◌else◌, ◌==◌, false, None, IfErr, IfSome};
 ghost use Rattle.store_types.specs.Times.{last_moment};
+ghost use Rattle.wire_commands.specs.HasText.{ReplyHasText};
 ghost use Rattle.store_history.specs.declared.act.Act.TheVariants.{Step};
 ghost use Rattle.core_state.specs.Applies.{ActApplies, ActKeeps};
 ghost use Rattle.core_state.specs.Collectors.{closed_on, is_cut};
 ghost use Rattle.core_state.specs.Reserved.{HasRoom};
-ghost use Rattle.core_collect.specs.Stepping.{EntersPass, GoesOn, PassDoes, CollectDoes, StepTells};
+ghost use Rattle.core_state.specs.Stops.{StopHasText};
+ghost use Rattle.core_collect.specs.Stepping.{CollectDoes, EntersPass, GoesOn, PassDoes, StepTells, TakesNext};
 
 use crate::ending::{end, end_early, told};
 use crate::marking::{Unread, find_next, mark};
@@ -44,18 +46,26 @@ fn collect<D: Disk>(
         return Ok(Some(report));
     }
     match find_next(parts, alloc, collector) {
-        Ok(true) => mark(&mut upkeep.book, collector, at.moment),
-        Ok(false) => visit_next(
-            &mut parts.disk,
-            alloc,
-            &mut upkeep.book,
-            &mut collector.plan,
-        )?,
-        Err(Unread::Unreadable(path)) => collector.ended = Some(Early::Unreadable(path)),
-        Err(Unread::NoMemory) => return Err(Stop::NoMemory),
-        Err(Unread::DiskFailed) => return Err(Stop::DiskFailed),
+        Ok(true) => {
+            mark(&mut upkeep.book, collector, at.moment);
+            Ok(None)
+        }
+        Ok(false) => {
+            visit_next(
+                &mut parts.disk,
+                alloc,
+                &mut upkeep.book,
+                &mut collector.plan,
+            )?;
+            Ok(None)
+        }
+        Err(Unread::Unreadable(path)) => {
+            collector.ended = Some(Early::Unreadable(path));
+            Ok(None)
+        }
+        Err(Unread::NoMemory) => Err(Stop::NoMemory),
+        Err(Unread::DiskFailed) => Err(Stop::DiskFailed),
     }
-    Ok(None)
 }
 
 /// The next act of the lane's collector. It is refused where the lane's is not open.
@@ -89,7 +99,9 @@ fn enter_pass<D: Disk, E, C>(
     requires lane { at.lane < 64 }
     requires in_time { at.moment ≤ last_moment }
     requires room { HasRoom core.old at.lane }
-    ensures { EntersPass D.Disk core.old core.new at ended result }
+    requires text { IfErr ended StopHasText }
+    ensures enters { EntersPass D.Disk core.old core.new at ended result }
+    ensures text { IfSome result.reply ReplyHasText }
 {
     match ended {
         Ok(None) => enter(core, at, PART_KIND, None),
@@ -120,6 +132,18 @@ fn go_on<D: Disk, E, C: Clock>(core: &mut Core<D, E, C>, alloc: Global, lane: u3
     }
 }
 
+/// The end of the lane's collector where it was ended early, or its next act.
+fn take_next<D: Disk, E, C: Clock>(core: &mut Core<D, E, C>, alloc: Global, lane: u32) -> Answer
+    requires lane { lane < 64 }
+    requires room { HasRoom core.old lane }
+    ensures { TakesNext D.Disk C.readings core.old core.new lane result }
+{
+    if core.is_cut(lane) {
+        return end_early(core, lane);
+    }
+    go_on(core, alloc, lane)
+}
+
 /// A fault of the disk, and what comes after it, closes the collector that meets it.
 fn close_at_fault(collector: &mut Option<Collector>, lane: u32, kind: u8)
     ensures { collector.new ≡ (if kind == 5 then closed_on lane collector.old else collector.old) }
@@ -141,13 +165,9 @@ pub fn step<D: Disk, E, C: Clock>(core: &mut Core<D, E, C>, alloc: Global, lane:
     ensures applies { ActApplies D.Disk C.Clock core.old core.new lane Step result }
     ensures keeps { ActKeeps D.Disk core.old core.new lane Step result }
     // on any disk
-    ensures told { StepTells core.old lane result }
+    ensures told { StepTells D.Disk core.old core.new lane result }
 {
-    let answer = if core.is_cut(lane) {
-        end_early(core, lane)
-    } else {
-        go_on(core, alloc, lane)
-    };
+    let answer = take_next(core, alloc, lane);
     close_at_fault(&mut core.collector, lane, answer.entry.kind);
     answer
 }

@@ -1,6 +1,6 @@
 //! The visits of a collector.
 
-ghost use Rattle.std.specs.Prelude.{◌≡◌, IsErr, IsErrOf, false};
+ghost use Rattle.std.specs.Prelude.{IsErr, IsErrOf};
 ghost use Rattle.disk_trait.specs.Disk.{Serves};
 ghost use Rattle.core_collect.specs.Visiting.{ListsPlan, VisitsOne, VisitsNext};
 
@@ -20,7 +20,7 @@ fn visit<D: Disk>(
     digest: &Digest32,
 ) -> Result<(), Failed>
     ensures serves { Serves D.honest D.faults disk.old disk.new (IsErr result) }
-    ensures { VisitsOne D.Disk disk.old disk.new book.old book.new plan.old plan.new digest.now result }
+    ensures visits { VisitsOne D.Disk disk.old disk.new book.old book.new plan.old plan.new digest.now result }
 {
     if !book.is_stale(digest, plan.cutoff()) {
         return Ok(());
@@ -35,9 +35,11 @@ fn visit<D: Disk>(
 fn list_chunks<D: Disk>(disk: &mut D, alloc: Global, plan: &mut Gc) -> Result<(), DiskError>
     ensures { ListsPlan D.Disk disk.old disk.new plan.old plan.new result }
 {
-    if !plan.is_listed() {
-        plan.listed(scan(disk, alloc)?);
+    if plan.is_listed() {
+        return Ok(());
     }
+    let names = scan(disk, alloc)?;
+    plan.listed(names);
     Ok(())
 }
 
@@ -49,11 +51,12 @@ pub fn visit_next<D: Disk>(
     plan: &mut Gc,
 ) -> Result<(), DiskError>
     ensures serves { Serves D.honest D.faults disk.old disk.new (IsErrOf result DiskError.Failed) }
-    ensures { VisitsNext D.Disk disk.old disk.new book.old book.new plan.old plan.new result }
+    ensures visits { VisitsNext D.Disk disk.old disk.new book.old book.new plan.old plan.new result }
 {
     list_chunks(disk, alloc, plan)?;
-    if let Some(digest) = plan.sweep_next() {
-        visit(disk, book, plan, &digest)?;
-    }
+    let Some(digest) = plan.sweep_next() else {
+        return Ok(());
+    };
+    visit(disk, book, plan, &digest)?;
     Ok(())
 }

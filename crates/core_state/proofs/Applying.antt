@@ -1,5 +1,5 @@
 -- The two records of a command, lifted once over the beginning and the entry of an act.
-use Rattle.std.proofs.Common.{◌≡◌, ◌<◌, ◌≤◌, ℕ, true, false, length, is_some, Option, Some, None, Result, Ok, Err, IfOk, IfSome, IsSome, IsTrue, IsErrOf, inl, inr, refl, sym, ap, subst, ◌∙◌}
+use Rattle.std.proofs.Common.{◌≡◌, ◌<◌, ◌≤◌, ◌||◌, ℕ, Bool, true, false, length, is_some, Option, Some, None, Result, Ok, Err, IfOk, IfSome, IsSome, IsTrue, IsErrOf, inl, inr, refl, sym, ap, subst, ◌∙◌, arith}
 use Rattle.store_files.specs.Folder.{HasWholeChunks}
 use Rattle.core_state.specs.Chunks.{HoldsOnly, IsSafe}
 use Rattle.disk_trait.specs.Disk.{Serves}
@@ -32,7 +32,7 @@ use Rattle.core_state.specs.Changes.{Change, IsFirm, LeavesChange, after, by_rep
 use Rattle.core_state.specs.Catalogue.{listed_by}
 use Rattle.core_state.specs.Closing.{HasClosed, closes, closes_by, is_closing}
 use Rattle.core_state.specs.Collectors.{collector_by}
-use Rattle.core_state.specs.Commands.{ActDoes, ActLeaves, IsNoRefusal, change_at, is_collectors, is_step}
+use Rattle.core_state.specs.Commands.{ActDoes, ActLeaves, IsNoRefusal, change_at, is_admins, is_collectors, is_step}
 use Rattle.core_state.specs.Entering.{held_by}
 use Rattle.core_state.specs.History.{History, event_of, pieces_of, then_event, world}
 use Rattle.core_state.specs.Holds.{Holds}
@@ -151,6 +151,14 @@ step_plain Short step = cc
 step_plain End step = cc
 step_plain act step = refl
 
+-- it is on the store as a whole, where it is that or the collector's
+step_admin : (act : Act) → class_of act ≡ stepping → (is_admins act || is_collectors act) ≡ true → is_admins act ≡ true
+step_admin act step is = first_holds (is_admins act) (is_collectors act) (step_plain act step) is
+  where
+    first_holds : (a b : Bool) → b ≡ false → (a || b) ≡ true → a ≡ true
+    first_holds true b off is = refl
+    first_holds false b off is = absurd (true_false (sym is ∙ off))
+
 step_asked : (act : Act) → class_of act ≡ stepping → IsAsked (class_of act)
 step_asked act step = subst IsAsked (sym step) tt
 
@@ -223,8 +231,8 @@ module _ {D E C : Type 0} (d : Ghosts D) (clock : clocks.Ghosts C) where
   -- moments never fall, and the act touches at its own
   pub early_by : (old new : Core D E C) (lane : ℕ) (act : Act) (answer : Answer) → is_step act ≡ false → IsTimely clock.readings old new answer → ActKeeps d old new lane act answer
       → NoneAfter (old.upkeep).book old.last → NoneAfter (new.upkeep).book new.last
-  early_by old new lane act answer no timely keeps early =
-      early_more old.upkeep new.upkeep act answer.reply old.last (answer.entry).moment new.last (timely.clock).risen timely.last (keeps.upkeep no) early
+  early_by old new lane act answer unstepped timely keeps early =
+      early_more old.upkeep new.upkeep act answer.reply old.last (answer.entry).moment new.last (timely.clock).risen timely.last (keeps.upkeep unstepped) early
 
   refused_remote : (old new : Core D E C) (lane : ℕ) (answer : Answer) → Refuses d clock.readings old new lane answer → new.remote ≡ old.remote
   refused_remote old new lane answer (short is) = (is.entered).remote ∙ (is.begun).remote
@@ -359,12 +367,13 @@ module _ {D E C : Type 0} (d : Ghosts D) (clock : clocks.Ghosts C) where
 
   -- ---- done on these parts, and entered
 
-  kept_at : (old mid acted new : Core D E C) (at : Place) (act : Act) (result : Result Reply Stop) (answer : Answer) → IsNoEnd act
+  kept_at : (old mid acted new : Core D E C) (at : Place) (act : Act) (result : Result Reply Stop) (answer : Answer) → class_of act ≡ stepping
       → IsReady clock.readings old mid at.lane at.moment → at.number ≡ length (mid.journal).entries.items
       → (is_closing old at.lane act ≡ false → (3 ≤ held_by mid.journal at.lane) × (0 < (mid.journal).spare)) → SameRest mid acted at.moment act (Some (reply_by (told result)))
       → ActDoes d mid.parts acted.parts at act result → ActLeaves d mid.parts acted.parts at act result
       → Settles d acted new at.lane at.moment (told result) answer → ActKeeps d old new at.lane act answer
-  kept_at old mid acted new at act result answer other ready number filled rest does leaves settles =
+  kept_at old mid acted new at act result answer step ready number filled rest does leaves settles =
+      let other = step_other act step in
       let before = (ready.begun).parts in
       let reply = settles.reply_is in
       let closed : is_closing old at.lane act ≡ true → HasClosed acted.parts at.lane (told result) = λ closing. leaves.closed (closing_before old mid at.lane act before closing) in record {
@@ -384,7 +393,7 @@ module _ {D E C : Type 0} (d : Ghosts D) (clock : clocks.Ghosts C) where
             ∙ ap (λ p. listed_by act (Some (reply_by (told result))) at.number (session_at p at.lane) p.catalogue.items) before
             ∙ ap (λ n. listed_by act (Some (reply_by (told result))) n (session_at old.parts at.lane) (old.parts).catalogue.items) (number ∙ sym (settles.place ∙ ap (λ j. length j.entries.items) rest.journal))
             ∙ ap (λ r. listed_by act r answer.place (session_at old.parts at.lane) (old.parts).catalogue.items) (sym reply);
-        admin = λ is. (ap (λ p. p.sessions.items) settles.parts ∙ (leaves.admin is).0 ∙ ap (λ p. p.sessions.items) before, ap (λ p. p.locks) settles.parts ∙ (leaves.admin is).1 ∙ ap (λ p. p.locks) before);
+        admin = λ is. (ap (λ p. p.sessions.items) settles.parts ∙ (leaves.admin (step_admin act step is)).0 ∙ ap (λ p. p.sessions.items) before, ap (λ p. p.locks) settles.parts ∙ (leaves.admin (step_admin act step is)).1 ∙ ap (λ p. p.locks) before);
         ended = λ ends done. ap (λ p. session_at p at.lane) settles.parts ∙ done_told _ result (leaves.ended ends) (if_plain answer.reply _ reply done);
         halted = where_none _ _ ready.no_fault;
         remote = settles.remote ∙ rest.remote ∙ (ready.begun).remote;
@@ -414,7 +423,7 @@ module _ {D E C : Type 0} (d : Ghosts D) (clock : clocks.Ghosts C) where
       let timely = settled_timely d clock.readings old acted new at.lane at.moment (told result) answer
       (subst (λ k. ReadsClock clock.readings old.clock k old.last at.moment) (sym rest.clock) (ready.begun).clock) settles in
       let cause = done_caused d clock.readings old mid acted new at.lane at.moment act (told result) answer ready (serves_told d (mid.parts).disk (acted.parts).disk result does.serves) does.answers settles in
-      let keeps = kept_at old mid acted new at act result answer (step_other act step) ready number filled rest does leaves settles in record {
+      let keeps = kept_at old mid acted new at act result answer step ready number filled rest does leaves settles in record {
         history = λ h s kept clear. more h s clear;
         records = λ h. records_more d clock.readings old new at.lane act answer h answers timely (step_kind d old new act answer step cause) (tells_reply d old new act answer cause answers.text) keeps.listed (early_by old new at.lane act answer (step_other act step).no timely keeps);
         recovers = λ told start h s clear kept. recovers_more d clock old new at.lane act answer lt more answers (step_caused d old new act answer step cause) keeps (step_other act step).no told start h s clear;
@@ -448,5 +457,5 @@ module _ {D E C : Type 0} (d : Ghosts D) (clock : clocks.Ghosts C) where
       → Settles d acted new at.lane at.moment (told result) answer → ActKeeps d old new lane act answer
   done_keeps_all old mid acted new lane at act result answer step admitted filled rest does leaves settles =
       subst (λ l. ActKeeps d old new l act answer) admitted.lane_is
-      (kept_at old mid acted new at act result answer (step_other act step) (ready_at old mid lane at admitted) admitted.number_is
+      (kept_at old mid acted new at act result answer step (ready_at old mid lane at admitted) admitted.number_is
       (subst (λ l. is_closing old l act ≡ false → (3 ≤ held_by mid.journal l) × (0 < (mid.journal).spare)) (sym admitted.lane_is) filled) rest does leaves settles)

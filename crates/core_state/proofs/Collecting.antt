@@ -1,15 +1,80 @@
 -- The core's collector is the history's, with one entry more.
-use Rattle.std.proofs.Common.{◌≡◌, ℕ, Bool, true, false, ◌&&◌, ◌==◌, cond, is_some, List, Option, Some, None, refl, sym, ap, ◌∙◌}
+use Rattle.std.proofs.Common.{◌≡◌, ℕ, Bool, true, false, ◌&&◌, ◌||◌, ◌==◌, cond, is_some, List, Option, Some, None, refl, sym, ap, ◌∙◌}
+use Rattle.std.specs.Prelude.{option_map}
+use Rattle.std.proofs.Props.{props}
 use Rattle.std.proofs.lemmas.Bool.{eqb-true}
+use Rattle.store_types.specs.declared.names.Digest32.{Digest32}
 use Rattle.store_files.specs.Archive.{Snapshot}
-use Rattle.store_model.specs.Lanes.{Collecting, collects}
+use Rattle.gc_plan.specs.Plan.{Plan}
+use Rattle.store_model.specs.Lanes.{Collecting}
 use Rattle.store_history.specs.declared.act.Act.{Act}
 use Rattle.store_history.specs.Acts.{Class, stepping, starting, sweeping, wanting, ending, class_of}
 use Rattle.store_history.specs.History.{World, moved, halted_on, kind_of, open_on}
 use Rattle.store_history.specs.History as worlds
 use Rattle.core_state.specs.declared.collector.Collector.{Collector}
+use Rattle.core_state.specs.declared.collector.Early.{Early}
 use Rattle.core_state.specs.declared.collector.Early.TheVariants.{NoMemory}
+use Rattle.core_state.specs.Entries.{FitsEntries}
 use Rattle.core_state.specs.Collectors.{OpenOn, closed_on, collector_by, cut_on, first_of, is_cut, is_on, open_in, ended_if, shown_collecting, with_cut}
+
+false_true : false ≡ true → ⊥
+false_true e = cc
+
+-- ---- what an entry makes of it
+
+apart : (a b : ℕ) → (a ≡ b → ⊥) → (a == b) ≡ false
+apart a b ne = by_test (a == b) refl
+  where
+    by_test : (t : Bool) → (a == b) ≡ t → t ≡ false
+    by_test true is = absurd (ne (eqb-true a b is))
+    by_test false is = refl
+
+module _ (lane : ℕ) (c : Option Collector) where
+  by_kind : (kind : ℕ) (a b on : Bool) → (kind == 2) ≡ a → ((kind == 4) || (kind == 6)) ≡ b → is_on lane c ≡ on
+      → collector_by kind lane c ≡ cond a (cond on (option_map with_cut c) c) (cond b (cond on None c) c)
+  by_kind kind a b on p q r =
+      ap (λ x. cond x (cut_on lane c) (cond ((kind == 4) || (kind == 6)) (closed_on lane c) c)) p
+      ∙ ap (λ x. cond a (cut_on lane c) (cond x (closed_on lane c) c)) q
+      ∙ ap (λ x. cond a (cond x (option_map with_cut c) c) (cond b (cond x None c) c)) r
+
+  all_same : (a b : Bool) → cond a c (cond b c c) ≡ c
+  all_same true b = refl
+  all_same false true = refl
+  all_same false false = refl
+
+  -- another lane's
+  pub by_off : (kind : ℕ) → is_on lane c ≡ false → c ≡ collector_by kind lane c
+  by_off kind off = sym (by_kind kind (kind == 2) ((kind == 4) || (kind == 6)) false refl refl off ∙ all_same (kind == 2) ((kind == 4) || (kind == 6)))
+
+  pub by_memory : (kind : ℕ) → kind ≡ 2 → is_on lane c ≡ true → option_map with_cut c ≡ collector_by kind lane c
+  by_memory kind two on = sym (by_kind kind true ((kind == 4) || (kind == 6)) true (ap (λ n. n == 2) two) refl on)
+
+  pub by_other : (kind : ℕ) → (kind ≡ 2 → ⊥) → ((kind == 4) || (kind == 6)) ≡ false → c ≡ collector_by kind lane c
+  by_other kind other calm = sym (by_kind kind false false (is_on lane c) (apart kind 2 other) calm refl)
+
+  pub by_end : (kind : ℕ) → (kind ≡ 2 → ⊥) → ((kind == 4) || (kind == 6)) ≡ true → is_on lane c ≡ true → None ≡ collector_by kind lane c
+  by_end kind other ends on = sym (by_kind kind false true true (apart kind 2 other) ends on)
+
+-- what ended it before stands
+pub cut_before : (c : Collector) → is_some c.ended ≡ true → c ≡ with_cut c
+cut_before c some = by_ended c.ended refl
+  where
+    by_ended : (o : Option Early) → c.ended ≡ o → c ≡ with_cut c
+    by_ended None none = absurd (false_true (sym (ap is_some none) ∙ some))
+    by_ended (Some early) is = ap (λ o. record c { ended = o }) is ∙ sym (ap (λ o. record c { ended = first_of o NoMemory }) is)
+
+-- what is known of its digests has one proof
+fits_one : (plan : Plan) (entries : List Digest32) → IsProp (FitsEntries plan entries)
+fits_one plan entries = hlevel props
+
+pub cut_now : (c : Collector) (fits : FitsEntries c.plan c.entries.items) → is_some c.ended ≡ false → record c { ended = Some NoMemory; fits = fits } ≡ with_cut c
+cut_now c fits none = ap (λ f. record c { ended = Some NoMemory; fits = f }) (fits_one c.plan c.entries.items fits c.fits) ∙ by_ended c.ended refl
+  where
+    by_ended : (o : Option Early) → c.ended ≡ o → record c { ended = Some NoMemory } ≡ with_cut c
+    by_ended None is = sym (ap (λ o. record c { ended = first_of o NoMemory }) is)
+    by_ended (Some early) is = absurd (false_true (sym none ∙ ap is_some is))
+
+-- ---- it is the history's
 
 some_none : {A : Type 0} (x : A) → Some x ≡ None → ⊥
 some_none x e = cc
@@ -22,6 +87,10 @@ bool_same x y e = cc
 
 same_open : (x y : OpenOn) → Some x ≡ Some y → x ≡ y
 same_open x y e = cc
+
+-- a collector of the lane that this ended early
+abbrev pub opens : ℕ → Option Early → Option OpenOn
+opens lane ended = Some (record { lane = lane; ended = ended })
 
 -- want of memory, whatever ended it before
 cut_ended : (is_short : Bool) → first_of (ended_if is_short) NoMemory ≡ Some NoMemory
@@ -45,15 +114,15 @@ module _ (k : ℕ) where
   cut_shown (Some c) None is = absurd (some_none _ is)
   cut_shown (Some c) (Some w) is = by_test (w.lane == k) refl
     where
-      cut_is : open_in (Some (with_cut c)) ≡ Some (record { lane = w.lane; ended = Some NoMemory })
-      cut_is = ap (λ n. Some (record { lane = n; ended = first_of c.ended NoMemory })) (lane_same c w is)
-          ∙ ap (λ r. Some (record { lane = w.lane; ended = first_of r NoMemory })) (ended_same c w is)
-          ∙ ap (λ r. Some (record { lane = w.lane; ended = r })) (cut_ended w.is_short)
+      is_cut_so : open_in (Some (with_cut c)) ≡ opens w.lane (Some NoMemory)
+      is_cut_so = ap (λ n. opens n (first_of c.ended NoMemory)) (lane_same c w is)
+          ∙ ap (λ r. opens w.lane (first_of r NoMemory)) (ended_same c w is)
+          ∙ ap (opens w.lane) (cut_ended w.is_short)
 
       by_test : (b : Bool) → (w.lane == k) ≡ b → open_in (cut_on k (Some c)) ≡ shown_collecting (cond (w.lane == k) (worlds.new_collecting k true) (Some w))
       by_test true on =
-          ap (λ b. open_in (cond b (Some (with_cut c)) (Some c))) (on_same c w is ∙ on) ∙ cut_is
-          ∙ ap (λ n. Some (record { lane = n; ended = Some NoMemory })) (eqb-true w.lane k on)
+          ap (λ b. open_in (cond b (Some (with_cut c)) (Some c))) (on_same c w is ∙ on) ∙ is_cut_so
+          ∙ ap (λ n. opens n (Some NoMemory)) (eqb-true w.lane k on)
           ∙ sym (ap (λ b. shown_collecting (cond b (worlds.new_collecting k true) (Some w))) on)
       by_test false off =
           ap (λ b. open_in (cond b (Some (with_cut c)) (Some c))) (on_same c w is ∙ off) ∙ is

@@ -300,7 +300,7 @@ pub touches_more : {D E C : Type 0} (d : Ghosts D) (clock : clocks.Ghosts C) (ol
     → is_step act ≡ false → new.collector ≡ collector_by (answer.entry).kind lane old.collector → ((answer.entry).kind ≡ 3 → ⊥)
     → (h : History) → StandsFor d clock.readings old h → KeepsTouches d old h → IsClearFor act (then_event h (event_of act answer (d.calls (new.parts).disk)))
     → KeepsTouches d new (then_event h (event_of act answer (d.calls (new.parts).disk)))
-touches_more d clock old new lane act answer lt formed more answers cause keeps no collector opens_none h s touches clear = record {
+touches_more d clock old new lane act answer lt formed more answers cause keeps unstepped collector opens_none h s touches clear = record {
   touches = subst (λ (t : LastTouches). SameTouches (touches_kept new.upkeep) t) (sym (ap (λ w. w.touches) longer))
       (same_then (touches_kept new.upkeep) plain after_.touches touched (same_back after_.touches plain unswept));
   present = λ none x digest.
@@ -311,16 +311,16 @@ touches_more d clock old new lane act answer lt formed more answers cause keeps 
         inside = subst (λ l. l < 64) (sym is) lt;
         formed = formed;
         keeps = subst (λ l. ActKeeps d old new l act answer) (sym is) keeps;
-        no = no;
+        no = unstepped;
         fault = answers.fault;
         cause = cause;
         s = s;
         so = so;
         was = touches.present (no_fault_before (length (old.journal).entries.items) (answer.entry).kind old.fault (sym answers.fault ∙ none));
       }) x digest);
-  sweep = plans_more d clock old new lane act answer h lt formed answers keeps no collector opens_none s so touches;
+  sweep = plans_more d clock old new lane act answer h lt formed answers keeps unstepped collector opens_none s so touches;
   is_swept = is_swept_longer h.remote (opened h.opening) (swept_at h.opening) h.events e touches.is_swept
-      (fits_other (world h) (swept_of h) (lane_of e) answer.reply (class_of act) (kind_of (answer.entry).kind) (no_sweep act no));
+      (fits_other (world h) (swept_of h) (lane_of e) answer.reply (class_of act) (kind_of (answer.entry).kind) (no_sweep act unstepped));
   numbers = numbers_more old new lane act answer answers.place answers.entries keeps.listed touches.numbers;
 }
   where
@@ -340,10 +340,10 @@ touches_more d clock old new lane act answer lt formed more answers cause keeps 
     plain = touches_by_entry act answer.reply (answer.entry).moment (touches_of_history h)
 
     unswept : SameTouches after_.touches plain
-    unswept = unswept_touches h.remote (world h) (swept_of h) e (no_sweep act no)
+    unswept = unswept_touches h.remote (world h) (swept_of h) e (no_sweep act unstepped)
 
     touched : SameTouches (touches_kept new.upkeep) plain
-    touched = same_then (touches_kept new.upkeep) (touches_by_entry act answer.reply (answer.entry).moment (touches_kept old.upkeep)) plain (keeps.upkeep no)
+    touched = same_then (touches_kept new.upkeep) (touches_by_entry act answer.reply (answer.entry).moment (touches_kept old.upkeep)) plain (keeps.upkeep unstepped)
         (entry_touches_same act answer.reply (answer.entry).moment (touches_kept old.upkeep) (touches_of_history h) touches.touches)
 
     so : StandsFor d clock.readings new (then_event h e)

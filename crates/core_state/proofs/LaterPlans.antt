@@ -1,6 +1,6 @@
 -- The plan of the open collector stays the sweep of the history with any act but the collector's own.
 use Rattle.disk_trait.specs.declared.disk.Disk.{Ghosts}
-use Rattle.std.proofs.Common.{◌≡◌, ◌≢◌, ◌<◌, ◌≤◌, ◌+◌, ◌^◌, ◌⊎◌, ⊎_elim, inl, inr, ℕ, zero, suc, Bool, true, false, not, ◌||◌, ◌==◌, cond, if◌then◌else◌, List, [], ◌∷◌, ◌++◌, map, filter, length, length-append, Option, Some, None, Result, Ok, Err, refl, sym, ap, subst, ◌∙◌, arith}
+use Rattle.std.proofs.Common.{◌≡◌, ◌≢◌, ◌<◌, ◌≤◌, ◌+◌, ⊎_elim, ℕ, zero, suc, Bool, true, false, not, ◌||◌, ◌==◌, cond, List, [], ◌∷◌, map, filter, length, length-append, Option, Some, None, refl, sym, ap, subst, ◌∙◌, arith}
 use Rattle.std.specs.Prelude.{option_map, AllPairs, IsSomeAnd, slice_get}
 use Rattle.std.specs.List.{All, find}
 use Rattle.std.proofs.lemmas.List.Elements.{All-head, All-map, All-same, All-tail, All-weaker}
@@ -11,13 +11,11 @@ use Rattle.store_types.specs.declared.refusal.Refusal.{Refusal}
 use Rattle.store_types.specs.Names.{key_of, same_key}
 use Rattle.store_types.specs.KeyOrder.{same_key_equiv}
 use Rattle.store_files.specs.Archive.{Snapshot}
-use Rattle.store_files.specs.Manifest.{Manifest}
 use Rattle.wire_commands.specs.declared.command.Command.TheVariants.{Finish, Forget}
 use Rattle.wire_commands.specs.declared.reply.Reply.{Reply}
 use Rattle.wire_commands.specs.declared.reply.Reply.TheVariants as replies
 use Rattle.store_model.specs.AdminSteps.{forget}
 use Rattle.store_model.specs.Lanes.{Collecting}
-use Rattle.store_model.specs.Manifests.{finish_check}
 use Rattle.store_model.specs.Steps.{answered, outcome}
 use Rattle.store_model.specs.Store as model
 use Rattle.store_model.specs.Store.{Outcome, insert_snapshot, session, snapshot_named, without_snapshot}
@@ -38,19 +36,18 @@ use Rattle.store_history.proofs.SweptLonger.{swept_longer}
 use Rattle.core_state.specs.declared.collector.Collector.{Collector}
 use Rattle.core_state.specs.declared.kept.Kept.{Kept}
 use Rattle.core_state.specs.declared.kept.Listed.{Listed}
-use Rattle.core_state.specs.declared.kept.Session.{Session}
 use Rattle.core_state.specs.declared.state.Core.{Core}
 use Rattle.core_state.specs.Answers.{IsAnswered}
 use Rattle.core_state.specs.Applies.{ActKeeps}
-use Rattle.core_state.specs.Catalogue.{Lists, closed, closed_by, forgotten_by, insert_listed, listed_by, listed_of, without_listed, without_named}
-use Rattle.core_state.specs.Collectors.{OpenOn, closed_on, collector_by, cut_on, open_in, shown_collecting, with_cut}
+use Rattle.core_state.specs.Catalogue.{closed, closed_by, forgotten_by, insert_listed, listed_by, listed_of, without_listed, without_named}
+use Rattle.core_state.specs.Collectors.{OpenOn, closed_on, collector_by, cut_on, ended_if, open_in, shown_collecting, with_cut}
 use Rattle.core_state.specs.Commands.{is_step}
 use Rattle.core_state.specs.History.{History, StandsFor, event_of, then_event, world}
 use Rattle.core_state.specs.Holds.{Shows}
 use Rattle.core_state.specs.KeepsTouches.{KeepsTouches, swept_of}
 use Rattle.core_state.specs.Numbers.{AreNumbered, DifferInNumber, first_number}
 use Rattle.core_state.specs.Shown.{shown_session, shown_snapshot, shown_writer}
-use Rattle.core_state.specs.Sweeps.{AreEntries, HasEntries, HasNumber, ShowsOpen, ShowsSweep, digests_named, kept_at, unmarked_by}
+use Rattle.core_state.specs.Sweeps.{AreEntries, HasEntries, HasNumber, ShowsOpen, ShowsSweep, kept_at, unmarked_by}
 use Rattle.core_state.specs.Wanted.{session_at}
 use Rattle.core_state.proofs.Commanding.{session_shown}
 use Rattle.core_state.proofs.Completing.{FinishIs, fails as finish_fails, finish_is, finished, gives as finish_gives}
@@ -73,7 +70,7 @@ none_some x e = cc
 -- ---- the collector
 
 -- it was open before, with the same plan and the same digests at hand
-record WasOpen (o : Option Collector) (y : Collector) : Type 0 where
+pub record WasOpen (o : Option Collector) (y : Collector) : Type 0 where
   pub was : Collector
   pub there : o ≡ Some was
   pub plan : y.plan ≡ was.plan
@@ -94,7 +91,7 @@ cut_open lane (Some x) y e = by_test (x.lane == lane) e
         record { was = x; there = refl; plan = sym (ap (λ (c : Collector). c.plan) same); same_entries = sym (ap (λ (c : Collector). c.entries) same) }
     by_test false e = same_open x y e
 
-closed_open : (lane : ℕ) (o : Option Collector) (y : Collector) → closed_on lane o ≡ Some y → WasOpen o y
+pub closed_open : (lane : ℕ) (o : Option Collector) (y : Collector) → closed_on lane o ≡ Some y → WasOpen o y
 closed_open lane None y e = absurd (none_some y e)
 closed_open lane (Some x) y e = by_test (x.lane == lane) e
   where
@@ -102,7 +99,7 @@ closed_open lane (Some x) y e = by_test (x.lane == lane) e
     by_test true e = absurd (none_some y e)
     by_test false e = same_open x y e
 
-was_open : (k lane : ℕ) (o : Option Collector) (y : Collector) → collector_by k lane o ≡ Some y → WasOpen o y
+pub was_open : (k lane : ℕ) (o : Option Collector) (y : Collector) → collector_by k lane o ≡ Some y → WasOpen o y
 was_open k lane o y is = by_kind (k == 2) ((k == 4) || (k == 6)) is
   where
     by_kind : (a b : Bool) → cond a (cut_on lane o) (cond b (closed_on lane o) o) ≡ Some y → WasOpen o y
@@ -133,11 +130,11 @@ sweep_after : (R : Option (List Snapshot)) (w : World) (s : Swept) (e : Event) �
 unfolding swept_after
 sweep_after R w s e other none = ap (while_open (after R w e).collecting) (unstarted w s e (class_of e.act) (kind e) other none)
 
-none_open : (v : Option Collecting) → None ≡ shown_collecting v → v ≡ None
+pub none_open : (v : Option Collecting) → None ≡ shown_collecting v → v ≡ None
 none_open None is = refl
-none_open (Some v) is = absurd (none_some (record { lane = v.lane; ended = Rattle.core_state.specs.Collectors.ended_if v.is_short }) is)
+none_open (Some v) is = let shown : OpenOn = record { lane = v.lane; ended = ended_if v.is_short } in absurd (none_some shown is)
 
-stays_open : (x : OpenOn) (v : Option Collecting) (sweep : Option Sweep) → Some x ≡ shown_collecting v → while_open v sweep ≡ sweep
+pub stays_open : (x : OpenOn) (v : Option Collecting) (sweep : Option Sweep) → Some x ≡ shown_collecting v → while_open v sweep ≡ sweep
 stays_open x None sweep is = absurd (none_some x (sym is))
 stays_open x (Some v) sweep is = refl
 
@@ -225,11 +222,11 @@ sifts_finished acts c s new x p few at key all = record {
 -- its key is that of none in the catalogue
 kept_passes : (P : Kept → Type 0) (c : List Listed) (number : ℕ) (k : Kept) → All P (map (λ x. x.kept) c) → kept_at number c ≡ Some k → P k
 kept_passes P [] number k all at = absurd (none_some k at)
-kept_passes P (x ∷ xs) number k all at = by_test (x.number == number) at
+kept_passes P (x ∷ xs) number k all at = by_test (x.number == number) (kept_passes P xs number k (All-tail P x.kept (map (λ y. y.kept) xs) all)) at
   where
-    by_test : (b : Bool) → option_map (λ y. y.kept) (cond b (Some x) (find (λ y. y.number == number) xs)) ≡ Some k → P k
-    by_test true e = subst P (some_same x.kept k e) (All-head P x.kept (map (λ y. y.kept) xs) all)
-    by_test false e = kept_passes P xs number k (All-tail P x.kept (map (λ y. y.kept) xs) all) e
+    by_test : (b : Bool) → (kept_at number xs ≡ Some k → P k) → option_map (λ y. y.kept) (cond b (Some x) (find (λ y. y.number == number) xs)) ≡ Some k → P k
+    by_test true later e = subst P (some_same x.kept k e) (All-head P x.kept (map (λ y. y.kept) xs) all)
+    by_test false later e = later e
 
 -- ---- an act
 
@@ -332,7 +329,7 @@ module _ {D E C : Type 0} (d : Ghosts D) (clock : clocks.Ghosts C) (old new : Co
       let then_is : next fin ≡ insert_snapshot (snapshot_of v) snapshots = next_is fin ∙ ap (λ (x : model.Store). x.snapshots) store in
       let apart : All (λ (q : Kept). q.key ≢ v.key) (map (λ x. x.kept) c) =
       All-same (λ (q : Kept). q.key ≢ v.key) (map (λ x. x.kept) c) (map shown_snapshot snapshots) (f.shows).catalogue
-          (All-map (λ (q : Kept). q.key ≢ v.key) shown_snapshot snapshots (fresh snapshots v (sound.writers k v at))) in
+      (All-map (λ (q : Kept). q.key ≢ v.key) shown_snapshot snapshots (fresh snapshots v (sound.writers k v at))) in
       let key : IsNewKey c snapshots added (snapshot_of v) =
       λ number q is. different v.key q.key (λ same. kept_passes (λ (z : Kept). z.key ≢ v.key) c number q apart is (sym same)) in
       subst (λ l. Sifts acts c l snapshots (next fin) (spares fin answer.reply)) (sym listed)
@@ -391,8 +388,8 @@ pub plans_more : {D E C : Type 0} (d : Ghosts D) (clock : clocks.Ghosts C) (old 
     → IsAnswered d old new lane answer → ActKeeps d old new lane act answer → is_step act ≡ false → new.collector ≡ collector_by (answer.entry).kind lane old.collector
     → ((answer.entry).kind ≡ 3 → ⊥) → StandsFor d clock.readings old h → StandsFor d clock.readings new (then_event h (event_of act answer (d.calls (new.parts).disk))) → KeepsTouches d old h
     → ShowsOpen (length (new.journal).entries.items) (new.parts).catalogue.items (world (then_event h (event_of act answer (d.calls (new.parts).disk)))).store.snapshots new.collector
-        (swept_of (then_event h (event_of act answer (d.calls (new.parts).disk)))).sweep
-plans_more d clock old new lane act answer h lt formed answers keeps no collector opens_none s so touches = by_open new.collector refl
+    (swept_of (then_event h (event_of act answer (d.calls (new.parts).disk)))).sweep
+plans_more d clock old new lane act answer h lt formed answers keeps unstepped collector opens_none s so touches = by_open new.collector refl
   where
     e : Event
     e = event_of act answer (d.calls (new.parts).disk)
@@ -416,7 +413,7 @@ plans_more d clock old new lane act answer h lt formed answers keeps no collecto
     count = let n = ap length answers.entries in omega (arith, n, length-append (old.journal).entries.items (answer.entry ∷ []))
 
     later : (swept_of (then_event h e)).sweep ≡ while_open (world (then_event h e)).collecting (option_map (spared act answer.reply) (swept_of h).sweep)
-    later = ap (λ (v : Swept). v.sweep) (swept_longer h.remote h.opening h.events e) ∙ sweep_after h.remote (world h) (swept_of h) e (no_sweep act no) opens_none
+    later = ap (λ (v : Swept). v.sweep) (swept_longer h.remote h.opening h.events e) ∙ sweep_after h.remote (world h) (swept_of h) e (no_sweep act unstepped) opens_none
         ∙ sym (ap (λ (v : World). while_open v.collecting (option_map (spared act answer.reply) (swept_of h).sweep)) (world_more h e))
 
     listed : c2 ≡ listed_by act answer.reply was (session_at old.parts (answer.entry).lane) c
@@ -440,7 +437,7 @@ plans_more d clock old new lane act answer h lt formed answers keeps no collecto
     by_sweep x y is plan entries None at shows = absurd shows
     by_sweep x y is plan entries (Some sweep) at shows =
         let sweeps = later ∙ stays_open (record { lane = y.lane; ended = y.ended }) (world (then_event h e)).collecting (option_map (spared act answer.reply) (swept_of h).sweep) (sym (ap open_in is) ∙ so.collecting)
-            ∙ ap (option_map (spared act answer.reply)) at in
+        ∙ ap (option_map (spared act answer.reply)) at in
         subst (λ o. ShowsOpen (length (new.journal).entries.items) c2 then_has (Some y) o) (sym sweeps)
         (subst (λ n. ShowsSweep n c2 then_has y (spared act answer.reply sweep)) (sym count)
         (shows_sifted was c c2 first then_has (spares act answer.reply) x y sweep (sifted_by was c c2 first then_has (spares act answer.reply) x y plan entries shows.numbers its) shows))

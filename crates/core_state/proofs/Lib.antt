@@ -45,5 +45,9 @@ pub mod Plans
 pub mod LaterPlans
 pub mod Unswept
 pub mod KeepingTouches
+pub mod Stepped
+pub mod SteppedImages
+pub mod SteppedTouches
+pub mod Stepping
 pub mod SavingNames
 pub mod SavingBook

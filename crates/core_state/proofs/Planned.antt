@@ -1,26 +1,22 @@
 -- The plan of the open collector stays the history's sweep as a snapshot is finished, as one is forgotten, and over acts that do neither.
-use Rattle.std.proofs.Common.{◌≡◌, ◌≢◌, ◌<◌, ◌≤◌, ◌+◌, ◌^◌, ◌⊎◌, ⊎_elim, inl, inr, ℕ, Bool, true, false, not, ◌==◌, cond, if◌then◌else◌, List, [], ◌∷◌, ◌++◌, map, drop, filter, length, Option, Some, None, refl, sym, ap, subst, ◌∙◌, arith}
-use Rattle.std.specs.Prelude.{option_map, AllPairs, IsSomeAnd}
+use Rattle.std.proofs.Common.{◌≡◌, ◌≢◌, ℕ, Bool, true, false, not, ◌==◌, cond, if◌then◌else◌, List, [], ◌∷◌, ◌++◌, drop, filter, Option, Some, None, refl, sym, ap, ◌∙◌}
+use Rattle.std.specs.Prelude.{option_map, AllPairs}
 use Rattle.std.specs.List.{All, find, flat_map}
 use Rattle.std.proofs.lemmas.Bool.{eqb-true}
 use Rattle.std.proofs.lemmas.List.Elements.{All-head, All-tail, All-weaker}
-use Rattle.store_types.specs.declared.names.Digest32.{Digest32}
 use Rattle.store_types.specs.declared.names.SnapshotKey.{SnapshotKey}
 use Rattle.store_types.specs.KeyOrder.{same_key_equiv}
 use Rattle.store_types.specs.Names.{key_lt, same_key}
-use Rattle.store_files.specs.Archive.{File, Snapshot, file_named}
+use Rattle.store_files.specs.Archive.{Snapshot, file_named}
 use Rattle.store_model.specs.Store.{insert_snapshot, snapshot_named, without_snapshot}
 use Rattle.snapshot_files.proofs.Removals.{named-without}
-use Rattle.gc_plan.specs.Plan.{Plan, Stage, marking, sweeping, next_index}
 use Rattle.gc_plan.specs.declared.IndexAt.{IndexAt}
-use Rattle.store_history.specs.Sweeping.{Sweep, Unmarked, unmarked_of}
-use Rattle.core_state.specs.declared.collector.Collector.{Collector}
+use Rattle.store_history.specs.Sweeping.{Unmarked, unmarked_of}
 use Rattle.core_state.specs.declared.kept.Kept.{Kept}
 use Rattle.core_state.specs.declared.kept.Listed.{Listed}
 use Rattle.core_state.specs.Catalogue.{insert_listed, without_listed}
-use Rattle.core_state.specs.Numbers.{DifferInNumber, first_number}
-use Rattle.core_state.specs.Shown.{files_named}
-use Rattle.core_state.specs.Sweeps.{AreEntries, HasEntries, HasNumber, ShowsSweep, digests_in, digests_named, kept_at, left_at, left_in, left_of_kept, unmarked_by}
+use Rattle.core_state.specs.Numbers.{DifferInNumber}
+use Rattle.core_state.specs.Sweeps.{digests_in, digests_named, kept_at, left_at, left_in, left_of_kept}
 use Rattle.core_state.proofs.Numbering.{head_differs, tail_differs}
 use Rattle.core_state.proofs.Readers.{named_still}
 
@@ -122,8 +118,8 @@ module _ (catalogue : List Listed) (snapshots : List Snapshot) where
     filtered : (k : SnapshotKey) (name : List ℕ) (ds : List (List ℕ)) (g : Bool) → same_key k key ≡ g → cond g [] (unmarked_of k name ds) ≡ filter spares (unmarked_of k name ds)
     filtered k name [] true gone = refl
     filtered k name [] false gone = refl
-    filtered k name (d ∷ ds) true gone = sym (ap (λ t. cond (not t) (record { key = k; name = name; digests = d ∷ ds } ∷ []) []) gone)
-    filtered k name (d ∷ ds) false gone = sym (ap (λ t. cond (not t) (record { key = k; name = name; digests = d ∷ ds } ∷ []) []) gone)
+    filtered k name (d ∷ ds) true gone = let u : Unmarked = record { key = k; name = name; digests = d ∷ ds } in sym (ap (λ t. cond (not t) (u ∷ []) []) gone)
+    filtered k name (d ∷ ds) false gone = let u : Unmarked = record { key = k; name = name; digests = d ∷ ds } in sym (ap (λ t. cond (not t) (u ∷ []) []) gone)
 
     forgotten_kept : (name : List ℕ) (first : ℕ) (o : Option Kept)
         → left_of_kept (without_snapshot key snapshots) name first (keep_unless key o) ≡ filter spares (left_of_kept snapshots name first o)

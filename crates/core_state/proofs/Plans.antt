@@ -1,9 +1,9 @@
 -- The open collector shows the sweep of a history that is longer by one event, which is none of a collector's acts.
-use Rattle.std.proofs.Common.{◌≡◌, ◌≢◌, ◌<◌, ◌≤◌, ◌+◌, ◌⊎◌, ⊎_elim, inl, inr, ℕ, Bool, true, false, not, ◌==◌, cond, List, [], ◌∷◌, map, drop, filter, length, Option, Some, None, refl, sym, ap, subst, ◌∙◌, arith}
+use Rattle.std.proofs.Common.{◌≡◌, ◌≢◌, ◌<◌, ◌+◌, ⊎_elim, inl, inr, ℕ, Bool, not, List, drop, filter, refl, sym, ap, subst, ◌∙◌, arith}
 use Rattle.std.specs.List.{All}
+use Rattle.std.specs.Prelude.{AllPairs}
 use Rattle.std.proofs.lemmas.List.Elements.{All-drop, All-weaker}
 use Rattle.store_types.specs.declared.names.SnapshotKey.{SnapshotKey}
-use Rattle.store_types.specs.declared.names.Digest32.{Digest32}
 use Rattle.store_types.specs.Names.{same_key}
 use Rattle.store_files.specs.Archive.{Snapshot}
 use Rattle.store_model.specs.Store.{insert_snapshot, without_snapshot}
@@ -11,17 +11,17 @@ use Rattle.gc_plan.specs.Plan.{Stage, marking, sweeping, next_index}
 use Rattle.gc_plan.specs.declared.IndexAt.{IndexAt}
 use Rattle.store_history.specs.Sweeping.{Sweep, Unmarked}
 use Rattle.core_state.specs.declared.collector.Collector.{Collector}
-use Rattle.core_state.specs.declared.kept.Kept.{Kept}
 use Rattle.core_state.specs.declared.kept.Listed.{Listed}
 use Rattle.core_state.specs.Catalogue.{insert_listed, without_listed}
-use Rattle.core_state.specs.Sweeps.{HasEntries, HasNumber, ShowsSweep, left_at, unmarked_by}
+use Rattle.core_state.specs.Numbers.{DifferInNumber}
+use Rattle.core_state.specs.Sweeps.{FitsRemoved, HasEntries, HasNumber, ShowsSweep, left_at, unmarked_by, visits_by}
 use Rattle.core_state.proofs.Planned.{IsNewKey, finished_left, filtered_left, forgotten_left, same_left}
 
 -- with the indexes that pass the test alone
 abbrev pub sifted : (Unmarked → Bool) → Sweep → Sweep
 sifted p sweep = record sweep { unmarked = filter p sweep.unmarked }
 
-numbers_later : (acts : ℕ) (is : List IndexAt) → All (HasNumber acts) is → All (HasNumber (acts + 1)) is
+pub numbers_later : (acts : ℕ) (is : List IndexAt) → All (HasNumber acts) is → All (HasNumber (acts + 1)) is
 numbers_later acts is all = All-weaker (HasNumber acts) (HasNumber (acts + 1))
     (λ i has. ⊎_elim {C = HasNumber (acts + 1) i} (λ (lt : i.snapshot < acts). inl (omega (arith, lt))) (λ found. inr found) has) is all
 
@@ -38,9 +38,9 @@ shows_sifted acts c c2 s s2 p x y sweep is h = record {
   start = ap (λ g. g.start) is.plan ∙ h.start;
   cutoff = ap (λ g. g.cutoff) is.plan ∙ h.cutoff;
   unmarked = ap (λ g. unmarked_by c2 s2 g.indexes g.stage) is.plan ∙ is.unmarked ∙ ap (filter p) h.unmarked;
-  to_visit = ap (λ g. Rattle.core_state.specs.Sweeps.visits_by g.stage) is.plan ∙ h.to_visit;
+  to_visit = ap (λ g. visits_by g.stage) is.plan ∙ h.to_visit;
   removed = ap (λ g. g.removed) is.plan ∙ h.removed;
-  few = subst (λ g. Rattle.core_state.specs.Sweeps.FitsRemoved g.stage g.removed) (sym is.plan) h.few;
+  few = subst (λ g. FitsRemoved g.stage g.removed) (sym is.plan) h.few;
   entries = λ some. subst (λ g. HasEntries c2 s2 y.entries.items (next_index g)) (sym is.plan)
       (subst (λ v. HasEntries c2 s2 v.items (next_index x.plan)) (sym is.same_entries)
       (is.entries (h.entries (λ none. some (ap (λ v. v.items) is.same_entries ∙ none)))));
@@ -49,7 +49,7 @@ shows_sifted acts c c2 s s2 p x y sweep is h = record {
 
 -- ---- a snapshot is forgotten
 
-pub forgotten_unmarked : (c : List Listed) (s : List Snapshot) (key : SnapshotKey) → Rattle.std.specs.Prelude.AllPairs Rattle.core_state.specs.Numbers.DifferInNumber c
+pub forgotten_unmarked : (c : List Listed) (s : List Snapshot) (key : SnapshotKey) → AllPairs DifferInNumber c
     → (indexes : List IndexAt) (stage : Stage)
     → unmarked_by (without_listed key c) (without_snapshot key s) indexes stage ≡ filter (λ u. not (same_key u.key key)) (unmarked_by c s indexes stage)
 forgotten_unmarked c s key once indexes (marking place first) =

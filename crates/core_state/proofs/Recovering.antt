@@ -21,6 +21,7 @@ use Rattle.store_history.proofs.Prefixes.{reopens_before, reopens_from, reopens_
 use Rattle.core_state.specs.declared.state.Core.{Core}
 use Rattle.core_state.specs.Answers.{IsAnswered, IsCaused, fault_after}
 use Rattle.core_state.specs.Applies.{ActKeeps, IsClearFor, IsKeptFor}
+use Rattle.core_state.specs.Changes.{Change, LeavesChange}
 use Rattle.core_state.specs.Commands.{is_step}
 use Rattle.core_state.specs.History.{History, IsClear, StandsFor, event_of, then_event, world}
 use Rattle.core_state.specs.Holds.{Holds}
@@ -38,7 +39,7 @@ unfolding after_all
 last_right R w [] e legal = legal.0
 last_right R w (v ∷ vs) e legal = last_right R (after R w v) vs e legal.1
 
-one_is : (R : Option (List Snapshot)) (w : World) (e : Event) → one_more R w e ≡ next_store R w (lane_of e) (moment e) e.act (kind e)
+pub one_is : (R : Option (List Snapshot)) (w : World) (e : Event) → one_more R w e ≡ next_store R w (lane_of e) (moment e) e.act (kind e)
 unfolding after
 one_is R w e = refl
 
@@ -75,50 +76,25 @@ module _ {D E C : Type 0} (d : Ghosts D) (clock : clocks.Ghosts C) (told : Tells
   abbrev Found : ℕ → Files → Type 0
   Found t c = (found : List Snapshot) × Stands c found × Reopens h.remote start (h.events ++ e ∷ []) t found
 
-  module _ (inside : k < 64) (so : StandsFor d clock.readings new (then_event h e)) (fault : new.fault ≡ fault_after (length (old.journal).entries.items) (answer.entry).kind old.fault)
-      (cause : IsCaused d old new act answer) (keeps : ActKeeps d old new k act answer) (no : is_step act ≡ false)
-      (s : StandsFor d clock.readings old h) (begin : ℕ) (recovers : Recovers d begin old h) where
+  -- What it leaves of images that stand for the snapshots of now, where the disk had not failed.
+  abbrev pub LeadsOn : Type 0
+  LeadsOn = old.fault ≡ None → Leads d (old.parts).disk (new.parts).disk ((kind e == 5) ≡ false) (w.store).snapshots (one_more h.remote w e).snapshots
+
+  module _ (s : StandsFor d clock.readings old h) (halts : IfSome old.fault (λ _. (new.parts).disk ≡ (old.parts).disk))
+      (change : Change) (crash : LeavesChange d (old.parts).disk (new.parts).disk change) (leads_on : LeadsOn) (begin : ℕ) (recovers : Recovers d begin old h) where
     -- after a fault the disk is not called
     halted : (first : ℕ) → old.fault ≡ Some first → (t : ℕ) (c : Files) → begin ≤ t → d.images (new.parts).disk t c → Found t c
     halted first is t c from image =
-        let same : (new.parts).disk ≡ (old.parts).disk = subst (λ f. IfSome f (λ _. (new.parts).disk ≡ (old.parts).disk)) is keeps.halted in
+        let same : (new.parts).disk ≡ (old.parts).disk = subst (λ f. IfSome f (λ _. (new.parts).disk ≡ (old.parts).disk)) is halts in
         let x = recovers.each t c from (subst (λ (y : D). d.images y t c) same image) in
         (x.0, x.1, reopens_halted h.remote start h.events e t x.0 (some_is w.fault first (sym s.fault ∙ is)) x.2)
 
     module _ (none : old.fault ≡ None) where
-      right : IsRight h.remote w e
-      right = last_right h.remote start h.events e so.legal
-
-      none_there : w.fault ≡ None
-      none_there = sym s.fault ∙ none
-
       calm : is_none w.fault ≡ true
-      calm = ap is_none none_there
-
-      unhurt : (kind e == 5) ≡ false → new.fault ≡ None
-      unhurt calm = fault ∙ ap (λ b. if b then first_fault (length (old.journal).entries.items) old.fault else old.fault) calm ∙ none
-
-      facts : IsCalm d old new h.remote w act answer
-      facts = record {
-        none = none;
-        none_there = none_there;
-        inside = inside;
-        keeps = keeps;
-        no = no;
-        holds = holds;
-        formed = right.formed;
-        right = right.says;
-        unhurt = λ calm is. not_faulted d old new act answer cause (unhurt calm) is;
-        whole = λ calm. ((so.files (sym so.fault ∙ unhurt calm)).snapshots).chunks;
-        due = λ is. keeps.due none is w.store holds;
-      }
-        where
-          holds : Holds d old.parts w.store
-          holds = record { honest = s.honest; shows = s.shows; files = s.files none_there }
+      calm = ap is_none (sym s.fault ∙ none)
 
       its : Leads d (old.parts).disk (new.parts).disk ((kind e == 5) ≡ false) (w.store).snapshots (one_more h.remote w e).snapshots
-      its = subst (λ (x : Store). Leads d (old.parts).disk (new.parts).disk ((kind e == 5) ≡ false) (w.store).snapshots x.snapshots) (sym (one_is h.remote w e))
-          (leads d told old new h.remote w answer act facts)
+      its = leads_on none
 
       -- each image of now stands for the snapshots of now
       now : Now d.calls d.images (old.parts).disk (λ b. Stands b (w.store).snapshots)
@@ -134,7 +110,7 @@ module _ {D E C : Type 0} (d : Ghosts D) (clock : clocks.Ghosts C) (told : Tells
       before : (t : ℕ) (c : Files) → begin ≤ t → t < d.calls (old.parts).disk → d.images (old.parts).disk t c → Found t c
       before t c from lt image =
           let x = recovers.each t c from image in
-          let up = later d (old.parts).disk (new.parts).disk _ (keeps.crash no) in
+          let up = later d (old.parts).disk (new.parts).disk _ crash in
           (x.0, x.1, reopens_before h.remote start h.events e t x.0 (omega (arith, lt, up)) x.2)
 
       past_by : (t : ℕ) (a b : Bool) → nat_le e.calls t ≡ a → (kind e == 5) ≡ b → is_past t w e ≡ (a && not b && true)
@@ -178,17 +154,50 @@ module _ {D E C : Type 0} (d : Ghosts D) (clock : clocks.Ghosts C) (told : Tells
           by_kind false calm = by_time calm (nat_le e.calls t) refl
 
       stood : (t : ℕ) (c : Files) → t < d.calls (old.parts).disk → d.images (new.parts).disk t c → d.images (old.parts).disk t c
-      stood t c lt image = ⊎_elim {C = d.images (old.parts).disk t c} (λ same. subst (λ (x : D). d.images x t c) same image) (λ steps. steps.past t c (omega (arith, lt)) image) (keeps.crash no)
+      stood t c lt image = ⊎_elim {C = d.images (old.parts).disk t c} (λ same. subst (λ (x : D). d.images x t c) same image) (λ steps. steps.past t c (omega (arith, lt)) image) crash
 
       unhalted : (t : ℕ) (c : Files) → begin ≤ t → d.images (new.parts).disk t c → Found t c
       unhalted t c from image = ⊎_elim {C = Found t c} (λ (lt : t < d.calls (old.parts).disk). before t c from lt (stood t c lt image)) (λ (le : d.calls (old.parts).disk ≤ t). since t c le image) (cases_lt t (d.calls (old.parts).disk))
 
-    recovers_here : Recovers d begin new (then_event h e)
+    pub recovers_here : Recovers d begin new (then_event h e)
     recovers_here = record { begun = recovers.begun; each = λ t c from image. by_fault old.fault refl t c from image }
       where
         by_fault : (f : Option ℕ) → old.fault ≡ f → (t : ℕ) (c : Files) → begin ≤ t → d.images (new.parts).disk t c → Found t c
         by_fault None none = unhalted none
         by_fault (Some first) is = halted first is
+
+  module _ (inside : k < 64) (so : StandsFor d clock.readings new (then_event h e)) (fault : new.fault ≡ fault_after (length (old.journal).entries.items) (answer.entry).kind old.fault)
+      (cause : IsCaused d old new act answer) (keeps : ActKeeps d old new k act answer) (no : is_step act ≡ false) (s : StandsFor d clock.readings old h) (none : old.fault ≡ None) where
+    right : IsRight h.remote w e
+    right = last_right h.remote start h.events e so.legal
+
+    none_there : w.fault ≡ None
+    none_there = sym s.fault ∙ none
+
+    unhurt : (kind e == 5) ≡ false → new.fault ≡ None
+    unhurt calm = fault ∙ ap (λ b. if b then first_fault (length (old.journal).entries.items) old.fault else old.fault) calm ∙ none
+
+    facts : IsCalm d old new h.remote w act answer
+    facts = record {
+      none = none;
+      none_there = none_there;
+      inside = inside;
+      keeps = keeps;
+      no = no;
+      holds = holds;
+      formed = right.formed;
+      right = right.says;
+      unhurt = λ calm is. not_faulted d old new act answer cause (unhurt calm) is;
+      whole = λ calm. ((so.files (sym so.fault ∙ unhurt calm)).snapshots).chunks;
+      due = λ is. keeps.due none is w.store holds;
+    }
+      where
+        holds : Holds d old.parts w.store
+        holds = record { honest = s.honest; shows = s.shows; files = s.files none_there }
+
+    led : Leads d (old.parts).disk (new.parts).disk ((kind e == 5) ≡ false) (w.store).snapshots (one_more h.remote w e).snapshots
+    led = subst (λ (x : Store). Leads d (old.parts).disk (new.parts).disk ((kind e == 5) ≡ false) (w.store).snapshots x.snapshots) (sym (one_is h.remote w e))
+        (leads d told old new h.remote w answer act facts)
 
 -- By this the core stands for a history with the act's event more.
 abbrev pub StandsMore : {D E C : Type 0} → Ghosts D → (clock : clocks.Ghosts C) → Core D E C → Core D E C → Act → Answer → Type 0
@@ -201,8 +210,9 @@ pub recovers_more : {D E C : Type 0} (d : Ghosts D) (clock : clocks.Ghosts C) (o
     → lane < 64 → StandsMore d clock old new act answer → IsAnswered d old new lane answer → IsCaused d old new act answer → ActKeeps d old new lane act answer → is_step act ≡ false
     → TellsMoments d → (begin : ℕ) (h : History) → StandsFor d clock.readings old h → IsClear (then_event h (event_of act answer (d.calls (new.parts).disk)))
     → Recovers d begin old h → Recovers d begin new (then_event h (event_of act answer (d.calls (new.parts).disk)))
-recovers_more d clock old new lane act answer lt more answers cause keeps no told begin h s clear recovers =
+recovers_more d clock old new lane act answer lt more answers cause keeps unstepped told begin h s clear recovers =
     let is = answers.lane_is in
-    recovers_here d clock told old new act answer h (subst (λ l. l < 64) (sym is) lt)
-    (more h s (clear_for act (then_event h (event_of act answer (d.calls (new.parts).disk))) clear)) answers.fault cause
-    (subst (λ l. ActKeeps d old new l act answer) (sym is) keeps) no s begin recovers
+    let its : ActKeeps d old new (answer.entry).lane act answer = subst (λ l. ActKeeps d old new l act answer) (sym is) keeps in
+    recovers_here d clock told old new act answer h s its.halted _ (its.crash unstepped)
+    (led d clock told old new act answer h (subst (λ l. l < 64) (sym is) lt)
+    (more h s (clear_for act (then_event h (event_of act answer (d.calls (new.parts).disk))) clear)) answers.fault cause its unstepped s) begin recovers

@@ -20,9 +20,10 @@ use Rattle.core_state.specs.declared.state.Core.{Core}
 use Rattle.core_state.specs.Closing.{is_writer, is_reader, closes, closes_by, is_closing, end_entries, ends_by, HasClosed}
 use Rattle.core_state.specs.Wanted.{session_at}
 use Rattle.core_state.specs.Entering.{OthersHold, NoneLost, FillsFirst, StaysWhole, Enters, held_by}
-use Rattle.core_state.specs.Reserved.{CanEnd, HasRoom, Reserved, KeepsReserve, KeepsSpare, EndKeeps, Keeps}
+use Rattle.core_state.specs.Collectors.{is_cut}
+use Rattle.core_state.specs.Reserved.{CanEnd, HasRoom, Reserved, KeepsReserve, KeepsSpare, EndKeeps, StepKeeps, Keeps}
 use Rattle.core_state.specs.Settles.{IsEntered, Settles, kind_by}
-use Rattle.core_state.specs.Begins.{IsShort, Refuses, short, halted, IsReady}
+use Rattle.core_state.specs.Begins.{IsBegun, IsShort, Refuses, short, halted, IsReady}
 use Rattle.core_state.proofs.Answering.{and_second}
 
 true_false : true ≡ false → ⊥
@@ -284,6 +285,48 @@ end_failed_keeps d readings old mid acted new lane moment answer none busy befor
       one = one;
       left = λ can _. let two = ends_busy old.fault (session_at old.parts lane) none busy in let after = ends_faulted new.fault first (session_at new.parts lane) (e.fault ∙ fault) in omega (arith, one, two, after, can);
       idle = λ is. absurd (busy is);
+      spare = spare_by old.journal old.journal new.journal lane e.is_held (omega arith) (λ three. refl) entered;
+      others = entered.others;
+    }
+
+-- ---- an act of a collector after its start
+
+-- it is no end of a collector that was ended early
+uncut_keeps : {D E C : Type 0} (old new : Core D E C) (lane : ℕ) (answer : Answer) → is_cut lane old.collector ≡ false → KeepsReserve old new lane false answer → StepKeeps old new lane answer
+uncut_keeps old new lane answer uncut keeps = record {
+  one = keeps.one;
+  spent = keeps.spent;
+  filled = λ _. keeps.filled refl;
+  ends = λ cut. absurd (true_false (sym cut ∙ uncut));
+  spare = keeps.spare;
+  others = keeps.others;
+}
+
+-- the reserve was filled up before it was entered
+pub step_keeps_filled : {D E C : Type 0} (d : Ghosts D) (readings : C → Option Readings) (old mid acted new : Core D E C) (lane moment n : ℕ) (reply : Option Reply) (answer : Answer)
+    → IsBegun readings old mid lane moment → acted.journal ≡ mid.journal → (3 ≤ held_by mid.journal lane) × (0 < (mid.journal).spare)
+    → is_cut lane old.collector ≡ false → IsEntered d acted new lane moment n reply answer → StepKeeps old new lane answer
+step_keeps_filled d readings old mid acted new lane moment n reply answer b same filled uncut e =
+    let entered = subst (λ j. Enters j new.journal lane e.is_held) same e.room in
+    uncut_keeps old new lane answer uncut
+    (by_spare old new mid.journal lane false e.is_held (n == 2) answer b.more b.others filled.0 filled.1
+    (spare_by old.journal mid.journal new.journal lane e.is_held b.none_lost b.whole entered) e.last_held entered)
+
+-- memory was wanting before it was begun
+pub step_keeps_short : {D E C : Type 0} (d : Ghosts D) (readings : C → Option Readings) (old new : Core D E C) (lane : ℕ) (answer : Answer)
+    → is_cut lane old.collector ≡ false → IsShort d readings old new lane answer → StepKeeps old new lane answer
+step_keeps_short d readings old new lane answer uncut is = uncut_keeps old new lane answer uncut (short_keeps d readings old new lane false answer is)
+
+-- nothing was filled up: the end of a collector that was ended early
+pub step_keeps_cut : {D E C : Type 0} (d : Ghosts D) (old acted new : Core D E C) (lane moment n : ℕ) (reply : Option Reply) (answer : Answer)
+    → acted.journal ≡ old.journal → (n ≡ 2 → ⊥) → is_cut lane old.collector ≡ true → IsEntered d acted new lane moment n reply answer → StepKeeps old new lane answer
+step_keeps_cut d old acted new lane moment n reply answer same other cut e =
+    let entered = subst (λ j. Enters j new.journal lane e.is_held) same e.room in
+    let kind : (answer.entry).kind ≡ n = ap (λ x. x.kind) e.entry in record {
+      one = one_by old.journal old.journal new.journal lane e.is_held (omega arith) entered;
+      spent = (λ yes. absurd (other (and_second e.is_held n (sym e.last_held ∙ yes))), λ both. absurd (other (sym kind ∙ both.0)));
+      filled = λ uncut. absurd (true_false (sym cut ∙ uncut));
+      ends = λ _ two. other (sym kind ∙ two);
       spare = spare_by old.journal old.journal new.journal lane e.is_held (omega arith) (λ three. refl) entered;
       others = entered.others;
     }

@@ -1,6 +1,6 @@
 -- The start of a collector is entered: it opened, or it was refused as it was done.
 use Rattle.disk_trait.specs.declared.disk.Disk.{Ghosts}
-use Rattle.std.proofs.Common.{◌≡◌, ◌<◌, ℕ, [], ◌++◌, Option, Some, None, Result, Ok, Err, refl, sym, ap, subst, ◌∙◌, arith}
+use Rattle.std.proofs.Common.{◌≡◌, ◌<◌, ℕ, [], ◌++◌, Option, Some, None, Ok, Err, refl, sym, ap, subst, ◌∙◌, arith}
 use Rattle.port_traits.specs.Readings.{Readings}
 use Rattle.store_types.specs.declared.refusal.Refusal.{Refusal}
 use Rattle.store_types.specs.declared.refusal.Refusal.TheVariants.{NoMemory}
@@ -21,7 +21,7 @@ use Rattle.core_state.specs.Holds.{IsOnDisk, Shows}
 use Rattle.core_state.specs.Settles.{IsEntered, Settles}
 use Rattle.core_state.proofs.Answered.{IsDone, acted_by}
 use Rattle.core_state.proofs.Chunks.{only_same}
-use Rattle.core_state.proofs.Collecting.{short_shown, step_shown}
+use Rattle.core_state.proofs.Collecting.{opens, short_shown, step_shown}
 use Rattle.core_state.proofs.Entered.{IsActed, entered_stands, moves}
 
 start_no_sweep : class_of Start ≡ sweeping → ⊥
@@ -55,7 +55,7 @@ module _ {D E C : Type 0} (d : Ghosts D) (readings : C → Option Readings) (old
   -- it opens on the lane
   opened_shown : (c : Collector) → c.lane ≡ k → c.ended ≡ None → open_in (collector_by 3 k (Some c)) ≡ shown_collecting (moves h k m Start 3).collecting
   unfolding moved
-  opened_shown c lane goes = ap (λ n. Some (record { lane = n; ended = c.ended })) lane ∙ ap (λ o. Some (record { lane = k; ended = o })) goes
+  opened_shown c lane goes = ap (λ n. opens n c.ended) lane ∙ ap (opens k) goes
 
   opened_acted : (c : Collector) → c.lane ≡ k → c.ended ≡ None → IsActed d readings old (record mid { collector = Some c }) h k m Start 3
   unfolding moved

@@ -1,6 +1,6 @@
 -- The start of a collector that opens it, on any disk and for each history.
 use Rattle.disk_trait.specs.declared.disk.Disk.{Ghosts}
-use Rattle.std.proofs.Common.{◌≡◌, ◌<◌, ◌≤◌, ℕ, true, false, is_some, length, IfOk, IfSome, IsErrOf, IsTrue, Option, Some, None, Result, Ok, Err, inl, inr, refl, sym, ap, subst, ◌∙◌, arith}
+use Rattle.std.proofs.Common.{◌≡◌, ◌<◌, ◌≤◌, ℕ, true, false, is_some, length, IfOk, IfSome, IsErrOf, IsTrue, Some, None, Result, Ok, Err, inl, inr, refl, sym, ap, subst, ◌∙◌, arith}
 use Rattle.disk_trait.specs.Disk.{Serves}
 use Rattle.disk_trait.specs.declared.disk.DiskError.{DiskError}
 use Rattle.disk_trait.specs.declared.disk.DiskError.TheVariants as disks
@@ -90,7 +90,7 @@ module _ {D E C : Type 0} (d : Ghosts D) (clock : clocks.Ghosts C) (old mid new 
   -- it may open in each history, and its plan is the new sweep of each whose book the core's is
   pub start_opened_applies : k < 64 → ((h : History) → StandsFor d clock.readings old h → may_open (world h) k ≡ Ok tt) → c.lane ≡ k → c.ended ≡ None
       → ((h : History) → StandsFor d clock.readings old h → KeepsTouches d old h → StandsFor d clock.readings new (then_event h (event_of Start answer (d.calls (new.parts).disk)))
-          → KeepsTouches d new (then_event h (event_of Start answer (d.calls (new.parts).disk))))
+      → KeepsTouches d new (then_event h (event_of Start answer (d.calls (new.parts).disk))))
       → ActApplies d clock old new k Start answer
   start_opened_applies lt may lane goes touches =
       let timely = entered_timely d clock.readings old acted new k m 3 None answer (ready.begun).clock entered in

@@ -1,19 +1,19 @@
 -- An event that is no act of a collector after its start touches as it does without one, and leaves its sweep.
-use Rattle.std.proofs.Common.{◌≡◌, ℕ, Bool, true, false, List, Option, Some, None, refl, sym, ap, subst}
+use Rattle.std.proofs.Common.{◌≡◌, ℕ, false, List, Option, None, refl, sym, ap, subst}
 use Rattle.store_files.specs.Archive.{Snapshot}
 use Rattle.wire_commands.specs.declared.reply.Reply.{Reply}
 use Rattle.store_history.specs.declared.act.Act.{Act}
 use Rattle.store_history.specs.declared.act.Act.TheVariants.{Step}
 use Rattle.store_history.specs.declared.act.Event.{Event}
 use Rattle.store_history.specs.Acts.{Class, stepping, starting, sweeping, wanting, ending, class_of}
-use Rattle.store_history.specs.History.{World, EntryKind, kind, kind_of, moment, start_kind}
-use Rattle.store_history.specs.LastTouches.{LastTouches, SameTouches, is_one_of, touched, touches_after}
+use Rattle.store_history.specs.History.{World, EntryKind, kind, kind_of, moment}
+use Rattle.store_history.specs.LastTouches.{SameTouches, is_one_of, touched, touches_after}
 use Rattle.store_history.specs.Sweeping.{FitsSweep, Sweep, Swept, is_pass, marks_in, passing, sweep_of, swept_after, taken_in, without}
 use Rattle.core_state.specs.Commands.{is_step}
 
 pub no_sweep : (act : Act) → is_step act ≡ false → class_of act ≡ sweeping → ⊥
-no_sweep Step no e = cc
-no_sweep act no e = cc
+no_sweep Step unstepped e = cc
+no_sweep act unstepped e = cc
 
 no_pass : (c : Class) (k : EntryKind) → (c ≡ sweeping → ⊥) → is_pass c k ≡ false
 no_pass stepping k other = refl

@@ -1,5 +1,5 @@
 -- What an act promises of the core: the two records of its command, behind the turn.
-use Rattle.std.specs.Prelude.{◌≡◌, ℕ, true, false, Some, None, IfSome}
+use Rattle.std.specs.Prelude.{◌≡◌, ◌||◌, ℕ, true, false, Some, None, IfSome}
 use Rattle.disk_trait.specs.Effects.{SameContent}
 use Rattle.disk_trait.specs.declared.disk.Disk.{Ghosts}
 use Rattle.port_traits.specs.declared.clock.Clock as clocks
@@ -76,7 +76,8 @@ pub record ActKeeps {D E C : Type 0} (d : Ghosts D) (old new : Core D E C) (lane
   pub due : DueAt d old lane act answer
   pub firm : old.fault ≡ None → IsDone answer → IsFirm d (old.parts).disk (new.parts).disk (change_at old.parts lane act)
   pub listed : Lists old new lane act answer
-  pub admin : is_admins act ≡ true → ((new.parts).sessions.items ≡ (old.parts).sessions.items) × ((new.parts).locks ≡ (old.parts).locks)
+  -- the acts on the store as a whole, and the collector's, leave sessions and locks as they are
+  pub admin : (is_admins act || is_collectors act) ≡ true → ((new.parts).sessions.items ≡ (old.parts).sessions.items) × ((new.parts).locks ≡ (old.parts).locks)
   -- the lane has no session any more
   pub ended : ends_session act ≡ true → IsDone answer → session_at new.parts lane ≡ Idle
   -- after the disk failed no call of it is made

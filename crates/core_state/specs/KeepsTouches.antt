@@ -5,8 +5,7 @@ use Rattle.std.specs.FinMap.{get}
 use Rattle.store_files.specs.Folder.{IsDigest, chunk_name}
 use Rattle.store_history.specs.History.{opened}
 use Rattle.store_history.specs.LastTouches.{LastTouches, SameTouches}
-use Rattle.store_history.specs.Sweeping.{swept}
-use Rattle.store_history.specs.Sweeping.{IsSwept, Swept, swept_at}
+use Rattle.store_history.specs.Sweeping.{IsSwept, Swept, swept, swept_at}
 use Rattle.core_state.specs.declared.state.Core.{Core}
 use Rattle.core_state.specs.History.{History, world}
 use Rattle.core_state.specs.Numbers.{AreNumbered}

@@ -1,6 +1,6 @@
 -- What a mark, a visit or the end of a collector leaves, on any disk.
 use Rattle.disk_trait.specs.declared.disk.Disk.{Ghosts}
-use Rattle.std.specs.Prelude.{◌≡◌, ◌≤◌, ◌<◌, ◌⊎◌, ℕ, Bool, true, false, ◌||◌, ◌==◌, if◌then◌else◌, List, [], ◌∷◌, length, Option, Some}
+use Rattle.std.specs.Prelude.{◌≡◌, ◌≤◌, ◌<◌, ◌⊎◌, ℕ, Bool, true, false, ◌||◌, ◌==◌, if◌then◌else◌, List, [], ◌∷◌, length, Option, None, Some}
 use Rattle.store_types.specs.declared.names.Digest32.{Digest32}
 use Rattle.store_types.specs.declared.refusal.Refusal.TheVariants.{DiskFault}
 use Rattle.store_files.specs.Book.{book_text}
@@ -8,7 +8,7 @@ use Rattle.store_files.specs.Folder.{chunk_name}
 use Rattle.wire_commands.specs.declared.reply.Reply.TheVariants.{Refused}
 use Rattle.atime_book.specs.Touches.{NoneAfter, as_of, is_stale, last_of}
 use Rattle.atime_book.specs.Present.{is_among}
-use Rattle.gc_plan.specs.Plan.{mark_limit}
+use Rattle.gc_plan.specs.Plan.{Plan, mark_limit}
 use Rattle.store_history.specs.LastTouches.{LastTouches, SameTouches, dated, touched}
 use Rattle.store_history.specs.Saved.{book_name}
 use Rattle.store_history.specs.declared.act.Answer.{Answer}
@@ -16,7 +16,7 @@ use Rattle.store_history.specs.Sweeping.{without}
 use Rattle.core_state.specs.declared.collector.Collector.{Collector}
 use Rattle.core_state.specs.declared.state.Core.{Core}
 use Rattle.core_state.specs.Changes.{Change, LeavesChange, after, drops, installs, stays}
-use Rattle.core_state.specs.Collectors.{is_on, steps_left}
+use Rattle.core_state.specs.Collectors.{is_cut, is_on, steps_left}
 use Rattle.core_state.specs.Upkeeps.{touches_kept}
 
 -- ---- the disk
@@ -42,15 +42,20 @@ MayChange old lane moment kind change =
 
 -- ---- the book
 
+-- the chunk that is taken out is the one that the disk loses
+abbrev pub IsTaken : Option (List ℕ) → Change → Type 0
+IsTaken None change = change ≡ stays
+IsTaken (Some digest) change = change ≡ drops (chunk_name digest ∷ [])
+
 -- at most so many chunks are touched, or one is taken out
-abbrev pub PassTouches : LastTouches → LastTouches → ℕ → Type 0
-PassTouches old new when =
-    ((digests : List Digest32) × (length digests ≤ mark_limit) × SameTouches new (touched (λ d. is_among d digests) when old))
-    ⊎ ((taken : Option (List ℕ)) × SameTouches new (without taken old))
+abbrev pub PassTouches : Change → LastTouches → LastTouches → ℕ → Type 0
+PassTouches change old new when =
+    ((digests : List Digest32) × (change ≡ stays) × (length digests ≤ mark_limit) × SameTouches new (touched (λ d. is_among d digests) when old))
+    ⊎ ((taken : Option (List ℕ)) × IsTaken taken change × SameTouches new (without taken old))
 
 -- and its entry dates what is undated
-abbrev pub PassDates : LastTouches → LastTouches → ℕ → Type 0
-PassDates old new when = (passed : LastTouches) × PassTouches old passed when × SameTouches new (dated when passed)
+abbrev pub PassDates : Change → LastTouches → LastTouches → ℕ → Type 0
+PassDates change old new when = (passed : LastTouches) × PassTouches change old passed when × SameTouches new (dated when passed)
 
 -- ---- the collector
 
@@ -58,13 +63,26 @@ PassDates old new when = (passed : LastTouches) × PassTouches old passed when �
 abbrev pub stays_open : ℕ → Bool → Bool
 stays_open kind before = if (kind == 4) || (kind == 5) then false else before
 
+-- start, cutoff and indexes of a plan stay as they are
+pub record KeepsPlan (old new : Plan) : Type 0 where
+  pub start : new.start ≡ old.start
+  pub cutoff : new.cutoff ≡ old.cutoff
+  pub indexes : new.indexes ≡ old.indexes
+
+abbrev pub KeepsPlanOf : Option Collector → Option Collector → Type 0
+KeepsPlanOf (Some c) (Some e) = KeepsPlan c.plan e.plan
+KeepsPlanOf _ _ = ⊥
+
 -- What it leaves of disk, book and collector.
 pub record StepLeaves {D E C : Type 0} (d : Ghosts D) (old new : Core D E C) (lane : ℕ) (answer : Answer) : Type 0 where
   pub change : Change
   pub may_change : MayChange old lane (answer.entry).moment (answer.entry).kind change
   pub content : (answer.reply ≡ Some (Refused DiskFault) → ⊥) → d.honest (old.parts).disk → d.content (new.parts).disk ≡ after change (d.content (old.parts).disk)
   pub crash : LeavesChange d (old.parts).disk (new.parts).disk change
-  pub passes : (answer.entry).kind ≡ 1 → PassDates (touches_kept old.upkeep) (touches_kept new.upkeep) (answer.entry).moment
+  -- an end that comes of itself saves the book, and one of a collector that was ended early only closes
+  pub saves : (answer.entry).kind ≡ 4 → is_cut lane old.collector ≡ false → SavesAt old (answer.entry).moment change
+  pub closes_only : is_cut lane old.collector ≡ true → (new.parts).disk ≡ (old.parts).disk
+  pub passes : (answer.entry).kind ≡ 1 → PassDates change (touches_kept old.upkeep) (touches_kept new.upkeep) (answer.entry).moment
   -- all others touch nothing
   pub untouched : ((answer.entry).kind ≡ 1 → ⊥) → SameTouches (touches_kept new.upkeep) (dated (answer.entry).moment (touches_kept old.upkeep))
   -- no chunk is touched after the last moment
@@ -72,7 +90,11 @@ pub record StepLeaves {D E C : Type 0} (d : Ghosts D) (old new : Core D E C) (la
   -- it is refused only where the lane's collector is not open
   pub refused : (answer.entry).kind ≡ 0 → is_on lane old.collector ≡ false
   pub open_on : is_on lane new.collector ≡ stays_open (answer.entry).kind (is_on lane old.collector)
+  pub closed : is_on lane old.collector ≡ true → ((answer.entry).kind ≡ 4) ⊎ ((answer.entry).kind ≡ 5) → new.collector ≡ None
+  pub same : is_on lane old.collector ≡ true → ((answer.entry).kind ≡ 1) ⊎ ((answer.entry).kind ≡ 2) → KeepsPlanOf old.collector new.collector
   -- another lane's stays as it is
   pub others : is_on lane old.collector ≡ false → new.collector ≡ old.collector
+  -- want of memory ends it early
+  pub cut : is_on lane old.collector ≡ true → (answer.entry).kind ≡ 2 → is_cut lane new.collector ≡ true
   -- a mark, a visit and a want of memory leave less to do
   pub further : is_on lane old.collector ≡ true → ((answer.entry).kind ≡ 1) ⊎ ((answer.entry).kind ≡ 2) → steps_left new.collector < steps_left old.collector

@@ -1,15 +1,10 @@
 //! The collector of unused chunks, while it is open.
 
-ghost use Rattle.std.specs.Prelude.{◌≡◌};
-ghost use Rattle.wire_commands.specs.HasText.{ReplyHasText};
-ghost use Rattle.wire_commands.specs.declared.reply.Reply.TheVariants.{Refused};
-ghost use Rattle.core_state.specs.Collectors.{collector_by, is_cut, is_on, refusal_of, with_cut};
 ghost use Rattle.core_state.specs.Entries.{FitsEntries};
 
-use crate::state::Core;
 use gc_plan::Gc;
 use snapshot_files::FilePath;
-use store_types::{Digest32, END_KIND, MEMORY_KIND, Refusal, STOP_KIND};
+use store_types::{Digest32, Refusal};
 
 /// What ended a collector early.
 #[derive(Debug, Drop)]
@@ -21,7 +16,13 @@ pub enum Early {
 }
 
 impl Early {
+    ghost use Rattle.std.specs.Prelude.{◌≡◌};
+    ghost use Rattle.wire_commands.specs.HasText.{ReplyHasText};
+    ghost use Rattle.wire_commands.specs.declared.reply.Reply.TheVariants.{Refused};
+    ghost use Rattle.core_state.specs.Collectors.{refusal_of};
+
     /// As the collector's end replies it. It takes no memory.
+    #[tactic(auto, using(crate::proofs::Texts::no_memory_has_text, crate::proofs::Texts::unreadable_has_text))]
     pub fn into_refusal(self) -> Refusal
         ensures value { result ≡ refusal_of self }
         ensures text { ReplyHasText (Refused result) }
@@ -48,53 +49,16 @@ pub struct Collector {
 }
 
 impl Collector {
+    ghost use Rattle.std.specs.Prelude.{◌≡◌};
+    ghost use Rattle.core_state.specs.Collectors.{with_cut};
+
     /// Want of memory ends it early. What ended it before stands.
     pub fn cut(&mut self)
         ensures { self.new ≡ with_cut self.old }
     {
-        if self.ended.is_none() {
-            self.ended = Some(Early::NoMemory);
+        if self.ended.is_some() {
+            return;
         }
-    }
-}
-
-/// The open collector is this lane's.
-pub fn is_on(collector: &Option<Collector>, lane: u32) -> bool
-    ensures { result ≡ is_on lane collector.now }
-{
-    match collector {
-        Some(open) => open.lane == lane,
-        None => false,
-    }
-}
-
-/// What an entry of this kind makes of the lane's collector: want of memory ends it early, and its end and the lane's end
-/// close it. Another lane's stays as it is.
-pub fn note_entry(collector: &mut Option<Collector>, lane: u32, kind: u8)
-    ensures { collector.new ≡ collector_by kind lane collector.old }
-{
-    if !is_on(collector, lane) {
-        return;
-    }
-    if kind == STOP_KIND || kind == END_KIND {
-        *collector = None;
-        return;
-    }
-    if let Some(open) = collector {
-        if kind == MEMORY_KIND {
-            open.cut();
-        }
-    }
-}
-
-impl<D, E, C> Core<D, E, C> {
-    /// The lane's collector is open, and was ended early: its next act is its end, which takes no memory.
-    pub fn is_cut(&self, lane: u32) -> bool
-        ensures { result ≡ is_cut lane self.now.collector }
-    {
-        match &self.collector {
-            Some(open) => open.lane == lane && open.ended.is_some(),
-            None => false,
-        }
+        self.ended = Some(Early::NoMemory);
     }
 }

@@ -11,7 +11,7 @@ ghost use Rattle.core_state.specs.Reserved.{HasRoom};
 ghost use Rattle.core_state.specs.Settles.{IsEntered, Settles};
 ghost use Rattle.core_state.specs.Stops.{told};
 
-use crate::collector::note_entry;
+use crate::noting::note_entry;
 use crate::state::Core;
 use crate::stop::Stop;
 use disk_trait::Disk;

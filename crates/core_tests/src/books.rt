@@ -3,29 +3,29 @@
 use crate::asserts::{same, same_at};
 use crate::calls::{NO_BASE, NO_SNAPSHOT, NONE_THERE};
 use crate::damage::{ABC_BLOB, ABC_CHUNK, DE_BLOB, DE_CHUNK};
-use crate::fixtures::{ABC, DE, FIRST, MemoryCore, opened_over};
+use crate::fixtures::{ABC, CoreOver, DE, FIRST, MemoryCore, opened_over};
 use crate::steps::{Step, try_step};
 use disk_trait::{Disk, DiskError, MemoryDisk};
 use std::alloc::Global;
 use std::process::Abort;
 use std::test::Fail;
 
-const BOOK: &str = ".chunks/book";
+pub(crate) const BOOK: &str = ".chunks/book";
 
 /// Files by name and content.
-type Contents = &'static [(&'static str, &'static [u8])];
+pub(crate) type Contents = &'static [(&'static str, &'static [u8])];
 
-const NONE_OF_BOTH: Contents = &[];
+pub(crate) const NONE_OF_BOTH: Contents = &[];
 
 const ONE: Contents = &[(ABC_CHUNK, ABC_BLOB)];
 
-const BOTH: Contents = &[(ABC_CHUNK, ABC_BLOB), (DE_CHUNK, DE_BLOB)];
+pub(crate) const BOTH: Contents = &[(ABC_CHUNK, ABC_BLOB), (DE_CHUNK, DE_BLOB)];
 
 /// What a core has: its last moment, the last touches of `abc` and of `de`, and how many chunks are undated.
-type Kept = (u64, Option<u64>, Option<u64>, usize);
+pub(crate) type Kept = (u64, Option<u64>, Option<u64>, usize);
 
 /// A book as of 10 in which `abc` was touched at 5 and `de` at 4; one that has no chunk; one as of the last moment that there is.
-const SAVED: &[u8] =
+pub(crate) const SAVED: &[u8] =
     b"PBSBOOK1\x0a\0\0\0\0\0\0\0\x02\0\0\0\0\0\0\0\x95\x9aE\xd4No\xcfX6\x1e\xd0\x04h\x15V\xfeP\x12\x9f!\x09\xe8\x17\xde\xc0\x98\xc0\x0c\x9e]%x\x04\0\0\0\0\0\0\0\xbax\x16\xbf\x8f\x01\xcf\xeaAA@\xde]\xae\"#\xb0\x03a\xa3\x96\x17z\x9c\xb4\x10\xffa\xf2\0\x15\xad\x05\0\0\0\0\0\0\0\xcaS\xfaZL3\x84\xd1\xe5\xcd\xae\x16\x11\x19l\x19=\xef\x9c\x93\x16\x02\xcd\x06\x87\xad\xe7\x06\x0bS\xd8\x87";
 
 const NO_CHUNKS: &[u8] =
@@ -74,7 +74,7 @@ static DAMAGED: [&[u8]; 9] = [
 ];
 
 /// A disk with these files.
-fn disk_of(alloc: Global, files: &[(&str, &[u8])]) -> Result<MemoryDisk, DiskError> {
+pub(crate) fn disk_of(alloc: Global, files: &[(&str, &[u8])]) -> Result<MemoryDisk, DiskError> {
     let mut disk = MemoryDisk::new(alloc);
     for (name, bytes) in files {
         if name.len() <= 255 {
@@ -97,7 +97,7 @@ fn opened(
     opened_over(alloc, disk, &[70, 80], 0)
 }
 
-fn kept(core: &MemoryCore) -> Kept {
+pub(crate) fn kept<D>(core: &CoreOver<D>) -> Kept {
     let book = &core.upkeep.book;
     let undated = core.upkeep.undated.len();
     (core.last, book.last(&ABC), book.last(&DE), undated)

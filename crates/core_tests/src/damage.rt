@@ -24,7 +24,7 @@ const TORN_BLOB: &[u8] = b"\x42\xab\x38\x07\xbe\x83\x70\xa1\xc2\x41\x24\x35abd";
 
 const NAME: &[u8] = b"root.didx";
 
-const ROOT_PATH: &str = "host/a/2020-01-15T06:30:03Z/root.didx";
+pub(crate) const ROOT_PATH: &str = "host/a/2020-01-15T06:30:03Z/root.didx";
 
 /// Lists an archive without pieces as `root.didx`.
 const WITH_ROOT: &[u8] =
@@ -73,7 +73,7 @@ fn opened(rt: &impl Abort, alloc: Global) -> Result<Parts<MemoryDisk>, Fail> {
 /// The reader downloads the archive's index, of 4,176 bytes, from its end on.
 const DOWNLOAD: Call = Call::Download(NAME, 4176);
 
-const AT_END: &[u8] = b"\x09\0\0\0\0P\x10\0\0\0\0\0\0";
+pub(crate) const AT_END: &[u8] = b"\x09\0\0\0\0P\x10\0\0\0\0\0\0";
 
 const ABC_RANGE: Call = Call::Range(NAME, 0, 3);
 

@@ -39,9 +39,10 @@ static STEPS: [(u32, Step, &[u8], u8); 17] = [
     (5, Step::Short, b"\x01\0\0\0\x1c", 2),
 ];
 
-/// Lanes whose sessions are closed, or are not theirs to close: each act with the frame of its reply, and how many entries
-/// the lane then has in reserve. What ends a session fills up nothing, and takes an entry of the reserve where no spare one is.
-static CLOSINGS: [(u32, Step, &[u8], u8); 12] = [
+/// Lanes whose sessions are closed, or are not theirs to close, and a collector that memory was wanting for: each act with the frame
+/// of its reply, and how many entries the lane then has in reserve. What ends a session or such a collector fills up nothing, and
+/// takes an entry of the reserve where no spare one is.
+static CLOSINGS: [(u32, Step, &[u8], u8); 16] = [
     (3, Step::Abort, IN_NONE, 3),
     (3, Step::OpenWriter(FIRST), NO_BASE, 3),
     (3, Step::CloseReader, IN_WRITER, 3),
@@ -53,6 +54,10 @@ static CLOSINGS: [(u32, Step, &[u8], u8); 12] = [
     (2, Step::Abort, IN_READER, 3),
     (2, Step::CloseReader, DONE, 2),
     (2, Step::CloseReader, IN_NONE, 3),
+    (5, Step::Start, b"", 3),
+    (5, Step::Short, b"\x01\0\0\0\x1c", 3),
+    (5, Step::Pass, b"\x01\0\0\0\x1c", 2),
+    (5, Step::Pass, IN_NONE, 3),
     (3, Step::End, b"", 1),
 ];
 

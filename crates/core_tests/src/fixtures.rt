@@ -10,14 +10,16 @@ use blob_codec::{decode, encode};
 use core_opening::open_on;
 use core_state::{Core, Parts, Place, Stop};
 use core_uploads::blob;
-use disk_trait::MemoryDisk;
+use disk_trait::{Disk, MemoryDisk};
 use port_traits::SetClock;
 use std::alloc::Global;
 use std::test::Fail;
 use store_types::{Bytes, Digest32, Refusal};
 use wire_commands::Reply;
 
-pub(crate) type MemoryCore = Core<MemoryDisk, MemoryDisk, SetClock>;
+pub(crate) type CoreOver<D> = Core<D, MemoryDisk, SetClock>;
+
+pub(crate) type MemoryCore = CoreOver<MemoryDisk>;
 
 /// Two snapshots of one group, and one of another.
 pub(crate) const FIRST: &[u8] = b"host/a/2020-01-15T06:30:03Z";
@@ -59,12 +61,12 @@ pub(crate) const NOTHING: Digest32 = Digest32([
 ]);
 
 /// A core that is opened over the disk, whose clock tells these moments and then always the last one.
-pub(crate) fn opened_over(
+pub(crate) fn opened_over<D: Disk + Drop>(
     alloc: Global,
-    disk: MemoryDisk,
+    disk: D,
     moments: &[u64],
     last: u64,
-) -> Result<MemoryCore, Fail> {
+) -> Result<CoreOver<D>, Fail> {
     let clock = SetClock::new(moments.to_vec(alloc)?, last);
     let opened = open_on(alloc, disk, None::<MemoryDisk>, clock);
     Ok(opened.ok().ok_or("not opened")?)

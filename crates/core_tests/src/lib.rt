@@ -10,6 +10,8 @@ mod books;
 #[cfg(test)]
 mod calls;
 #[cfg(test)]
+mod collecting;
+#[cfg(test)]
 mod damage;
 #[cfg(test)]
 mod dispatch;

@@ -1,12 +1,14 @@
 //! Acts on a core, as tables have them.
 
-ghost use Rattle.std.specs.Prelude.{IfOk};
+ghost use Rattle.std.specs.Prelude.{IfOk, IfSome};
+ghost use Rattle.wire_commands.specs.HasText.{ReplyHasText};
 ghost use Rattle.store_history.specs.Acts.{IsWellFormed};
 
 use crate::asserts::same;
 use crate::calls::frame;
-use crate::fixtures::{MANIFEST, MemoryCore, checked};
-use core_state::Act;
+use crate::fixtures::{CoreOver, MANIFEST, checked};
+use core_state::{Act, Answer};
+use disk_trait::Disk;
 use shared_store::apply;
 use std::alloc::{AllocError, Global};
 use std::process::Abort;
@@ -29,6 +31,12 @@ pub(crate) enum Step {
     Group(&'static [u8]),
     /// The first step of a PRUNE of the group, with no option.
     Prune,
+    /// A writer's or a reader's command, as it is sent.
+    Send(&'static [u8]),
+    /// A collector opens.
+    Start,
+    /// The next act of the lane's collector.
+    Pass,
     Short,
     End,
 }
@@ -51,7 +59,49 @@ fn manifest(alloc: Global) -> Result<Act, AllocError>
     Ok(Act::Blob { name, checked })
 }
 
-fn act_of(alloc: Global, step: Step) -> Result<Act, AllocError>
+/// The act of a command that a writer or a reader sends.
+fn act_sent(alloc: Global, body: &[u8]) -> Result<Act, Fail>
+    ensures { IfOk result IsWellFormed }
+{
+    let Ok(command) = Command::read(alloc, body)? else {
+        return Err("no command".into());
+    };
+    match command {
+        Command::Previous { file, offset } => { Ok(Act::Plain(Command::Previous { file, offset })) }
+        Command::NewDynamic { file } => Ok(Act::Plain(Command::NewDynamic { file })),
+        Command::Append { number, entries } => {
+            Ok(Act::Plain(Command::Append { number, entries }))
+        }
+        Command::CloseIndex {
+            number,
+            count,
+            size,
+            csum,
+        } => Ok(Act::Plain(Command::CloseIndex {
+            number,
+            count,
+            size,
+            csum,
+        })),
+        Command::Blob { file, blob } => Ok(Act::Blob {
+            name: file,
+            checked: checked(blob),
+        }),
+        Command::Download { file, offset } => { Ok(Act::Plain(Command::Download { file, offset })) }
+        Command::Range {
+            file,
+            offset,
+            length,
+        } => Ok(Act::Plain(Command::Range {
+            file,
+            offset,
+            length,
+        })),
+        _ => Err("another command".into()),
+    }
+}
+
+fn act_of(alloc: Global, step: Step) -> Result<Act, Fail>
     ensures { IfOk result IsWellFormed }
 {
     match step {
@@ -59,7 +109,7 @@ fn act_of(alloc: Global, step: Step) -> Result<Act, AllocError>
             let snapshot = Bytes::from_slice(alloc, key)?;
             Ok(Act::Plain(Command::OpenWriter { snapshot }))
         }
-        Step::Manifest => manifest(alloc),
+        Step::Manifest => Ok(manifest(alloc)?),
         Step::Finish => Ok(Act::Plain(Command::Finish)),
         Step::Abort => Ok(Act::Plain(Command::Abort)),
         Step::OpenReader(key) => {
@@ -91,25 +141,40 @@ fn act_of(alloc: Global, step: Step) -> Result<Act, AllocError>
                 dry: false,
             }))
         }
+        Step::Send(body) => act_sent(alloc, body),
+        Step::Start => Ok(Act::Start),
+        Step::Pass => Ok(Act::Step),
         Step::Short => Ok(Act::Short),
         Step::End => Ok(Act::End),
     }
 }
 
+/// Does a step, where there is room.
+pub(crate) fn do_step<D: Disk>(
+    core: &mut CoreOver<D>,
+    alloc: Global,
+    lane: u32,
+    step: Step,
+) -> Result<Answer, Fail>
+    ensures { IfOk result (λ answer. IfSome answer.reply ReplyHasText) }
+{
+    let act = act_of(alloc, step)?;
+    if lane >= 64 || !core.room(lane, &act) {
+        return Err("no room".into());
+    }
+    Ok(apply(core, alloc, lane, act))
+}
+
 /// Does a step, and compares its reply.
-pub(crate) fn try_step(
+pub(crate) fn try_step<D: Disk>(
     rt: &impl Abort,
-    core: &mut MemoryCore,
+    core: &mut CoreOver<D>,
     alloc: Global,
     lane: u32,
     step: Step,
     expected: &[u8],
 ) -> Result<(), Fail> {
-    let act = act_of(alloc, step)?;
-    if lane >= 64 || !core.room(lane, &act) {
-        return Err("no room".into());
-    }
-    let reply = apply(core, alloc, lane, act).reply;
+    let Answer { reply, .. } = do_step(core, alloc, lane, step)?;
     same(rt, frame(alloc, reply)?.as_bytes(), expected);
     Ok(())
 }

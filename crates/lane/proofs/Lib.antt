@@ -4,7 +4,7 @@ pub mod Acting
 pub mod Replies
 pub mod Doing
 pub mod Stepping
-pub mod Collecting
+pub mod Collections
 pub mod Sweeping
 pub mod Caused
 pub mod Entries

@@ -39,7 +39,7 @@ use Rattle.lane.specs.Ran.{with_events, Took, ReadsOut}
 use Rattle.lane.specs.Taking.{TakesInVain}
 use Rattle.lane.specs.Turns.{HasDone}
 use Rattle.lane.proofs.Doing.{of_both, leads_then, step_is_job}
-use Rattle.lane.proofs.Collecting.{heard_sync}
+use Rattle.lane.proofs.Collections.{heard_sync}
 use Rattle.lane.proofs.Fronts.{part_wants}
 use Rattle.lane.proofs.Stepping.{EndsByWant, want_first}
 use Rattle.lane.proofs.Turning.{nothing_taken, at_next, gave_more, taken_on, leads_further, no_words}

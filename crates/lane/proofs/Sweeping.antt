@@ -56,7 +56,7 @@ on_new (Some c) parts k moment h = eq-eqb c.lane k h.lane_is
 pub opens_sweep : {D E C : Type 0} (old new : Core D E C) (k : ℕ) (answer : Answer) → StartTells old new k answer → KeepsReserve old new k (is_closing old k acts.Start) answer
     → (new.parts).sessions.items ≡ (old.parts).sessions.items → (answer.entry).kind ≡ 3 → IsSweeping new k false
 opens_sweep old new k answer tells keeps same three = record {
-  open = on_new new.collector old.parts k (answer.entry).moment (tells.opens three).1;
+  is_open = on_new new.collector old.parts k (answer.entry).moment (tells.opens three).1;
   idle = session_same old new k same (idle_by old.collector (session_at old.parts k) (old.parts).catalogue.items (tells.opens three).0);
   held = keeps.filled (start_closes old.fault (session_at old.parts k)) (λ two. omega (arith, two, three));
   cut = λ last. absurd (true_false (sym last));
@@ -105,12 +105,12 @@ pub stays_sweeping : {D E C : Type 0} (d : Ghosts D) (old new : Core D E C) (k :
     → ((answer.entry).kind ≡ 2 → is_cut k new.collector ≡ true) → (answer.last ≡ true → (answer.entry).kind ≡ 2)
     → ((answer.entry).kind ≡ 1) ⊎ ((answer.entry).kind ≡ 2) → now_last ≡ (answer.last || is_last) → IsSweeping new k now_last
 stays_sweeping d old new k true now_last answer s keeps leaves same cut want goes is =
-    absurd (true_false (sym (s.cut refl) ∙ uncut d old new k answer leaves s.open goes))
+    absurd (true_false (sym (s.cut refl) ∙ uncut d old new k answer leaves s.is_open goes))
 stays_sweeping d old new k false now_last answer s keeps leaves same cut want goes is =
     subst (λ b. IsSweeping new k b) (sym (is ∙ or_none answer.last)) (record {
-      open = leaves.open_on ∙ still_open (answer.entry).kind (is_on k old.collector) goes s.open;
+      is_open = leaves.open_on ∙ still_open (answer.entry).kind (is_on k old.collector) goes s.is_open;
       idle = session_same old new k same s.idle;
-      held = still_held old new k answer keeps (uncut d old new k answer leaves s.open goes) s.held goes;
+      held = still_held old new k answer keeps (uncut d old new k answer leaves s.is_open goes) s.held goes;
       cut = λ last. cut (want last);
     })
   where
@@ -176,7 +176,7 @@ new_want true b none is = refl
 new_want false b none is = absurd (true_false (sym is ∙ none))
 
 pub start_kind : (answer : Answer) → IsToldBut 3 answer → answer.reply ≡ None → (answer.entry).kind ≡ 3
-start_kind answer (inl open) none = open.0
+start_kind answer (inl opened) none = opened.0
 start_kind answer (inr told) none = absurd (none_some answer.reply none told.1)
 
 pub start_last : (answer : Answer) → (answer.last ≡ true → (answer.entry).kind ≡ 2) → (answer.entry).kind ≡ 3 → answer.last ≡ false

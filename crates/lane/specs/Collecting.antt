@@ -32,7 +32,7 @@ held_open false = 3
 -- The lane's collector is open, and the lane has no session. Once an entry of the reserve held a want of memory, the collector's next act
 -- is its end.
 pub record IsSweeping {D E C : Type 0} (core : Core D E C) (k : ℕ) (is_last : Bool) : Type 0 where
-  pub open : is_on k core.collector ≡ true
+  pub is_open : is_on k core.collector ≡ true
   pub idle : session_at core.parts k ≡ Idle
   pub held : held_open is_last ≤ held_by core.journal k
   pub cut : is_last ≡ true → is_cut k core.collector ≡ true

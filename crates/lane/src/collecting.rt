@@ -40,9 +40,12 @@ fn pass<D: Disk, E, C: Clock>(
     ensures entered { HasEntered D.Disk core.old core.new lane (IsSet is_last.old is_last.new) }
 {
     let Answer {
-        entry, reply, last, ..
+        entry,
+        reply,
+        last,
+        ..
     } = apply(core, alloc, lane, Act::Step);
-    *is_last = last || *is_last;
+    *is_last = last | *is_last;
     if entry.kind == MEMORY_KIND {
         return None;
     }

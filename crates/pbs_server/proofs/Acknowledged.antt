@@ -122,7 +122,8 @@ calm_by R w k m n r a asks right done =
     by_kind (suc (suc (suc (suc zero)))) right = absurd right
     by_kind (suc (suc (suc (suc (suc zero))))) right = absurd (not_done r (fault_refusal w.fault) done right)
     by_kind (suc (suc (suc (suc (suc (suc zero)))))) right = absurd right
-    by_kind (suc (suc (suc (suc (suc (suc (suc n))))))) right = absurd right
+    by_kind (suc (suc (suc (suc (suc (suc (suc zero))))))) right = absurd right
+    by_kind (suc (suc (suc (suc (suc (suc (suc (suc n)))))))) right = absurd right
 
 calm_after : (R : Option (List Snapshot)) (w : World) (e : Event) → IsRight R w e → e.act ≡ acts.Plain commands.Finish → reply e ≡ Some Done → is_none (after R w e).fault ≡ true
 unfolding after

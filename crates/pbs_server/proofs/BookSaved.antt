@@ -4,7 +4,7 @@ use Rattle.disk_trait.specs.declared.disk.DiskError.{DiskError}
 use Rattle.disk_trait.specs.declared.disk.DiskError.TheVariants.{NoMemory, Failed}
 use Rattle.disk_trait.specs.Disk.{Serves}
 use Rattle.disk_trait.specs.Effects.{DiskWantKeeps}
-use Rattle.std.proofs.Common.{◌≡◌, ◌≢◌, ◌≤◌, ◌+◌, inl, inr, ℕ, Bool, true, false, List, [], ◌∷◌, ◌||◌, ◌==◌, if◌then◌else◌, Option, Some, None, IfSome, IsSome, Result, Ok, Err, OnOk, refl, sym, ap, subst, ◌∙◌, arith}
+use Rattle.std.proofs.Common.{◌≡◌, ◌≤◌, ◌+◌, inl, inr, ℕ, Bool, true, false, List, [], ◌∷◌, ◌||◌, ◌==◌, if◌then◌else◌, Option, Some, None, IfSome, IsSome, Result, Ok, Err, OnOk, refl, sym, ap, subst, ◌∙◌, arith}
 use Rattle.std.specs.Prelude.{IsErrOf, is_some}
 use Rattle.std.specs.Result.{result_err}
 use Rattle.std.specs.FinMap.{get}
@@ -47,10 +47,10 @@ none_is (Some place) is = cc
 
 module _ {D E C : Type 0} (d : Ghosts D) (old new : Core D E C) where
   -- names that are none of the store's
-  installed_foreign : HasSaved d old new → d.honest (old.parts).disk → (q : List ℕ) → IsForeign q → q ≢ book_name
+  installed_foreign : HasSaved d old new → d.honest (old.parts).disk → (q : List ℕ) → IsForeign q
       → get (d.content (new.parts).disk) q ≡ get (d.content (old.parts).disk) q
-  installed_foreign saved honest q own apart =
-      ap (λ m. get m q) (saved.content honest) ∙ installed_other (d.content (old.parts).disk) book_name (text_of_book old) q apart (own.lasting book_name)
+  installed_foreign saved honest q own =
+      ap (λ m. get m q) (saved.content honest) ∙ installed_other (d.content (old.parts).disk) book_name (text_of_book old) q own.book (own.lasting book_name)
 
   later_by : LeavesBook d old new → d.calls (old.parts).disk ≤ d.calls (new.parts).disk
   later_by (inl same) = subst (λ x. d.calls (old.parts).disk ≤ d.calls x) (sym same) (omega arith)
@@ -81,7 +81,7 @@ module _ {D E C : Type 0} (d : Ghosts D) (old new : Core D E C) where
     later = later_by crash;
     crash = crash;
     saved = λ _. saved;
-    foreign = λ honest calm q own apart. ap (λ m. get m q) ((unchanged refl).0 honest);
+    foreign = λ honest calm q own. ap (λ m. get m q) ((unchanged refl).0 honest);
     history = history;
   }
   saved_so (Err Failed) none serves rest crash saved unchanged history = record {
@@ -112,7 +112,7 @@ not_tried d core failed = record {
   later = omega arith;
   crash = inl refl;
   saved = λ none. absurd (some_none core.fault failed none);
-  foreign = λ honest calm q own apart. refl;
+  foreign = λ honest calm q own. refl;
   history = record {
     stands = λ readings calm h s. s;
     touches = λ readings calm h s m. m;

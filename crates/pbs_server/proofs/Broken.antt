@@ -4,9 +4,9 @@ use Rattle.store_types.specs.declared.refusal.Refusal.{Refusal}
 use Rattle.wire_commands.specs.declared.reply.Reply.{Reply}
 use Rattle.store_model.specs.declared.ending.Ending.{Ending}
 use Rattle.store_model.specs.declared.ending.Ending.TheVariants as endings
-use Rattle.store_model.specs.Lanes.{Next, job_step, plain, bye, broken, end}
+use Rattle.store_model.specs.Lanes.{Next, job_step, plain, sync, collect, collecting, bye, broken, end}
 use Rattle.store_history.specs.declared.act.Event.{Event}
-use Rattle.store_history.specs.Acts.{Class, stepping, wanting, ending, class_of}
+use Rattle.store_history.specs.Acts.{Class, stepping, starting, sweeping, wanting, ending, class_of}
 use Rattle.store_history.specs.LaneRun.{Position, begin, next_at, heard, heard_as, position_after, EndsSo, Does, Runs, LaneRan}
 use Rattle.store_history.specs.SoFar.{Follows, Leads}
 use Rattle.store_history.proofs.Rules.{goes_on}
@@ -18,6 +18,8 @@ clash e = cc
 
 heard_here : (c : Class) (e : Ending) (p : Position) (v : Event) → Follows c p v → heard_as c e p v.answer ≡ heard p v.answer
 heard_here stepping e p v follows = refl
+heard_here starting e p v follows = refl
+heard_here sweeping e p v follows = refl
 heard_here wanting e p v follows = refl
 heard_here ending e p v follows = absurd follows
 
@@ -41,6 +43,9 @@ so_broken : (place : ℕ) (q : Position) (n : Next) → EndsSo (endings.Broken p
 so_broken place q (broken r) so = (r, refl)
 so_broken place q (plain c left) so = absurd so
 so_broken place q (job_step j left) so = absurd so
+so_broken place q (sync group left) so = absurd so
+so_broken place q (collect left) so = absurd so
+so_broken place q (collecting is_short) so = absurd so
 so_broken place q bye so = absurd so
 so_broken place q end so = absurd so
 

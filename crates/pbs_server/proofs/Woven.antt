@@ -1,24 +1,25 @@
 -- A session that was served is answered as by the plain store.
 use Rattle.disk_trait.specs.declared.disk.Disk.{Ghosts}
 use Rattle.disk_trait.specs.declared.disk.DiskError.{DiskError}
-use Rattle.std.proofs.Common.{◌≡◌, ◌≤◌, ℕ, zero, suc, Bool, true, false, ◌||◌, ◌==◌, ◌⊎◌, inl, inr, List, [], ◌∷◌, ◌++◌, Option, Some, None, IfSome, IsSome, IsTrue, Ok, OnOk, refl, sym, ap, subst, ◌∙◌, arith}
+use Rattle.std.proofs.Common.{◌≡◌, ◌≤◌, ◌↔◌, ℕ, zero, suc, Bool, true, false, ◌||◌, ◌==◌, ◌⊎◌, inl, inr, List, [], ◌∷◌, ◌++◌, Option, Some, None, IfSome, IsSome, IsTrue, Ok, OnOk, refl, sym, ap, subst, ◌∙◌, arith}
 use Rattle.std.specs.FinMap.{get}
 use Rattle.port_traits.specs.Readings.{Readings}
 use Rattle.disk_trait.specs.Files.{Files}
 use Rattle.store_types.specs.declared.order.Entry.{Entry}
 use Rattle.store_files.specs.Archive.{Snapshot}
+use Rattle.store_files.specs.Folder.{IsDigest, chunk_name}
 use Rattle.store_model.specs.Clash.{NoClash, chunk_pieces}
 use Rattle.store_model.specs.Load.{load}
 use Rattle.store_model.specs.Stands.{StandsFor as Stands}
 use Rattle.store_model.specs.Weave.{weave}
 use Rattle.store_history.specs.declared.act.Event.{Event}
-use Rattle.store_history.specs.History.{Opening, World, opened, after, after_all, moved, entries, sent, kind, kind_of, EntryKind, step_kind, short_kind, fault_kind, end_kind, no_kind}
-use Rattle.store_history.specs.LaneRun.{text}
+use Rattle.store_history.specs.History.{Opening, World, opened, after, after_all, moved, entries, sent, kind, kind_of, EntryKind, step_kind, pass_kind, short_kind, start_kind, close_kind, fault_kind, end_kind, remote_kind, no_kind}
+use Rattle.store_history.specs.LaneRun.{text, plain_text}
 use Rattle.store_history.proofs.Alone.{served_alone}
 use Rattle.store_history.proofs.Whole.{served_woven}
 use Rattle.store_history.specs.Legal.{IsTimed, moment_after, readings_left}
 use Rattle.store_history.specs.Saved.{HoldsBook, saved_book}
-use Rattle.store_history.specs.LastTouches.{touches_after_all, touches_at_opening}
+use Rattle.store_history.specs.Sweeping.{swept}
 use Rattle.store_files.specs.Order.{keeps_rules}
 use Rattle.snapshot_files.proofs.Loading.{loaded}
 use Rattle.core_state.specs.declared.state.Core.{Core}
@@ -43,9 +44,13 @@ use Rattle.pbs_server.proofs.BookSaved.{five_fails, halted_by, saving_failed}
 moved_fault : (R : Option (List Snapshot)) (w : World) (k m : ℕ) (a : Rattle.store_history.specs.declared.act.Act.Act) (x : EntryKind) → (x ≡ fault_kind → ⊥) → (moved R w k m a x).fault ≡ w.fault
 unfolding moved
 moved_fault R w k m a step_kind ne = refl
+moved_fault R w k m a pass_kind ne = refl
 moved_fault R w k m a short_kind ne = refl
+moved_fault R w k m a start_kind ne = refl
+moved_fault R w k m a close_kind ne = refl
 moved_fault R w k m a fault_kind ne = absurd (ne refl)
 moved_fault R w k m a end_kind ne = refl
+moved_fault R w k m a remote_kind ne = refl
 moved_fault R w k m a no_kind ne = refl
 
 fault_is_five : (n : ℕ) → kind_of n ≡ fault_kind → n ≡ 5
@@ -55,7 +60,7 @@ fault_is_five zero e = absurd (apart e)
     apart x = cc
 fault_is_five (suc zero) e = absurd (apart e)
   where
-    apart : no_kind ≡ fault_kind → ⊥
+    apart : pass_kind ≡ fault_kind → ⊥
     apart x = cc
 fault_is_five (suc (suc zero)) e = absurd (apart e)
   where
@@ -63,18 +68,22 @@ fault_is_five (suc (suc zero)) e = absurd (apart e)
     apart x = cc
 fault_is_five (suc (suc (suc zero))) e = absurd (apart e)
   where
-    apart : no_kind ≡ fault_kind → ⊥
+    apart : start_kind ≡ fault_kind → ⊥
     apart x = cc
 fault_is_five (suc (suc (suc (suc zero)))) e = absurd (apart e)
   where
-    apart : no_kind ≡ fault_kind → ⊥
+    apart : close_kind ≡ fault_kind → ⊥
     apart x = cc
 fault_is_five (suc (suc (suc (suc (suc zero))))) e = refl
 fault_is_five (suc (suc (suc (suc (suc (suc zero)))))) e = absurd (apart e)
   where
     apart : end_kind ≡ fault_kind → ⊥
     apart x = cc
-fault_is_five (suc (suc (suc (suc (suc (suc (suc n))))))) e = absurd (apart e)
+fault_is_five (suc (suc (suc (suc (suc (suc (suc zero))))))) e = absurd (apart e)
+  where
+    apart : remote_kind ≡ fault_kind → ⊥
+    apart x = cc
+fault_is_five (suc (suc (suc (suc (suc (suc (suc (suc n)))))))) e = absurd (apart e)
   where
     apart : no_kind ≡ fault_kind → ⊥
     apart x = cc
@@ -133,7 +142,7 @@ pub record HasBoth {D : Type 0} (d : Ghosts D) (clock : Option Readings) (start 
   pub since_is : d.honest disk → told.since ≡ (saved_book (d.content opened)).moment
   pub halted : has_kind 5 order ≡ true → not_saved ≡ None
   pub plain : (L : List Snapshot) (R : Option (List Snapshot)) → d.honest disk → Stands (d.content disk) L → NoClash (chunk_pieces (d.content disk) ++ sent told.events)
-      → IsPlain (opening_of d disk opened L) R told.since (d.calls last) (d.honest last) told.input told.events told.replies order not_saved report (d.content disk) (d.content last)
+      → IsPlain (opening_of d disk opened L) R told.since (d.calls last) (d.honest last) told.input told.events told.told order not_saved report (d.content disk) (d.content last)
   pub stops : (L : List Snapshot) (R : Option (List Snapshot)) → d.honest disk → Stands (d.content disk) L → NoClash (chunk_pieces (d.content disk) ++ sent told.events)
       → StopsLeave d start last R (opening_of d disk opened L) told.events
 
@@ -175,14 +184,15 @@ has_both d readings clock disk first core saved left left' taken taken' order ca
       let at = last_at L R honest stands in
       let stood = subst (λ o. StandsFor d readings first (began o R (readings clock))) (is_opening L at) (opens L R honest stands) in
       let minded = subst (λ o. KeepsTouches d first (began o R (readings clock))) (is_opening L at) (touches L R honest stands) in
-      subst (λ o. IsPlain o R first.last (d.calls last) (d.honest last) ran.input ran.events (text ran.told) order not_saved report (d.content disk) (d.content last)) (sym (is_opening L at))
-      (plain L R at (loaded (d.content disk) L stands) ((ran.stands_for).stands L R stood clear) ((ran.stands_for).touches L R stood minded clear)
-      (λ none q own. (ran.stands_for).foreign L R stood clear none q own ∙ foreign_cleaned _ _ (cleaned honest) q own));
+      subst (λ o. IsPlain o R first.last (d.calls last) (d.honest last) ran.input ran.events ran.told order not_saved report (d.content disk) (d.content last)) (sym (is_opening L at))
+      (plain L R at (loaded (d.content disk) L stands) ((ran.stands_for).stands L R stood minded clear) ((ran.stands_for).touches L R stood minded clear)
+      (λ none q own. (ran.stands_for).foreign L R stood minded clear none q own ∙ foreign_cleaned _ _ (cleaned honest) q own));
   stops = λ L R honest stands clear.
       let at = last_at L R honest stands in
       let stood = subst (λ o. StandsFor d readings first (began o R (readings clock))) (is_opening L at) (opens L R honest stands) in
+      let minded = subst (λ o. KeepsTouches d first (began o R (readings clock))) (is_opening L at) (touches L R honest stands) in
       let before = subst (λ o. Recovers d (recovers.opens).start first (began o R (readings clock))) (is_opening L at) (recovers.recovers L R stands) in
-      let after = (ends.history).recovers readings (recovers.opens).start (history L R) ((ran.stands_for).stands L R stood clear) ((ran.stands_for).recovers moments (recovers.opens).start L R stood before clear) in
+      let after = (ends.history).recovers readings (recovers.opens).start (history L R) ((ran.stands_for).stands L R stood minded clear) ((ran.stands_for).recovers moments (recovers.opens).start L R stood minded before clear) in
       subst (λ o. StopsLeave d (recovers.opens).start last R o ran.events) (sym (is_opening L at))
       (λ t c from image. after.each t c from (subst (λ x. d.images x t c) disk_as image));
 }
@@ -217,19 +227,29 @@ has_both d readings clock disk first core saved left left' taken taken' order ca
     later : (L : List Snapshot) (R : Option (List Snapshot)) → StandsFor d readings core (history L R) → NoDiskFault order not_saved → StandsFor d readings saved (history L R)
     later L R s unfailed = (ends.history).stands readings (λ is. unfailed.saving (saving_failed not_saved is)) (history L R) s
 
+    -- and its book is that of the history
+    minded_later : (L : List Snapshot) (R : Option (List Snapshot)) → StandsFor d readings core (history L R) → KeepsTouches d core (history L R) → NoDiskFault order not_saved
+        → KeepsTouches d saved (history L R)
+    minded_later L R s m unfailed = (ends.history).touches readings (λ is. unfailed.saving (saving_failed not_saved is)) (history L R) s m
+
     plain : (L : List Snapshot) (R : Option (List Snapshot)) → first.last ≡ (saved_book (d.content disk)).moment → load (d.content disk) ≡ L
         → StandsFor d readings core (history L R) → KeepsTouches d core (history L R)
         → (core.fault ≡ None → (q : List ℕ) → IsForeign q → get (d.content (core.parts).disk) q ≡ get (d.content disk) q)
-        → IsPlain (opening L) R first.last (d.calls last) (d.honest last) ran.input ran.events (text ran.told) order not_saved report (d.content disk) (d.content last)
+        → IsPlain (opening L) R first.last (d.calls last) (d.honest last) ran.input ran.events ran.told order not_saved report (d.content disk) (d.content last)
     plain L R at loads s m foreign =
         let h = history L R in
         let served = served_alone (opening L) R ran.events ran.input report.ending ran.told s.legal ran.lanes ran.ran in
         record {
           store = (world h).store;
-          woven = subst (λ xs. weave xs R order (ran.input ∷ []) (report.ending ∷ []) ≡ Ok (record { store = (world h).store; replies = text ran.told ∷ [] })) (sym loads)
-              (subst (λ es. weave L R es (ran.input ∷ []) (report.ending ∷ []) ≡ Ok (record { store = (world h).store; replies = text ran.told ∷ [] })) (sym order_is)
+          woven = subst (λ xs. weave xs R order (ran.input ∷ []) (report.ending ∷ []) ≡ Ok (record { store = (world h).store; replies = plain_text ran.told ∷ [] })) (sym loads)
+              (subst (λ es. weave L R es (ran.input ∷ []) (report.ending ∷ []) ≡ Ok (record { store = (world h).store; replies = plain_text ran.told ∷ [] })) (sym order_is)
               (served_woven (opening L) R ran.events (ran.input ∷ []) (report.ending ∷ []) (ran.told ∷ []) served));
           legal = s.legal;
+          collected = record {
+            is_swept = m.is_swept;
+            left = λ unfailed. subst (λ x. (n : List ℕ) → IsDigest n → IsSome (get (d.content x) (chunk_name n)) ↔ IsSome ((swept R (opening L) ran.events).touches.last n)) (sym disk_as)
+                ((minded_later L R s m unfailed).present (ap (λ x. x.fault) ends.rest ∙ s.fault ∙ calm L R unfailed.acts));
+          };
           since_is = at;
           reached = subst (λ x. (world h).calls ≤ d.calls x) (sym disk_as) (le_more (world h).calls (d.calls (core.parts).disk) (d.calls (saved.parts).disk) s.reached ends.later);
           honest = subst d.honest (sym disk_as) ((ends.serves).kept.0 s.honest);
@@ -238,8 +258,8 @@ has_both d readings clock disk first core saved left left' taken taken' order ca
           book = λ is saved_is.
               let held : OnOk (saving_of not_saved) (HoldsBook (d.content (saved.parts).disk) core.last (touches_of_history h)) = (ends.history).holds readings h (s.fault ∙ calm L R is) s m in
               let kept : HoldsBook (d.content (saved.parts).disk) core.last (touches_of_history h) = subst (λ o. OnOk (saving_of o) (HoldsBook (d.content (saved.parts).disk) core.last (touches_of_history h))) saved_is held in
-              subst (λ x. HoldsBook (d.content x) (moment_after first.last ran.events) (touches_after_all (touches_at_opening (opening L)) ran.events)) (sym disk_as)
-              (subst (λ n. HoldsBook (d.content (saved.parts).disk) n (touches_after_all (touches_at_opening (opening L)) ran.events)) r.last kept);
-          foreign = λ unfailed q own apart.
-              ap (λ x. get (d.content x) q) disk_as ∙ ends.foreign s.honest unfailed.saving q own apart ∙ foreign (s.fault ∙ calm L R unfailed.acts) q own;
+              subst (λ x. HoldsBook (d.content x) (moment_after first.last ran.events) (swept R (opening L) ran.events).touches) (sym disk_as)
+              (subst (λ n. HoldsBook (d.content (saved.parts).disk) n (swept R (opening L) ran.events).touches) r.last kept);
+          foreign = λ unfailed q own.
+              ap (λ x. get (d.content x) q) disk_as ∙ ends.foreign s.honest unfailed.saving q own ∙ foreign (s.fault ∙ calm L R unfailed.acts) q own;
         }

@@ -20,10 +20,10 @@ use Rattle.store_model.specs.Weave.{weave}
 use Rattle.store_history.specs.declared.act.Event.{Event}
 use Rattle.store_history.specs.CrashPoints.{Reopens}
 use Rattle.store_history.specs.History.{Opening, opened, after_all, entries, sent}
-use Rattle.store_history.specs.LaneRun.{text, LaneRan}
+use Rattle.store_history.specs.LaneRun.{text, plain_text, LaneRan}
 use Rattle.store_history.specs.Legal.{IsLegal, IsTimed, moment_after}
-use Rattle.store_history.specs.Saved.{HoldsBook, book_name, saved_book}
-use Rattle.store_history.specs.LastTouches.{touches_after_all, touches_at_opening}
+use Rattle.store_history.specs.Saved.{HoldsBook, saved_book}
+use Rattle.store_history.specs.Sweeping.{swept}
 use Rattle.core_state.specs.Chunks.{HoldsOnly}
 use Rattle.core_state.specs.Foreign.{IsForeign}
 use Rattle.core_state.specs.Records.{AreKept}
@@ -40,6 +40,7 @@ use Rattle.lane.specs.Ran.{Took, EndsRead}
 use Rattle.pbs_server.specs.declared.served.Served.{Served}
 use Rattle.pbs_server.specs.declared.status.Status.TheVariants as statuses
 use Rattle.pbs_server.specs.Causes.{IsOrder, SaveIsTold, NoDiskFault, HasCause}
+use Rattle.pbs_server.specs.Collections.{HasCollected}
 use Rattle.pbs_server.specs.Statuses.{status_by, status_of_opening}
 use Rattle.pbs_server.specs.Words.{reading}
 
@@ -77,23 +78,25 @@ pub record WasOpened {D : Type 0} (d : Ghosts D) (disk opened : D) : Type 0 wher
   pub cleaned : d.honest disk → Cleans (d.content disk) (d.content opened)
 
 -- The plain store of whole archives, opened with what the disk is loaded as and asked by the session's commands in the returned order, gives
--- the bytes of the replies and this last store. The answers are the plain store's. The disk is honest still, its count of calls is
--- not below the last entry's. Where it did not fail, what it holds stands for the last store's snapshots, its chunk files are of pieces that
--- were there or that the session sent, and what stood at names that are none of the store's stands there still. Where the book was saved,
--- it is of the last moment, and has the last touch of each chunk that is there.
-pub record IsPlain (opening : Opening) (remote : Option (List Snapshot)) (since now : ℕ) (is_honest : Type 0) (input : List ℕ) (events : List Event) (replies : List ℕ)
+-- the bytes of the replies, but for the numbers in the reports of collections, and this last store. The answers are the plain store's, and a
+-- collection is a sweep and reports what it did. The disk is honest still, its count of calls is not below the last entry's. Where it did not
+-- fail, what it holds stands for the last store's snapshots, its chunk files are of pieces that were there or that the session sent, and what
+-- stood at names that are none of the store's stands there still. Where the book was saved, it is of the last moment, and has the last touch
+-- of each chunk that is there.
+pub record IsPlain (opening : Opening) (remote : Option (List Snapshot)) (since now : ℕ) (is_honest : Type 0) (input : List ℕ) (events : List Event) (told : List Reply)
     (order : List Entry) (not_saved : Option DiskError) (report : LaneReport) (before files : Files) : Type 0 where
   pub store : Store
-  pub woven : weave (load before) remote order (input ∷ []) (report.ending ∷ []) ≡ Ok (record { store = store; replies = replies ∷ [] })
+  pub woven : weave (load before) remote order (input ∷ []) (report.ending ∷ []) ≡ Ok (record { store = store; replies = plain_text told ∷ [] })
   pub legal : IsLegal remote (opened opening) events
+  pub collected : HasCollected remote opening events (NoDiskFault order not_saved) files
   -- the last moment of the book that was saved before
   pub since_is : since ≡ (saved_book before).moment
   pub reached : (after_all remote (opened opening) events).calls ≤ now
   pub honest : is_honest
   pub stands : NoDiskFault order not_saved → StandsFor files store.snapshots
   pub chunks : NoDiskFault order not_saved → HoldsOnly files (chunk_pieces before ++ sent events)
-  pub book : has_kind 5 order ≡ false → not_saved ≡ None → HoldsBook files (moment_after since events) (touches_after_all (touches_at_opening opening) events)
-  pub foreign : NoDiskFault order not_saved → (q : List ℕ) → IsForeign q → q ≢ book_name → get files q ≡ get before q
+  pub book : has_kind 5 order ≡ false → not_saved ≡ None → HoldsBook files (moment_after since events) (swept remote opening events).touches
+  pub foreign : NoDiskFault order not_saved → (q : List ℕ) → IsForeign q → get files q ≡ get before q
 
 -- What a crash leaves of a moment since this one stands for the plain store's snapshots after the events that were answered by then, or after
 -- one more: of a moment without a fault before it, a front of the events with each that was answered.
@@ -114,7 +117,7 @@ pub record HasServed {D E S K : Type 0} (d : Ghosts D) (left : S → Option (Lis
   -- on an honest disk that stands for any list of snapshots, whatever the remote has, where no two unequal pieces have one digest of those in
   -- the chunk files at opening and those that the session sent
   pub plain : (L : List Snapshot) (R : Option (List Snapshot)) → d.honest disk → StandsFor (d.content disk) L → NoClash (chunk_pieces (d.content disk) ++ sent told.events)
-      → IsPlain (opening_of d disk opened L) R told.since (d.calls result.disk) (d.honest result.disk) told.input told.events told.replies
+      → IsPlain (opening_of d disk opened L) R told.since (d.calls result.disk) (d.honest result.disk) told.input told.events told.told
       (result.order).items (result.report).not_saved report (d.content disk) (d.content result.disk)
   -- under the same premises, what a crash leaves from that moment of opening on, also as the book was saved
   pub stops : (L : List Snapshot) (R : Option (List Snapshot)) → d.honest disk → StandsFor (d.content disk) L → NoClash (chunk_pieces (d.content disk) ++ sent told.events)

@@ -5,7 +5,6 @@ use Rattle.disk_trait.specs.declared.disk.DiskError.TheVariants.{Failed}
 use Rattle.disk_trait.specs.Disk.{Serves}
 use Rattle.std.specs.Prelude.{◌≡◌, ◌≢◌, ◌≤◌, ℕ, List, Option, None, Some, Result, Ok, Err, IfSome, OnOk}
 use Rattle.std.specs.FinMap.{get}
-use Rattle.store_history.specs.Saved.{book_name}
 use Rattle.core_state.specs.declared.state.Core.{Core}
 use Rattle.core_state.specs.Foreign.{IsForeign}
 use Rattle.core_state.specs.Saving.{HasSaved, KeepsRest, LeavesBook, SavesBook}
@@ -25,6 +24,6 @@ pub record EndsSaved {D E C : Type 0} (d : Ghosts D) (old new : Core D E C) (not
   -- the book was installed: a crash leaves the one that was there before, or this one
   pub crash : LeavesBook d old new
   pub saved : old.fault ≡ None → OnOk (saving_of not_saved) (HasSaved d old new)
-  pub foreign : d.honest (old.parts).disk → not_saved ≢ Some Failed → (q : List ℕ) → IsForeign q → q ≢ book_name
+  pub foreign : d.honest (old.parts).disk → not_saved ≢ Some Failed → (q : List ℕ) → IsForeign q
       → get (d.content (new.parts).disk) q ≡ get (d.content (old.parts).disk) q
   pub history : SavesBook d old new (saving_of not_saved)

@@ -105,7 +105,9 @@ fn jobs_are_done(rt: HostRuntime) -> Result<(), Fail> {
     same(
         &rt,
         told(&woven),
-        Some(b"\x29\0\0\0\0\0\0\0\0\0\0\0\0\0\0\0\0\0\0\0\0\0\0\0\0\0\0\0\0\0\0\0\0\0\0\0\0\0\0\0\0\0\0\0\0\x01\0\0\0\0".as_slice()),
+        Some(
+            b"\x29\0\0\0\0\0\0\0\0\0\0\0\0\0\0\0\0\0\0\0\0\0\0\0\0\0\0\0\0\0\0\0\0\0\0\0\0\0\0\0\0\0\0\0\0\x01\0\0\0\0".as_slice(),
+        ),
     );
     let woven = verified(alloc, &store)?.ok().ok_or("a misfit")?;
     same(

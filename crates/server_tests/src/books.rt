@@ -15,19 +15,19 @@ use std::test::Fail;
 use store_types::{Digest32, Entry};
 
 /// What is sent, and what is replied to it.
-type Steps = &'static [(&'static [u8], &'static [u8])];
+pub type Steps = &'static [(&'static [u8], &'static [u8])];
 
 /// Files by name and content.
-type Contents = &'static [(&'static str, &'static [u8])];
+pub type Contents = &'static [(&'static str, &'static [u8])];
 
 /// A session, and the folder's book behind it.
 #[derive(Clone, Copy)]
-struct Run {
+pub struct Run {
     /// What the clock reads at each act. Behind them it reads 0.
-    clock: &'static [u64],
-    steps: Steps,
-    status: Status,
-    book: &'static [u8],
+    pub clock: &'static [u64],
+    pub steps: Steps,
+    pub status: Status,
+    pub book: &'static [u8],
 }
 
 /// What stands in a folder, and the runs on it, one after another.
@@ -37,15 +37,15 @@ struct Folder {
     runs: &'static [Run],
 }
 
-const BOOK: &str = ".chunks/book";
+pub const BOOK: &str = ".chunks/book";
 
-const ABC_FILE: &str =
+pub const ABC_FILE: &str =
     ".chunks/ba78/ba7816bf8f01cfea414140de5dae2223b00361a396177a9cb410ff61f20015ad";
 
-const DE_FILE: &str =
+pub const DE_FILE: &str =
     ".chunks/959a/959a45d44e6fcf58361ed004681556fe50129f2109e817dec098c00c9e5d2578";
 
-const XYZ_FILE: &str =
+pub const XYZ_FILE: &str =
     ".chunks/3608/3608bca1e44ea6c4d268eb6db02260269892c0b42b86bbf1e77a6fa16c3c9282";
 
 /// The digests of `abc` and `de`.
@@ -59,7 +59,7 @@ const DE: Digest32 = Digest32([
     0x50, 0x12, 0x9f, 0x21, 0x09, 0xe8, 0x17, 0xde, 0xc0, 0x98, 0xc0, 0x0c, 0x9e, 0x5d, 0x25, 0x78,
 ]);
 
-const ABC_CHUNK: &[u8] = b"B\xab8\x07\xbe\x83p\xa1\xc2A$5abc";
+pub const ABC_CHUNK: &[u8] = b"B\xab8\x07\xbe\x83p\xa1\xc2A$5abc";
 
 const DE_CHUNK: &[u8] = b"B\xab8\x07\xbe\x83p\xa1\x8b)\x90}de";
 
@@ -82,7 +82,7 @@ const SENT_AGAIN: Steps = &[(OPEN, NO_BASE), (SEND_ABC, DONE)];
 const BROKEN: Steps = &[(b"\x01\0\0\0c", b"\x09\0\0\0\x01\0\0\0\0\0\0\0\0")];
 
 /// A backup names the pieces that it sent.
-const BACKED_UP: Steps = &[
+pub const BACKED_UP: Steps = &[
     (OPEN, NO_BASE),
     (NEW, FIRST),
     (SEND_ABC, DONE),
@@ -94,7 +94,7 @@ const BACKED_UP: Steps = &[
 ];
 
 /// PREVIOUS of its archive from the index's end on, and APPEND of `abc` to index 0.
-const TAKE_OVER: &[u8] = b"\x13\0\0\0\x0b\x09root.didxP\x10\0\0\0\0\0\0";
+pub const TAKE_OVER: &[u8] = b"\x13\0\0\0\x0b\x09root.didxP\x10\0\0\0\0\0\0";
 
 const APPEND_ABC: &[u8] =
     b",\0\0\0\x0f\0\x01\0\xbax\x16\xbf\x8f\x01\xcf\xeaAA@\xde]\xae\"#\xb0\x03a\xa3\x96\x17z\x9c\xb4\x10\xffa\xf2\0\x15\xad\0\0\0\0\0\0\0\0";
@@ -305,7 +305,7 @@ static FOLDERS: [Folder; 7] = [
 ];
 
 /// A disk with these files.
-fn disk_of(alloc: Global, files: &[(&str, &[u8])]) -> Result<MemoryDisk, DiskError> {
+pub fn disk_of(alloc: Global, files: &[(&str, &[u8])]) -> Result<MemoryDisk, DiskError> {
     let mut disk = MemoryDisk::new(alloc);
     for (name, bytes) in files {
         if name.len() <= 255 {
@@ -316,7 +316,7 @@ fn disk_of(alloc: Global, files: &[(&str, &[u8])]) -> Result<MemoryDisk, DiskErr
 }
 
 /// The port of a session of these steps.
-fn port_of(
+pub fn port_of(
     alloc: Global,
     steps: &[(&[u8], &[u8])],
 ) -> Result<Port<MemSource, MemSink>, AllocError> {
@@ -330,7 +330,7 @@ fn port_of(
     })
 }
 
-fn told_of(alloc: Global, steps: &[(&[u8], &[u8])]) -> Result<Vec<u8>, AllocError> {
+pub fn told_of(alloc: Global, steps: &[(&[u8], &[u8])]) -> Result<Vec<u8>, AllocError> {
     let mut told = Vec::new(alloc);
     for (_, reply) in steps {
         told.extend_from_slice(reply)?;
@@ -343,7 +343,7 @@ fn clock_of(alloc: Global, readings: &[u64]) -> Result<SetClock, AllocError> {
 }
 
 /// Serves the session of a port by a clock with these readings.
-fn serve_on<D: Disk + Drop>(
+pub fn serve_on<D: Disk + Drop>(
     alloc: Global,
     ports: &mut [Port<MemSource, MemSink>],
     disk: D,
@@ -368,7 +368,7 @@ fn serve_on<D: Disk + Drop>(
 }
 
 /// Serves a run's session, whose replies are those of its steps.
-fn told_on<D: Disk + Drop>(
+pub fn told_on<D: Disk + Drop>(
     rt: &impl Abort,
     alloc: Global,
     disk: D,
@@ -381,7 +381,7 @@ fn told_on<D: Disk + Drop>(
     Ok(served)
 }
 
-fn assert_book(
+pub fn assert_book(
     rt: &impl Abort,
     alloc: Global,
     disk: &mut MemoryDisk,
@@ -491,7 +491,7 @@ fn try_save(
 }
 
 /// The first run's disk, as one of its own.
-fn copy_of(alloc: Global, disk: &MemoryDisk) -> Result<MemoryDisk, AllocError> {
+pub fn copy_of(alloc: Global, disk: &MemoryDisk) -> Result<MemoryDisk, AllocError> {
     disk.crashed(alloc, 1)
 }
 
@@ -512,7 +512,7 @@ fn a_save_fails(rt: HostRuntime) -> Result<(), Fail> {
 /// A saved book and its chunk; another chunk is sent, and the first again.
 const BEFORE: Contents = &[(ABC_FILE, ABC_CHUNK), (BOOK, KEPT)];
 
-const KEPT: &[u8] =
+pub const KEPT: &[u8] =
     b"PBSBOOK1\x0a\0\0\0\0\0\0\0\x01\0\0\0\0\0\0\0\xbax\x16\xbf\x8f\x01\xcf\xeaAA@\xde]\xae\"#\xb0\x03a\xa3\x96\x17z\x9c\xb4\x10\xffa\xf2\0\x15\xad\x05\0\0\0\0\0\0\06\xe8\xda'\x04\x05\xad\xa9\xa3\xfb\x96P\xf9\xaayIe\xd8\x17!\xcd\xce\xc2t%?kn7`D[";
 
 const SENT_BOTH: Steps = &[(OPEN, NO_BASE), (SEND_ABC, DONE), (SEND_DE, DONE)];

@@ -23,6 +23,8 @@ const WRONG_STATE: &[u8] = b"\x02\x00\x00\x00\x03\x00";
 
 const BYE: &[u8] = b"\x01\x00\x00\x00\x3f";
 
+const GC: &[u8] = b"\x01\x00\x00\x00\x24";
+
 const DONE: &[u8] = b"\x01\x00\x00\x00\x00";
 
 /// OPEN_WRITER of `host/a/2020-01-15T06:30:03Z`.
@@ -293,10 +295,11 @@ fn gate_calls(alloc: Global, parts: &[&[u8]]) -> Result<(u64, u64, u64), Fail> {
     Ok((gate.before.get(), gate.after.get(), gate.out_of_turn.get()))
 }
 
-/// Each command has its two calls, a job as one command; BYE has none, and neither has what is no command.
-static GATED: [(Parts, u64); 4] = [
+/// Each command has its two calls, a job or a collection as one command; BYE has none, and neither has what is no command.
+static GATED: [(Parts, u64); 5] = [
     (&[], 0),
     (&[BYE], 0),
+    (&[GC, FINISH], 2),
     (&[FINISH, UNKNOWN], 1),
     (
         &[

@@ -1,5 +1,6 @@
 mod archives;
 mod beside;
+mod collections;
 mod damaged;
 mod disk_faults;
 mod fixed;
@@ -490,11 +491,7 @@ static LARGE: [(&[u8], usize, &[u8]); 2] = [
     ),
 ];
 
-fn try_large(
-    rt: &impl Abort,
-    alloc: Global,
-    row: &(&[u8], usize, &[u8]),
-) -> Result<(), Fail> {
+fn try_large(rt: &impl Abort, alloc: Global, row: &(&[u8], usize, &[u8])) -> Result<(), Fail> {
     let (front, zeros, replies) = row;
     try_zeros(rt, alloc, front, *zeros, replies)
 }

@@ -1,4 +1,5 @@
 -- What each kind of act answers by what the core keeps is what any act does.
+use Rattle.disk_trait.specs.declared.disk.Disk.{Ghosts}
 use Rattle.std.proofs.Common.{◌≡◌, ℕ, true, false}
 use Rattle.wire_commands.specs.declared.command.Command.TheVariants.{OpenWriter, Previous, NewFixed, NewDynamic, Append, CloseIndex, Finish, Abort, OpenReader, Download, GetChunk, Range, CloseReader, List as ListAll, Files as FilesOf, Forget, Prune, Group}
 use Rattle.store_history.specs.declared.act.Act.{Act}
@@ -21,44 +22,44 @@ never e = absurd (apart e)
     apart : false ≡ true → ⊥
     apart e = cc
 
-pub readers_answer : {D E C : Type 0} (old new : Core D E C) (lane : ℕ) (act : Act) (answer : Answer) → IsReaders act → readers.CoreAnswersBy old lane act answer → CoreAnswersBy old new lane act answer
-readers_answer old new lane (Plain (OpenReader snapshot)) answer is tells = tells
-readers_answer old new lane (Plain (Download file offset)) answer is tells = λ so. never so
-readers_answer old new lane (Plain (GetChunk digest)) answer is tells = λ so. never so
-readers_answer old new lane (Plain (Range file offset len)) answer is tells = λ so. never so
-readers_answer old new lane (Plain CloseReader) answer is tells = λ so. never so
-readers_answer old new lane act answer is tells = absurd is
+pub readers_answer : {D E C : Type 0} (d : Ghosts D) (old new : Core D E C) (lane : ℕ) (act : Act) (answer : Answer) → IsReaders act → readers.CoreAnswersBy old lane act answer → CoreAnswersBy d old new lane act answer
+readers_answer d old new lane (Plain (OpenReader snapshot)) answer is tells = tells
+readers_answer d old new lane (Plain (Download file offset)) answer is tells = λ so. never so
+readers_answer d old new lane (Plain (GetChunk digest)) answer is tells = λ so. never so
+readers_answer d old new lane (Plain (Range file offset len)) answer is tells = λ so. never so
+readers_answer d old new lane (Plain CloseReader) answer is tells = λ so. never so
+readers_answer d old new lane act answer is tells = absurd is
 
-pub writers_answer : {D E C : Type 0} (old new : Core D E C) (lane : ℕ) (act : Act) (answer : Answer) → IsWriters act → writers.CoreAnswersBy old lane act answer → CoreAnswersBy old new lane act answer
-writers_answer old new lane (Plain (OpenWriter snapshot)) answer is tells = tells
-writers_answer old new lane (Plain (Previous file offset)) answer is tells = λ so. never so
-writers_answer old new lane (Plain (NewFixed file size chunk_size)) answer is tells = λ so. never so
-writers_answer old new lane (Plain (NewDynamic file)) answer is tells = λ so. never so
-writers_answer old new lane (Plain (Append number entries)) answer is tells = λ so. never so
-writers_answer old new lane (Plain (CloseIndex number count size csum)) answer is tells = λ so. never so
-writers_answer old new lane (Plain Finish) answer is tells = λ so. never so
-writers_answer old new lane (Plain Abort) answer is tells = λ so. never so
-writers_answer old new lane (Blob name checked) answer is tells = λ so. never so
-writers_answer old new lane (Chunk digest checked) answer is tells = λ so. never so
-writers_answer old new lane act answer is tells = absurd is
+pub writers_answer : {D E C : Type 0} (d : Ghosts D) (old new : Core D E C) (lane : ℕ) (act : Act) (answer : Answer) → IsWriters act → writers.CoreAnswersBy old lane act answer → CoreAnswersBy d old new lane act answer
+writers_answer d old new lane (Plain (OpenWriter snapshot)) answer is tells = tells
+writers_answer d old new lane (Plain (Previous file offset)) answer is tells = λ so. never so
+writers_answer d old new lane (Plain (NewFixed file size chunk_size)) answer is tells = λ so. never so
+writers_answer d old new lane (Plain (NewDynamic file)) answer is tells = λ so. never so
+writers_answer d old new lane (Plain (Append number entries)) answer is tells = λ so. never so
+writers_answer d old new lane (Plain (CloseIndex number count size csum)) answer is tells = λ so. never so
+writers_answer d old new lane (Plain Finish) answer is tells = λ so. never so
+writers_answer d old new lane (Plain Abort) answer is tells = λ so. never so
+writers_answer d old new lane (Blob name checked) answer is tells = λ so. never so
+writers_answer d old new lane (Chunk digest checked) answer is tells = λ so. never so
+writers_answer d old new lane act answer is tells = absurd is
 
-pub admins_answer : {D E C : Type 0} (old new : Core D E C) (lane : ℕ) (act : Act) (answer : Answer) → IsAdmins act → admins.CoreAnswersBy old lane act answer → CoreAnswersBy old new lane act answer
-admins_answer old new lane (Plain (ListAll rest)) answer is tells = λ so. tells
-admins_answer old new lane (Plain (FilesOf snapshot)) answer is tells = λ so. tells
-admins_answer old new lane (Plain (Forget snapshot)) answer is tells = λ so. tells
-admins_answer old new lane (Plain (Group group)) answer is tells = λ so. tells
-admins_answer old new lane (JobGroup (Prune group keep dry)) answer is tells = λ so. tells
-admins_answer old new lane act answer is tells = absurd is
+pub admins_answer : {D E C : Type 0} (d : Ghosts D) (old new : Core D E C) (lane : ℕ) (act : Act) (answer : Answer) → IsAdmins act → admins.CoreAnswersBy old lane act answer → CoreAnswersBy d old new lane act answer
+admins_answer d old new lane (Plain (ListAll rest)) answer is tells = λ so. tells
+admins_answer d old new lane (Plain (FilesOf snapshot)) answer is tells = λ so. tells
+admins_answer d old new lane (Plain (Forget snapshot)) answer is tells = λ so. tells
+admins_answer d old new lane (Plain (Group group)) answer is tells = λ so. tells
+admins_answer d old new lane (JobGroup (Prune group keep dry)) answer is tells = λ so. tells
+admins_answer d old new lane act answer is tells = absurd is
 
 -- want of memory that was met outside the core, and a lane's end
-pub short_answers : {D E C : Type 0} (old new : Core D E C) (lane : ℕ) (answer : Answer) → CoreAnswersBy old new lane Short answer
-short_answers old new lane answer = λ so. never so
+pub short_answers : {D E C : Type 0} (d : Ghosts D) (old new : Core D E C) (lane : ℕ) (answer : Answer) → CoreAnswersBy d old new lane Short answer
+short_answers d old new lane answer = λ so. never so
 
-pub end_answers : {D E C : Type 0} (old new : Core D E C) (lane : ℕ) (answer : Answer) → CoreAnswersBy old new lane End answer
-end_answers old new lane answer = λ so. never so
+pub end_answers : {D E C : Type 0} (d : Ghosts D) (old new : Core D E C) (lane : ℕ) (answer : Answer) → CoreAnswersBy d old new lane End answer
+end_answers d old new lane answer = λ so. never so
 
 -- and the acts of a collector
-pub collectors_answer : {D E C : Type 0} (old new : Core D E C) (lane : ℕ) (act : Act) (answer : Answer) → IsCollectors act → collectors.CoreAnswersBy old new lane act answer → CoreAnswersBy old new lane act answer
-collectors_answer old new lane Start answer is tells = tells
-collectors_answer old new lane Step answer is tells = tells
-collectors_answer old new lane act answer is tells = absurd is
+pub collectors_answer : {D E C : Type 0} (d : Ghosts D) (old new : Core D E C) (lane : ℕ) (act : Act) (answer : Answer) → IsCollectors act → collectors.CoreAnswersBy d old new lane act answer → CoreAnswersBy d old new lane act answer
+collectors_answer d old new lane Start answer is tells = tells
+collectors_answer d old new lane Step answer is tells = tells
+collectors_answer d old new lane act answer is tells = absurd is

@@ -78,9 +78,9 @@ pub fn apply<D: Disk, E, C: Clock>(
     ensures keeps { ActKeeps D.Disk core.old core.new lane act result }
     ensures unreadable { CoreUnreadable D.Disk (asked act lane core.old.collector) core.old lane result }
     ensures damaged { CoreDamaged D.Disk core.old lane act result }
-    // on any disk OPEN_WRITER, OPEN_READER and the tests of a command on the store as a whole answer what the core keeps; of
-    // FILES, whether there is such a snapshot; so do a collector's start, and its acts where none is open on the lane
-    ensures by_kept { CoreAnswersBy core.old core.new lane act result }
+    // on any disk OPEN_WRITER, OPEN_READER, the tests of a command on the store as a whole, and a collector's acts answer what
+    // the core keeps; of FILES, whether there is such a snapshot
+    ensures by_kept { CoreAnswersBy D.Disk core.old core.new lane act result }
     ensures short { act ≡ Act.Short → result.entry.kind ≡ 2 }
 {
     if is_readers(&act) {

@@ -1,7 +1,7 @@
 mod Texts
 mod PartLemmas
 mod Entries
-mod Indexed
+pub mod Indexed
 pub mod Archives
 pub mod PathLengths
 pub mod Placing

@@ -102,4 +102,4 @@ pub chunks_digests : (R : Option (List Snapshot)) (o : Opening) (es : List Event
 chunks_digests R o es legal =
     let s = swept R o es in
     λ i d lt. digests_all R (opened o) (swept_at o) es legal (opened_digests o) (get_or (chunks s) i d)
-        (filter_in (is_there s.touches) s.known (get_or (chunks s) i d) (in_at (chunks s) i d lt)).0
+    (filter_in (is_there s.touches) s.known (get_or (chunks s) i d) (in_at (chunks s) i d lt)).0

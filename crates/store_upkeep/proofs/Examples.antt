@@ -3,9 +3,10 @@ use Rattle.std.specs.Prelude.{◌≡◌, ℕ, List, [], ◌∷◌, ◌++◌, rep
 use Rattle.store_types.specs.declared.names.SnapshotKey.{SnapshotKey}
 use Rattle.store_types.specs.declared.names.Kind.TheVariants.{Host}
 use Rattle.store_types.proofs.OnLiterals.{store_types_on_literals}
-use Rattle.wire_commands.specs.declared.command.Command.TheVariants.{Forget}
+use Rattle.wire_commands.specs.declared.command.Command.{Command}
+use Rattle.wire_commands.specs.declared.command.Command.TheVariants.{OpenWriter, Finish, Forget}
 use Rattle.wire_commands.specs.declared.reply.Reply.{Reply}
-use Rattle.wire_commands.specs.declared.reply.Reply.TheVariants.{Done, Collected}
+use Rattle.wire_commands.specs.declared.reply.Reply.TheVariants.{Base, Done, Collected}
 use Rattle.store_model.specs.Store.{Session, none, writer, store_of}
 use Rattle.store_model.specs.WriterSteps.{new_writer}
 use Rattle.atime_book.specs.Touches.{cutoff_of, last_in}
@@ -153,17 +154,26 @@ second_mark = refl
 no_entry : unmarked_of key (97 ∷ []) [] ≡ []
 no_entry = refl
 
--- one that is forgotten is passed over
-abbrev forgotten : Event
-forgotten = record {
-  act = acts.Plain (Forget (codes "host/a/1970-01-01T00:00:00Z"));
-  answer = record { reply = Some Done; entry = record { lane = 1; moment = 30; kind = 0 }; place = 9; last = false };
-  calls = 3;
-}
+-- a command of another lane, done
+abbrev done : Command → Reply → ℕ → Event
+done c r place = record { act = acts.Plain c; answer = record { reply = Some r; entry = record { lane = 1; moment = 30; kind = 0 }; place = place; last = false }; calls = 3 }
 
-passed_over : (swept_after None w s forgotten).sweep ≡ Some (sweep [] None 0)
+abbrev snapshot : List ℕ
+snapshot = codes "host/a/1970-01-01T00:00:00Z"
+
+-- one that is forgotten is passed over, also where its snapshot is made again
+passed_over : (swept_after None w s (done (Forget snapshot) Done 9)).sweep ≡ Some (sweep [] None 0)
 unfolding on_sweeps store_types_on_literals
 passed_over = refl
+
+made_again : (swept_all None w s (done (Forget snapshot) Done 9 ∷ done Finish Done 10 ∷ [])).sweep ≡ Some (sweep [] None 0)
+unfolding on_sweeps store_types_on_literals
+made_again = refl
+
+-- a writer that begins later leaves the cutoff
+later_writer : (swept_after None w s (done (OpenWriter snapshot) (Base []) 9)).sweep ≡ s.sweep
+unfolding on_sweeps
+later_writer = refl
 
 -- where no chunk is there the listing ends the sweep
 no_chunk : (swept_after None w (record s { known = []; sweep = Some (sweep [] None 0) }) (pass 9)).sweep ≡ Some (sweep [] (Some []) 0)

@@ -7,20 +7,21 @@ use Rattle.store_files.specs.Archive.{Snapshot}
 use Rattle.wire_commands.specs.declared.reply.Reply.{Reply}
 use Rattle.wire_commands.specs.declared.reply.Reply.TheVariants.{Refused}
 use Rattle.store_model.specs.Lanes.{Collecting}
+use Rattle.atime_book.specs.Touches.{cutoff_of}
 use Rattle.store_history.specs.declared.act.Act.{Act}
 use Rattle.store_history.specs.declared.act.Act.TheVariants as acts
 use Rattle.store_history.specs.declared.act.Event.{Event}
 use Rattle.store_history.specs.Acts.{Class, starting, sweeping, class_of}
 use Rattle.store_history.specs.History.{World, Opening, opened, moved, after, after_all, lane, moment, kind, reply, EntryKind, kind_of, pass_kind, short_kind, start_kind, close_kind, fault_kind, end_kind, open_on, new_collecting, cut_on, closed_on, halted_on}
 use Rattle.store_history.specs.Legal.{Right, Reports, IsRight, IsLegal, collecting_on}
-use Rattle.store_history.specs.Sweeping.{Sweep, Swept, swept_at, passed, spared, is_over, swept_by, while_open, swept_after, swept_all, world, swept, report_of, IsSwept}
+use Rattle.store_history.specs.Sweeping.{Sweep, Swept, swept_at, oldest_in, passed, spared, is_over, swept_by, while_open, swept_after, swept_all, world, swept, report_of, IsSwept}
 use Rattle.store_history.proofs.Collectors.{may_open_none}
 use Rattle.store_history.proofs.Longer.{after_all_append}
 use Rattle.store_upkeep.specs.Laws.{StaysOpen, IsWhole, ReportsWhole}
 use Rattle.store_upkeep.proofs.Members.{none_some}
 use Rattle.store_upkeep.proofs.Marking.{open_same}
 use Rattle.store_upkeep.proofs.Reporting.{ends_reported}
-use Rattle.store_upkeep.proofs.Whole.{stays_some, legal_parts, opens, sweeps_leave}
+use Rattle.store_upkeep.proofs.Whole.{stays_some, legal_parts, opens, whole_numbers, sweeps_leave}
 
 -- ---- the event that opens a sweep
 
@@ -154,12 +155,12 @@ halted_lane n j k c on some = on
 moved_lane : (R : Option (List Snapshot)) (w : World) (j m : ℕ) (a : Act) (n : EntryKind) (k : ℕ) → OnLane k w.collecting → (n ≡ start_kind → ⊥)
     → IsSome (moved R w j m a n).collecting → OnLane k (moved R w j m a n).collecting
 unfolding moved
-moved_lane R w j m a short_kind k on no some = cut_lane j k w.collecting on
-moved_lane R w j m a start_kind k on no some = absurd (no refl)
-moved_lane R w j m a close_kind k on no some = absurd (false≢true some)
-moved_lane R w j m a fault_kind k on no some = halted_lane (class_of a) j k w.collecting on some
-moved_lane R w j m a end_kind k on no some = closed_lane j k w.collecting on some
-moved_lane R w j m a n k on no some = on
+moved_lane R w j m a short_kind k on off some = cut_lane j k w.collecting on
+moved_lane R w j m a start_kind k on off some = absurd (off refl)
+moved_lane R w j m a close_kind k on off some = absurd (false≢true some)
+moved_lane R w j m a fault_kind k on off some = halted_lane (class_of a) j k w.collecting on some
+moved_lane R w j m a end_kind k on off some = closed_lane j k w.collecting on some
+moved_lane R w j m a n k on off some = on
 
 -- while one is open none starts
 not_opened : (R : Option (List Snapshot)) (w : World) (j m k : ℕ) (a : Act) (r : Option Reply) (c : Class) → OnLane k w.collecting → Right R w j m a r c start_kind → ⊥
@@ -180,7 +181,7 @@ unfolding after
 after_lane R w s v k right on some =
     moved_lane R w (lane v) (moment v) v.act (kind_of (kind v)) k on
     (λ is. not_opened R w (lane v) (moment v) k v.act (reply v) (class_of v.act) on
-        (subst (λ n. Right R w (lane v) (moment v) v.act (reply v) (class_of v.act) n) is right.says))
+    (subst (λ n. Right R w (lane v) (moment v) v.act (reply v) (class_of v.act) n) is right.says))
     (open_some R w s v some)
 
 lanes_stay : (R : Option (List Snapshot)) (es : List Event) (w : World) (s : Swept) (k : ℕ) → IsLegal R w es → OnLane k w.collecting → StaysOpen R w s es
@@ -260,6 +261,9 @@ module _ (R : Option (List Snapshot)) (o : Opening) (es : List Event) (e : Event
       (sym (ap (λ xs. after_all R (opened o) xs) f.parts ∙ after_all_append R (opened o) f.before (f.start ∷ f.since)))
       (start_on R (world R o f.before) (swept R o f.before) f.start f.since (legal_parts R (opened o) f.before (f.start ∷ f.since) legal_since).1 f.act f.kind_is f.stays)
 
+  numbers : ((x.sweep).start ≡ moment f.start) × ((x.sweep).cutoff ≡ cutoff_of (moment f.start) (oldest_in ((world R o f.before).store).sessions))
+  numbers = whole_numbers R (world R o f.before) (swept R o f.before) f.start f.since x.sweep (legal_parts R (opened o) f.before (f.start ∷ f.since) legal_since).1 whole
+
   reports_whole : ReportsWhole R o es e
   reports_whole = record {
     before = f.before;
@@ -269,7 +273,9 @@ module _ (R : Option (List Snapshot)) (o : Opening) (es : List Event) (e : Event
     parts = f.parts;
     own = one_lane (lane f.start) (lane e) (after_all R (opened o) es).collecting on (ends_on R (after_all R (opened o) es) e right is);
     whole = whole;
-    leaves = λ stocked. sweeps_leave R o f.before f.start f.since legal_since stocked whole;
+    started = numbers.0;
+    cutoff = numbers.1;
+    leaves = λ stocked. sweeps_leave R o f.before f.start f.since x.sweep legal_since stocked whole;
     reported = x.told;
   }
 

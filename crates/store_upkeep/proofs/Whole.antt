@@ -11,7 +11,7 @@ use Rattle.wire_commands.specs.declared.reply.Reply.TheVariants.{Done}
 use Rattle.store_model.specs.Store.{session, want_idle}
 use Rattle.store_model.specs.Lanes.{Collecting}
 use Rattle.store_model.specs.Weave.{want_collector}
-use Rattle.atime_book.specs.Touches.{is_stale}
+use Rattle.atime_book.specs.Touches.{cutoff_of, is_stale}
 use Rattle.store_history.specs.declared.act.Act.{Act}
 use Rattle.store_history.specs.declared.act.Act.TheVariants as acts
 use Rattle.store_history.specs.declared.act.Event.{Event}
@@ -19,7 +19,7 @@ use Rattle.store_history.specs.Acts.{Class, starting, sweeping, class_of}
 use Rattle.store_history.specs.History.{World, Opening, opened, moved, after, after_all, lane, moment, kind, reply, EntryKind, kind_of, pass_kind, start_kind, new_collecting}
 use Rattle.store_history.specs.Legal.{may_open, Right, IsRight, IsLegal}
 use Rattle.store_history.specs.LastTouches.{LastTouches, is_one_of}
-use Rattle.store_history.specs.Sweeping.{Unmarked, Sweep, Swept, swept_at, is_there, chunks, new_sweep, left_of, first_taken, behind_first, next_taken, one_more, passed, is_done, is_over, is_pass, sweep_of, passing, marks_in, taken_in, taken_by, touched_after, without, spared, swept_by, while_open, swept_after, swept_all}
+use Rattle.store_history.specs.Sweeping.{Unmarked, Sweep, Swept, swept_at, is_there, chunks, oldest_in, new_sweep, left_of, first_taken, behind_first, next_taken, one_more, passed, is_done, is_over, is_pass, sweep_of, passing, marks_in, taken_in, taken_by, touched_after, without, spared, swept_by, while_open, swept_after, swept_all}
 use Rattle.store_upkeep.specs.Safety.{In, IsFresh, IsThere, IsStocked, OpensStocked, IsSafe}
 use Rattle.store_upkeep.specs.Laws.{StaysOpen, touched_all, taken_all, sent_in, IsWhole, LeavesRight}
 use Rattle.store_upkeep.proofs.Members.{some_same, none_some, in_filter, is_one_in}
@@ -374,6 +374,28 @@ leaves R w s start since sweep legal safe stocked known listed_of whole =
             (touched_all R (after R w start) (swept_after R w s start) (touched_after s start s.touches) since) sweep ran.sweeps whole.over d when,
       );
     }
+
+-- ---- its start and its cutoff
+
+numbers_stay : (R : Option (List Snapshot)) (es : List Event) (w : World) (s : Swept) (a b : Sweep) → IsLegal R w es → Agrees w s → s.sweep ≡ Some a → StaysOpen R w s es
+    → (swept_all R w s es).sweep ≡ Some b → (b.start ≡ a.start) × (b.cutoff ≡ a.cutoff)
+unfolding swept_all
+numbers_stay R [] w s a b legal agrees is stays end =
+    let one = some_same b a (sym end ∙ is) in (ap (λ (x : Sweep). x.start) one, ap (λ (x : Sweep). x.cutoff) one)
+numbers_stay R (v ∷ es) w s a b legal agrees is stays end =
+    let c = some_of (swept_after R w s v).sweep (stays_some R (after R w v) (swept_after R w s v) es stays.1) in
+    let numbers = went_same s v a c.0 (is_pass (class_of v.act) (kind_of (kind v))) is (went R w s v a c.0 legal.0 agrees is c.1) in
+    let rest = numbers_stay R es (after R w v) (swept_after R w s v) c.0 b legal.1 (agrees_after R w s v) c.1 stays.1 end in
+    (rest.0 ∙ numbers.start, rest.1 ∙ numbers.cutoff)
+
+pub whole_numbers : (R : Option (List Snapshot)) (w : World) (s : Swept) (start : Event) (since : List Event) (sweep : Sweep) → IsLegal R w (start ∷ since) → IsWhole R w s start since sweep
+    → (sweep.start ≡ moment start) × (sweep.cutoff ≡ cutoff_of (moment start) (oldest_in (w.store).sessions))
+unfolding swept_all
+whole_numbers R w s start since sweep legal whole =
+    numbers_stay R since (after R w start) (swept_after R w s start) (new_sweep w.store (moment start)) sweep legal.1 (agrees_after R w s start)
+    (new_is R w s start whole.act whole.kind_is) whole.stays whole.sweep_is
+
+-- ---- in a legal history
 
 pub sweeps_leave : (R : Option (List Snapshot)) (o : Opening) (before : List Event) (start : Event) (since : List Event) (sweep : Sweep)
     → IsLegal R (opened o) (before ++ start ∷ since) → OpensStocked o

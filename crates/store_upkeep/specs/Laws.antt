@@ -129,6 +129,8 @@ pub record ReportsWhole (remote : Option (List Snapshot)) (o : Opening) (es : Li
   pub parts : es ≡ before ++ start ∷ since
   pub own : lane start ≡ lane e
   pub whole : IsWhole remote (world remote o before) (swept remote o before) start since sweep
+  pub started : sweep.start ≡ moment start
+  pub cutoff : sweep.cutoff ≡ cutoff_of (moment start) (oldest_in ((world remote o before).store).sessions)
   pub leaves : OpensStocked o → LeavesRight remote (world remote o before) (swept remote o before) start since sweep
   pub reported : reply e ≡ Some (report_of (swept remote o es) sweep)
 

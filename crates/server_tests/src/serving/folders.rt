@@ -135,7 +135,7 @@ const PLAIN: &[u8] =
 /// The snapshot is damaged: it is told so, it is no base, its second counts, and it can be forgotten.
 const ONE_DAMAGED: &[u8] = b"!\0\0\0\0\x01\0\x1bhost/a/2020-01-15T06:30:03Z\x01\0";
 
-const NO_MANIFEST: &[u8] = b"-\0\0\0\x18+host/a/2020-01-15T06:30:03Z/index.json.blob";
+pub const NO_MANIFEST: &[u8] = b"-\0\0\0\x18+host/a/2020-01-15T06:30:03Z/index.json.blob";
 
 const MANIFEST_DAMAGED: Steps = &[
     (LIST, ONE_DAMAGED),
@@ -164,7 +164,7 @@ const FILE_MISSING: Steps = &[
     (LIST, NONE_THERE),
 ];
 
-const NO_INDEX: &[u8] = b"'\0\0\0\x18%host/a/2020-01-15T06:30:03Z/root.didx";
+pub const NO_INDEX: &[u8] = b"'\0\0\0\x18%host/a/2020-01-15T06:30:03Z/root.didx";
 
 /// No index is read at opening: the snapshot is whole as far as that tells.
 pub const INDEX_DAMAGED: Steps = &[

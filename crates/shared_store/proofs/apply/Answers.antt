@@ -46,7 +46,7 @@ returns-then-is_readers-clause-unreadable g c =
 
 pub returns-then-is_readers-clause-by_kept : goal.returns-then-is_readers-clause-by_kept
 returns-then-is_readers-clause-by_kept g c =
-    readers_answer c.args.core.now c.reader_act.new.core c.args.lane c.args.act c.reader_act.result (are_readers c.args.act (sym c.is_readers.ensures ∙ c.if-is_readers.true)) c.reader_act.ensures.by_kept
+    readers_answer g.D.Disk c.args.core.now c.reader_act.new.core c.args.lane c.args.act c.reader_act.result (are_readers c.args.act (sym c.is_readers.ensures ∙ c.if-is_readers.true)) c.reader_act.ensures.by_kept
 
 pub returns-then-is_readers-clause-short : goal.returns-then-is_readers-clause-short
 returns-then-is_readers-clause-short g c = λ is. absurd (short_reads c.args.act is (sym c.is_readers.ensures ∙ c.if-is_readers.true))
@@ -64,7 +64,7 @@ returns-then-is_admins-clause-unreadable g c =
 
 pub returns-then-is_admins-clause-by_kept : goal.returns-then-is_admins-clause-by_kept
 returns-then-is_admins-clause-by_kept g c =
-    admins_answer c.args.core.now c.admin_act.new.core c.args.lane c.args.act c.admin_act.result (are_admins c.args.act c.requires.formed (sym c.is_admins.ensures ∙ c.if-is_admins.true)) c.admin_act.ensures.by_kept
+    admins_answer g.D.Disk c.args.core.now c.admin_act.new.core c.args.lane c.args.act c.admin_act.result (are_admins c.args.act c.requires.formed (sym c.is_admins.ensures ∙ c.if-is_admins.true)) c.admin_act.ensures.by_kept
 
 pub returns-then-is_admins-clause-short : goal.returns-then-is_admins-clause-short
 returns-then-is_admins-clause-short g c = λ is. absurd (short_asks c.args.act is (sym c.is_admins.ensures ∙ c.if-is_admins.true))
@@ -89,7 +89,7 @@ returns-then-is_collectors-clause-damaged g c =
 
 pub returns-then-is_collectors-clause-by_kept : goal.returns-then-is_collectors-clause-by_kept
 returns-then-is_collectors-clause-by_kept g c =
-    collectors_answer c.args.core.now c.collect_act.new.core c.args.lane c.args.act c.collect_act.result (are_collectors c.args.act (sym c.is_collectors.ensures ∙ c.if-is_collectors.true)) c.collect_act.ensures.by_kept
+    collectors_answer g.D.Disk c.args.core.now c.collect_act.new.core c.args.lane c.args.act c.collect_act.result (are_collectors c.args.act (sym c.is_collectors.ensures ∙ c.if-is_collectors.true)) c.collect_act.ensures.by_kept
 
 pub returns-then-is_collectors-clause-short : goal.returns-then-is_collectors-clause-short
 returns-then-is_collectors-clause-short g c = λ is. absurd (short_collects c.args.act is (sym c.is_collectors.ensures ∙ c.if-is_collectors.true))
@@ -107,13 +107,13 @@ returns-in-Short-clause-keeps g c =
 
 pub returns-in-Short-clause-by_kept : goal.returns-in-Short-clause-by_kept
 returns-in-Short-clause-by_kept g c =
-    subst (λ a. CoreAnswersBy c.args.core.now c.short.new.core c.args.lane a c.short.result) (sym c.in-Short.is) (short_answers c.args.core.now c.short.new.core c.args.lane c.short.result)
+    subst (λ a. CoreAnswersBy g.D.Disk c.args.core.now c.short.new.core c.args.lane a c.short.result) (sym c.in-Short.is) (short_answers g.D.Disk c.args.core.now c.short.new.core c.args.lane c.short.result)
 
 -- ---- a lane's end
 
 pub returns-in-End-clause-by_kept : goal.returns-in-End-clause-by_kept
 returns-in-End-clause-by_kept g c =
-    subst (λ a. CoreAnswersBy c.args.core.now c.end_act.new.core c.args.lane a c.end_act.result) (sym c.in-End.is) (end_answers c.args.core.now c.end_act.new.core c.args.lane c.end_act.result)
+    subst (λ a. CoreAnswersBy g.D.Disk c.args.core.now c.end_act.new.core c.args.lane a c.end_act.result) (sym c.in-End.is) (end_answers g.D.Disk c.args.core.now c.end_act.new.core c.args.lane c.end_act.result)
 
 -- ---- a writer's act
 
@@ -139,7 +139,7 @@ returns-in_default-clause-damaged g c =
 pub returns-in_default-clause-by_kept : goal.returns-in_default-clause-by_kept
 returns-in_default-clause-by_kept g c =
     let writes = are_writers c.args.act c.requires.formed (is_step c.args.act (sym c.is_collectors.ensures ∙ c.if-is_collectors.false) c.in_default.not-Short c.in_default.not-End) (sym c.is_readers.ensures ∙ c.if-is_readers.false) (sym c.is_admins.ensures ∙ c.if-is_admins.false) in
-    writers_answer c.args.core.now c.writer_act.new.core c.args.lane c.args.act c.writer_act.result writes c.writer_act.ensures.by_kept
+    writers_answer g.D.Disk c.args.core.now c.writer_act.new.core c.args.lane c.args.act c.writer_act.result writes c.writer_act.ensures.by_kept
 
 pub returns-in_default-clause-short : goal.returns-in_default-clause-short
 returns-in_default-clause-short g c = λ is. absurd (c.in_default.not-Short is)

@@ -1,9 +1,9 @@
-use Rattle.std.proofs.Common.{inr, refl}
+use Rattle.std.proofs.Common.{inr, refl, ◌∙◌}
 use Rattle.store_history.specs.declared.act.Act.TheVariants as acts
 use Rattle.core_state.specs.History.{event_of}
 use Rattle.core_state.proofs.Reaching.{reaches_more}
 use Rattle.core_state.proofs.Reserves.{reserved_room}
-use Rattle.lane.proofs.Collecting.{does_opened, does_told}
+use Rattle.lane.proofs.Collections.{does_opened, does_told}
 use Rattle.lane.proofs.Entries.{one_entered, more_entered}
 use Rattle.lane.proofs.Sweeping.{opens_sweep, start_kind, start_last, start_want}
 use Rattle.lane.proofs.collecting.collect.Goals as goal
@@ -53,3 +53,6 @@ pub returns-in-None-clause-entered : goal.returns-in-None-clause-entered
 returns-in-None-clause-entered g c =
     more_entered g.D.Disk c.args.core.now c.apply-reply.new.core c.sweep.new.core c.args.lane ⊥ _ _
     (one_entered g.D.Disk _ _ c.args.lane c.apply-reply.result ⊥ (c.apply-reply.ensures.applies).answers (λ f. absurd f)) c.sweep.ensures.entered (λ is. inr is)
+
+pub returns-in-None-clause-remote : goal.returns-in-None-clause-remote
+returns-in-None-clause-remote g c = c.sweep.ensures.remote ∙ (c.apply-reply.ensures.keeps).remote

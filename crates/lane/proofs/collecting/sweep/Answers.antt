@@ -1,5 +1,5 @@
-use Rattle.std.proofs.Common.{◌≡◌, true, false, refl, ◌∙◌}
-use Rattle.lane.proofs.Collecting.{swept_none, swept_more, swept_ends}
+use Rattle.std.proofs.Common.{◌≡◌, true, refl, ◌∙◌}
+use Rattle.lane.proofs.Collections.{swept_none, swept_more, swept_ends}
 use Rattle.lane.proofs.Entries.{none_entered, more_entered}
 use Rattle.lane.proofs.Sweeping.{want_before}
 use Rattle.lane.proofs.collecting.sweep.Goals as goal
@@ -35,3 +35,6 @@ returns-in-Some-clause-remote g c = c.in-Some.ensures.remote ∙ c.loop-reply.in
 pub returns-in-Some-clause-entered : goal.returns-in-Some-clause-entered
 returns-in-Some-clause-entered g c =
     more_entered g.D.Disk c.args.core.now c.loop-reply.core c.pass.new.core c.args.lane (c.loop-reply.last ≡ true) _ _ c.loop-reply.invariant.3 c.in-Some.ensures.entered (want_before c.loop-reply.last _)
+
+pub pass-requires-clause-sweeps : goal.pass-requires-clause-sweeps
+pass-requires-clause-sweeps g c = c.loop-reply.invariant.1

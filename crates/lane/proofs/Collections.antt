@@ -1,11 +1,9 @@
 -- GC on a lane: its collector's acts, and where they lead. And commands that no lane serves.
-use Rattle.std.proofs.Common.{◌≡◌, ◌≤◌, ◌<◌, ◌+◌, ◌⊎◌, inl, inr, ℕ, Bool, true, false, ◌||◌, ◌==◌, List, [], ◌∷◌, ◌++◌, Option, Some, None, IsSome, if◌then◌else◌, refl, sym, ap, subst, ◌∙◌, arith, append-nil, append_assoc}
+use Rattle.std.proofs.Common.{◌≡◌, inl, inr, ℕ, Bool, true, false, ◌||◌, ◌==◌, List, [], ◌∷◌, ◌++◌, Option, Some, None, IsSome, refl, sym, ap, subst, ◌∙◌, arith, append-nil, append_assoc}
 use Rattle.std.proofs.lemmas.Bool.{eq-eqb, eqb-true}
-use Rattle.store_types.specs.declared.refusal.Refusal.TheVariants.{NoMemory}
 use Rattle.wire_commands.specs.declared.command.Command.{Command}
 use Rattle.wire_commands.specs.declared.command.Command.TheVariants as commands
 use Rattle.wire_commands.specs.declared.reply.Reply.{Reply}
-use Rattle.wire_commands.specs.declared.reply.Reply.TheVariants.{Refused}
 use Rattle.store_model.specs.Lanes.{sync, collect, collecting, command_next}
 use Rattle.store_history.specs.declared.act.Act.TheVariants as acts
 use Rattle.store_history.specs.declared.act.Answer.{Answer}
@@ -13,9 +11,8 @@ use Rattle.store_history.specs.declared.act.Event.{Event}
 use Rattle.store_history.specs.Acts.{class_of}
 use Rattle.store_history.specs.History.{kind, lane, reply}
 use Rattle.store_history.specs.LaneRun.{Position, next_at, tells, wants, heard_at, heard, may_want_at}
-use Rattle.store_history.specs.Seats.{AreOf}
 use Rattle.store_history.specs.SoFar.{goes_further, Follows, Leads}
-use Rattle.store_history.proofs.Collecting.{follows_step, leads_start, leads_gc, leads_close}
+use Rattle.store_history.proofs.Collecting.{flag, follows_step, leads_start, leads_gc, leads_close}
 use Rattle.store_history.proofs.Ending.{next_shut, next_collecting}
 use Rattle.store_history.proofs.Growing.{leads_more}
 use Rattle.store_history.proofs.Longer.{of_more}
@@ -24,14 +21,11 @@ use Rattle.core_state.specs.History.{History, then_event}
 use Rattle.lane.specs.declared.acts.Told.{Told}
 use Rattle.lane.specs.Acting.{Did, MayTell}
 use Rattle.lane.specs.Collecting.{TellsEnd, HasPassed, sweeping_at, HasSwept, Sweeps}
-use Rattle.lane.specs.Doing.{IsNext, answered, Does}
+use Rattle.lane.specs.Doing.{answered, Does}
 use Rattle.lane.specs.Fronts.{is_unserved}
 use Rattle.lane.specs.Ran.{with_events}
-use Rattle.lane.proofs.Doing.{leads_then, of_both}
+use Rattle.lane.proofs.Doing.{leads_then}
 use Rattle.lane.proofs.Stepping.{job_short}
-
-abbrev flag : Answer → Option Bool → ℕ → Position → Position
-flag a o n q = record q { is_short = wants n o; is_spent = a.last || q.is_spent }
 
 -- ---- a SYNC for which memory was wanting
 

@@ -1,0 +1,62 @@
+use Rattle.std.proofs.Common.{◌≡◌, true, false, Ok, None, IsSome, rules}
+use Rattle.gc_plan.specs.Plan.{next_mark}
+use Rattle.core_collect.proofs.Settling.{all_passed, passed_none, search_found, search_found_reads, search_kept, search_over_reads, search_passed, search_unread, search_unread_reads}
+use Rattle.core_collect.proofs.marking.find_next.Goals as goal
+
+pub loop-alloc-init : goal.loop-alloc-init
+loop-alloc-init g c = passed_none g.D.Disk c.args.parts.now c.args.collector.now
+
+pub loop-alloc-smaller : goal.loop-alloc-smaller
+loop-alloc-smaller g c =
+    let is : c.settle_next.result ≡ Ok false = search rules in
+    let some : IsSome (next_mark c.loop-alloc.collector.plan) = search rules in
+    c.settle_next.ensures.next.passes is some
+
+pub loop-alloc-preserved : goal.loop-alloc-preserved
+loop-alloc-preserved g c =
+    let is : c.settle_next.result ≡ Ok false = search rules in
+    search_passed g.D.Disk c.args.parts.now c.loop-alloc.parts c.settle_next.new.parts c.args.collector.now c.loop-alloc.collector c.settle_next.new.collector c.loop-alloc.invariant c.settle_next.result
+    c.settle_next.ensures.reads c.settle_next.ensures.kept c.settle_next.ensures.next is
+
+pub returns-then-branch-clause-reads : goal.returns-then-branch-clause-reads
+returns-then-branch-clause-reads g c =
+    let is : c.settle_next.result ≡ Ok true = search rules in
+    search_found_reads g.D.Disk c.args.parts.now c.loop-alloc.parts c.settle_next.new.parts c.args.collector.now c.loop-alloc.collector c.settle_next.new.collector c.loop-alloc.invariant c.settle_next.result
+    c.settle_next.ensures.reads c.settle_next.ensures.kept c.settle_next.ensures.next is
+
+pub returns-then-branch-clause-kept : goal.returns-then-branch-clause-kept
+returns-then-branch-clause-kept g c =
+    search_kept g.D.Disk c.args.parts.now c.loop-alloc.parts c.settle_next.new.parts c.args.collector.now c.loop-alloc.collector c.settle_next.new.collector c.loop-alloc.invariant c.settle_next.result
+    c.settle_next.ensures.reads c.settle_next.ensures.kept c.settle_next.ensures.next
+
+pub returns-then-branch-clause-next : goal.returns-then-branch-clause-next
+returns-then-branch-clause-next g c =
+    let is : c.settle_next.result ≡ Ok true = search rules in
+    search_found g.D.Disk c.args.parts.now c.loop-alloc.parts c.settle_next.new.parts c.args.collector.now c.loop-alloc.collector c.settle_next.new.collector c.loop-alloc.invariant c.settle_next.result
+    c.settle_next.ensures.reads c.settle_next.ensures.kept c.settle_next.ensures.next is
+
+pub returns-in_err-settle_next-clause-reads : goal.returns-in_err-settle_next-clause-reads
+returns-in_err-settle_next-clause-reads g c =
+    search_unread_reads g.D.Disk c.args.parts.now c.loop-alloc.parts c.settle_next.new.parts c.args.collector.now c.loop-alloc.collector c.settle_next.new.collector c.loop-alloc.invariant c.settle_next.result
+    c.settle_next.ensures.reads c.settle_next.ensures.kept c.settle_next.ensures.next _ _ c.from_residual.ensures.1 c.in_err-settle_next.was
+
+pub returns-in_err-settle_next-clause-kept : goal.returns-in_err-settle_next-clause-kept
+returns-in_err-settle_next-clause-kept g c =
+    search_kept g.D.Disk c.args.parts.now c.loop-alloc.parts c.settle_next.new.parts c.args.collector.now c.loop-alloc.collector c.settle_next.new.collector c.loop-alloc.invariant c.settle_next.result
+    c.settle_next.ensures.reads c.settle_next.ensures.kept c.settle_next.ensures.next
+
+pub returns-in_err-settle_next-clause-next : goal.returns-in_err-settle_next-clause-next
+returns-in_err-settle_next-clause-next g c =
+    search_unread g.D.Disk c.args.parts.now c.loop-alloc.parts c.settle_next.new.parts c.args.collector.now c.loop-alloc.collector c.settle_next.new.collector c.loop-alloc.invariant c.settle_next.result
+    c.settle_next.ensures.reads c.settle_next.ensures.kept c.settle_next.ensures.next _ _ c.from_residual.ensures.1 c.in_err-settle_next.was
+
+pub returns-clause-reads : goal.returns-clause-reads
+returns-clause-reads g c = search_over_reads g.D.Disk c.args.parts.now c.loop-alloc.parts c.args.collector.now c.loop-alloc.collector c.loop-alloc.invariant
+
+pub returns-clause-kept : goal.returns-clause-kept
+returns-clause-kept g c = c.loop-alloc.invariant.kept
+
+pub returns-clause-next : goal.returns-clause-next
+returns-clause-next g c =
+    let none : next_mark c.loop-alloc.collector.plan ≡ None = search rules in
+    all_passed g.D.Disk c.args.parts.now c.loop-alloc.parts c.args.collector.now c.loop-alloc.collector c.loop-alloc.invariant none

@@ -1,0 +1,13 @@
+use Rattle.std.proofs.Common.{◌∙◌, sym, ap, subst}
+use Rattle.gc_plan.specs.Plan.{begun}
+use Rattle.core_state.specs.Entries.{FitsEntries}
+use Rattle.core_collect.specs.Starting.{indexes_in}
+use Rattle.core_collect.proofs.StartLemmas.{fits_new}
+use Rattle.core_collect.proofs.starting.new_collector.Goals as goal
+
+pub invariant_of-result : goal.invariant_of-result
+invariant_of-result g c =
+    let moment = c.args.at.moment in
+    let oldest = c.oldest_in.result in
+    let is = c.start.ensures ∙ ap (begun moment oldest) (c.in_ok-indexes.ensures ∙ ap indexes_in c.deref.ensures.value) in
+    record { fits = subst (FitsEntries c.start.result) (sym c.new.ensures.items) (fits_new moment oldest c.args.parts.now.catalogue.items c.start.result is) }

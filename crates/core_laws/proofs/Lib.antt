@@ -1,0 +1,4 @@
+mod Filling
+mod Reserving
+mod Played
+mod LeftChunks

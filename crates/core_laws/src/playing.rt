@@ -1,0 +1,50 @@
+//! Lists of acts, done one after another.
+
+ghost use Rattle.std.specs.Prelude.{◌≡◌, IfErr, IfOk, OnOk};
+ghost use Rattle.core_laws.specs.Playing.{AllWhole, ArePlayable, HasPlayed, SameCore};
+
+use core_state::{Act, Answer, Core};
+use disk_trait::Disk;
+use port_traits::Clock;
+use shared_store::apply;
+use std::alloc::{AllocError, Global};
+use store_types::LANES;
+
+/// Fills up the reserve of every lane.
+fn fill_all<D, E, C>(core: &mut Core<D, E, C>) -> Result<(), AllocError>
+    ensures same { SameCore core.old core.new }
+    ensures whole { OnOk result (AllWhole core.new) }
+{
+    for lane in 0..LANES {
+        core.journal.fill(lane)?;
+    }
+    Ok(())
+}
+
+/// Does acts one after another, each on its lane, and gives their answers. Entries and answers are reserved first: where
+/// memory for them is wanting, nothing is done, and the acts are handed back.
+pub fn play<D: Disk, E, C: Clock>(
+    core: &mut Core<D, E, C>,
+    alloc: Global,
+    acts: Vec<(u32, Act)>,
+) -> Result<Vec<Answer>, Vec<(u32, Act)>>
+    requires { ArePlayable acts.items }
+    ensures played { IfOk result (HasPlayed D.Disk C.Clock core.old core.new acts.items) }
+    ensures whole { OnOk result (AllWhole core.new) }
+    ensures handed { IfErr result (λ back. back ≡ acts) }
+    ensures unchanged { IfErr result (λ back. SameCore core.old core.new) }
+{
+    let Ok(mut answers) = Vec::with_capacity(alloc, acts.len()) else {
+        return Err(acts);
+    };
+    let Ok(count) = u32::try_from(acts.len()) else {
+        return Err(acts);
+    };
+    if fill_all(core).is_err() || core.reserve(count).is_err() {
+        return Err(acts);
+    }
+    for (lane, act) in acts {
+        answers.push_reserved(apply(core, alloc, lane, act));
+    }
+    Ok(answers)
+}

@@ -1,0 +1,620 @@
+//! Collections of unused chunks, act by act, beside the acts of other lanes: what is told, what goes and what stays. The bytes are
+//! made by `tests/make-tables`.
+
+use crate::asserts::{same, same_at};
+use crate::books::{BOOK, BOTH, Contents, Kept, NONE_OF_BOTH, SAVED, disk_of, kept};
+use crate::calls::{DONE, FIRST_BASE, IN_NONE, IN_WRITER, NO_BASE, UNREADABLE};
+use crate::damage::{ABC_BLOB, ABC_CHUNK, AT_END, DE_BLOB, DE_CHUNK, ROOT_PATH};
+use crate::fixtures::{ABC, CoreOver, DE, FIRST, MANIFEST_PATH, OTHER, SECOND, opened_over};
+use crate::steps::{Step, do_step, try_step};
+use core_laws::play;
+use core_state::Act;
+use disk_trait::{Disk, FailingDisk, MemoryDisk};
+use dynamic_index::DynamicWriter;
+use std::alloc::Global;
+use std::process::Abort;
+use std::test::Fail;
+use store_types::{Digest32, Entry};
+use wire_commands::Reply;
+
+/// Acts of lanes: each with the frame of its reply, and the kind of its entry.
+type Steps = &'static [(u32, Step, &'static [u8], u8)];
+
+/// What stands in a folder, and what is done there.
+#[derive(Clone, Copy)]
+struct Collection {
+    /// The files, but for the index of the first snapshot, which has so many entries where there are any.
+    files: Contents,
+    entries: u32,
+    /// What the clock reads at the first acts, and then always.
+    clock: &'static [u64],
+    then: u64,
+    steps: Steps,
+    /// What the core has in the end, and one that is opened then.
+    left: Kept,
+    saved: Kept,
+}
+
+/// Want of memory; the collector of lane 5 is open.
+const NO_MEMORY: &[u8] = b"\x01\0\0\0\x1c";
+
+const BUSY: &[u8] = b"\x05\0\0\0\x19\x05\0\0\0";
+
+/// One chunk was touched at the cutoff of a collector that starts at 1,000,000, the other a second before.
+const AT_CUTOFF: &[u8] =
+    b"PBSBOOK1\x94\xef\x0d\0\0\0\0\0\x02\0\0\0\0\0\0\0\x95\x9aE\xd4No\xcfX6\x1e\xd0\x04h\x15V\xfeP\x12\x9f!\x09\xe8\x17\xde\xc0\x98\xc0\x0c\x9e]%x\x93\xef\x0d\0\0\0\0\0\xbax\x16\xbf\x8f\x01\xcf\xeaAA@\xde]\xae\"#\xb0\x03a\xa3\x96\x17z\x9c\xb4\x10\xffa\xf2\0\x15\xad\x94\xef\x0d\0\0\0\0\0\x89\xcel41S\xb3\xa3k\xe0\x05q\xd8\xa8\x7fa`\xe4\xd8\xea\x01\x11\xa5P\xec?j\x84fk\xb4\x8b";
+
+/// They are listed in byte order, `de` before `abc`. While the collector is open no other opens, and behind its end it has no act.
+const BY_CUTOFF: Collection = Collection {
+    files: &[
+        (ABC_CHUNK, ABC_BLOB),
+        (DE_CHUNK, DE_BLOB),
+        (BOOK, AT_CUTOFF),
+    ],
+    entries: 0,
+    clock: &[],
+    then: 1_000_000,
+    steps: &[
+        (5, Step::Pass, IN_NONE, 0),
+        (5, Step::Start, b"", 3),
+        (6, Step::Start, BUSY, 0),
+        (5, Step::Start, BUSY, 0),
+        (6, Step::Pass, IN_NONE, 0),
+        (5, Step::Pass, b"", 1),
+        (5, Step::Pass, b"", 1),
+        (
+            5,
+            Step::Pass,
+            b")\0\0\0\0@B\x0f\0\0\0\0\0\x94\xef\x0d\0\0\0\0\0\0\0\0\0\0\0\0\0\x01\0\0\0\0\0\0\0\x01\0\0\0\0\0\0\0",
+            4,
+        ),
+        (5, Step::Pass, IN_NONE, 0),
+    ],
+    left: (1_000_000, Some(913_300), None, 0),
+    saved: (1_000_000, Some(913_300), None, 0),
+};
+
+/// The oldest writer began at 900,000: `abc` was touched then, `de` a second before the cutoff.
+const RUNNING: &[u8] =
+    b"PBSBOOK1\xa0\xbb\x0d\0\0\0\0\0\x02\0\0\0\0\0\0\0\x95\x9aE\xd4No\xcfX6\x1e\xd0\x04h\x15V\xfeP\x12\x9f!\x09\xe8\x17\xde\xc0\x98\xc0\x0c\x9e]%xs\xba\x0d\0\0\0\0\0\xbax\x16\xbf\x8f\x01\xcf\xeaAA@\xde]\xae\"#\xb0\x03a\xa3\x96\x17z\x9c\xb4\x10\xffa\xf2\0\x15\xad\xa0\xbb\x0d\0\0\0\0\0\x98i\xf1i/n\x91\x85\"y\xaeL\xdb\x05S.\xcf\xc3\x1f\xac*\xa2s.\xa06\x17L\x08\x08\x0c\xba";
+
+/// A later writer moves no cutoff. A lane with a session opens no collector.
+const BESIDE_WRITERS: Collection = Collection {
+    files: &[(ABC_CHUNK, ABC_BLOB), (DE_CHUNK, DE_BLOB), (BOOK, RUNNING)],
+    entries: 0,
+    clock: &[900_000, 990_000],
+    then: 1_000_000,
+    steps: &[
+        (3, Step::OpenWriter(FIRST), NO_BASE, 0),
+        (4, Step::OpenWriter(OTHER), NO_BASE, 0),
+        (3, Step::Start, IN_WRITER, 0),
+        (3, Step::Pass, IN_WRITER, 0),
+        (5, Step::Start, b"", 3),
+        // it has a session, and another lane's collector is open
+        (3, Step::Start, IN_WRITER, 0),
+        (5, Step::Pass, b"", 1),
+        (5, Step::Pass, b"", 1),
+        (
+            5,
+            Step::Pass,
+            b")\0\0\0\0@B\x0f\0\0\0\0\0t\xba\x0d\0\0\0\0\0\0\0\0\0\0\0\0\0\x01\0\0\0\0\0\0\0\x01\0\0\0\0\0\0\0",
+            4,
+        ),
+    ],
+    left: (1_000_000, Some(900_000), None, 0),
+    saved: (1_000_000, Some(900_000), None, 0),
+};
+
+/// No cutoff is before 0, and nothing goes then.
+const EARLY: Collection = Collection {
+    files: &[(ABC_CHUNK, ABC_BLOB), (DE_CHUNK, DE_BLOB), (BOOK, SAVED)],
+    entries: 0,
+    clock: &[],
+    then: 100,
+    steps: &[
+        (5, Step::Start, b"", 3),
+        (5, Step::Pass, b"", 1),
+        (5, Step::Pass, b"", 1),
+        (
+            5,
+            Step::Pass,
+            b")\0\0\0\0d\0\0\0\0\0\0\0\0\0\0\0\0\0\0\0\0\0\0\0\0\0\0\0\x02\0\0\0\0\0\0\0\0\0\0\0\0\0\0\0",
+            4,
+        ),
+    ],
+    left: (100, Some(5), Some(4), 0),
+    saved: (100, Some(5), Some(4), 0),
+};
+
+/// Without a book chunks stand as of the first act. Without chunks the first visit lists none.
+const WITHOUT_BOOK: Collection = Collection {
+    files: BOTH,
+    entries: 0,
+    clock: &[],
+    then: 1_000_000,
+    steps: &[
+        (5, Step::Start, b"", 3),
+        (5, Step::Pass, b"", 1),
+        (5, Step::Pass, b"", 1),
+        (
+            5,
+            Step::Pass,
+            b")\0\0\0\0@B\x0f\0\0\0\0\0\x94\xef\x0d\0\0\0\0\0\x02\0\0\0\0\0\0\0\0\0\0\0\0\0\0\0\0\0\0\0\0\0\0\0",
+            4,
+        ),
+    ],
+    left: (1_000_000, Some(1_000_000), Some(1_000_000), 0),
+    saved: (1_000_000, Some(1_000_000), Some(1_000_000), 0),
+};
+
+const WITHOUT_CHUNKS: Collection = Collection {
+    files: NONE_OF_BOTH,
+    entries: 0,
+    clock: &[],
+    then: 1_000_000,
+    steps: &[
+        (5, Step::Start, b"", 3),
+        (5, Step::Pass, b"", 1),
+        (
+            5,
+            Step::Pass,
+            b")\0\0\0\0@B\x0f\0\0\0\0\0\x94\xef\x0d\0\0\0\0\0\0\0\0\0\0\0\0\0\0\0\0\0\0\0\0\0\0\0\0\0\0\0\0\0",
+            4,
+        ),
+    ],
+    left: (1_000_000, None, None, 0),
+    saved: (1_000_000, None, None, 0),
+};
+
+/// The blob of the first snapshot's manifest, whose archive has one piece, two, or 1,001.
+const OF_ONE: &[u8] =
+    b"B\xab8\x07\xbe\x83p\xa1h\xc3o\xd2{\"backup-id\":\"a\",\"backup-time\":1579069803,\"backup-type\":\"host\",\"files\":[{\"crypt-mode\":\"none\",\"csum\":\"80a67215aff0c585b6c055e38aa04b76d4b208e2d0c3eb31bfd02822ae62e1c0\",\"filename\":\"root.didx\",\"size\":3}]}";
+
+const OF_TWO: &[u8] =
+    b"B\xab8\x07\xbe\x83p\xa1=\xe7\xa5\x0d{\"backup-id\":\"a\",\"backup-time\":1579069803,\"backup-type\":\"host\",\"files\":[{\"crypt-mode\":\"none\",\"csum\":\"8422682973ec0769ea78d13c53280463ec68e3cb5820cf9dbb43bfd71fb8932a\",\"filename\":\"root.didx\",\"size\":5}]}";
+
+const OF_MANY: &[u8] =
+    b"B\xab8\x07\xbe\x83p\xa1\xb1\x9e\xd2\x8d{\"backup-id\":\"a\",\"backup-time\":1579069803,\"backup-type\":\"host\",\"files\":[{\"crypt-mode\":\"none\",\"csum\":\"39bcb24a313367516a988a486e819b823754fff46947f95d873ce6dede24cd08\",\"filename\":\"root.didx\",\"size\":2003}]}";
+
+/// The chunks of a snapshot stay, and go once it is forgotten.
+const FORGOTTEN_BETWEEN: Collection = Collection {
+    files: &[
+        (ABC_CHUNK, ABC_BLOB),
+        (DE_CHUNK, DE_BLOB),
+        (BOOK, SAVED),
+        (MANIFEST_PATH, OF_TWO),
+    ],
+    entries: 2,
+    clock: &[
+        1_000_000, 1_000_000, 1_000_000, 1_000_000, 1_000_000, 1_000_000,
+    ],
+    then: 1_100_000,
+    steps: &[
+        (5, Step::Start, b"", 3),
+        (5, Step::Pass, b"", 1),
+        (5, Step::Pass, b"", 1),
+        (5, Step::Pass, b"", 1),
+        (
+            5,
+            Step::Pass,
+            b")\0\0\0\0@B\x0f\0\0\0\0\0\x94\xef\x0d\0\0\0\0\0\x02\0\0\0\0\0\0\0\0\0\0\0\0\0\0\0\0\0\0\0\0\0\0\0",
+            4,
+        ),
+        (5, Step::Forget(FIRST), DONE, 0),
+        (5, Step::Start, b"", 3),
+        (5, Step::Pass, b"", 1),
+        (5, Step::Pass, b"", 1),
+        (
+            5,
+            Step::Pass,
+            b")\0\0\0\0\xe0\xc8\x10\0\0\0\0\04v\x0f\0\0\0\0\0\0\0\0\0\0\0\0\0\0\0\0\0\0\0\0\0\x02\0\0\0\0\0\0\0",
+            4,
+        ),
+    ],
+    left: (1_100_000, None, None, 0),
+    saved: (1_100_000, None, None, 0),
+};
+
+/// An index of 1,001 entries is marked in two acts. `abc` is the last.
+const IN_TWO_MARKS: Collection = Collection {
+    files: &[
+        (ABC_CHUNK, ABC_BLOB),
+        (DE_CHUNK, DE_BLOB),
+        (BOOK, SAVED),
+        (MANIFEST_PATH, OF_MANY),
+    ],
+    entries: 1_001,
+    clock: &[],
+    then: 1_000_000,
+    steps: &[
+        (5, Step::Start, b"", 3),
+        (5, Step::Pass, b"", 1),
+        (5, Step::Pass, b"", 1),
+        (5, Step::Pass, b"", 1),
+        (5, Step::Pass, b"", 1),
+        (
+            5,
+            Step::Pass,
+            b")\0\0\0\0@B\x0f\0\0\0\0\0\x94\xef\x0d\0\0\0\0\0\x02\0\0\0\0\0\0\0\0\0\0\0\0\0\0\0\0\0\0\0\0\0\0\0",
+            4,
+        ),
+    ],
+    left: (1_000_000, Some(1_000_000), Some(1_000_000), 0),
+    saved: (1_000_000, Some(1_000_000), Some(1_000_000), 0),
+};
+
+/// Its snapshot is forgotten behind the first of them: the rest is passed over.
+const FORGOTTEN_HALF_MARKED: Collection = Collection {
+    files: &[
+        (ABC_CHUNK, ABC_BLOB),
+        (DE_CHUNK, DE_BLOB),
+        (BOOK, SAVED),
+        (MANIFEST_PATH, OF_MANY),
+    ],
+    entries: 1_001,
+    clock: &[],
+    then: 1_000_000,
+    steps: &[
+        (5, Step::Start, b"", 3),
+        (5, Step::Pass, b"", 1),
+        (6, Step::Forget(FIRST), DONE, 0),
+        (5, Step::Pass, b"", 1),
+        (5, Step::Pass, b"", 1),
+        (
+            5,
+            Step::Pass,
+            b")\0\0\0\0@B\x0f\0\0\0\0\0\x94\xef\x0d\0\0\0\0\0\x01\0\0\0\0\0\0\0\0\0\0\0\0\0\0\0\x01\0\0\0\0\0\0\0",
+            4,
+        ),
+    ],
+    left: (1_000_000, None, Some(1_000_000), 0),
+    saved: (1_000_000, None, Some(1_000_000), 0),
+};
+
+/// Both chunks of the first snapshot were touched at 100.
+const BEFORE: &[u8] =
+    b"PBSBOOK1d\0\0\0\0\0\0\0\x02\0\0\0\0\0\0\0\x95\x9aE\xd4No\xcfX6\x1e\xd0\x04h\x15V\xfeP\x12\x9f!\x09\xe8\x17\xde\xc0\x98\xc0\x0c\x9e]%xd\0\0\0\0\0\0\0\xbax\x16\xbf\x8f\x01\xcf\xeaAA@\xde]\xae\"#\xb0\x03a\xa3\x96\x17z\x9c\xb4\x10\xffa\xf2\0\x15\xadd\0\0\0\0\0\0\0\x8b\x19\x83VT\x82\xa7S\xba,\x88\0ns\xc9\x87|\xd4\xb0\x8bga\xc4\xbd*)\xb9%hc&H";
+
+/// PREVIOUS of its archive from the index's end on, and a second snapshot's archive of `abc` alone.
+const TAKE_OVER: &[u8] = b"\x0b\x09root.didxP\x10\0\0\0\0\0\0";
+
+const NEW: &[u8] = b"\x0d\x09root.didx";
+
+const NUMBER: &[u8] = b"\x02\0\0\0\0\0";
+
+const APPEND: &[u8] =
+    b"\x0f\0\x01\0\xbax\x16\xbf\x8f\x01\xcf\xeaAA@\xde]\xae\"#\xb0\x03a\xa3\x96\x17z\x9c\xb4\x10\xffa\xf2\0\x15\xad\0\0\0\0\0\0\0\0";
+
+const CLOSE: &[u8] =
+    b"\x10\0\x01\0\0\0\0\0\0\0\x03\0\0\0\0\0\0\0\x80\xa6r\x15\xaf\xf0\xc5\x85\xb6\xc0U\xe3\x8a\xa0Kv\xd4\xb2\x08\xe2\xd0\xc3\xeb1\xbf\xd0(\"\xaeb\xe1\xc0";
+
+const PUT: &[u8] =
+    b"\x11\x0findex.json.blobB\xab8\x07\xbe\x83p\xa1#\xcc\x11\x06{\"backup-id\":\"a\",\"backup-time\":1579069804,\"backup-type\":\"host\",\"files\":[{\"crypt-mode\":\"none\",\"csum\":\"80a67215aff0c585b6c055e38aa04b76d4b208e2d0c3eb31bfd02822ae62e1c0\",\"filename\":\"root.didx\",\"size\":3}]}";
+
+/// The second snapshot's index from its end on, and the bytes of its archive.
+const FROM_END: &[u8] = b"\x15\x09root.didx(\x10\0\0\0\0\0\0";
+
+const ALL_THREE: &[u8] = b"\x17\x09root.didx\0\0\0\0\0\0\0\0\x03\0\0\0";
+
+/// A writer takes a chunk over from its base, and finishes. The base is forgotten before it is marked: what the writer took stays, and is
+/// restored, and the base's other chunk goes.
+const TAKEN_OVER: Collection = Collection {
+    files: &[
+        (ABC_CHUNK, ABC_BLOB),
+        (DE_CHUNK, DE_BLOB),
+        (BOOK, BEFORE),
+        (MANIFEST_PATH, OF_TWO),
+    ],
+    entries: 2,
+    clock: &[],
+    then: 1_000_000,
+    steps: &[
+        (3, Step::OpenWriter(SECOND), FIRST_BASE, 0),
+        (5, Step::Start, b"", 3),
+        (3, Step::Send(TAKE_OVER), AT_END, 0),
+        (3, Step::Send(NEW), NUMBER, 0),
+        (3, Step::Send(APPEND), DONE, 0),
+        (3, Step::Send(CLOSE), DONE, 0),
+        (3, Step::Send(PUT), DONE, 0),
+        (3, Step::Finish, DONE, 0),
+        (6, Step::Forget(FIRST), DONE, 0),
+        (5, Step::Pass, b"", 1),
+        (5, Step::Pass, b"", 1),
+        (
+            5,
+            Step::Pass,
+            b")\0\0\0\0@B\x0f\0\0\0\0\0\x94\xef\x0d\0\0\0\0\0\x01\0\0\0\0\0\0\0\0\0\0\0\0\0\0\0\x01\0\0\0\0\0\0\0",
+            4,
+        ),
+        (4, Step::OpenReader(SECOND), DONE, 0),
+        (4, Step::Send(FROM_END), b"\x09\0\0\0\0(\x10\0\0\0\0\0\0", 0),
+        (4, Step::Send(ALL_THREE), b"\x04\0\0\0\0abc", 0),
+    ],
+    left: (1_000_000, Some(1_000_000), None, 0),
+    saved: (1_000_000, Some(1_000_000), None, 0),
+};
+
+/// Want of memory ends a collector: its next act is the end, which tells it and saves nothing. So does any want of memory of its lane, and
+/// no other lane's. A lane's end closes its collector.
+const CUT_SHORT: Collection = Collection {
+    files: &[(ABC_CHUNK, ABC_BLOB), (DE_CHUNK, DE_BLOB), (BOOK, SAVED)],
+    entries: 0,
+    clock: &[],
+    then: 1_000_000,
+    steps: &[
+        (5, Step::Start, b"", 3),
+        (7, Step::Short, NO_MEMORY, 2),
+        (5, Step::Pass, b"", 1),
+        (5, Step::Short, NO_MEMORY, 2),
+        (6, Step::Start, BUSY, 0),
+        (5, Step::Pass, NO_MEMORY, 4),
+        (5, Step::Pass, IN_NONE, 0),
+        (6, Step::Start, b"", 3),
+        (6, Step::End, b"", 6),
+        (5, Step::Start, b"", 3),
+        (5, Step::End, b"", 6),
+    ],
+    left: (1_000_000, Some(5), None, 0),
+    saved: (10, Some(5), None, 0),
+};
+
+/// A snapshot's manifest is damaged: no collector opens.
+const DAMAGED: Collection = Collection {
+    files: &[
+        (ABC_CHUNK, ABC_BLOB),
+        (DE_CHUNK, DE_BLOB),
+        (BOOK, SAVED),
+        (MANIFEST_PATH, b"abc"),
+    ],
+    entries: 0,
+    clock: &[],
+    then: 1_000_000,
+    steps: &[
+        (5, Step::Start, UNREADABLE, 0),
+        (3, Step::OpenWriter(OTHER), NO_BASE, 0),
+        (3, Step::Start, IN_WRITER, 0),
+        (5, Step::Pass, IN_NONE, 0),
+        (6, Step::Forget(FIRST), DONE, 0),
+        (5, Step::Start, b"", 3),
+    ],
+    left: (1_000_000, Some(5), Some(4), 0),
+    saved: (10, Some(5), Some(4), 0),
+};
+
+/// An index does not decode: nothing is marked or visited, and the next act is the end, which tells its file and saves nothing.
+const UNDECODED: Collection = Collection {
+    files: &[
+        (ABC_CHUNK, ABC_BLOB),
+        (DE_CHUNK, DE_BLOB),
+        (BOOK, SAVED),
+        (MANIFEST_PATH, OF_TWO),
+        (ROOT_PATH, b"abc"),
+    ],
+    entries: 0,
+    clock: &[],
+    then: 1_000_000,
+    steps: &[
+        (5, Step::Start, b"", 3),
+        (5, Step::Pass, b"", 1),
+        // what came first stands
+        (5, Step::Short, NO_MEMORY, 2),
+        (
+            5,
+            Step::Pass,
+            b"'\0\0\0\x18%host/a/2020-01-15T06:30:03Z/root.didx",
+            4,
+        ),
+        (5, Step::Pass, IN_NONE, 0),
+    ],
+    left: (1_000_000, Some(5), Some(4), 0),
+    saved: (10, Some(5), Some(4), 0),
+};
+
+static COLLECTIONS: [Collection; 12] = [
+    BY_CUTOFF,
+    BESIDE_WRITERS,
+    EARLY,
+    WITHOUT_BOOK,
+    WITHOUT_CHUNKS,
+    FORGOTTEN_BETWEEN,
+    IN_TWO_MARKS,
+    FORGOTTEN_HALF_MARKED,
+    TAKEN_OVER,
+    CUT_SHORT,
+    DAMAGED,
+    UNDECODED,
+];
+
+fn push(writer: &mut DynamicWriter, digest: &Digest32, length: u32) -> Result<(), Fail> {
+    if writer.len() >= 1_048_576 || length == 0 || length > 16_777_216 {
+        return Err("no such piece".into());
+    }
+    writer.append(digest, length)?;
+    Ok(())
+}
+
+/// An index of so many entries: `abc`, behind `de` as often as is left.
+fn index(alloc: Global, entries: u32) -> Result<Vec<u8>, Fail> {
+    let mut writer = DynamicWriter::new(alloc, [1; 16], 1_579_069_803);
+    for _ in 1..entries {
+        push(&mut writer, &DE, 2)?;
+    }
+    push(&mut writer, &ABC, 3)?;
+    Ok(writer.close(alloc)?)
+}
+
+/// A disk with these files, and with the index of so many entries.
+fn folder(alloc: Global, files: Contents, entries: u32) -> Result<MemoryDisk, Fail> {
+    let mut disk = disk_of(alloc, files)?;
+    if entries > 0 {
+        let text = index(alloc, entries)?;
+        disk.put(alloc, ROOT_PATH, &text)?;
+    }
+    Ok(disk)
+}
+
+fn assert_kinds(rt: &impl Abort, order: &[Entry], steps: &[(u32, Step, &[u8], u8)]) {
+    same(rt, order.len(), steps.len());
+    for (entry, (lane, _, _, kind)) in order.iter().zip(steps) {
+        same(rt, (entry.lane, entry.kind), (*lane, *kind));
+    }
+}
+
+fn try_collection(rt: &impl Abort, alloc: Global, row: &Collection) -> Result<(), Fail> {
+    let disk = folder(alloc, row.files, row.entries)?;
+    let mut core = opened_over(alloc, disk, row.clock, row.then)?;
+    for (lane, step, expected, _) in row.steps {
+        try_step(rt, &mut core, alloc, *lane, *step, expected)?;
+    }
+    same(rt, kept(&core), row.left);
+    let parts = core.parts();
+    assert_kinds(rt, &parts.order, row.steps);
+    let again = opened_over(alloc, parts.disk, &[], 0)?;
+    same(rt, kept(&again), row.saved);
+    Ok(())
+}
+
+#[test]
+fn unused_chunks_are_collected(rt: HostRuntime) -> Result<(), Fail> {
+    for row in &COLLECTIONS {
+        try_collection(&rt, rt.alloc(), row)?;
+    }
+    Ok(())
+}
+
+/// A collection without chunks, and another lane's GC: the lanes, and the kinds of the entries.
+static PLAYED: [(u32, u8); 4] = [(5, 3), (6, 0), (5, 1), (5, 4)];
+
+#[test]
+fn lists_of_acts_are_played(rt: HostRuntime) -> Result<(), Fail> {
+    let alloc = rt.alloc();
+    let mut core = opened_over(alloc, MemoryDisk::new(alloc), &[], 1_000_000)?;
+    let acts = vec![in alloc;
+        (5, Act::Start),
+        (6, Act::Start),
+        (5, Act::Step),
+        (5, Act::Step),
+    ]?;
+    let answers = play(&mut core, alloc, acts).ok().ok_or("not played")?;
+    same(&rt, answers.len(), PLAYED.len());
+    for (answer, row) in answers.iter().zip(&PLAYED) {
+        same(&rt, (answer.entry.lane, answer.entry.kind), *row);
+    }
+    let end = answers.last().ok_or("no answer")?;
+    let is_told = matches!(
+        &end.reply,
+        Some(Reply::Collected {
+            start: 1_000_000,
+            cutoff: 913_300,
+            used: 0,
+            pending: 0,
+            removed: 0,
+        })
+    );
+    same(&rt, is_told, true);
+    Ok(())
+}
+
+/// The first snapshot's archive has `abc` alone.
+const ONE_NEEDED: Contents = &[
+    (ABC_CHUNK, ABC_BLOB),
+    (DE_CHUNK, DE_BLOB),
+    (BOOK, SAVED),
+    (MANIFEST_PATH, OF_ONE),
+];
+
+/// A collection of four acts behind its start, and one that finds none open.
+const WHOLE: &[(u32, Step)] = &[
+    (5, Step::Start),
+    (5, Step::Pass),
+    (5, Step::Pass),
+    (5, Step::Pass),
+    (5, Step::Pass),
+    (5, Step::Pass),
+];
+
+/// Memory is wanting, and then the disk fails on another lane.
+const SHORT: &[(u32, Step)] = &[
+    (5, Step::Start),
+    (5, Step::Short),
+    (6, Step::Files(FIRST)),
+    (5, Step::Pass),
+    (5, Step::Pass),
+    (5, Step::End),
+];
+
+/// What is done while a call of the disk fails, the first behind opening being 0; the kinds of the entries, and what the core has
+/// then.
+type Fault = (&'static [(u32, Step)], u64, [u8; 6], Kept);
+
+const MARKED: Kept = (1_000_000, Some(1_000_000), Some(4), 0);
+
+const NOT_MARKED: Kept = (1_000_000, Some(5), Some(4), 0);
+
+const SWEPT: Kept = (1_000_000, Some(1_000_000), None, 0);
+
+/// A mark asks for the index's size and reads it; the first visit lists the chunks and removes `de`; the second has no call; the end
+/// installs the book. In the end no call is left to fail.
+static FAULTS: [Fault; 9] = [
+    (WHOLE, 0, [3, 5, 5, 5, 5, 5], NOT_MARKED),
+    (WHOLE, 1, [3, 5, 5, 5, 5, 5], NOT_MARKED),
+    (WHOLE, 2, [3, 1, 5, 5, 5, 5], MARKED),
+    (WHOLE, 3, [3, 1, 5, 5, 5, 5], MARKED),
+    (WHOLE, 4, [3, 1, 1, 1, 5, 5], SWEPT),
+    (WHOLE, 5, [3, 1, 1, 1, 5, 5], SWEPT),
+    (WHOLE, 6, [3, 1, 1, 1, 5, 5], SWEPT),
+    (WHOLE, 7, [3, 1, 1, 1, 4, 0], SWEPT),
+    (SHORT, 0, [3, 2, 5, 5, 5, 6], NOT_MARKED),
+];
+
+/// How many calls opening makes.
+fn opening_calls(alloc: Global) -> Result<u64, Fail> {
+    let disk = folder(alloc, ONE_NEEDED, 1)?;
+    let before = disk.calls();
+    let core = opened_over(alloc, disk, &[], 0)?;
+    Ok(core.parts.disk.calls().saturating_sub(before))
+}
+
+fn do_steps<D: Disk>(
+    core: &mut CoreOver<D>,
+    alloc: Global,
+    steps: &[(u32, Step)],
+) -> Result<(), Fail> {
+    for (lane, step) in steps {
+        do_step(core, alloc, *lane, *step)?;
+    }
+    Ok(())
+}
+
+fn try_fault(
+    rt: &impl Abort,
+    alloc: Global,
+    place: usize,
+    opening: u64,
+    row: &Fault,
+) -> Result<(), Fail> {
+    let (steps, call, kinds, left) = row;
+    let mut numbers = Vec::new(alloc);
+    numbers.push(opening.saturating_add(*call))?;
+    let disk = FailingDisk::at_calls(folder(alloc, ONE_NEEDED, 1)?, numbers);
+    let mut core = opened_over(alloc, disk, &[], 1_000_000)?;
+    do_steps(&mut core, alloc, *steps)?;
+    same_at(rt, place, kept(&core), *left);
+    same_at(rt, place, core.collector.is_none(), true);
+    let order = core.parts().order;
+    for (entry, kind) in order.iter().zip(kinds) {
+        same_at(rt, place, entry.kind, *kind);
+    }
+    Ok(())
+}
+
+/// A call of the disk that fails ends the collector, and so does one of another lane's.
+#[test]
+fn faults_end_collections(rt: HostRuntime) -> Result<(), Fail> {
+    let alloc = rt.alloc();
+    let opening = opening_calls(alloc)?;
+    for (place, row) in FAULTS.iter().enumerate() {
+        try_fault(&rt, alloc, place, opening, row)?;
+    }
+    Ok(())
+}
