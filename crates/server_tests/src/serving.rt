@@ -490,11 +490,7 @@ static LARGE: [(&[u8], usize, &[u8]); 2] = [
     ),
 ];
 
-fn try_large(
-    rt: &impl Abort,
-    alloc: Global,
-    row: &(&[u8], usize, &[u8]),
-) -> Result<(), Fail> {
+fn try_large(rt: &impl Abort, alloc: Global, row: &(&[u8], usize, &[u8])) -> Result<(), Fail> {
     let (front, zeros, replies) = row;
     try_zeros(rt, alloc, front, *zeros, replies)
 }
