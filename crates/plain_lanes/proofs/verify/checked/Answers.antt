@@ -9,8 +9,8 @@ use Rattle.plain_lanes.specs.Visits.{shown_visit, checked_by}
 use Rattle.plain_lanes.proofs.VerifyLemmas.{chunk_checked, not_checked}
 use Rattle.plain_lanes.proofs.verify.checked.Goals as goal
 
-pub returns-in-Ok-clause-job : goal.returns-in-Ok-clause-job
-returns-in-Ok-clause-job c =
+pub returns-in_ok-place-in-Ok-clause-job : goal.returns-in_ok-place-in-Ok-clause-job
+returns-in_ok-place-in-Ok-clause-job c =
     let v = shown_visit c.args.visit in
     let later = c.args.later.items in
     let place : c.in_ok-place.place ≡ c.args.place + 1 = search (rules, arith) in
