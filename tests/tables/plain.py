@@ -9,6 +9,17 @@ def many_listed(count):
 
 
 TABLES = {
+    "plain_tests/src/jobs.rt": {
+        "MANIFEST": [blob(manifest(A))],
+        "COLLECT": [frames(gc(), bye())],
+        "VERIFY": [frames(verify(A), bye())],
+        "SYNC": [frames(sync("host/a"), bye())],
+        "jobs_are_done": [
+            frames(collected(0, 0, 0, 0, 0), done()),
+            frames(verified(1, 0, 0), done()),
+            frames(keys(A), done()),
+        ],
+    },
     "plain_tests/src/loading.rt": {
         "NO_JSON": [blob(b"x")],
         "FULL_HEADER": [many_listed(63)[:12]],
