@@ -40,11 +40,11 @@ struct Beside {
 }
 
 /// The acts of a collection. They are told nothing but at the end: how many chunks are used, pending and removed.
-const START: Row = (5, Step::Start, b"", 3);
+pub(crate) const START: Row = (5, Step::Start, b"", 3);
 
-const PASS: Row = (5, Step::Pass, b"", 1);
+pub(crate) const PASS: Row = (5, Step::Pass, b"", 1);
 
-const TWO_USED: Row = (
+pub(crate) const TWO_USED: Row = (
     5,
     Step::Pass,
     b")\0\0\0\0@B\x0f\0\0\0\0\0\x94\xef\x0d\0\0\0\0\0\x02\0\0\0\0\0\0\0\0\0\0\0\0\0\0\0\0\0\0\0\0\0\0\0",

@@ -637,7 +637,7 @@ fn try_list(
     Ok(())
 }
 
-/// What is done there is done twice, and both times leaves the same. Gives the order.
+/// Its acts are done one after another, and on another core as one list. Both leave the same. Gives the order.
 pub(crate) fn try_collection(
     rt: &impl Abort,
     alloc: Global,

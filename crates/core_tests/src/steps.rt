@@ -1,7 +1,8 @@
 //! Acts on a core, as tables have them.
 
-ghost use Rattle.std.specs.Prelude.{IfOk, IfSome};
+ghost use Rattle.std.specs.Prelude.{◌≡◌, true, IfOk, IfSome, IsOk};
 ghost use Rattle.wire_commands.specs.HasText.{ReplyHasText};
+ghost use Rattle.store_model.specs.ArchiveSteps.{check_chunk};
 ghost use Rattle.store_history.specs.Acts.{IsWellFormed};
 ghost use Rattle.core_laws.specs.Playing.{ArePlayable};
 
@@ -65,19 +66,30 @@ fn manifest(alloc: Global) -> Result<Act, AllocError>
     Ok(Act::Blob { name, checked })
 }
 
+/// Whether the bytes are the blob of a piece with this digest.
+fn is_blob_of(digest: Digest32, blob: &[u8]) -> bool
+    ensures { result ≡ true → IsOk (check_chunk digest blob.now) }
+{
+    let piece = match decode(blob) {
+        Ok(piece) => piece,
+        Err(_) => return false,
+    };
+    if piece.is_empty() {
+        return false;
+    }
+    let found = Digest32(Sha256::digest(piece));
+    if found != digest {
+        return false;
+    }
+    true
+}
+
 /// The upload of a chunk under its digest, checked outside the act.
 fn chunk(digest: Digest32, blob: Bytes) -> Result<Act, Fail>
     ensures { IfOk result IsWellFormed }
 {
-    let Ok(piece) = decode(blob.as_slice()) else {
-        return Err("no blob".into());
-    };
-    if piece.is_empty() {
-        return Err("an empty piece".into());
-    }
-    let found = Digest32(Sha256::digest(piece));
-    if found != digest {
-        return Err("another digest".into());
+    if !is_blob_of(digest, blob.as_slice()) {
+        return Err("no such chunk".into());
     }
     let checked = Ok(blob);
     Ok(Act::Chunk { digest, checked })

@@ -3,7 +3,8 @@
 
 use crate::asserts::same_at;
 use crate::beside::{
-    ABC, AT_END_OF_ONE, AT_END_OF_TWO, CLOSE_READER, DE_ABC, READ_FIRST, READ_SECOND, Rows,
+    ABC, AT_END_OF_ONE, AT_END_OF_TWO, CLOSE_READER, DE_ABC, PASS, READ_FIRST, READ_SECOND, Rows,
+    START, TWO_USED,
 };
 use crate::calls::{IN_READER, NO_SNAPSHOT, frame};
 use crate::collecting::{Spot, TAKEN_OVER, folder, try_acts};
@@ -23,13 +24,18 @@ static LISTED: [&[u8]; 3] = [
     b"!\0\0\0\0\x01\0\x1bhost/a/2020-01-15T06:30:04Z\0\x02",
 ];
 
-/// Each is restored whole.
+/// Each is restored whole, and both chunks of the first are used as long as it is there.
 static RESTORED: [Rows; 3] = [
     &[
         (4, Step::OpenReader(SECOND), NO_SNAPSHOT, 0),
         READ_FIRST,
         AT_END_OF_TWO,
         DE_ABC,
+        START,
+        PASS,
+        PASS,
+        PASS,
+        TWO_USED,
     ],
     &[
         READ_FIRST,
@@ -40,6 +46,12 @@ static RESTORED: [Rows; 3] = [
         READ_SECOND,
         AT_END_OF_ONE,
         ABC,
+        START,
+        PASS,
+        PASS,
+        PASS,
+        PASS,
+        TWO_USED,
     ],
     &[
         (4, Step::OpenReader(FIRST), NO_SNAPSHOT, 0),
