@@ -1,7 +1,7 @@
 use Rattle.std.proofs.Common.{◌≡◌, ◌<◌, length, sym, ◌∙◌, arith}
 use Rattle.std.specs.Prelude.{min}
 use Rattle.std.proofs.lemmas.Bool.{eqb-true}
-use Rattle.plain_lanes.proofs.UploadLemmas.{append_pushed, appends_done, some_left}
+use Rattle.plain_lanes.proofs.AppendLemmas.{append_pushed, appends_done, some_left}
 use Rattle.plain_lanes.proofs.uploads.push_appends.Goals as goal
 
 pub loop-left-preserved : goal.loop-left-preserved
