@@ -86,7 +86,7 @@ pub chunk_pushed : (commands new : List Command) (sent more : List Digest32) (p 
 chunk_pushed commands new sent more p pieces rest next pushed is =
     let one = map chunk_of (unsent_by sent (p ∷ [])) in
     ap (λ cs. cs ++ map chunk_of (unsent_by more rest)) pushed ∙ append_assoc commands one (map chunk_of (unsent_by more rest))
-    ∙ ap (λ ds. commands ++ one ++ map chunk_of (unsent_by ds rest)) is
+    ∙ ap (λ ds. commands ++ (one ++ map chunk_of (unsent_by ds rest))) is
     ∙ ap (λ cs. commands ++ cs) (sym (map-append chunk_of (unsent_by sent (p ∷ [])) (unsent_by (sent_after p sent) rest)) ∙ ap (map chunk_of) (sym (chunk_more sent p rest)))
     ∙ sym (ap (λ ps. commands ++ map chunk_of (unsent_by sent ps)) next)
 
@@ -104,18 +104,18 @@ pub file_pushed : (commands new : List Command) (sent more : List Digest32) (f :
     → new ++ uploads_by more rest ≡ commands ++ uploads_by sent files
 file_pushed commands new sent more f files rest next pushed is =
     ap (λ cs. cs ++ uploads_by more rest) pushed ∙ append_assoc commands (file_commands_by sent f.name f.content) (uploads_by more rest)
-    ∙ ap (λ ds. commands ++ file_commands_by sent f.name f.content ++ uploads_by ds rest) is
+    ∙ ap (λ ds. commands ++ (file_commands_by sent f.name f.content ++ uploads_by ds rest)) is
     ∙ sym (ap (λ fs. commands ++ uploads_by sent fs) next)
 
 -- an archive's, in four parts
 pub archive_pushed : (commands one two three four : List Command) (begin close : Command) (chunks appended : List Command)
     → one ≡ commands ++ begin ∷ [] → two ≡ one ++ chunks → three ≡ two ++ appended → four ≡ three ++ close ∷ []
-    → four ≡ commands ++ begin ∷ chunks ++ appended ++ close ∷ []
+    → four ≡ commands ++ (begin ∷ chunks ++ appended ++ close ∷ [])
 archive_pushed commands one two three four begin close chunks appended first second third fourth =
     fourth ∙ ap (λ l. l ++ close ∷ []) (third ∙ ap (λ l. l ++ appended) (second ∙ ap (λ l. l ++ chunks) first))
-    ∙ append_assoc ((commands ++ begin ∷ []) ++ chunks) appended (close ∷ [])
-    ∙ append_assoc (commands ++ begin ∷ []) chunks (appended ++ close ∷ [])
-    ∙ append_assoc commands (begin ∷ []) (chunks ++ appended ++ close ∷ [])
+    ∙ ap (λ l. l ++ appended ++ close ∷ []) (append_assoc commands (begin ∷ []) chunks)
+    ∙ ap (λ l. l ++ close ∷ []) (append_assoc commands (begin ∷ chunks) appended)
+    ∙ append_assoc commands (begin ∷ chunks ++ appended) (close ∷ [])
 
 -- behind the files come the manifest and FINISH
 pub all_pushed : (x : Snapshot) (files : List File) (cs one two : List Command) (name contents : List ℕ) → files ≡ listed_files x → cs ≡ uploads_by [] files

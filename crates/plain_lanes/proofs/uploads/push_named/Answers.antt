@@ -15,5 +15,5 @@ returns c =
     let file = c.in-Some.file.now in
     let o = file_named c.args.name.now c.args.files.now in
     let there : o ≡ Some file = sym c.file_named.ensures ∙ ap (option_map (λ f. f.now)) c.in-Some.is in
-    let same : c.in_ok-clone.field-0 ≡ file = c.in_ok-clone.ensures in
+    let same : c.in_ok-clone.field-0 ≡ file = c.in_ok-clone.ensures.cases in
     found_one c.args.listed.now.items o c.push.new.self.items file there (c.in_ok-push.ensures.items ∙ ap (λ (y : File). c.args.listed.now.items ++ y ∷ []) same)
