@@ -8,7 +8,7 @@ use Rattle.store_files.specs.Archive.{Snapshot}
 use Rattle.wire_commands.specs.declared.command.Command.{Command}
 use Rattle.wire_commands.specs.declared.reply.Reply.{Reply}
 use Rattle.wire_commands.specs.declared.reply.Reply.TheVariants.{Base, Keys, Refused}
-use Rattle.wire_commands.specs.CommandText.{text}
+use Rattle.wire_commands.specs.Fields.{text}
 use Rattle.wire_commands.specs.ReplyText.{reply_text}
 use Rattle.wire_commands.specs.HasText.{IsText, ReplyHasText}
 use Rattle.store_model.specs.Job.{Pull, Job, over, asking, beginning, sending, aborting}
