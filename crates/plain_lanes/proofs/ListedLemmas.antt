@@ -9,8 +9,8 @@ module _ (listed : List File) (o : Option File) where
   pub not_found : o ≡ None → listed ≡ listed ++ cons_option o []
   not_found none = sym (append-nil listed) ∙ ap (λ q. listed ++ cons_option q []) (sym none)
 
-  pub found_one : (new : List File) (f : File) → o ≡ Some f → new ≡ listed ++ f ∷ [] → new ≡ listed ++ cons_option o []
-  found_one new f there pushed = pushed ∙ ap (λ q. listed ++ cons_option q []) (sym there)
+  pub found_one : (new : List File) (f copy : File) → o ≡ Some f → copy ≡ f → new ≡ listed ++ copy ∷ [] → new ≡ listed ++ cons_option o []
+  found_one new f copy there same pushed = pushed ∙ ap (λ (g : File). listed ++ g ∷ []) same ∙ ap (λ q. listed ++ cons_option q []) (sym there)
 
 -- by one more name
 pub found_more : {A B : Type 0} (found : A → Option B) (xs : List A) (i : ℕ) (x : A) (listed new : List B) → i < length xs → x ≡ get_or xs i x

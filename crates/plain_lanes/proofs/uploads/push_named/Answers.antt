@@ -1,6 +1,6 @@
-use Rattle.std.proofs.Common.{◌≡◌, ◌++◌, ◌∷◌, [], None, Some, sym, ap, ◌∙◌}
+use Rattle.std.proofs.Common.{◌≡◌, None, Some, sym, ap, ◌∙◌}
 use Rattle.std.specs.Prelude.{option_map}
-use Rattle.store_files.specs.Archive.{File, file_named}
+use Rattle.store_files.specs.Archive.{file_named}
 use Rattle.plain_lanes.proofs.ListedLemmas.{not_found, found_one}
 use Rattle.plain_lanes.proofs.uploads.push_named.Goals as goal
 
@@ -15,5 +15,4 @@ returns c =
     let file = c.in-Some.file.now in
     let o = file_named c.args.name.now c.args.files.now in
     let there : o ≡ Some file = sym c.file_named.ensures ∙ ap (option_map (λ f. f.now)) c.in-Some.is in
-    let same : c.in_ok-clone.field-0 ≡ file = c.in_ok-clone.ensures.cases in
-    found_one c.args.listed.now.items o c.push.new.self.items file there (c.in_ok-push.ensures.items ∙ ap (λ (y : File). c.args.listed.now.items ++ y ∷ []) same)
+    found_one c.args.listed.now.items o c.push.new.self.items file c.in_ok-clone.field-0 there c.in_ok-clone.ensures.cases c.in_ok-push.ensures.items
