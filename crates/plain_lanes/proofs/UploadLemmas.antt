@@ -1,18 +1,17 @@
 -- The commands by which a SYNC uploads a snapshot, one by one.
-use Rattle.std.proofs.Common.{◌≡◌, ℕ, zero, suc, ◌+◌, ◌≤◌, ◌<◌, Bool, true, false, cond, eqb, List, [], ◌∷◌, ◌++◌, map, length, get_or, Option, Some, None, take, drop, drop-cons, add-one, refl, sym, ap, ◌∙◌, arith, append_assoc, append-nil, length-drop}
-use Rattle.std.specs.List.{list_any, filter_map, cons_option}
+use Rattle.std.proofs.Common.{◌≡◌, ℕ, suc, ◌+◌, ◌≤◌, ◌<◌, Bool, true, false, cond, List, [], ◌∷◌, ◌++◌, map, length, get_or, drop, drop-cons, add-one, refl, sym, ap, ◌∙◌, append_assoc, append-nil}
+use Rattle.std.specs.List.{list_any}
 use Rattle.std.specs.Str.{bytes_eq}
 use Rattle.std.specs.Prelude.{◌||◌}
-use Rattle.std.proofs.lemmas.List.{map-append, take_min, drop_min, drop_all, take_more}
-use Rattle.std.proofs.lemmas.List.Elements.{filter_map-append}
+use Rattle.std.proofs.lemmas.List.{map-append, drop_all}
 use Rattle.sha2.specs.Sha256.{sha256}
 use Rattle.store_types.specs.declared.append.AppendEntry.{AppendEntry}
 use Rattle.store_types.specs.declared.names.Digest32.{Digest32}
 use Rattle.store_types.specs.FileNames.{manifest_name}
-use Rattle.store_files.specs.Archive.{Archive, Content, archive, blob, File, Snapshot, digest_of, pieces_of, file_named}
+use Rattle.store_files.specs.Archive.{Content, archive, blob, File, Snapshot, digest_of, pieces_of, file_named}
 use Rattle.wire_commands.specs.declared.command.Command.{Command}
-use Rattle.wire_commands.specs.declared.command.Command.TheVariants.{Append, Blob, Finish}
-use Rattle.store_model.specs.SyncJob.{has_digest_of, unsent, entries_from, appends, file_commands, archive_commands, new_index, uploads, listed_files, text_of, commands_of}
+use Rattle.wire_commands.specs.declared.command.Command.TheVariants.{Blob, Finish}
+use Rattle.store_model.specs.SyncJob.{has_digest_of, unsent, entries_from, appends, file_commands, new_index, uploads, listed_files, text_of, commands_of}
 use Rattle.plain_lanes.specs.Uploading.{is_sent, unsent_by, sent_after, chunk_of, close_of, file_commands_by, uploads_by}
 
 -- ---- by digests, as by pieces

@@ -1,4 +1,4 @@
-use Rattle.std.proofs.Common.{◌≡◌, ◌++◌, ◌∷◌, [], List, ℕ, sym, ap, ◌∙◌}
+use Rattle.std.proofs.Common.{◌++◌, ◌∷◌, [], List, ℕ, sym, ap, ◌∙◌}
 use Rattle.store_files.specs.Archive.{Content, File}
 use Rattle.wire_commands.specs.declared.command.Command.TheVariants.{Blob}
 use Rattle.plain_snapshots.specs.Contents.{shown_content}

@@ -1,4 +1,4 @@
-use Rattle.std.proofs.Common.{◌≡◌, ◌+◌, ◌++◌, map, drop, refl, ap, ◌∙◌, arith}
+use Rattle.std.proofs.Common.{◌+◌, ◌++◌, map, drop, refl, ap, ◌∙◌, arith}
 use Rattle.store_files.specs.Archive.{File, digest_of, pieces_of}
 use Rattle.plain_lanes.specs.Uploading.{file_by, uploads_by}
 use Rattle.plain_lanes.proofs.UploadLemmas.{from_place, all_done, file_pushed}
