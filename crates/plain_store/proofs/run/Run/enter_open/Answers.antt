@@ -1,8 +1,7 @@
-use Rattle.std.proofs.Common.{◌≢◌, ◌∙◌, arith, sym, subst, refl, ap, Bool, Option, Some}
+use Rattle.std.proofs.Common.{◌≢◌, ◌∙◌, arith, sym, subst, refl, ap, Option, Some}
 use Rattle.store_model.specs.Lanes.{Run}
 use Rattle.store_model.specs.Weave.{Endings, close_collector}
 use Rattle.plain_store.specs.Runs.{Enters}
-use Rattle.plain_store.proofs.Spelled.{refusal_spelled}
 use Rattle.plain_store.proofs.RunLemmas.{entered_1, entered_2, entered_4, entered_5, entered_6, own_passes, own_short, own_closes, own_faulted, own_ends, not_entered_open}
 use Rattle.plain_store.proofs.run.Run.enter_open.Goals as goal
 
