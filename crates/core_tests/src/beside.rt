@@ -586,7 +586,7 @@ fn add(list: &mut Vec<Row>, rows: &[Row], from: usize, to: usize) -> Result<(), 
 /// What is done in all. So many of the acts come at an earlier place, and the rest at their own.
 fn woven(alloc: Global, table: &Beside, place: &Place, spot: Spot) -> Result<Vec<Row>, AllocError> {
     let [_, from, early, to] = spot;
-    let mut list = Vec::new(alloc);
+    let mut list: Vec<Row> = Vec::new(alloc);
     add(&mut list, table.before, 0, usize::MAX)?;
     add(&mut list, place.collection, 0, from)?;
     add(&mut list, table.acts, 0, early)?;
