@@ -586,14 +586,14 @@ fn add(list: &mut Vec<Row>, rows: &[Row], from: usize, to: usize) -> Result<(), 
 /// What is done in all. So many of the acts come at an earlier place, and the rest at their own.
 fn woven(alloc: Global, table: &Beside, place: &Place, spot: Spot) -> Result<Vec<Row>, AllocError> {
     let [_, from, early, to] = spot;
-    let mut list = Vec::new(alloc);
-    list.extend_from_slice(table.before)?;
+    let mut list: Vec<Row> = Vec::new(alloc);
+    add(&mut list, table.before, 0, usize::MAX)?;
     add(&mut list, place.collection, 0, from)?;
     add(&mut list, table.acts, 0, early)?;
     add(&mut list, place.collection, from, to)?;
     add(&mut list, table.acts, early, usize::MAX)?;
     add(&mut list, place.collection, to, usize::MAX)?;
-    list.extend_from_slice(table.after)?;
+    add(&mut list, table.after, 0, usize::MAX)?;
     Ok(list)
 }
 

@@ -4,7 +4,7 @@ ghost use Rattle.std.specs.Prelude.{◌≡◌, true, IfOk, IfSome, IsOk};
 ghost use Rattle.wire_commands.specs.HasText.{ReplyHasText};
 ghost use Rattle.store_model.specs.ArchiveSteps.{check_chunk};
 ghost use Rattle.store_history.specs.Acts.{IsWellFormed};
-ghost use Rattle.core_laws.specs.Playing.{ArePlayable};
+ghost use Rattle.core_laws.specs.Playing.{ArePlayable, IsPlayable};
 
 use crate::asserts::same;
 use crate::calls::frame;
@@ -186,17 +186,23 @@ fn act_of(alloc: Global, step: Step) -> Result<Act, Fail>
     }
 }
 
-/// The acts of rows, each of its lane.
+/// The act of a row, and its lane.
+fn asked(alloc: Global, row: &Row) -> Result<(u32, Act), Fail>
+    ensures { IfOk result IsPlayable }
+{
+    let (lane, step, _, _) = *row;
+    if lane >= 64 {
+        return Err("no such lane".into());
+    }
+    Ok((lane, act_of(alloc, step)?))
+}
+
 pub(crate) fn acts_of(alloc: Global, rows: &[Row]) -> Result<Vec<(u32, Act)>, Fail>
     ensures { IfOk result (λ acts. ArePlayable acts.items) }
 {
     let mut acts = Vec::new(alloc);
     for row in rows {
-        let (lane, step, _, _) = *row;
-        if lane >= 64 {
-            return Err("no such lane".into());
-        }
-        acts.push((lane, act_of(alloc, step)?))?;
+        acts.push(asked(alloc, row)?)?;
     }
     Ok(acts)
 }
