@@ -302,6 +302,7 @@ TABLES = {
     },
     "server_tests/src/serving/collections.rt": {
         "GC": [frame(gc())],
+        "BYE": [frame(bye())],
         "USED": [frame(collected(1_000_000, 913_300, 2, 0, 0)), book(1_000_000, (b"abc", 1_000_000), (b"de", 1_000_000))],
         "GONE": [frame(collected(1_100_000, 1_013_300, 0, 0, 2)), book(1_100_000)],
         "NONE_LEFT": [

@@ -1,51 +1,49 @@
 //! Collections of unused chunks, act by act, beside the acts of other lanes: what is told, what goes and what stays. The bytes are
 //! made by `tests/make-tables`.
 
-use crate::asserts::{same, same_at};
+use crate::asserts::same_at;
 use crate::books::{BOOK, BOTH, Contents, Kept, NONE_OF_BOTH, SAVED, disk_of, kept};
-use crate::calls::{DONE, FIRST_BASE, IN_NONE, IN_WRITER, NO_BASE, UNREADABLE};
+use crate::calls::{DONE, FIRST_BASE, IN_NONE, IN_WRITER, NO_BASE, NONE_THERE, UNREADABLE, frame};
 use crate::damage::{ABC_BLOB, ABC_CHUNK, AT_END, DE_BLOB, DE_CHUNK, ROOT_PATH};
-use crate::fixtures::{ABC, CoreOver, DE, FIRST, MANIFEST_PATH, OTHER, SECOND, opened_over};
-use crate::steps::{Step, do_step, try_step};
+use crate::fixtures::{
+    ABC, CoreOver, DE, FIRST, MANIFEST_PATH, MemoryCore, OTHER, SECOND, opened_over,
+};
+use crate::steps::{Row, Step, acts_of, do_step};
 use core_laws::play;
-use core_state::Act;
+use core_state::Answer;
 use disk_trait::{Disk, FailingDisk, MemoryDisk};
 use dynamic_index::DynamicWriter;
 use std::alloc::Global;
 use std::process::Abort;
 use std::test::Fail;
 use store_types::{Digest32, Entry};
-use wire_commands::Reply;
-
-/// Acts of lanes: each with the frame of its reply, and the kind of its entry.
-type Steps = &'static [(u32, Step, &'static [u8], u8)];
 
 /// What stands in a folder, and what is done there.
 #[derive(Clone, Copy)]
-struct Collection {
+pub(crate) struct Collection<'a> {
     /// The files, but for the index of the first snapshot, which has so many entries where there are any.
-    files: Contents,
-    entries: u32,
+    pub(crate) files: Contents,
+    pub(crate) entries: u32,
     /// What the clock reads at the first acts, and then always.
-    clock: &'static [u64],
-    then: u64,
-    steps: Steps,
+    pub(crate) clock: &'static [u64],
+    pub(crate) then: u64,
+    pub(crate) steps: &'a [Row],
     /// What the core has in the end, and one that is opened then.
-    left: Kept,
-    saved: Kept,
+    pub(crate) left: Kept,
+    pub(crate) saved: Kept,
 }
 
 /// Want of memory; the collector of lane 5 is open.
-const NO_MEMORY: &[u8] = b"\x01\0\0\0\x1c";
+pub(crate) const NO_MEMORY: &[u8] = b"\x01\0\0\0\x1c";
 
-const BUSY: &[u8] = b"\x05\0\0\0\x19\x05\0\0\0";
+pub(crate) const BUSY: &[u8] = b"\x05\0\0\0\x19\x05\0\0\0";
 
 /// One chunk was touched at the cutoff of a collector that starts at 1,000,000, the other a second before.
 const AT_CUTOFF: &[u8] =
     b"PBSBOOK1\x94\xef\x0d\0\0\0\0\0\x02\0\0\0\0\0\0\0\x95\x9aE\xd4No\xcfX6\x1e\xd0\x04h\x15V\xfeP\x12\x9f!\x09\xe8\x17\xde\xc0\x98\xc0\x0c\x9e]%x\x93\xef\x0d\0\0\0\0\0\xbax\x16\xbf\x8f\x01\xcf\xeaAA@\xde]\xae\"#\xb0\x03a\xa3\x96\x17z\x9c\xb4\x10\xffa\xf2\0\x15\xad\x94\xef\x0d\0\0\0\0\0\x89\xcel41S\xb3\xa3k\xe0\x05q\xd8\xa8\x7fa`\xe4\xd8\xea\x01\x11\xa5P\xec?j\x84fk\xb4\x8b";
 
 /// They are listed in byte order, `de` before `abc`. While the collector is open no other opens, and behind its end it has no act.
-const BY_CUTOFF: Collection = Collection {
+const BY_CUTOFF: Collection<'static> = Collection {
     files: &[
         (ABC_CHUNK, ABC_BLOB),
         (DE_CHUNK, DE_BLOB),
@@ -79,7 +77,7 @@ const RUNNING: &[u8] =
     b"PBSBOOK1\xa0\xbb\x0d\0\0\0\0\0\x02\0\0\0\0\0\0\0\x95\x9aE\xd4No\xcfX6\x1e\xd0\x04h\x15V\xfeP\x12\x9f!\x09\xe8\x17\xde\xc0\x98\xc0\x0c\x9e]%xs\xba\x0d\0\0\0\0\0\xbax\x16\xbf\x8f\x01\xcf\xeaAA@\xde]\xae\"#\xb0\x03a\xa3\x96\x17z\x9c\xb4\x10\xffa\xf2\0\x15\xad\xa0\xbb\x0d\0\0\0\0\0\x98i\xf1i/n\x91\x85\"y\xaeL\xdb\x05S.\xcf\xc3\x1f\xac*\xa2s.\xa06\x17L\x08\x08\x0c\xba";
 
 /// A later writer moves no cutoff. A lane with a session opens no collector.
-const BESIDE_WRITERS: Collection = Collection {
+const BESIDE_WRITERS: Collection<'static> = Collection {
     files: &[(ABC_CHUNK, ABC_BLOB), (DE_CHUNK, DE_BLOB), (BOOK, RUNNING)],
     entries: 0,
     clock: &[900_000, 990_000],
@@ -106,7 +104,7 @@ const BESIDE_WRITERS: Collection = Collection {
 };
 
 /// No cutoff is before 0, and nothing goes then.
-const EARLY: Collection = Collection {
+const EARLY: Collection<'static> = Collection {
     files: &[(ABC_CHUNK, ABC_BLOB), (DE_CHUNK, DE_BLOB), (BOOK, SAVED)],
     entries: 0,
     clock: &[],
@@ -127,7 +125,7 @@ const EARLY: Collection = Collection {
 };
 
 /// Without a book chunks stand as of the first act. Without chunks the first visit lists none.
-const WITHOUT_BOOK: Collection = Collection {
+const WITHOUT_BOOK: Collection<'static> = Collection {
     files: BOTH,
     entries: 0,
     clock: &[],
@@ -147,7 +145,7 @@ const WITHOUT_BOOK: Collection = Collection {
     saved: (1_000_000, Some(1_000_000), Some(1_000_000), 0),
 };
 
-const WITHOUT_CHUNKS: Collection = Collection {
+const WITHOUT_CHUNKS: Collection<'static> = Collection {
     files: NONE_OF_BOTH,
     entries: 0,
     clock: &[],
@@ -170,14 +168,14 @@ const WITHOUT_CHUNKS: Collection = Collection {
 const OF_ONE: &[u8] =
     b"B\xab8\x07\xbe\x83p\xa1h\xc3o\xd2{\"backup-id\":\"a\",\"backup-time\":1579069803,\"backup-type\":\"host\",\"files\":[{\"crypt-mode\":\"none\",\"csum\":\"80a67215aff0c585b6c055e38aa04b76d4b208e2d0c3eb31bfd02822ae62e1c0\",\"filename\":\"root.didx\",\"size\":3}]}";
 
-const OF_TWO: &[u8] =
+pub(crate) const OF_TWO: &[u8] =
     b"B\xab8\x07\xbe\x83p\xa1=\xe7\xa5\x0d{\"backup-id\":\"a\",\"backup-time\":1579069803,\"backup-type\":\"host\",\"files\":[{\"crypt-mode\":\"none\",\"csum\":\"8422682973ec0769ea78d13c53280463ec68e3cb5820cf9dbb43bfd71fb8932a\",\"filename\":\"root.didx\",\"size\":5}]}";
 
-const OF_MANY: &[u8] =
+pub(crate) const OF_MANY: &[u8] =
     b"B\xab8\x07\xbe\x83p\xa1\xb1\x9e\xd2\x8d{\"backup-id\":\"a\",\"backup-time\":1579069803,\"backup-type\":\"host\",\"files\":[{\"crypt-mode\":\"none\",\"csum\":\"39bcb24a313367516a988a486e819b823754fff46947f95d873ce6dede24cd08\",\"filename\":\"root.didx\",\"size\":2003}]}";
 
 /// The chunks of a snapshot stay, and go once it is forgotten.
-const FORGOTTEN_BETWEEN: Collection = Collection {
+const FORGOTTEN_BETWEEN: Collection<'static> = Collection {
     files: &[
         (ABC_CHUNK, ABC_BLOB),
         (DE_CHUNK, DE_BLOB),
@@ -216,7 +214,7 @@ const FORGOTTEN_BETWEEN: Collection = Collection {
 };
 
 /// An index of 1,001 entries is marked in two acts. `abc` is the last.
-const IN_TWO_MARKS: Collection = Collection {
+const IN_TWO_MARKS: Collection<'static> = Collection {
     files: &[
         (ABC_CHUNK, ABC_BLOB),
         (DE_CHUNK, DE_BLOB),
@@ -244,7 +242,7 @@ const IN_TWO_MARKS: Collection = Collection {
 };
 
 /// Its snapshot is forgotten behind the first of them: the rest is passed over.
-const FORGOTTEN_HALF_MARKED: Collection = Collection {
+const FORGOTTEN_HALF_MARKED: Collection<'static> = Collection {
     files: &[
         (ABC_CHUNK, ABC_BLOB),
         (DE_CHUNK, DE_BLOB),
@@ -272,33 +270,33 @@ const FORGOTTEN_HALF_MARKED: Collection = Collection {
 };
 
 /// Both chunks of the first snapshot were touched at 100.
-const BEFORE: &[u8] =
+pub(crate) const BEFORE: &[u8] =
     b"PBSBOOK1d\0\0\0\0\0\0\0\x02\0\0\0\0\0\0\0\x95\x9aE\xd4No\xcfX6\x1e\xd0\x04h\x15V\xfeP\x12\x9f!\x09\xe8\x17\xde\xc0\x98\xc0\x0c\x9e]%xd\0\0\0\0\0\0\0\xbax\x16\xbf\x8f\x01\xcf\xeaAA@\xde]\xae\"#\xb0\x03a\xa3\x96\x17z\x9c\xb4\x10\xffa\xf2\0\x15\xadd\0\0\0\0\0\0\0\x8b\x19\x83VT\x82\xa7S\xba,\x88\0ns\xc9\x87|\xd4\xb0\x8bga\xc4\xbd*)\xb9%hc&H";
 
 /// PREVIOUS of its archive from the index's end on, and a second snapshot's archive of `abc` alone.
-const TAKE_OVER: &[u8] = b"\x0b\x09root.didxP\x10\0\0\0\0\0\0";
+pub(crate) const TAKE_OVER: &[u8] = b"\x0b\x09root.didxP\x10\0\0\0\0\0\0";
 
-const NEW: &[u8] = b"\x0d\x09root.didx";
+pub(crate) const NEW: &[u8] = b"\x0d\x09root.didx";
 
-const NUMBER: &[u8] = b"\x02\0\0\0\0\0";
+pub(crate) const NUMBER: &[u8] = b"\x02\0\0\0\0\0";
 
-const APPEND: &[u8] =
+pub(crate) const APPEND: &[u8] =
     b"\x0f\0\x01\0\xbax\x16\xbf\x8f\x01\xcf\xeaAA@\xde]\xae\"#\xb0\x03a\xa3\x96\x17z\x9c\xb4\x10\xffa\xf2\0\x15\xad\0\0\0\0\0\0\0\0";
 
-const CLOSE: &[u8] =
+pub(crate) const CLOSE: &[u8] =
     b"\x10\0\x01\0\0\0\0\0\0\0\x03\0\0\0\0\0\0\0\x80\xa6r\x15\xaf\xf0\xc5\x85\xb6\xc0U\xe3\x8a\xa0Kv\xd4\xb2\x08\xe2\xd0\xc3\xeb1\xbf\xd0(\"\xaeb\xe1\xc0";
 
-const PUT: &[u8] =
+pub(crate) const PUT: &[u8] =
     b"\x11\x0findex.json.blobB\xab8\x07\xbe\x83p\xa1#\xcc\x11\x06{\"backup-id\":\"a\",\"backup-time\":1579069804,\"backup-type\":\"host\",\"files\":[{\"crypt-mode\":\"none\",\"csum\":\"80a67215aff0c585b6c055e38aa04b76d4b208e2d0c3eb31bfd02822ae62e1c0\",\"filename\":\"root.didx\",\"size\":3}]}";
 
 /// The second snapshot's index from its end on, and the bytes of its archive.
-const FROM_END: &[u8] = b"\x15\x09root.didx(\x10\0\0\0\0\0\0";
+pub(crate) const FROM_END: &[u8] = b"\x15\x09root.didx(\x10\0\0\0\0\0\0";
 
-const ALL_THREE: &[u8] = b"\x17\x09root.didx\0\0\0\0\0\0\0\0\x03\0\0\0";
+pub(crate) const ALL_THREE: &[u8] = b"\x17\x09root.didx\0\0\0\0\0\0\0\0\x03\0\0\0";
 
 /// A writer takes a chunk over from its base, and finishes. The base is forgotten before it is marked: what the writer took stays, and is
 /// restored, and the base's other chunk goes.
-const TAKEN_OVER: Collection = Collection {
+pub(crate) const TAKEN_OVER: Collection<'static> = Collection {
     files: &[
         (ABC_CHUNK, ABC_BLOB),
         (DE_CHUNK, DE_BLOB),
@@ -336,7 +334,7 @@ const TAKEN_OVER: Collection = Collection {
 
 /// Want of memory ends a collector: its next act is the end, which tells it and saves nothing. So does any want of memory of its lane, and
 /// no other lane's. A lane's end closes its collector.
-const CUT_SHORT: Collection = Collection {
+const CUT_SHORT: Collection<'static> = Collection {
     files: &[(ABC_CHUNK, ABC_BLOB), (DE_CHUNK, DE_BLOB), (BOOK, SAVED)],
     entries: 0,
     clock: &[],
@@ -359,7 +357,7 @@ const CUT_SHORT: Collection = Collection {
 };
 
 /// A snapshot's manifest is damaged: no collector opens.
-const DAMAGED: Collection = Collection {
+const DAMAGED: Collection<'static> = Collection {
     files: &[
         (ABC_CHUNK, ABC_BLOB),
         (DE_CHUNK, DE_BLOB),
@@ -382,7 +380,7 @@ const DAMAGED: Collection = Collection {
 };
 
 /// An index does not decode: nothing is marked or visited, and the next act is the end, which tells its file and saves nothing.
-const UNDECODED: Collection = Collection {
+const UNDECODED: Collection<'static> = Collection {
     files: &[
         (ABC_CHUNK, ABC_BLOB),
         (DE_CHUNK, DE_BLOB),
@@ -410,7 +408,141 @@ const UNDECODED: Collection = Collection {
     saved: (10, Some(5), Some(4), 0),
 };
 
-static COLLECTIONS: [Collection; 12] = [
+/// Moments do not fall where the clock does, nor below the saved book's.
+const SAVED_LATER: &[u8] =
+    b"PBSBOOK1@B\x0f\0\0\0\0\0\x02\0\0\0\0\0\0\0\x95\x9aE\xd4No\xcfX6\x1e\xd0\x04h\x15V\xfeP\x12\x9f!\x09\xe8\x17\xde\xc0\x98\xc0\x0c\x9e]%x\x93\xef\x0d\0\0\0\0\0\xbax\x16\xbf\x8f\x01\xcf\xeaAA@\xde]\xae\"#\xb0\x03a\xa3\x96\x17z\x9c\xb4\x10\xffa\xf2\0\x15\xad\x94\xef\x0d\0\0\0\0\0t{\xe66\x8da\x93\xc2\x8eoc\xa0H\xf2\xda\xc2U\x08\x11\x1d\xd8w\xea\xf1A\xbf\xa2\xb7<\x89RR";
+
+const FALLING: Collection<'static> = Collection {
+    files: &[
+        (ABC_CHUNK, ABC_BLOB),
+        (DE_CHUNK, DE_BLOB),
+        (BOOK, SAVED_LATER),
+    ],
+    entries: 0,
+    clock: &[10],
+    then: 5,
+    steps: &[
+        (5, Step::Start, b"", 3),
+        (5, Step::Pass, b"", 1),
+        (5, Step::Pass, b"", 1),
+        (
+            5,
+            Step::Pass,
+            b")\0\0\0\0@B\x0f\0\0\0\0\0\x94\xef\x0d\0\0\0\0\0\0\0\0\0\0\0\0\0\x01\0\0\0\0\0\0\0\x01\0\0\0\0\0\0\0",
+            4,
+        ),
+    ],
+    left: (1_000_000, Some(913_300), None, 0),
+    saved: (1_000_000, Some(913_300), None, 0),
+};
+
+/// The writer began at 990,000, and so does the collector.
+const FALLING_BEHIND_WRITER: Collection<'static> = Collection {
+    files: &[(ABC_CHUNK, ABC_BLOB), (DE_CHUNK, DE_BLOB), (BOOK, RUNNING)],
+    entries: 0,
+    clock: &[990_000],
+    then: 10,
+    steps: &[
+        (3, Step::OpenWriter(FIRST), NO_BASE, 0),
+        (5, Step::Start, b"", 3),
+        (5, Step::Pass, b"", 1),
+        (5, Step::Pass, b"", 1),
+        (
+            5,
+            Step::Pass,
+            b")\0\0\0\00\x1b\x0f\0\0\0\0\0\x84\xc8\x0d\0\0\0\0\0\0\0\0\0\0\0\0\0\0\0\0\0\0\0\0\0\x02\0\0\0\0\0\0\0",
+            4,
+        ),
+    ],
+    left: (990_000, None, None, 0),
+    saved: (990_000, None, None, 0),
+};
+
+/// Each act has a moment of its own: what is marked is touched then, and is used.
+const RISING: Collection<'static> = Collection {
+    files: &[
+        (ABC_CHUNK, ABC_BLOB),
+        (DE_CHUNK, DE_BLOB),
+        (BOOK, BEFORE),
+        (MANIFEST_PATH, OF_TWO),
+    ],
+    entries: 2,
+    clock: &[1_000_000, 1_000_001, 1_000_002, 1_000_003],
+    then: 1_000_004,
+    steps: &[
+        (5, Step::Start, b"", 3),
+        (5, Step::Pass, b"", 1),
+        (5, Step::Pass, b"", 1),
+        (5, Step::Pass, b"", 1),
+        (
+            5,
+            Step::Pass,
+            b")\0\0\0\0@B\x0f\0\0\0\0\0\x94\xef\x0d\0\0\0\0\0\x02\0\0\0\0\0\0\0\0\0\0\0\0\0\0\0\0\0\0\0\0\0\0\0",
+            4,
+        ),
+    ],
+    left: (1_000_004, Some(1_000_001), Some(1_000_001), 0),
+    saved: (1_000_004, Some(1_000_001), Some(1_000_001), 0),
+};
+
+/// The book lacks a chunk, which stands as of the first act.
+const STALE: Collection<'static> = Collection {
+    files: &[
+        (ABC_CHUNK, ABC_BLOB),
+        (DE_CHUNK, DE_BLOB),
+        (
+            BOOK,
+            b"PBSBOOK1\x0a\0\0\0\0\0\0\0\x01\0\0\0\0\0\0\0\xbax\x16\xbf\x8f\x01\xcf\xeaAA@\xde]\xae\"#\xb0\x03a\xa3\x96\x17z\x9c\xb4\x10\xffa\xf2\0\x15\xad\x05\0\0\0\0\0\0\06\xe8\xda'\x04\x05\xad\xa9\xa3\xfb\x96P\xf9\xaayIe\xd8\x17!\xcd\xce\xc2t%?kn7`D[",
+        ),
+    ],
+    entries: 0,
+    clock: &[],
+    then: 1_000_000,
+    steps: &[
+        (5, Step::Start, b"", 3),
+        (5, Step::Pass, b"", 1),
+        (5, Step::Pass, b"", 1),
+        (
+            5,
+            Step::Pass,
+            b")\0\0\0\0@B\x0f\0\0\0\0\0\x94\xef\x0d\0\0\0\0\0\x01\0\0\0\0\0\0\0\0\0\0\0\0\0\0\0\x01\0\0\0\0\0\0\0",
+            4,
+        ),
+    ],
+    left: (1_000_000, None, Some(1_000_000), 0),
+    saved: (1_000_000, None, Some(1_000_000), 0),
+};
+
+/// The book is damaged. Opening removes what was not installed, and a folder without a manifest.
+const LITTERED: Collection<'static> = Collection {
+    files: &[
+        (ABC_CHUNK, ABC_BLOB),
+        (DE_CHUNK, DE_BLOB),
+        (BOOK, b"abc"),
+        (".chunks/book.tmp", SAVED),
+        (".chunks/ba78/abc.tmp", ABC_BLOB),
+        (ROOT_PATH, b"abc"),
+    ],
+    entries: 0,
+    clock: &[],
+    then: 1_000_000,
+    steps: &[
+        (5, Step::Start, b"", 3),
+        (5, Step::Pass, b"", 1),
+        (5, Step::Pass, b"", 1),
+        (
+            5,
+            Step::Pass,
+            b")\0\0\0\0@B\x0f\0\0\0\0\0\x94\xef\x0d\0\0\0\0\0\x02\0\0\0\0\0\0\0\0\0\0\0\0\0\0\0\0\0\0\0\0\0\0\0",
+            4,
+        ),
+        (5, Step::List, NONE_THERE, 0),
+    ],
+    left: (1_000_000, Some(1_000_000), Some(1_000_000), 0),
+    saved: (1_000_000, Some(1_000_000), Some(1_000_000), 0),
+};
+
+static COLLECTIONS: [Collection<'static>; 17] = [
     BY_CUTOFF,
     BESIDE_WRITERS,
     EARLY,
@@ -423,6 +555,11 @@ static COLLECTIONS: [Collection; 12] = [
     CUT_SHORT,
     DAMAGED,
     UNDECODED,
+    FALLING,
+    FALLING_BEHIND_WRITER,
+    RISING,
+    STALE,
+    LITTERED,
 ];
 
 fn push(writer: &mut DynamicWriter, digest: &Digest32, length: u32) -> Result<(), Fail> {
@@ -444,7 +581,7 @@ fn index(alloc: Global, entries: u32) -> Result<Vec<u8>, Fail> {
 }
 
 /// A disk with these files, and with the index of so many entries.
-fn folder(alloc: Global, files: Contents, entries: u32) -> Result<MemoryDisk, Fail> {
+pub(crate) fn folder(alloc: Global, files: Contents, entries: u32) -> Result<MemoryDisk, Fail> {
     let mut disk = disk_of(alloc, files)?;
     if entries > 0 {
         let text = index(alloc, entries)?;
@@ -453,70 +590,82 @@ fn folder(alloc: Global, files: Contents, entries: u32) -> Result<MemoryDisk, Fa
     Ok(disk)
 }
 
-fn assert_kinds(rt: &impl Abort, order: &[Entry], steps: &[(u32, Step, &[u8], u8)]) {
-    same(rt, order.len(), steps.len());
-    for (entry, (lane, _, _, kind)) in order.iter().zip(steps) {
-        same(rt, (entry.lane, entry.kind), (*lane, *kind));
-    }
+fn opened(alloc: Global, row: &Collection<'_>) -> Result<MemoryCore, Fail> {
+    let disk = folder(alloc, row.files, row.entries)?;
+    opened_over(alloc, disk, row.clock, row.then)
 }
 
-fn try_collection(rt: &impl Abort, alloc: Global, row: &Collection) -> Result<(), Fail> {
-    let disk = folder(alloc, row.files, row.entries)?;
-    let mut core = opened_over(alloc, disk, row.clock, row.then)?;
-    for (lane, step, expected, _) in row.steps {
-        try_step(rt, &mut core, alloc, *lane, *step, expected)?;
+/// Which of several tables, and what of it.
+pub(crate) type Spot = [usize; 4];
+
+/// Does the acts one after another, and compares the frames of their replies, and their entries. Gives the answers as they are shown.
+pub(crate) fn try_acts(
+    rt: &impl Abort,
+    core: &mut MemoryCore,
+    alloc: Global,
+    spot: Spot,
+    rows: &[Row],
+) -> Result<Vec<String>, Fail> {
+    let mut shown = Vec::new(alloc);
+    for (number, (lane, step, expected, kind)) in rows.iter().enumerate() {
+        let answer = do_step(core, alloc, *lane, *step)?;
+        shown.push(format!(in alloc; "{answer:?}")?)?;
+        let Answer { reply, entry, .. } = answer;
+        let place = (spot, number);
+        same_at(rt, place, (entry.lane, entry.kind), (*lane, *kind));
+        same_at(rt, place, frame(alloc, reply)?.as_bytes(), *expected);
     }
-    same(rt, kept(&core), row.left);
-    let parts = core.parts();
-    assert_kinds(rt, &parts.order, row.steps);
-    let again = opened_over(alloc, parts.disk, &[], 0)?;
-    same(rt, kept(&again), row.saved);
+    Ok(shown)
+}
+
+/// Plays them as one list. Each is answered as it was.
+fn try_list(
+    rt: &impl Abort,
+    core: &mut MemoryCore,
+    alloc: Global,
+    spot: Spot,
+    rows: &[Row],
+    shown: &[String],
+) -> Result<(), Fail> {
+    let acts = acts_of(alloc, rows)?;
+    let answers = play(core, alloc, acts).ok().ok_or("not played")?;
+    same_at(rt, spot, answers.len(), shown.len());
+    for (answer, text) in answers.iter().zip(shown) {
+        let found = format!(in alloc; "{answer:?}")?;
+        same_at(rt, spot, found.as_str(), text.as_str());
+    }
     Ok(())
+}
+
+/// Its acts are done one after another, and on another core as one list. Both leave the same. Gives the order.
+pub(crate) fn try_collection(
+    rt: &impl Abort,
+    alloc: Global,
+    spot: Spot,
+    row: &Collection<'_>,
+) -> Result<Vec<Entry>, Fail> {
+    let mut core = opened(alloc, row)?;
+    let shown = try_acts(rt, &mut core, alloc, spot, row.steps)?;
+    same_at(rt, spot, kept(&core), row.left);
+    let mut core = opened(alloc, row)?;
+    try_list(rt, &mut core, alloc, spot, row.steps, &shown)?;
+    same_at(rt, spot, kept(&core), row.left);
+    let parts = core.parts();
+    let again = opened_over(alloc, parts.disk, &[], 0)?;
+    same_at(rt, spot, kept(&again), row.saved);
+    Ok(parts.order)
 }
 
 #[test]
 fn unused_chunks_are_collected(rt: HostRuntime) -> Result<(), Fail> {
-    for row in &COLLECTIONS {
-        try_collection(&rt, rt.alloc(), row)?;
+    for (number, row) in COLLECTIONS.iter().enumerate() {
+        let _ = try_collection(&rt, rt.alloc(), [number, 0, 0, 0], row)?;
     }
-    Ok(())
-}
-
-/// A collection without chunks, and another lane's GC: the lanes, and the kinds of the entries.
-static PLAYED: [(u32, u8); 4] = [(5, 3), (6, 0), (5, 1), (5, 4)];
-
-#[test]
-fn lists_of_acts_are_played(rt: HostRuntime) -> Result<(), Fail> {
-    let alloc = rt.alloc();
-    let mut core = opened_over(alloc, MemoryDisk::new(alloc), &[], 1_000_000)?;
-    let acts = vec![in alloc;
-        (5, Act::Start),
-        (6, Act::Start),
-        (5, Act::Step),
-        (5, Act::Step),
-    ]?;
-    let answers = play(&mut core, alloc, acts).ok().ok_or("not played")?;
-    same(&rt, answers.len(), PLAYED.len());
-    for (answer, row) in answers.iter().zip(&PLAYED) {
-        same(&rt, (answer.entry.lane, answer.entry.kind), *row);
-    }
-    let end = answers.last().ok_or("no answer")?;
-    let is_told = matches!(
-        &end.reply,
-        Some(Reply::Collected {
-            start: 1_000_000,
-            cutoff: 913_300,
-            used: 0,
-            pending: 0,
-            removed: 0,
-        })
-    );
-    same(&rt, is_told, true);
     Ok(())
 }
 
 /// The first snapshot's archive has `abc` alone.
-const ONE_NEEDED: Contents = &[
+pub(crate) const ONE_NEEDED: Contents = &[
     (ABC_CHUNK, ABC_BLOB),
     (DE_CHUNK, DE_BLOB),
     (BOOK, SAVED),

@@ -6,6 +6,8 @@ mod admin;
 #[cfg(test)]
 mod asserts;
 #[cfg(test)]
+mod beside;
+#[cfg(test)]
 mod books;
 #[cfg(test)]
 mod calls;
@@ -25,5 +27,7 @@ mod reader;
 mod state;
 #[cfg(test)]
 mod steps;
+#[cfg(test)]
+mod stopped;
 #[cfg(test)]
 mod writer;

@@ -1,19 +1,23 @@
 //! Acts on a core, as tables have them.
 
-ghost use Rattle.std.specs.Prelude.{IfOk, IfSome};
+ghost use Rattle.std.specs.Prelude.{◌≡◌, true, IfOk, IfSome, IsOk};
 ghost use Rattle.wire_commands.specs.HasText.{ReplyHasText};
+ghost use Rattle.store_model.specs.ArchiveSteps.{check_chunk};
 ghost use Rattle.store_history.specs.Acts.{IsWellFormed};
+ghost use Rattle.core_laws.specs.Playing.{ArePlayable, IsPlayable};
 
 use crate::asserts::same;
 use crate::calls::frame;
 use crate::fixtures::{CoreOver, MANIFEST, checked};
+use blob_codec::decode;
 use core_state::{Act, Answer};
 use disk_trait::Disk;
+use sha2::{Digest, Sha256};
 use shared_store::apply;
 use std::alloc::{AllocError, Global};
 use std::process::Abort;
 use std::test::Fail;
-use store_types::{Bytes, Keep};
+use store_types::{Bytes, Digest32, Keep};
 use wire_commands::Command;
 
 /// An act of a lane, as a table has it.
@@ -41,6 +45,9 @@ pub(crate) enum Step {
     End,
 }
 
+/// An act of a lane, with the frame of its reply, and the kind of its entry.
+pub(crate) type Row = (u32, Step, &'static [u8], u8);
+
 const KEEP_ALL: Keep = Keep {
     last: 0,
     hourly: 0,
@@ -59,6 +66,35 @@ fn manifest(alloc: Global) -> Result<Act, AllocError>
     Ok(Act::Blob { name, checked })
 }
 
+/// Whether the bytes are the blob of a piece with this digest.
+fn is_blob_of(digest: Digest32, blob: &[u8]) -> bool
+    ensures { result ≡ true → IsOk (check_chunk digest blob.now) }
+{
+    let piece = match decode(blob) {
+        Ok(piece) => piece,
+        Err(_) => return false,
+    };
+    if piece.is_empty() {
+        return false;
+    }
+    let found = Digest32(Sha256::digest(piece));
+    if found != digest {
+        return false;
+    }
+    true
+}
+
+/// The upload of a chunk under its digest, checked outside the act.
+fn chunk(digest: Digest32, blob: Bytes) -> Result<Act, Fail>
+    ensures { IfOk result IsWellFormed }
+{
+    if !is_blob_of(digest, blob.as_slice()) {
+        return Err("no such chunk".into());
+    }
+    let checked = Ok(blob);
+    Ok(Act::Chunk { digest, checked })
+}
+
 /// The act of a command that a writer or a reader sends.
 fn act_sent(alloc: Global, body: &[u8]) -> Result<Act, Fail>
     ensures { IfOk result IsWellFormed }
@@ -69,6 +105,7 @@ fn act_sent(alloc: Global, body: &[u8]) -> Result<Act, Fail>
     match command {
         Command::Previous { file, offset } => { Ok(Act::Plain(Command::Previous { file, offset })) }
         Command::NewDynamic { file } => Ok(Act::Plain(Command::NewDynamic { file })),
+        Command::Chunk { digest, blob } => chunk(digest, blob),
         Command::Append { number, entries } => {
             Ok(Act::Plain(Command::Append { number, entries }))
         }
@@ -147,6 +184,27 @@ fn act_of(alloc: Global, step: Step) -> Result<Act, Fail>
         Step::Short => Ok(Act::Short),
         Step::End => Ok(Act::End),
     }
+}
+
+/// The act of a row, and its lane.
+fn asked(alloc: Global, row: &Row) -> Result<(u32, Act), Fail>
+    ensures { IfOk result IsPlayable }
+{
+    let (lane, step, _, _) = *row;
+    if lane >= 64 {
+        return Err("no such lane".into());
+    }
+    Ok((lane, act_of(alloc, step)?))
+}
+
+pub(crate) fn acts_of(alloc: Global, rows: &[Row]) -> Result<Vec<(u32, Act)>, Fail>
+    ensures { IfOk result (λ acts. ArePlayable acts.items) }
+{
+    let mut acts = Vec::new(alloc);
+    for row in rows {
+        acts.push(asked(alloc, row)?)?;
+    }
+    Ok(acts)
 }
 
 /// Does a step, where there is room.

@@ -1,6 +1,5 @@
 -- How a job that has a session ends.
 use Rattle.std.proofs.Common.{◌≡◌, true, false, refl}
-use Rattle.store_types.specs.declared.refusal.Refusal.{Refusal}
 use Rattle.store_types.specs.declared.refusal.Refusal.TheVariants.{DiskFault, Halted, NoMemory}
 use Rattle.wire_commands.specs.declared.reply.Reply.{Reply}
 use Rattle.wire_commands.specs.declared.reply.Reply.TheVariants.{Refused}

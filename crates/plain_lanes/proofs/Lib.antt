@@ -6,3 +6,5 @@ pub mod JudgingLemmas
 pub mod VerifyLemmas
 pub mod SyncLemmas
 pub mod UploadLemmas
+pub mod AppendLemmas
+pub mod ListedLemmas

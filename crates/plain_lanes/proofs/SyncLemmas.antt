@@ -1,6 +1,6 @@
 -- What a SYNC makes of the replies to its steps.
 use Rattle.std.proofs.Common.{◌≡◌, ℕ, ◌*◌, ◌≤◌, ◌<◌, true, false, List, [], ◌∷◌, ◌++◌, length, refl, sym, ap, arith, length-append}
-use Rattle.std.specs.Prelude.{◌+◌, All}
+use Rattle.std.specs.Prelude.{All}
 use Rattle.std.specs.List.{flat_map}
 use Rattle.std.proofs.lemmas.List.Elements.{All-head, All-tail}
 use Rattle.store_types.specs.Names.{key_text}
@@ -8,10 +8,10 @@ use Rattle.store_files.specs.Archive.{Snapshot}
 use Rattle.wire_commands.specs.declared.command.Command.{Command}
 use Rattle.wire_commands.specs.declared.reply.Reply.{Reply}
 use Rattle.wire_commands.specs.declared.reply.Reply.TheVariants.{Base, Keys, Refused}
-use Rattle.wire_commands.specs.CommandText.{text}
+use Rattle.wire_commands.specs.Fields.{text}
 use Rattle.wire_commands.specs.ReplyText.{reply_text}
 use Rattle.wire_commands.specs.HasText.{IsText, ReplyHasText}
-use Rattle.store_model.specs.Job.{Pull, Job, over, asking, beginning, sending, aborting}
+use Rattle.store_model.specs.Job.{Pull, over, asking, beginning, sending, aborting}
 use Rattle.store_model.specs.SyncJob.{next_snapshot, next_command, commands_of, begun, replied}
 use Rattle.plain_lanes.specs.Closes.{ended_by, is_refused}
 use Rattle.plain_lanes.specs.Pulls.{is_base}

@@ -1,25 +1,24 @@
 -- The commands by which a SYNC uploads a snapshot, one by one.
-use Rattle.std.proofs.Common.{◌≡◌, ℕ, zero, suc, ◌+◌, ◌≤◌, ◌<◌, Bool, true, false, cond, eqb, List, [], ◌∷◌, ◌++◌, map, length, get_or, Option, Some, None, take, drop, drop-cons, add-one, refl, sym, ap, ◌∙◌, arith, append_assoc, append-nil, length-drop}
-use Rattle.std.specs.List.{list_any, filter_map, cons_option}
+use Rattle.std.proofs.Common.{◌≡◌, ℕ, suc, ◌+◌, ◌≤◌, ◌<◌, Bool, true, false, cond, List, [], ◌∷◌, ◌++◌, map, length, get_or, drop, drop-cons, add-one, refl, sym, ap, ◌∙◌, append_assoc, append-nil}
+use Rattle.std.specs.List.{list_any}
 use Rattle.std.specs.Str.{bytes_eq}
-use Rattle.std.specs.Prelude.{min}
-use Rattle.std.proofs.lemmas.List.{map-append, take_min, drop_min, drop_all, take_more}
-use Rattle.std.proofs.lemmas.List.Elements.{filter_map-append}
+use Rattle.std.specs.Prelude.{◌||◌}
+use Rattle.std.proofs.lemmas.List.{map-append, drop_all}
 use Rattle.sha2.specs.Sha256.{sha256}
 use Rattle.store_types.specs.declared.append.AppendEntry.{AppendEntry}
 use Rattle.store_types.specs.declared.names.Digest32.{Digest32}
 use Rattle.store_types.specs.FileNames.{manifest_name}
-use Rattle.store_files.specs.Archive.{Archive, Content, archive, blob, File, Snapshot, digest_of, pieces_of, file_named}
+use Rattle.store_files.specs.Archive.{Content, archive, blob, File, Snapshot, digest_of, pieces_of, file_named}
 use Rattle.wire_commands.specs.declared.command.Command.{Command}
-use Rattle.wire_commands.specs.declared.command.Command.TheVariants.{Append, Blob, Finish}
-use Rattle.store_model.specs.SyncJob.{has_digest_of, unsent, entries_from, appends, file_commands, archive_commands, new_index, uploads, listed_files, text_of, commands_of}
+use Rattle.wire_commands.specs.declared.command.Command.TheVariants.{Blob, Finish}
+use Rattle.store_model.specs.SyncJob.{has_digest_of, unsent, entries_from, appends, file_commands, new_index, uploads, listed_files, text_of, commands_of}
 use Rattle.plain_lanes.specs.Uploading.{is_sent, unsent_by, sent_after, chunk_of, close_of, file_commands_by, uploads_by}
 
 -- ---- by digests, as by pieces
 
 sent_same : (p : List ℕ) (sent : List (List ℕ)) → is_sent p (map digest_of sent) ≡ list_any (has_digest_of p) sent
 sent_same p [] = refl
-sent_same p (q ∷ qs) = ap (λ b. cond (bytes_eq (sha256 q) (sha256 p)) true b) (sent_same p qs)
+sent_same p (q ∷ qs) = ap (λ b. bytes_eq (sha256 q) (sha256 p) || b) (sent_same p qs)
 
 unsent_same : (sent pieces : List (List ℕ)) → unsent_by (map digest_of sent) pieces ≡ unsent sent pieces
 unsent_same sent [] = refl
@@ -50,26 +49,6 @@ uploads_same files = uploads_from [] files
 pub from_place : {A : Type 0} (xs : List A) (i : ℕ) (x : A) → i < length xs → x ≡ get_or xs i x → drop i xs ≡ x ∷ drop (i + 1) xs
 from_place xs i x below is =
     drop-cons xs i x below ∙ ap (λ y. y ∷ drop (suc i) xs) (sym is) ∙ ap (λ k. x ∷ drop k xs) (sym (add-one i))
-
--- ---- APPENDs
-
-enough : (n m : ℕ) (xs : List AppendEntry) → length xs ≤ n → length xs ≤ m → appends n xs ≡ appends m xs
-unfolding appends
-enough zero zero xs h k = refl
-enough zero (suc m) [] h k = refl
-enough zero (suc m) (e ∷ es) h k = absurd (omega arith)
-enough (suc n) zero [] h k = refl
-enough (suc n) zero (e ∷ es) h k = absurd (omega arith)
-enough (suc n) (suc m) [] h k = refl
-enough (suc n) (suc m) (e ∷ es) h k =
-    ap (λ l. Append 0 (take 4096 (e ∷ es)) ∷ l) (enough n m (drop 4096 (e ∷ es)) (omega (arith, h, length-drop 4096 (e ∷ es))) (omega (arith, k, length-drop 4096 (e ∷ es))))
-
--- the first of them, and those that are left
-pub append_first : (xs : List AppendEntry) → 0 < length xs → appends (length xs) xs ≡ Append 0 (take 4096 xs) ∷ appends (length (drop 4096 xs)) (drop 4096 xs)
-unfolding appends
-append_first [] h = absurd (omega arith)
-append_first (e ∷ es) h =
-    ap (λ l. Append 0 (take 4096 (e ∷ es)) ∷ l) (enough (length es) (length (drop 4096 (e ∷ es))) (drop 4096 (e ∷ es)) (omega (arith, length-drop 4096 (e ∷ es))) (omega arith))
 
 -- ---- command by command
 
@@ -106,13 +85,9 @@ pub chunk_pushed : (commands new : List Command) (sent more : List Digest32) (p 
 chunk_pushed commands new sent more p pieces rest next pushed is =
     let one = map chunk_of (unsent_by sent (p ∷ [])) in
     ap (λ cs. cs ++ map chunk_of (unsent_by more rest)) pushed ∙ append_assoc commands one (map chunk_of (unsent_by more rest))
-    ∙ ap (λ ds. commands ++ one ++ map chunk_of (unsent_by ds rest)) is
+    ∙ ap (λ ds. commands ++ (one ++ map chunk_of (unsent_by ds rest))) is
     ∙ ap (λ cs. commands ++ cs) (sym (map-append chunk_of (unsent_by sent (p ∷ [])) (unsent_by (sent_after p sent) rest)) ∙ ap (map chunk_of) (sym (chunk_more sent p rest)))
     ∙ sym (ap (λ ps. commands ++ map chunk_of (unsent_by sent ps)) next)
-
-pub entries_count : (start : ℕ) (pieces : List (List ℕ)) → length (entries_from start pieces) ≡ length pieces
-entries_count start [] = refl
-entries_count start (p ∷ ps) = ap suc (entries_count (start + length p) ps)
 
 pub entry_pushed : (entries new : List AppendEntry) (e : AppendEntry) (offset further : ℕ) (p : List ℕ) (pieces rest : List (List ℕ)) → pieces ≡ p ∷ rest
     → new ≡ entries ++ e ∷ [] → e ≡ record { digest = digest_of p; offset = offset } → further ≡ offset + length p
@@ -123,71 +98,23 @@ entry_pushed entries new e offset further p pieces rest next pushed own is =
     ∙ ap (λ (x : AppendEntry). entries ++ x ∷ entries_from (offset + length p) rest) own
     ∙ sym (ap (λ ps. entries ++ entries_from offset ps) next)
 
-pub append_pushed : (commands new : List Command) (left part later : List AppendEntry) (n : ℕ) → 0 < length left → n ≡ min (length left) 4096
-    → part ≡ take n left → later ≡ drop n left → new ≡ commands ++ Append 0 part ∷ []
-    → new ++ appends (length later) later ≡ commands ++ appends (length left) left
-append_pushed commands new left part later n some is front back pushed =
-    let turned : n ≡ min 4096 (length left) = omega (arith, is) in
-    let first = front ∙ ap (λ k. take k left) turned ∙ take_min 4096 left in
-    let others = back ∙ ap (λ k. drop k left) turned ∙ drop_min 4096 left in
-    ap (λ cs. cs ++ appends (length later) later) pushed ∙ append_assoc commands (Append 0 part ∷ []) (appends (length later) later)
-    ∙ ap (λ es. commands ++ Append 0 es ∷ appends (length later) later) first
-    ∙ ap (λ es. commands ++ Append 0 (take 4096 left) ∷ appends (length es) es) others
-    ∙ sym (ap (λ cs. commands ++ cs) (append_first left some))
-
 pub file_pushed : (commands new : List Command) (sent more : List Digest32) (f : File) (files rest : List File) → files ≡ f ∷ rest
     → new ≡ commands ++ file_commands_by sent f.name f.content → more ≡ map digest_of (pieces_of f.content) ++ sent
     → new ++ uploads_by more rest ≡ commands ++ uploads_by sent files
 file_pushed commands new sent more f files rest next pushed is =
     ap (λ cs. cs ++ uploads_by more rest) pushed ∙ append_assoc commands (file_commands_by sent f.name f.content) (uploads_by more rest)
-    ∙ ap (λ ds. commands ++ file_commands_by sent f.name f.content ++ uploads_by ds rest) is
+    ∙ ap (λ ds. commands ++ (file_commands_by sent f.name f.content ++ uploads_by ds rest)) is
     ∙ sym (ap (λ fs. commands ++ uploads_by sent fs) next)
 
 -- an archive's, in four parts
 pub archive_pushed : (commands one two three four : List Command) (begin close : Command) (chunks appended : List Command)
     → one ≡ commands ++ begin ∷ [] → two ≡ one ++ chunks → three ≡ two ++ appended → four ≡ three ++ close ∷ []
-    → four ≡ commands ++ begin ∷ chunks ++ appended ++ close ∷ []
+    → four ≡ commands ++ (begin ∷ chunks ++ appended ++ close ∷ [])
 archive_pushed commands one two three four begin close chunks appended first second third fourth =
     fourth ∙ ap (λ l. l ++ close ∷ []) (third ∙ ap (λ l. l ++ appended) (second ∙ ap (λ l. l ++ chunks) first))
-    ∙ append_assoc ((commands ++ begin ∷ []) ++ chunks) appended (close ∷ [])
-    ∙ append_assoc (commands ++ begin ∷ []) chunks (appended ++ close ∷ [])
-    ∙ append_assoc commands (begin ∷ []) (chunks ++ appended ++ close ∷ [])
-
--- whether some are left
-pub some_left : (entries : List AppendEntry) → eqb (length entries) 0 ≡ false → 0 < length entries
-some_left [] h = cc
-some_left (e ∷ es) h = omega arith
-
-pub appends_done : (before r : List Command) (left : List AppendEntry) → length left ≡ 0 → before ++ appends (length left) left ≡ r → before ≡ r
-unfolding appends
-appends_done before r [] none h = sym (append-nil before) ∙ h
-appends_done before r (e ∷ es) none h = absurd (omega arith)
-
--- the APPENDs of an archive's pieces
-pub appends_of : (pieces : List (List ℕ)) (entries : List AppendEntry) → entries ≡ entries_from 0 pieces
-    → appends (length entries) entries ≡ appends (length pieces) (entries_from 0 pieces)
-appends_of pieces entries is =
-    ap (λ es. appends (length es) es) is ∙ ap (λ n. appends n (entries_from 0 pieces)) (entries_count 0 pieces)
-
--- ---- the files that a manifest lists
-
-module _ {A B : Type 0} (found : A → Option B) (xs : List A) (i : ℕ) (x : A) (below : i < length xs) (is : x ≡ get_or xs i x) where
-  one_more : (o : Option B) → found x ≡ o → filter_map found (take (i + 1) xs) ≡ filter_map found (take i xs) ++ cons_option o []
-  one_more o same =
-      ap (filter_map found) (take_more xs i x below ∙ ap (λ y. take i xs ++ y ∷ []) (sym is)) ∙ filter_map-append found (take i xs) (x ∷ [])
-      ∙ ap (λ q. filter_map found (take i xs) ++ cons_option q []) same
-
-  pub found_more : (listed new : List B) (y : B) → listed ≡ filter_map found (take i xs) → found x ≡ Some y → new ≡ listed ++ y ∷ []
-      → new ≡ filter_map found (take (i + 1) xs)
-  found_more listed new y so_far there pushed = pushed ∙ ap (λ l. l ++ y ∷ []) so_far ∙ sym (one_more (Some y) there)
-
-  pub found_still : (listed : List B) → listed ≡ filter_map found (take i xs) → found x ≡ None → listed ≡ filter_map found (take (i + 1) xs)
-  found_still listed so_far none = so_far ∙ sym (one_more None none ∙ append-nil (filter_map found (take i xs)))
-
--- by what the facts mean
-pub facts_found : {A B C : Type 0} (found : B → Option C) (view : A → B) (xs : List A) → filter_map (λ x. found (view x)) xs ≡ filter_map found (map view xs)
-facts_found found view [] = refl
-facts_found found view (x ∷ xs) = ap (cons_option (found (view x))) (facts_found found view xs)
+    ∙ ap (λ l. l ++ appended ++ close ∷ []) (append_assoc commands (begin ∷ []) chunks)
+    ∙ ap (λ l. l ++ close ∷ []) (append_assoc commands (begin ∷ chunks) appended)
+    ∙ append_assoc commands (begin ∷ chunks ++ appended) (close ∷ [])
 
 -- behind the files come the manifest and FINISH
 pub all_pushed : (x : Snapshot) (files : List File) (cs one two : List Command) (name contents : List ℕ) → files ≡ listed_files x → cs ≡ uploads_by [] files

@@ -1,5 +1,5 @@
 -- What a VERIFY makes of the replies to its steps.
-use Rattle.std.proofs.Common.{◌≡◌, ℕ, ◌*◌, ◌≤◌, Bool, true, false, cond, List, [], ◌∷◌, ◌++◌, length, Option, None, Some, refl, sym, ap, ◌∙◌, arith, length-append}
+use Rattle.std.proofs.Common.{◌≡◌, ℕ, ◌*◌, ◌≤◌, Bool, true, false, cond, List, [], ◌∷◌, length, Option, None, Some, refl, sym, ap, arith, length-append}
 use Rattle.std.specs.Prelude.{◌+◌, ◌<◌, ◌^◌, ◌&&◌, All}
 use Rattle.std.specs.List.{flat_map}
 use Rattle.std.specs.Option.{option_or}
@@ -7,7 +7,6 @@ use Rattle.std.specs.Prelude.{nat_lt}
 use Rattle.std.proofs.lemmas.Bool.{and_parts, ltb-true, lt-ltb, eqb-true, eq-eqb}
 use Rattle.std.proofs.lemmas.List.Elements.{All-nil, All-cons, All-head, All-tail}
 use Rattle.store_types.specs.declared.names.Digest32.{Digest32}
-use Rattle.store_types.specs.declared.refusal.Refusal.{Refusal}
 use Rattle.store_types.specs.declared.refusal.Refusal.TheVariants.{Damaged, Unreadable}
 use Rattle.wire_commands.specs.declared.rows.FileRow.{FileRow}
 use Rattle.wire_commands.specs.declared.rows.FileFault.{FileFault}
@@ -17,8 +16,8 @@ use Rattle.wire_commands.specs.declared.reply.Reply.{Reply}
 use Rattle.wire_commands.specs.declared.reply.Reply.TheVariants.{Done, Part, Data, Files, Verified, Refused}
 use Rattle.wire_commands.specs.ReplyText.{file_fault_text, fault_row_text, reply_text}
 use Rattle.wire_commands.specs.HasText.{FitsFileFault, FitsFaultRow, ReplyHasText}
-use Rattle.store_model.specs.Job.{Visit, Job, over, asking, listing, reading, closing}
-use Rattle.store_model.specs.VerifyJob.{next_file, file_done, next_chunk, with_fault, tally, judged, file_read, opened, begun, listed, part_read, read_part, chunk_fault, checked}
+use Rattle.store_model.specs.Job.{Visit, over, asking, listing, reading, checking, closing}
+use Rattle.store_model.specs.VerifyJob.{next_file, file_done, next_chunk, with_fault, tally, judged, file_read, opened, listed, part_read, read_part, chunk_fault, checked}
 use Rattle.plain_lanes.specs.Closes.{ended_by}
 use Rattle.plain_lanes.specs.FaultRows.{fault_fits, IsFitRow}
 use Rattle.plain_lanes.specs.Visits.{is_done, is_files, is_part, is_data, fault_told, chunk_told, unreadable_told, chunk_judged, with_faults, read_by, checked_by}
@@ -85,6 +84,17 @@ pub fault_pushed : (v : Visit) (row : FileRow) (fault : Option FileFault)
 fault_pushed v row None = refl
 fault_pushed v row (Some fault) = refl
 
+-- on to the next chunk of a file
+module _ (v : Visit) (row : FileRow) (fault : Option FileFault) (place : ℕ) where
+  pub no_chunk : (digests : List Digest32) → length digests ≡ 0 → file_done v row fault ≡ next_chunk v row fault place digests
+  unfolding next_chunk
+  no_chunk [] h = refl
+  no_chunk (d ∷ ds) h = absurd (omega arith)
+
+  pub a_chunk : (digests rest : List Digest32) (d : Digest32) → digests ≡ d ∷ rest → asking (checking v row fault place d rest) ≡ next_chunk v row fault place digests
+  unfolding next_chunk
+  a_chunk digests rest d is = sym (ap (next_chunk v row fault place) is)
+
 -- ---- the replies
 
 pub opens_done : (snapshot : List ℕ) (reply : Reply) → is_done reply ≡ true → asking (listing snapshot) ≡ opened snapshot reply
@@ -120,10 +130,10 @@ module _ (v : Visit) (row : FileRow) where
 
   -- a fault ends the file
   pub fault_read : (reply : Reply) (fault : FileFault) → fault_told reply ≡ Some fault → file_done v row (Some fault) ≡ read_by v row reply
-  fault_read reply fault h = rw h refl
+  fault_read reply fault h = rw (h, read_by) refl
 
   pub ended_read : (reply : Reply) → fault_told reply ≡ None → ended_by closing reply ≡ read_by v row reply
-  ended_read reply h = rw h refl
+  ended_read reply h = rw (h, read_by) refl
 
   pub read_not : (bytes : List ℕ) (reply : Reply) → is_part reply ≡ false → read_by v row reply ≡ read_part v row bytes reply
   unfolding read_part

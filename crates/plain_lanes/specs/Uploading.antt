@@ -1,7 +1,7 @@
 -- The commands by which a SYNC uploads a snapshot, by the digests that were sent.
 use Rattle.std.specs.Prelude.{◌≡◌, ℕ, Bool, List, [], ◌∷◌, ◌++◌, map, length, Result, OnOk, Vec, if◌then◌else◌}
 use Rattle.std.specs.declared.alloc.Global.{Global}
-use Rattle.std.specs.List.{list_any}
+use Rattle.std.specs.List.{list_any, filter_map, cons_option}
 use Rattle.std.specs.Str.{bytes_eq}
 use Rattle.sha2.specs.Sha256.{sha256}
 use Rattle.store_types.specs.declared.names.Digest32.{Digest32}
@@ -10,6 +10,7 @@ use Rattle.blob_codec.specs.Blob as blobs
 use Rattle.store_files.specs.Archive.{Archive, Content, archive, blob, File, digest_of, pieces_of, size_of, csum_of, file_named}
 use Rattle.wire_commands.specs.declared.command.Command.{Command}
 use Rattle.wire_commands.specs.declared.command.Command.TheVariants.{Chunk, CloseIndex, Blob}
+use Rattle.store_model.specs.AdminSteps.{facts_in}
 use Rattle.store_model.specs.SyncJob.{entries_from, appends, new_index, text_of}
 
 -- where memory is not wanting, these commands come behind those before
@@ -54,6 +55,14 @@ file_by sent f = file_commands_by sent f.name f.content
 abbrev pub uploads_by : List Digest32 → List File → List Command
 uploads_by sent [] = []
 uploads_by sent (f ∷ fs) = file_by sent f ++ uploads_by (map digest_of (pieces_of f.content) ++ sent) fs
+
+-- the file of this name, where there is one
+abbrev pub named_in : List ℕ → List File → List File
+named_in name files = cons_option (file_named name files) []
+
+-- the files that the manifest among them lists, in its order
+abbrev pub listed_in : List File → List File
+listed_in files = filter_map (λ fact. file_named fact.name files) (facts_in files)
 
 -- the text of the manifest among the files, or nothing
 abbrev pub manifest_text_in : List File → List ℕ

@@ -2,7 +2,7 @@
 
 ghost use Rattle.std.specs.Prelude.{◌≡◌, ◌+◌, ◌<◌, ◌≤◌, ◌∷◌, [], length, map, vec_len, All, IfOk};
 ghost use Rattle.store_types.specs.Times.{last_moment};
-ghost use Rattle.wire_commands.specs.HasText.{IsText, FitsPruneRow};
+ghost use Rattle.wire_commands.specs.HasText.{IsText, FitsPruneRow, ReplyHasText};
 ghost use Rattle.store_model.specs.PruneJob as model;
 ghost use Rattle.plain_lanes.specs.Jobs.{shown_job, FitsTaken, IsSpelledJob, mark_told};
 
@@ -134,7 +134,7 @@ pub fn forgot(
     requires done { All FitsPruneRow before.items }
     requires asked { IsText snapshot }
     requires to_come { All FitsPruneRow later.items }
-    requires fits { FitsTaken reply }
+    requires fits { ReplyHasText reply }
     ensures job { IfOk result (λ job. shown_job job ≡ model.forgot before.items snapshot later.items reply) }
     ensures spelled { IfOk result IsSpelledJob }
 {

@@ -2,9 +2,9 @@
 
 ghost use Rattle.std.specs.Prelude.{◌≡◌, ◌++◌, [], length, map, IfOk, OnOk};
 ghost use Rattle.store_files.specs.Archive.{digest_of};
-ghost use Rattle.store_model.specs.SyncJob.{appends, entries_from, new_index, commands_of as commands_for, listed_files as files_listed};
+ghost use Rattle.store_model.specs.SyncJob.{appends, entries_from, new_index, commands_of as commands_for};
 ghost use Rattle.plain_snapshots.specs.Shown.{shown_layout};
-ghost use Rattle.plain_lanes.specs.Uploading.{Pushes, is_sent as was_sent, chunk_of, chunks_of, one_chunk, close_of, sent_after, archive_by, file_by, uploads_by, manifest_text_in};
+ghost use Rattle.plain_lanes.specs.Uploading.{Pushes, is_sent as was_sent, chunk_of, chunks_of, one_chunk, close_of, sent_after, archive_by, file_by, uploads_by, named_in, listed_in, manifest_text_in};
 
 use plain_snapshots::{Archive, BlobData, Content, File, Layout, Snapshot, facts_in, file_named};
 use sha2::{Digest, Sha256};
@@ -191,16 +191,25 @@ fn sent_with(
     Ok(digests)
 }
 
-/// The files that the manifest lists, in its order.
-fn listed_files(alloc: Global, snapshot: &Snapshot) -> Result<Vec<File>, AllocError>
-    ensures { IfOk result (λ files. files.items ≡ files_listed snapshot.now) }
+/// One more listed file, where there is one of this name.
+fn push_named(listed: &mut Vec<File>, name: &[u8], files: &[File]) -> Result<(), AllocError>
+    ensures { OnOk result (listed.new.items ≡ listed.old.items ++ named_in name.now files.now) }
 {
-    let facts = facts_in(alloc, &snapshot.files)?;
+    let Some(file) = file_named(name, files) else {
+        return Ok(());
+    };
+    listed.push(file.clone()?)?;
+    Ok(())
+}
+
+/// The files that the manifest among these lists, in its order.
+fn listed_files(alloc: Global, files: &[File]) -> Result<Vec<File>, AllocError>
+    ensures { IfOk result (λ listed. listed.items ≡ listed_in files.now) }
+{
+    let facts = facts_in(alloc, files)?;
     let mut listed = Vec::new(alloc);
     for fact in &facts {
-        if let Some(file) = file_named(fact.name.as_slice(), &snapshot.files) {
-            listed.push(file.clone()?)?;
-        }
+        push_named(&mut listed, fact.name.as_slice(), files)?;
     }
     Ok(listed)
 }
@@ -217,11 +226,11 @@ fn uploads(alloc: Global, files: &[File]) -> Result<Vec<Command>, AllocError>
     Ok(commands)
 }
 
-/// The text of the manifest, or nothing.
-fn manifest_text(alloc: Global, snapshot: &Snapshot) -> Result<Vec<u8>, AllocError>
-    ensures { IfOk result (λ text. text.items ≡ manifest_text_in snapshot.now.files) }
+/// The text of the manifest among the files, or nothing.
+fn manifest_text(alloc: Global, files: &[File]) -> Result<Vec<u8>, AllocError>
+    ensures { IfOk result (λ text. text.items ≡ manifest_text_in files.now) }
 {
-    match file_named(b"index.json.blob", &snapshot.files) {
+    match file_named(b"index.json.blob", files) {
         Some(file) => Ok(file.content.text(alloc)?),
         None => Ok(Vec::new(alloc)),
     }
@@ -231,11 +240,11 @@ fn manifest_text(alloc: Global, snapshot: &Snapshot) -> Result<Vec<u8>, AllocErr
 pub fn commands_of(alloc: Global, snapshot: &Snapshot) -> Result<VecDeque<Command>, AllocError>
     ensures { IfOk result (λ commands. commands.items ≡ commands_for snapshot.now) }
 {
-    let files = listed_files(alloc, snapshot)?;
+    let files = listed_files(alloc, &snapshot.files)?;
     let mut commands = uploads(alloc, &files)?;
     commands.push(Command::Blob {
         file: Bytes::from_slice(alloc, b"index.json.blob")?,
-        blob: Bytes::from_vec(manifest_text(alloc, snapshot)?),
+        blob: Bytes::from_vec(manifest_text(alloc, &snapshot.files)?),
     })?;
     commands.push(Command::Finish)?;
     Ok(VecDeque::from_vec(commands))

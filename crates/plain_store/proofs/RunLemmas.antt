@@ -386,16 +386,16 @@ module _ (r : Run) (k : ℕ) (n : Next) (is : shown_next n ≡ next_of r k) (a :
   fault_of_command refusal =
       ap (λ (x : Run). tell x k left (Refused refusal)) (kept ∙ not_taken r k n other) ∙ sym (fault_ahead r k left refusal a) ∙ ap (told_fault r k refusal) (sym shown ∙ is)
 
--- a GC, where no job is open
-module _ (r : Run) (k : ℕ) (n : Next) (is : shown_next n ≡ next_of r k) (idle : is_some (lane_at r k).job ≡ false) (taken : Run) (kept : taken ≡ run_left n r k) where
-  pub opens_nothing : left_of_collect (shown_next n) ≡ None → Enters r taken false (opens r k (next_of r k))
-  opens_nothing h = (ap (opens r k) (sym is) ∙ opens_none r k (shown_next n) h, kept ∙ none_open r k n idle)
+-- a GC
+module _ (r : Run) (k : ℕ) (taken : Run) (same : taken ≡ r) where
+  pub opens_nothing : left_of_collect (next_of r k) ≡ None → Enters r taken false (opens r k (next_of r k))
+  opens_nothing h = (opens_none r k (next_of r k) h, same)
 
-  pub opens_by : (left : List ℕ) (new : Run) (fits : Bool) → left_of_collect (shown_next n) ≡ Some left → Enters taken new fits (opened_at taken k left)
+  pub opens_by : (left : List ℕ) (new : Run) (fits : Bool) → left_of_collect (next_of r k) ≡ Some left → Enters taken new fits (opened_at taken k left)
       → Enters r new fits (opens r k (next_of r k))
   opens_by left new fits found h =
-      subst (λ (o : Option Run). Enters r new fits o) (opens_gc r k left ∙ ap (opens r k) (sym (collect_is (shown_next n) left found) ∙ is))
-      (subst (λ (x : Run). Enters x new fits (opened_at x k left)) (kept ∙ none_open r k n idle) h)
+      subst (λ (o : Option Run). Enters r new fits o) (opens_gc r k left ∙ ap (opens r k) (sym (collect_is (next_of r k) left found)))
+      (subst (λ (x : Run). Enters x new fits (opened_at x k left)) same h)
 
 module _ (r : Run) (k : ℕ) (within : k < length r.lanes) (n : Next) (is : shown_next n ≡ next_of r k) where
   -- an open job's step, as the code does it

@@ -1,13 +1,14 @@
 //! The plain store and the lanes, as an order goes on.
 
-ghost use Rattle.std.specs.Prelude.{◌≡◌, ◌<◌, ◌≤◌, ◌==◌, length, option_map, is_some, Some, None, IfOk, IfErr, OnOk};
+ghost use Rattle.std.specs.Prelude.{◌≡◌, ◌<◌, ◌≤◌, ◌==◌, false, length, option_map, is_some, Some, None, IfOk, IfErr, OnOk};
 ghost use Rattle.std.specs.List.{find};
 ghost use Rattle.store_types.specs.Times.{last_moment};
+ghost use Rattle.store_types.specs.declared.refusal.Refusal.TheVariants.{CollectorBusy};
 ghost use Rattle.wire_commands.specs.HasText.{FitsRefusal, ReplyHasText};
 ghost use Rattle.store_model.specs.Lanes.{lane_at, next_of};
 ghost use Rattle.store_model.specs.Weave.{tell as told, go_on as gone_on, end_session as without_session, fault_refusal as refusal_of, is_end as is_an_end, is_cut_off as cuts_off, is_replied as has_reply, may_leave_unread as may_stop, want_collector as wants_collector, open_collector as opened, close_collector as closed_by, collected as collected_by, ended_with as after_end, unread as after_unread, begin_sync as begun_sync};
 ghost use Rattle.plain_lanes.specs.Jobs.{shown_job, IsSpelledJob};
-ghost use Rattle.plain_lanes.specs.Nexts.{shown_next, is_sync_next, IsFitAhead, IsFitNext};
+ghost use Rattle.plain_lanes.specs.Nexts.{shown_left, shown_next, is_sync_next, left_of_collect, IsFitAhead, IsFitNext};
 ghost use Rattle.plain_store.specs.Runs.{run_left, BeginsBy, Enters, EntersBy, EntersEntry, EntersOpen, IsApart, own_collector as own_open, end_open_at, ends_at, fault_at, fault_open_at, faulted_at, opened_at, opens_at, passed_at, refused_at, remote_failed_at, short_at, short_open, stepped_at};
 
 use crate::plain::Plain;
@@ -68,6 +69,14 @@ fn fault_refusal(first: Option<u64>) -> Refusal
         None => Refusal::DiskFault,
         Some(place) => Refusal::Halted { place },
     }
+}
+
+/// The refusal where this lane's collector is open.
+fn collector_busy(lane: u32) -> Refusal
+    ensures refusal { result ≡ CollectorBusy lane }
+    ensures fits { FitsRefusal result }
+{
+    Refusal::CollectorBusy { lane }
 }
 
 fn is_end(entry: Option<&Entry>) -> bool
@@ -222,7 +231,7 @@ impl<'a> Run<'a> {
         self.store.held(lane).want_idle()?;
         match &self.collecting {
             None => Ok(()),
-            Some(open) => Err(Refusal::CollectorBusy { lane: open.lane }),
+            Some(open) => Err(collector_busy(open.lane)),
         }
     }
 
@@ -363,6 +372,18 @@ impl<'a> Run<'a> {
         self.next_is_sync(alloc, lane)
     }
 
+    /// What is left of the lane's input behind a GC, where that stands next on a lane with no job and no open collector.
+    fn next_collect(&mut self, alloc: Global, lane: u32) -> Result<Option<&'a [u8]>, AllocError>
+        requires lane { lane < length self.old.lanes }
+        requires apart { IsApart self.old lane }
+        requires idle { is_some (lane_at self.old lane).job ≡ false }
+        ensures left { IfOk result (λ found. shown_left found ≡ left_of_collect (next_of self.old lane)) }
+        ensures same { OnOk result (self.new ≡ self.old) }
+    {
+        let next = self.take_next(alloc, lane)?;
+        Ok(next.behind_collect())
+    }
+
     /// The lane's collector opens where it may, with this left of the lane's input. Whether it does.
     fn open_allowed(&mut self, lane: u32, left: &'a [u8]) -> bool
         requires lane { lane < length self.old.lanes }
@@ -390,8 +411,7 @@ impl<'a> Run<'a> {
         if self.has_job(lane) {
             return Ok(false);
         }
-        let next = self.take_next(alloc, lane)?;
-        let Some(left) = next.behind_collect() else {
+        let Some(left) = self.next_collect(alloc, lane)? else {
             return Ok(false);
         };
         Ok(self.open_allowed(lane, left))

@@ -92,7 +92,9 @@ fn reply_of(alloc: Global, code: u8, body: &[u8]) -> Result<Reply, Fail>
 fn is_reply_to(step: &Step, reply: &Reply) -> bool
     ensures { IsTrue result → IsReplyTo step.now reply.now }
 {
-    let Step::Command(command) = step;
+    let Step::Command(command) = step else {
+        return false;
+    };
     match (command, reply) {
         (Command::Prune { .. }, Reply::Refused(_)) => true,
         (Command::Forget { .. }, Reply::Refused(_)) => true,
@@ -110,9 +112,8 @@ fn short(snapshot: &Bytes) -> &[u8] {
 
 fn note_step(log: &mut Vec<u8>, step: &Step) -> Result<(), Fail> {
     log.push(b'?')?;
-    let Step::Command(command) = step;
-    match command {
-        Command::Forget { snapshot } => log.extend_from_slice(short(snapshot))?,
+    match step {
+        Step::Command(Command::Forget { snapshot }) => log.extend_from_slice(short(snapshot))?,
         _ => log.extend_from_slice(b"group")?,
     }
     log.push(b' ')?;

@@ -29,6 +29,8 @@ struct Folder {
 
 const GC: &[u8] = b"\x01\0\0\0$";
 
+const BYE: &[u8] = b"\x01\0\0\0?";
+
 const VW_FILE: &str =
     ".chunks/eac4/eac42ad34c8f70c750fec028bcca658e27582f140dee8b0ec6b4a3ebafd946e9";
 
@@ -521,7 +523,7 @@ fn try_fault(
     same(rt, kinds_of(alloc, &served.order)?.as_slice(), fault.kinds);
     let ended = (served.status, served.report.not_saved);
     same(rt, ended, (Status::DiskFault, fault.not_saved));
-    Ok(())
+    assert_found(rt, alloc, call, fault.kinds, served.disk.into_inner())
 }
 
 #[test]
@@ -608,33 +610,44 @@ fn found_on(alloc: Global, disk: MemoryDisk) -> Result<Option<usize>, Fail> {
     Ok(None)
 }
 
-/// It may be found behind a run with entries of these kinds, in whose fifth one `de` was to go. What its end removes is gone for good.
+/// It may be found behind a run with entries of these kinds, in whose fifth one, behind the first visit, `de` was to go. Behind its end
+/// that is gone for good.
 fn may_be_found(kinds: &[u8], number: usize) -> bool {
     let is_forgotten = kinds.first() == Some(&0);
     match number {
         0 => !is_forgotten,
         1 => !kinds.is_empty() && !kinds.contains(&4),
-        2 => is_forgotten && kinds.len() > 4,
+        2 => kinds.get(3) == Some(&1),
         _ => false,
     }
 }
 
-/// The disk stops before the call with this number, and a crash of each kind comes.
-fn try_stop(rt: &impl Abort, alloc: Global, disk: MemoryDisk, call: u64) -> Result<(), Fail> {
-    let mut ports = [port_of(alloc, SWEPT.steps)?];
-    let stopping = FailingDisk::stopping_after(disk, call);
-    let served = serve_on(alloc, &mut ports, stopping, SWEPT.clock)?;
-    let kinds = kinds_of(alloc, &served.order)?;
-    let left = served.disk.into_inner();
+/// A crash of each kind comes behind a run whose disk failed at the call with this number.
+fn assert_found(
+    rt: &impl Abort,
+    alloc: Global,
+    call: u64,
+    kinds: &[u8],
+    left: MemoryDisk,
+) -> Result<(), Fail> {
     for choice in 0..3 {
         let found = found_on(alloc, left.crashed(alloc, choice)?)?;
         let fits = match found {
-            Some(number) => may_be_found(&kinds, number),
+            Some(number) => may_be_found(kinds, number),
             None => false,
         };
         same(rt, (call, choice, fits), (call, choice, true));
     }
     Ok(())
+}
+
+/// The disk stops before the call with this number.
+fn try_stop(rt: &impl Abort, alloc: Global, disk: MemoryDisk, call: u64) -> Result<(), Fail> {
+    let mut ports = [port_of(alloc, SWEPT.steps)?];
+    let stopping = FailingDisk::stopping_after(disk, call);
+    let served = serve_on(alloc, &mut ports, stopping, SWEPT.clock)?;
+    let kinds = kinds_of(alloc, &served.order)?;
+    assert_found(rt, alloc, call, &kinds, served.disk.into_inner())
 }
 
 #[test]
@@ -644,6 +657,27 @@ fn a_stopped_collection_loses_no_snapshot(rt: HostRuntime) -> Result<(), Fail> {
     let whole = told_on(&rt, alloc, copy_of(alloc, &disk)?, &SWEPT)?;
     for call in 0..=whole.disk.calls() {
         try_stop(&rt, alloc, copy_of(alloc, &disk)?, call)?;
+    }
+    Ok(())
+}
+
+/// The clock falls between two commands, and rises again.
+const FALLING: Run = Run {
+    clock: &[100, 90, 110],
+    steps: &[(LIST, NONE_THERE), (LIST, NONE_THERE), (BYE, DONE)],
+    status: Status::Ok,
+    book: &[],
+};
+
+static MOMENTS: [(u64, u8); 3] = [(100, 0), (100, 0), (110, 6)];
+
+#[test]
+fn moments_never_fall(rt: HostRuntime) -> Result<(), Fail> {
+    let alloc = rt.alloc();
+    let served = told_on(&rt, alloc, MemoryDisk::new(alloc), &FALLING)?;
+    same(&rt, served.order.len(), MOMENTS.len());
+    for (entry, row) in served.order.iter().zip(&MOMENTS) {
+        same(&rt, (entry.moment, entry.kind), *row);
     }
     Ok(())
 }

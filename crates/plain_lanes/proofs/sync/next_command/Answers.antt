@@ -1,4 +1,4 @@
-use Rattle.std.proofs.Common.{◌≡◌, length, sym, ap, ◌∙◌, arith}
+use Rattle.std.proofs.Common.{◌≡◌, length, ap, ◌∙◌, arith}
 use Rattle.store_model.specs.SyncJob.{next_snapshot}
 use Rattle.plain_lanes.specs.Pulls.{shown_pull}
 use Rattle.plain_lanes.proofs.SyncLemmas.{no_command, a_command}

@@ -3,7 +3,8 @@ use Rattle.store_files.specs.Archive.{Archive}
 use Rattle.wire_commands.specs.declared.command.Command.{Command}
 use Rattle.store_model.specs.SyncJob.{new_index, entries_from, appends}
 use Rattle.plain_lanes.specs.Uploading.{chunk_of, close_of, unsent_by}
-use Rattle.plain_lanes.proofs.UploadLemmas.{appends_of, archive_pushed}
+use Rattle.plain_lanes.proofs.AppendLemmas.{appends_of}
+use Rattle.plain_lanes.proofs.UploadLemmas.{archive_pushed}
 use Rattle.plain_lanes.proofs.uploads.push_archive.Goals as goal
 
 pub returns : goal.returns

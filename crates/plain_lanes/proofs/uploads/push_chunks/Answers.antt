@@ -1,4 +1,4 @@
-use Rattle.std.proofs.Common.{◌≡◌, ◌+◌, List, ℕ, map, drop, refl, sym, ap, ◌∙◌, arith}
+use Rattle.std.proofs.Common.{◌+◌, map, drop, refl, ◌∙◌, arith}
 use Rattle.plain_lanes.specs.Uploading.{chunk_of, unsent_by}
 use Rattle.plain_lanes.proofs.UploadLemmas.{from_place, all_done, chunk_pushed}
 use Rattle.plain_lanes.proofs.uploads.push_chunks.Goals as goal

@@ -1,4 +1,4 @@
-use Rattle.std.proofs.Common.{◌≡◌, ◌++◌, ◌∷◌, [], List, ℕ, sym, ap, ◌∙◌}
+use Rattle.std.proofs.Common.{◌++◌, ◌∷◌, [], List, ℕ, sym, ap, ◌∙◌}
 use Rattle.store_files.specs.Archive.{Content, File}
 use Rattle.wire_commands.specs.declared.command.Command.TheVariants.{Blob}
 use Rattle.plain_snapshots.specs.Contents.{shown_content}
@@ -11,7 +11,7 @@ returns-in_ok-push_archive-in-Archive c =
     let sent = c.args.sent.now in
     let inside = c.file.inside in
     c.in_ok-push_archive-in-Archive.ensures
-    ∙ ap (λ n. commands ++ archive_by sent n c.in-Archive.archive.now) c.as_slice-name.ensures.value
+    ∙ ap (λ n. commands ++ archive_by sent n c.in-Archive.archive) c.as_slice-name.ensures.value
     ∙ ap (λ (x : Content). commands ++ file_commands_by sent inside.name x) (sym (ap shown_content c.in-Archive.is))
     ∙ ap (λ (f : File). commands ++ file_by sent f) c.file.view_is
 

@@ -9,13 +9,13 @@ use Rattle.plain_lanes.specs.Visits.{shown_visit, checked_by}
 use Rattle.plain_lanes.proofs.VerifyLemmas.{chunk_checked, not_checked}
 use Rattle.plain_lanes.proofs.verify.checked.Goals as goal
 
-pub returns-in-Ok-clause-job : goal.returns-in-Ok-clause-job
-returns-in-Ok-clause-job c =
+pub returns-in_ok-place-in-Ok-clause-job : goal.returns-in_ok-place-in-Ok-clause-job
+returns-in_ok-place-in-Ok-clause-job c =
     let v = shown_visit c.args.visit in
     let later = c.args.later.items in
-    let place : c.in_ok-place.place ≡ c.args.place + 1 = search (rules, arith) in
+    let place : c.in_ok-place-in-Ok.place ≡ c.args.place + 1 = search (rules, arith) in
     let told =
-    ap (λ fault. next_chunk v c.args.row fault c.in_ok-place.place later) c.first_fault-fault.ensures.first
+    ap (λ fault. next_chunk v c.args.row fault c.in_ok-place-in-Ok.place later) c.first_fault-fault.ensures.first
     ∙ ap (λ n. next_chunk v c.args.row (option_or c.args.fault c.in-Ok.found) n later) place
     ∙ chunk_checked v c.args.row c.args.fault c.args.place c.args.digest later c.args.reply c.in-Ok.found c.in-Ok.ensures.fault in
     subst (λ (x : Job). IfOk c.next_chunk.result (λ job. shown_job job ≡ x)) told c.next_chunk.ensures.job

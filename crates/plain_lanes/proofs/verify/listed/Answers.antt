@@ -1,4 +1,4 @@
-use Rattle.std.proofs.Common.{◌≡◌, List, [], sym, ap, subst, ◌∙◌, arith}
+use Rattle.std.proofs.Common.{List, [], sym, ap, subst, ◌∙◌, arith}
 use Rattle.std.proofs.lemmas.List.Elements.{All-nil, All-same}
 use Rattle.wire_commands.specs.HasText.{FitsFileRow, ReplyHasText}
 use Rattle.plain_lanes.specs.FaultRows.{IsFitRow}

@@ -8,12 +8,12 @@ use Rattle.plain_lanes.specs.Visits.{shown_visit, read_by}
 use Rattle.plain_lanes.proofs.VerifyLemmas.{read_not}
 use Rattle.plain_lanes.proofs.verify.read_part.Goals as goal
 
-pub returns-in-Ok-clause-job : goal.returns-in-Ok-clause-job
+pub returns-in_ok-extend_from_slice-in-Ok-clause-job : goal.returns-in_ok-extend_from_slice-in-Ok-clause-job
 unfolding read_part
-returns-in-Ok-clause-job c =
+returns-in_ok-extend_from_slice-in-Ok-clause-job c =
     let v = shown_visit c.args.visit in
     let part = c.in-Ok.part in
-    let longer = c.in_ok-extend_from_slice.ensures.items ∙ ap (λ more. c.args.bytes.items ++ more) c.as_slice.ensures in
+    let longer = c.in_ok-extend_from_slice-in-Ok.ensures.items ∙ ap (λ more. c.args.bytes.items ++ more) c.as_slice.ensures in
     let told = ap (λ bytes. part_read v c.args.row bytes part.0) longer ∙ ap (read_part v c.args.row c.args.bytes.items) (sym c.in-Ok.ensures) in
     subst (λ (x : Job). IfOk c.part_read.result (λ job. shown_job job ≡ x)) told c.part_read.ensures.job
 

@@ -2,8 +2,8 @@ use Rattle.std.proofs.Common.{arith}
 use Rattle.plain_sessions.proofs.Noted.{entry_beyond, entry_there}
 use Rattle.plain_sessions.proofs.reader.blob_at.Goals as goal
 
-pub returns-then-place-ge-clause-gives : goal.returns-then-place-ge-clause-gives
-returns-then-place-ge-clause-gives c = entry_beyond c.args.pieces.now c.args.entry (omega arith)
+pub returns-then-place-pieces-clause-gives : goal.returns-then-place-pieces-clause-gives
+returns-then-place-pieces-clause-gives c = entry_beyond c.args.pieces.now c.args.entry (omega arith)
 
 pub returns-clause-gives : goal.returns-clause-gives
 returns-clause-gives c =

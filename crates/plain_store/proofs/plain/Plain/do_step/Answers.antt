@@ -1,4 +1,4 @@
-use Rattle.std.proofs.Common.{◌≡◌, ap, subst}
+use Rattle.std.proofs.Common.{◌≡◌, subst}
 use Rattle.std.specs.Prelude.{IfOk}
 use Rattle.store_model.specs.declared.step.Step.{Step}
 use Rattle.store_model.specs.JobSteps.{step_outcome}

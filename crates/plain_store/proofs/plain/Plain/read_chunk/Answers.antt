@@ -1,7 +1,6 @@
 use Rattle.std.proofs.Common.{◌≡◌, ◌∙◌, ap, sym, refl, true, false, None, Some, Err, rules}
-use Rattle.std.specs.Prelude.{option_map}
 use Rattle.store_types.specs.FileNames.{is_index_name}
-use Rattle.store_files.specs.Archive.{File, file_named, pieces_of}
+use Rattle.store_files.specs.Archive.{file_named, pieces_of}
 use Rattle.store_model.specs.Store.{want_reader}
 use Rattle.store_model.specs.ReaderSteps.{reader_files}
 use Rattle.plain_sessions.specs.declared.stop.Stop.TheVariants.{Refused}

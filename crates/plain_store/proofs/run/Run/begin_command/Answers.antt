@@ -3,12 +3,13 @@ use Rattle.std.specs.Prelude.{option_map}
 use Rattle.store_model.specs.Lanes.{Run}
 use Rattle.store_model.specs.Steps.{step}
 use Rattle.store_model.specs.Weave.{with_store}
+use Rattle.plain_store.specs.Runs.{begun_at}
 use Rattle.plain_store.proofs.RunLemmas.{command_begun}
 use Rattle.plain_store.proofs.run.Run.begin_command.Goals as goal
 
-pub returns-in-Plain-clause-enters : goal.returns-in-Plain-clause-enters
+pub returns-in_ok-tell-in-Plain-clause-enters : goal.returns-in_ok-tell-in-Plain-clause-enters
 unfolding with_store
-returns-in-Plain-clause-enters c =
+returns-in_ok-tell-in-Plain-clause-enters c =
     let r = c.args.self.now in
     let k = c.args.lane in
     let moment = c.args.moment in
@@ -18,5 +19,6 @@ returns-in-Plain-clause-enters c =
     let s = c.step.new.self in
     let told : Run = record { store = s; remote = option_map (λ p. p.now.snapshots) inside.remote; lanes = inside.lanes.items; collecting = inside.collecting; fault = inside.fault } in
     let stored : inside.store ≡ r.store = ap (λ (x : Run). x.store) c.self.view_is in
-    let done = c.in_ok-reply.ensures.step ∙ ap (λ x. step x k moment command) stored in
-    command_begun r k moment left command s c.in_ok-reply.reply told c.tell.new.self done (ap (λ (x : Run). with_store x s) c.self.view_is) c.in_ok-tell.ensures.told
+    let done = c.in_ok-reply-in-Plain.ensures.step ∙ ap (λ x. step x k moment command) stored in
+    ap (λ a. begun_at r k moment a left) c.in-Plain.is
+    ∙ command_begun r k moment left command s c.in_ok-reply-in-Plain.reply told c.tell.new.self done (ap (λ (x : Run). with_store x s) c.self.view_is) c.in_ok-tell-in-Plain.ensures.told

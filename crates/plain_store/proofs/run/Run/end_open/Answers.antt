@@ -1,4 +1,4 @@
-use Rattle.std.proofs.Common.{◌≡◌, true, false, None, Some, refl, sym, ap, ◌∙◌}
+use Rattle.std.proofs.Common.{◌≡◌, true, None, Some, refl, sym, ap, ◌∙◌}
 use Rattle.store_model.specs.Lanes.{Run}
 use Rattle.store_model.specs.Weave.{may_leave_unread, end_session}
 use Rattle.plain_store.proofs.RunLemmas.{unread_may, unread_not}

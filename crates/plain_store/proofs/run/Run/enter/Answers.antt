@@ -52,8 +52,8 @@ returns-in_ok-faulted-in-5-clause-enters c =
     let E : Endings = λ _ _. c.args.ending in
     entered_5 E r c.args.place c.args.entry.now c.args.later.now c.in-5.is ∙ ap (λ (x : Run). Some x) (sym c.in_ok-faulted-in-5.ensures.told)
 
-pub returns-in_default-clause-enters : goal.returns-in_default-clause-enters
-returns-in_default-clause-enters c =
+pub returns-in_default-kind-clause-enters : goal.returns-in_default-kind-clause-enters
+returns-in_default-kind-clause-enters c =
     let r = c.args.self.now in
     let e = c.args.entry.now in
     let E : Endings = λ _ _. c.args.ending in

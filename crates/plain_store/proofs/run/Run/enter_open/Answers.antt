@@ -1,8 +1,7 @@
-use Rattle.std.proofs.Common.{◌≢◌, ◌∙◌, arith, sym, subst, refl, ap, Bool, Option, Some}
+use Rattle.std.proofs.Common.{◌≢◌, ◌∙◌, arith, sym, subst, refl, ap, Option, Some}
 use Rattle.store_model.specs.Lanes.{Run}
 use Rattle.store_model.specs.Weave.{Endings, close_collector}
 use Rattle.plain_store.specs.Runs.{Enters}
-use Rattle.plain_store.proofs.Spelled.{refusal_spelled}
 use Rattle.plain_store.proofs.RunLemmas.{entered_1, entered_2, entered_4, entered_5, entered_6, own_passes, own_short, own_closes, own_faulted, own_ends, not_entered_open}
 use Rattle.plain_store.proofs.run.Run.enter_open.Goals as goal
 
@@ -20,21 +19,21 @@ returns-in-2-clause-enters c = λ later.
     let E : Endings = λ _ _. c.args.ending in
     entered_2 E r c.args.place e later c.in-2.is ∙ own_short r e.lane c.args.is_short c.requires.open ∙ ap (λ (x : Run). Some x) (sym c.be_short.ensures.short)
 
-pub returns-in-4-clause-enters : goal.returns-in-4-clause-enters
-returns-in-4-clause-enters c = λ later.
+pub returns-in_ok-close_collector-in-4-clause-enters : goal.returns-in_ok-close_collector-in-4-clause-enters
+returns-in_ok-close_collector-in-4-clause-enters c = λ later.
     let r = c.args.self.now in
     let e = c.args.entry.now in
     let E : Endings = λ _ _. c.args.ending in
     entered_4 E r c.args.place e later c.in-4.is ∙ own_closes r e.lane c.args.is_short c.requires.open
-    ∙ ap (λ (x : Run). Some x) (sym (c.in_ok-close_collector.ensures.closed ∙ ap (close_collector r e.lane) c.collected.ensures.reply))
+    ∙ ap (λ (x : Run). Some x) (sym (c.in_ok-close_collector-in-4.ensures.closed ∙ ap (close_collector r e.lane) c.collected.ensures.reply))
 
-pub returns-in-5-clause-enters : goal.returns-in-5-clause-enters
-returns-in-5-clause-enters c = λ later.
+pub returns-in_ok-fault_open-in-5-clause-enters : goal.returns-in_ok-fault_open-in-5-clause-enters
+returns-in_ok-fault_open-in-5-clause-enters c = λ later.
     let r = c.args.self.now in
     let e = c.args.entry.now in
     let E : Endings = λ _ _. c.args.ending in
     entered_5 E r c.args.place e later c.in-5.is
-    ∙ ap (λ (x : Run). Some x) (own_faulted r e.lane c.args.is_short c.requires.open c.args.place c.args.ending later ∙ sym c.in_ok-fault_open.ensures.told)
+    ∙ ap (λ (x : Run). Some x) (own_faulted r e.lane c.args.is_short c.requires.open c.args.place c.args.ending later ∙ sym c.in_ok-fault_open-in-5.ensures.told)
 
 pub returns-in-6-clause-enters : goal.returns-in-6-clause-enters
 returns-in-6-clause-enters c = λ later.

@@ -1,4 +1,4 @@
-use Rattle.std.proofs.Common.{◌≡◌, ap, sym, Some, unwrap_or, ◌∙◌}
+use Rattle.std.proofs.Common.{◌≡◌, ap, Some, unwrap_or, ◌∙◌}
 use Rattle.wire_commands.specs.declared.reply.Reply.TheVariants.{Refused}
 use Rattle.store_model.specs.Lanes.{Run}
 use Rattle.store_model.specs.Weave.{close_collector, fault_refusal}

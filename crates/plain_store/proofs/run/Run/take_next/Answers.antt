@@ -1,6 +1,6 @@
 use Rattle.std.proofs.Common.{◌<◌, ◌∙◌, ap, sym, set, length, arith}
 use Rattle.std.specs.Prelude.{option_map}
-use Rattle.store_model.specs.Lanes.{Lane, Run, lane_at, lane_next, next_of}
+use Rattle.store_model.specs.Lanes.{Lane, Run, lane_at, lane_next}
 use Rattle.plain_lanes.specs.Nexts.{left_by}
 use Rattle.plain_store.specs.Runs.{run_left}
 use Rattle.plain_store.proofs.RunLemmas.{at_lane, next_apart}

@@ -35,5 +35,5 @@ returns-in-Some-clause-test c =
     let inside = c.self.inside in
     let r : Run = record { store = inside.store; remote = option_map (λ p. p.now.snapshots) inside.remote; lanes = inside.lanes.items; collecting = inside.collecting; fault = inside.fault } in
     let idle : want_idle (session inside.store k) ≡ Ok tt = search rules in
-    ap (λ (x : Collecting). (let refused : Tested = Err (CollectorBusy x.lane) in refused)) c.open.view_is
-    ∙ collector_busy r k c.in-Some.open.now idle c.in-Some.is ∙ ap (λ (x : Run). want_collector x k) c.self.view_is
+    ap (λ (refusal : Refusal). (let refused : Tested = Err refusal in refused)) (c.collector_busy.ensures.refusal ∙ ap (λ (x : Collecting). CollectorBusy x.lane) c.open.view_is)
+    ∙ collector_busy r k idle c.in-Some.open c.in-Some.is ∙ ap (λ (x : Run). want_collector x k) c.self.view_is

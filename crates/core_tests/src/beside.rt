@@ -1,0 +1,666 @@
+//! Collections beside the acts of other lanes, which fall at every place of them. The clock stands still, or it falls. The bytes are made
+//! by `tests/make-tables`.
+
+use crate::asserts::same_at;
+use crate::books::{BOOK, Contents, Kept, NONE_OF_BOTH};
+use crate::calls::{DONE, FIRST_BASE, IN_NONE, NO_BASE};
+use crate::collecting::{
+    ALL_THREE, APPEND, BEFORE, BUSY, CLOSE, Collection, FROM_END, NEW, NO_MEMORY, NUMBER, OF_MANY,
+    OF_TWO, ONE_NEEDED, PUT, Spot, TAKE_OVER, try_collection,
+};
+use crate::damage::{ABC_BLOB, ABC_CHUNK, AT_END, DE_BLOB, DE_CHUNK};
+use crate::fixtures::{FIRST, MANIFEST_PATH, SECOND};
+use crate::steps::{Row, Step};
+use std::alloc::{AllocError, Global};
+use std::process::Abort;
+use std::test::Fail;
+
+pub(crate) type Rows = &'static [Row];
+
+/// How a collection goes where others' acts fall at one of its places, and what the core has in the end, and one that is opened then.
+#[derive(Clone, Copy)]
+struct Place {
+    collection: Rows,
+    left: Kept,
+    saved: Kept,
+}
+
+/// What stands in a folder, and the acts that fall at one place of a collection there: at the first, before its start, at the second, and
+/// so on.
+#[derive(Clone, Copy)]
+struct Beside {
+    files: Contents,
+    entries: u32,
+    before: Rows,
+    acts: Rows,
+    /// So many of them may come at any earlier place. That changes nothing.
+    early: usize,
+    places: &'static [Place],
+    after: Rows,
+}
+
+/// The acts of a collection. They are told nothing but at the end: how many chunks are used, pending and removed.
+pub(crate) const START: Row = (5, Step::Start, b"", 3);
+
+pub(crate) const PASS: Row = (5, Step::Pass, b"", 1);
+
+pub(crate) const TWO_USED: Row = (
+    5,
+    Step::Pass,
+    b")\0\0\0\0@B\x0f\0\0\0\0\0\x94\xef\x0d\0\0\0\0\0\x02\0\0\0\0\0\0\0\0\0\0\0\0\0\0\0\0\0\0\0\0\0\0\0",
+    4,
+);
+
+const ONE_OF_TWO: Row = (
+    5,
+    Step::Pass,
+    b")\0\0\0\0@B\x0f\0\0\0\0\0\x94\xef\x0d\0\0\0\0\0\x01\0\0\0\0\0\0\0\0\0\0\0\0\0\0\0\x01\0\0\0\0\0\0\0",
+    4,
+);
+
+const ONE_USED: Row = (
+    5,
+    Step::Pass,
+    b")\0\0\0\0@B\x0f\0\0\0\0\0\x94\xef\x0d\0\0\0\0\0\x01\0\0\0\0\0\0\0\0\0\0\0\0\0\0\0\0\0\0\0\0\0\0\0",
+    4,
+);
+
+const NONE_USED: Row = (
+    5,
+    Step::Pass,
+    b")\0\0\0\0@B\x0f\0\0\0\0\0\x94\xef\x0d\0\0\0\0\0\0\0\0\0\0\0\0\0\0\0\0\0\0\0\0\0\0\0\0\0\0\0\0\0",
+    4,
+);
+
+const ONE_CAME_BACK: Row = (
+    5,
+    Step::Pass,
+    b")\0\0\0\0@B\x0f\0\0\0\0\0\x94\xef\x0d\0\0\0\0\0\x02\0\0\0\0\0\0\0\0\0\0\0\0\0\0\0\x01\0\0\0\0\0\0\0",
+    4,
+);
+
+const TWO_CAME_BACK: Row = (
+    5,
+    Step::Pass,
+    b")\0\0\0\0@B\x0f\0\0\0\0\0\x94\xef\x0d\0\0\0\0\0\x02\0\0\0\0\0\0\0\0\0\0\0\0\0\0\0\x02\0\0\0\0\0\0\0",
+    4,
+);
+
+const TWO_GONE: Row = (
+    5,
+    Step::Pass,
+    b")\0\0\0\0@B\x0f\0\0\0\0\0\x94\xef\x0d\0\0\0\0\0\0\0\0\0\0\0\0\0\0\0\0\0\0\0\0\0\x02\0\0\0\0\0\0\0",
+    4,
+);
+
+const ONE_PENDING: Row = (
+    5,
+    Step::Pass,
+    b")\0\0\0\0@B\x0f\0\0\0\0\0\x94\xef\x0d\0\0\0\0\0\0\0\0\0\0\0\0\0\x01\0\0\0\0\0\0\0\x01\0\0\0\0\0\0\0",
+    4,
+);
+
+/// An end that memory was wanting for.
+const CUT: Row = (5, Step::Pass, NO_MEMORY, 4);
+
+const BOTH_STAY: Kept = (1_000_000, Some(1_000_000), Some(1_000_000), 0);
+
+const ABC_STAYS: Kept = (1_000_000, Some(1_000_000), None, 0);
+
+const NONE_STAYS: Kept = (1_000_000, None, None, 0);
+
+/// The first snapshot, of `de` and `abc`, which were touched long ago.
+const BACKED_UP: Contents = &[
+    (ABC_CHUNK, ABC_BLOB),
+    (DE_CHUNK, DE_BLOB),
+    (BOOK, BEFORE),
+    (MANIFEST_PATH, OF_TWO),
+];
+
+/// A writer takes `abc` over from it, and sends nothing.
+const OPEN: Row = (3, Step::OpenWriter(SECOND), FIRST_BASE, 0);
+
+const TAKE: Row = (3, Step::Send(TAKE_OVER), AT_END, 0);
+
+const BEGIN: Row = (3, Step::Send(NEW), NUMBER, 0);
+
+const NAME_ABC: Row = (3, Step::Send(APPEND), DONE, 0);
+
+const CLOSE_ABC: Row = (3, Step::Send(CLOSE), DONE, 0);
+
+const PUT_SECOND: Row = (3, Step::Send(PUT), DONE, 0);
+
+const FINISH: Row = (3, Step::Finish, DONE, 0);
+
+const FORGET: Row = (6, Step::Forget(FIRST), DONE, 0);
+
+/// What is restored in the end.
+pub(crate) const READ_FIRST: Row = (4, Step::OpenReader(FIRST), DONE, 0);
+
+pub(crate) const READ_SECOND: Row = (4, Step::OpenReader(SECOND), DONE, 0);
+
+pub(crate) const AT_END_OF_ONE: Row = (
+    4,
+    Step::Send(FROM_END),
+    b"\x09\0\0\0\0(\x10\0\0\0\0\0\0",
+    0,
+);
+
+pub(crate) const ABC: Row = (4, Step::Send(ALL_THREE), b"\x04\0\0\0\0abc", 0);
+
+pub(crate) const AT_END_OF_TWO: Row = (
+    4,
+    Step::Send(b"\x15\x09root.didxP\x10\0\0\0\0\0\0"),
+    AT_END,
+    0,
+);
+
+pub(crate) const DE_ABC: Row = (
+    4,
+    Step::Send(b"\x17\x09root.didx\0\0\0\0\0\0\0\0\x05\0\0\0"),
+    b"\x06\0\0\0\0deabc",
+    0,
+);
+
+pub(crate) const CLOSE_READER: Row = (4, Step::CloseReader, DONE, 0);
+
+/// A writer beside a collection. The snapshot that it takes from stays.
+const REUSE: Rows = &[OPEN, TAKE, BEGIN, NAME_ABC, CLOSE_ABC, PUT_SECOND, FINISH];
+
+const MARKED: Place = Place {
+    collection: &[START, PASS, PASS, PASS, TWO_USED],
+    left: BOTH_STAY,
+    saved: BOTH_STAY,
+};
+
+const MARKED_TWICE: Place = Place {
+    collection: &[START, PASS, PASS, PASS, PASS, TWO_USED],
+    left: BOTH_STAY,
+    saved: BOTH_STAY,
+};
+
+/// The snapshot that it took from is forgotten at once. What it took stays, whether that was marked or not.
+const REUSE_ALONE: Rows = &[
+    OPEN, TAKE, BEGIN, NAME_ABC, CLOSE_ABC, PUT_SECOND, FINISH, FORGET,
+];
+
+const ONE_MARKED: Place = Place {
+    collection: &[START, PASS, PASS, PASS, ONE_OF_TWO],
+    left: ABC_STAYS,
+    saved: ABC_STAYS,
+};
+
+const ONE_TOUCHED: Place = Place {
+    collection: &[START, PASS, PASS, ONE_OF_TWO],
+    left: ABC_STAYS,
+    saved: ABC_STAYS,
+};
+
+/// A writer sends both chunks, which are there and of no snapshot.
+const UNNEEDED: Contents = &[(ABC_CHUNK, ABC_BLOB), (DE_CHUNK, DE_BLOB), (BOOK, BEFORE)];
+
+const OPEN_FIRST: Row = (3, Step::OpenWriter(FIRST), NO_BASE, 0);
+
+const SEND_DE: Row = (
+    3,
+    Step::Send(
+        b"\x0e\x95\x9aE\xd4No\xcfX6\x1e\xd0\x04h\x15V\xfeP\x12\x9f!\x09\xe8\x17\xde\xc0\x98\xc0\x0c\x9e]%xB\xab8\x07\xbe\x83p\xa1\x8b)\x90}de",
+    ),
+    DONE,
+    0,
+);
+
+const SEND_ABC: Row = (
+    3,
+    Step::Send(
+        b"\x0e\xbax\x16\xbf\x8f\x01\xcf\xeaAA@\xde]\xae\"#\xb0\x03a\xa3\x96\x17z\x9c\xb4\x10\xffa\xf2\0\x15\xadB\xab8\x07\xbe\x83p\xa1\xc2A$5abc",
+    ),
+    DONE,
+    0,
+);
+
+const NAME_BOTH: Row = (
+    3,
+    Step::Send(
+        b"\x0f\0\x02\0\x95\x9aE\xd4No\xcfX6\x1e\xd0\x04h\x15V\xfeP\x12\x9f!\x09\xe8\x17\xde\xc0\x98\xc0\x0c\x9e]%x\0\0\0\0\0\0\0\0\xbax\x16\xbf\x8f\x01\xcf\xeaAA@\xde]\xae\"#\xb0\x03a\xa3\x96\x17z\x9c\xb4\x10\xffa\xf2\0\x15\xad\x02\0\0\0\0\0\0\0",
+    ),
+    DONE,
+    0,
+);
+
+const CLOSE_BOTH: Row = (
+    3,
+    Step::Send(
+        b"\x10\0\x02\0\0\0\0\0\0\0\x05\0\0\0\0\0\0\0\x84\"h)s\xec\x07i\xeax\xd1<S(\x04c\xech\xe3\xcbX \xcf\x9d\xbbC\xbf\xd7\x1f\xb8\x93*",
+    ),
+    DONE,
+    0,
+);
+
+const PUT_FIRST: Row = (
+    3,
+    Step::Send(
+        b"\x11\x0findex.json.blobB\xab8\x07\xbe\x83p\xa1=\xe7\xa5\x0d{\"backup-id\":\"a\",\"backup-time\":1579069803,\"backup-type\":\"host\",\"files\":[{\"crypt-mode\":\"none\",\"csum\":\"8422682973ec0769ea78d13c53280463ec68e3cb5820cf9dbb43bfd71fb8932a\",\"filename\":\"root.didx\",\"size\":5}]}",
+    ),
+    DONE,
+    0,
+);
+
+const WRITE: Rows = &[
+    OPEN_FIRST, BEGIN, SEND_DE, SEND_ABC, NAME_BOTH, CLOSE_BOTH, PUT_FIRST, FINISH,
+];
+
+/// A chunk that is sent before it is visited stays. One that is gone by then is there again, and is used.
+const TWO_TOUCHED: Place = Place {
+    collection: &[START, PASS, PASS, TWO_USED],
+    left: BOTH_STAY,
+    saved: BOTH_STAY,
+};
+
+const HALF_VISITED: Place = Place {
+    collection: &[START, PASS, PASS, ONE_CAME_BACK],
+    left: BOTH_STAY,
+    saved: BOTH_STAY,
+};
+
+const VISITED: Place = Place {
+    collection: &[START, PASS, PASS, TWO_CAME_BACK],
+    left: BOTH_STAY,
+    saved: BOTH_STAY,
+};
+
+/// The book was saved before: a core that is opened then has no entry of them.
+const SENT_BEHIND: Place = Place {
+    collection: &[START, PASS, PASS, TWO_GONE],
+    left: BOTH_STAY,
+    saved: (1_000_000, Some(1_000_000), Some(1_000_000), 2),
+};
+
+/// One chunk is sent where none is there. It is used, whether it was listed or not.
+const ONE_SENT: Place = Place {
+    collection: &[START, PASS, ONE_USED],
+    left: ABC_STAYS,
+    saved: ABC_STAYS,
+};
+
+const ONE_SENT_BEHIND: Place = Place {
+    collection: &[START, PASS, NONE_USED],
+    left: ABC_STAYS,
+    saved: (1_000_000, Some(1_000_000), None, 1),
+};
+
+/// A snapshot is forgotten before it is marked, or behind that. `abc` was touched within the last day, and `de` long ago.
+const RECENT: &[u8] =
+    b"PBSBOOK1\xf0~\x0e\0\0\0\0\0\x02\0\0\0\0\0\0\0\x95\x9aE\xd4No\xcfX6\x1e\xd0\x04h\x15V\xfeP\x12\x9f!\x09\xe8\x17\xde\xc0\x98\xc0\x0c\x9e]%xd\0\0\0\0\0\0\0\xbax\x16\xbf\x8f\x01\xcf\xeaAA@\xde]\xae\"#\xb0\x03a\xa3\x96\x17z\x9c\xb4\x10\xffa\xf2\0\x15\xad\xf0~\x0e\0\0\0\0\0\xa9\x7f|\xdf`{`>r\0\x97\x13\xb6\xff\xda\xd9\x0e\xbdld\x07\xba\xbe._\x91\x0f\xee.\x14\x8a5";
+
+const UNMARKED: Place = Place {
+    collection: &[START, PASS, PASS, ONE_PENDING],
+    left: (1_000_000, Some(950_000), None, 0),
+    saved: (1_000_000, Some(950_000), None, 0),
+};
+
+/// A snapshot, of `de` a thousand times and `abc`, is forgotten and made again, of `abc` alone. Its new index is no more marked, and what is
+/// left of the old one is passed over.
+const MAKE_AGAIN: Rows = &[
+    FORGET,
+    OPEN_FIRST,
+    BEGIN,
+    SEND_ABC,
+    NAME_ABC,
+    CLOSE_ABC,
+    (
+        3,
+        Step::Send(
+            b"\x11\x0findex.json.blobB\xab8\x07\xbe\x83p\xa1h\xc3o\xd2{\"backup-id\":\"a\",\"backup-time\":1579069803,\"backup-type\":\"host\",\"files\":[{\"crypt-mode\":\"none\",\"csum\":\"80a67215aff0c585b6c055e38aa04b76d4b208e2d0c3eb31bfd02822ae62e1c0\",\"filename\":\"root.didx\",\"size\":3}]}",
+        ),
+        DONE,
+        0,
+    ),
+    FINISH,
+];
+
+/// Another lane collects too. While one's collector is open the other is refused.
+const START_OTHER: Row = (6, Step::Start, b"", 3);
+
+const PASS_OTHER: Row = (6, Step::Pass, b"", 1);
+
+const NONE_USED_BY_OTHER: Row = (
+    6,
+    Step::Pass,
+    b")\0\0\0\0@B\x0f\0\0\0\0\0\x94\xef\x0d\0\0\0\0\0\0\0\0\0\0\0\0\0\0\0\0\0\0\0\0\0\0\0\0\0\0\0\0\0",
+    4,
+);
+
+const TWO_GONE_BY_OTHER: Row = (
+    6,
+    Step::Pass,
+    b")\0\0\0\0@B\x0f\0\0\0\0\0\x94\xef\x0d\0\0\0\0\0\0\0\0\0\0\0\0\0\0\0\0\0\0\0\0\0\x02\0\0\0\0\0\0\0",
+    4,
+);
+
+const REFUSED: Place = Place {
+    collection: &[(5, Step::Start, b"\x05\0\0\0\x19\x06\0\0\0", 0)],
+    left: NONE_STAYS,
+    saved: NONE_STAYS,
+};
+
+const OPENED: Place = Place {
+    collection: &[PASS, PASS, TWO_GONE],
+    left: NONE_STAYS,
+    saved: NONE_STAYS,
+};
+
+/// Memory is wanting on the collector's lane. Its next act is the end, which saves nothing. `abc` is needed, and was touched at 5.
+const SHORT_AT_MARK: Place = Place {
+    collection: &[START, CUT],
+    left: (1_000_000, Some(5), Some(4), 0),
+    saved: (10, Some(5), Some(4), 0),
+};
+
+const SHORT_AT_FIRST: Place = Place {
+    collection: &[START, PASS, CUT],
+    left: (1_000_000, Some(1_000_000), Some(4), 0),
+    saved: (10, Some(5), Some(4), 0),
+};
+
+const SHORT_AT_SECOND: Place = Place {
+    collection: &[START, PASS, PASS, CUT],
+    left: ABC_STAYS,
+    saved: (10, Some(5), None, 0),
+};
+
+const SHORT_AT_END: Place = Place {
+    collection: &[START, PASS, PASS, PASS, CUT],
+    left: ABC_STAYS,
+    saved: (10, Some(5), None, 0),
+};
+
+/// The collector's lane ends, and another one's opens.
+const LEFT_AT_MARK: Place = Place {
+    collection: &[],
+    left: (1_000_000, Some(5), Some(4), 0),
+    saved: (10, Some(5), Some(4), 0),
+};
+
+const LEFT_AT_FIRST: Place = Place {
+    collection: &[PASS],
+    left: (1_000_000, Some(1_000_000), Some(4), 0),
+    saved: (10, Some(5), Some(4), 0),
+};
+
+const LEFT_AT_SECOND: Place = Place {
+    collection: &[PASS, PASS],
+    left: ABC_STAYS,
+    saved: (10, Some(5), None, 0),
+};
+
+const LEFT_AT_END: Place = Place {
+    collection: &[PASS, PASS, PASS],
+    left: ABC_STAYS,
+    saved: (10, Some(5), None, 0),
+};
+
+static WRITERS: [Beside; 5] = [
+    Beside {
+        files: BACKED_UP,
+        entries: 2,
+        before: &[],
+        acts: REUSE,
+        early: 6,
+        // where it finishes before the start, its index is marked too
+        places: &[MARKED_TWICE, MARKED, MARKED, MARKED, MARKED, MARKED],
+        after: &[
+            READ_SECOND,
+            AT_END_OF_ONE,
+            ABC,
+            CLOSE_READER,
+            READ_FIRST,
+            AT_END_OF_TWO,
+            DE_ABC,
+        ],
+    },
+    Beside {
+        files: BACKED_UP,
+        entries: 2,
+        before: &[],
+        acts: REUSE_ALONE,
+        early: 6,
+        places: &[ONE_MARKED, ONE_TOUCHED, MARKED, MARKED, MARKED, MARKED],
+        after: &[READ_SECOND, AT_END_OF_ONE, ABC],
+    },
+    Beside {
+        files: UNNEEDED,
+        entries: 0,
+        before: &[],
+        acts: WRITE,
+        early: 2,
+        places: &[MARKED, TWO_TOUCHED, HALF_VISITED, VISITED, SENT_BEHIND],
+        after: &[READ_FIRST, AT_END_OF_TWO, DE_ABC],
+    },
+    // the same, but that it finishes after the collection
+    Beside {
+        files: UNNEEDED,
+        entries: 0,
+        before: &[],
+        acts: &[OPEN_FIRST, BEGIN, SEND_DE, SEND_ABC],
+        early: 2,
+        places: &[TWO_TOUCHED, TWO_TOUCHED, HALF_VISITED, VISITED, SENT_BEHIND],
+        after: &[
+            NAME_BOTH,
+            CLOSE_BOTH,
+            PUT_FIRST,
+            FINISH,
+            READ_FIRST,
+            AT_END_OF_TWO,
+            DE_ABC,
+        ],
+    },
+    Beside {
+        files: NONE_OF_BOTH,
+        entries: 0,
+        before: &[],
+        acts: &[OPEN_FIRST, BEGIN, SEND_ABC],
+        early: 2,
+        places: &[ONE_SENT, ONE_SENT, ONE_SENT, ONE_SENT_BEHIND],
+        after: &[],
+    },
+];
+
+static OTHERS: [Beside; 7] = [
+    Beside {
+        files: &[
+            (ABC_CHUNK, ABC_BLOB),
+            (DE_CHUNK, DE_BLOB),
+            (BOOK, RECENT),
+            (MANIFEST_PATH, OF_TWO),
+        ],
+        entries: 2,
+        before: &[],
+        acts: &[FORGET],
+        early: 0,
+        places: &[UNMARKED, UNMARKED, MARKED, MARKED, MARKED, MARKED],
+        after: &[],
+    },
+    Beside {
+        files: &[
+            (ABC_CHUNK, ABC_BLOB),
+            (DE_CHUNK, DE_BLOB),
+            (BOOK, BEFORE),
+            (MANIFEST_PATH, OF_MANY),
+        ],
+        entries: 1_001,
+        before: &[],
+        acts: MAKE_AGAIN,
+        early: 0,
+        // the third place is between its two marks
+        places: &[
+            ONE_MARKED,
+            ONE_TOUCHED,
+            MARKED,
+            MARKED_TWICE,
+            MARKED_TWICE,
+            MARKED_TWICE,
+            MARKED_TWICE,
+        ],
+        after: &[READ_FIRST, AT_END_OF_ONE, ABC],
+    },
+    Beside {
+        files: UNNEEDED,
+        entries: 0,
+        before: &[START_OTHER],
+        acts: &[PASS_OTHER],
+        early: 0,
+        places: &[REFUSED, REFUSED],
+        after: &[PASS_OTHER, TWO_GONE_BY_OTHER],
+    },
+    Beside {
+        files: UNNEEDED,
+        entries: 0,
+        before: &[START],
+        acts: &[(6, Step::Start, BUSY, 0), (6, Step::Pass, IN_NONE, 0)],
+        early: 0,
+        places: &[OPENED, OPENED, OPENED],
+        after: &[START_OTHER, PASS_OTHER, NONE_USED_BY_OTHER],
+    },
+    Beside {
+        files: ONE_NEEDED,
+        entries: 1,
+        before: &[],
+        acts: &[(5, Step::Short, NO_MEMORY, 2)],
+        early: 0,
+        places: &[
+            ONE_MARKED,
+            SHORT_AT_MARK,
+            SHORT_AT_FIRST,
+            SHORT_AT_SECOND,
+            SHORT_AT_END,
+            ONE_MARKED,
+        ],
+        after: &[(5, Step::Pass, IN_NONE, 0)],
+    },
+    // memory is wanting on other lanes, a writer's among them
+    Beside {
+        files: ONE_NEEDED,
+        entries: 1,
+        before: &[],
+        acts: &[
+            (7, Step::Short, NO_MEMORY, 2),
+            OPEN,
+            (3, Step::Short, NO_MEMORY, 2),
+            (3, Step::Abort, DONE, 0),
+        ],
+        early: 1,
+        places: &[
+            ONE_MARKED, ONE_MARKED, ONE_MARKED, ONE_MARKED, ONE_MARKED, ONE_MARKED,
+        ],
+        after: &[],
+    },
+    Beside {
+        files: ONE_NEEDED,
+        entries: 1,
+        before: &[START],
+        acts: &[(5, Step::End, b"", 6), START_OTHER],
+        early: 0,
+        places: &[LEFT_AT_MARK, LEFT_AT_FIRST, LEFT_AT_SECOND, LEFT_AT_END],
+        after: &[],
+    },
+];
+
+/// What a clock reads first, and then always.
+type Clock = (&'static [u64], u64);
+
+const STILL: Clock = (&[], 1_000_000);
+
+const FALLING: Clock = (&[1_000_000], 5);
+
+/// Adds the rows from one number on, up to another.
+fn add(list: &mut Vec<Row>, rows: &[Row], from: usize, to: usize) -> Result<(), AllocError> {
+    for (number, row) in rows.iter().enumerate() {
+        if from <= number && number < to {
+            list.push(*row)?;
+        }
+    }
+    Ok(())
+}
+
+/// What is done in all. So many of the acts come at an earlier place, and the rest at their own.
+fn woven(alloc: Global, table: &Beside, place: &Place, spot: Spot) -> Result<Vec<Row>, AllocError> {
+    let [_, from, early, to] = spot;
+    let mut list: Vec<Row> = Vec::new(alloc);
+    add(&mut list, table.before, 0, usize::MAX)?;
+    add(&mut list, place.collection, 0, from)?;
+    add(&mut list, table.acts, 0, early)?;
+    add(&mut list, place.collection, from, to)?;
+    add(&mut list, table.acts, early, usize::MAX)?;
+    add(&mut list, place.collection, to, usize::MAX)?;
+    add(&mut list, table.after, 0, usize::MAX)?;
+    Ok(list)
+}
+
+/// Moments stand still, where the clock falls too.
+fn try_spot(
+    rt: &impl Abort,
+    alloc: Global,
+    clock: Clock,
+    table: &Beside,
+    place: &Place,
+    spot: Spot,
+) -> Result<(), Fail> {
+    let steps = woven(alloc, table, place, spot)?;
+    let (clock, then) = clock;
+    let row = Collection {
+        files: table.files,
+        entries: table.entries,
+        clock,
+        then,
+        steps: &steps,
+        left: place.left,
+        saved: place.saved,
+    };
+    let order = try_collection(rt, alloc, spot, &row)?;
+    let is_still = order.iter().all(|entry| entry.moment == 1_000_000);
+    same_at(rt, spot, is_still, true);
+    Ok(())
+}
+
+/// All acts come at one place, or so many before the collection begins, or at the place before.
+fn try_place(
+    rt: &impl Abort,
+    alloc: Global,
+    table: &Beside,
+    place: &Place,
+    spot: Spot,
+) -> Result<(), Fail> {
+    try_spot(rt, alloc, STILL, table, place, spot)?;
+    try_spot(rt, alloc, FALLING, table, place, spot)?;
+    let [number, _, _, to] = spot;
+    let from = to.saturating_sub(1);
+    for early in 1..=table.early {
+        try_spot(rt, alloc, STILL, table, place, [number, 0, early, to])?;
+        try_spot(rt, alloc, FALLING, table, place, [number, from, early, to])?;
+    }
+    Ok(())
+}
+
+fn try_table(rt: &impl Abort, alloc: Global, number: usize, table: &Beside) -> Result<(), Fail> {
+    for (to, place) in table.places.iter().enumerate() {
+        try_place(rt, alloc, table, place, [number, 0, 0, to])?;
+    }
+    Ok(())
+}
+
+#[test]
+fn writers_fall_at_every_place(rt: HostRuntime) -> Result<(), Fail> {
+    for (number, table) in WRITERS.iter().enumerate() {
+        try_table(&rt, rt.alloc(), number, table)?;
+    }
+    Ok(())
+}
+
+#[test]
+fn others_fall_at_every_place(rt: HostRuntime) -> Result<(), Fail> {
+    for (number, table) in OTHERS.iter().enumerate() {
+        try_table(&rt, rt.alloc(), number, table)?;
+    }
+    Ok(())
+}
