@@ -542,23 +542,28 @@ const LITTERED: Collection<'static> = Collection {
     saved: (1_000_000, Some(1_000_000), Some(1_000_000), 0),
 };
 
-static COLLECTIONS: [Collection<'static>; 17] = [
+static BY_TOUCHES: [Collection<'static>; 5] = [
     BY_CUTOFF,
     BESIDE_WRITERS,
     EARLY,
     WITHOUT_BOOK,
-    WITHOUT_CHUNKS,
+    STALE,
+];
+
+static BY_CLOCKS: [Collection<'static>; 3] = [FALLING, FALLING_BEHIND_WRITER, RISING];
+
+static BESIDE_SNAPSHOTS: [Collection<'static>; 4] = [
     FORGOTTEN_BETWEEN,
     IN_TWO_MARKS,
     FORGOTTEN_HALF_MARKED,
     TAKEN_OVER,
+];
+
+static OVER_FOLDERS: [Collection<'static>; 5] = [
+    WITHOUT_CHUNKS,
     CUT_SHORT,
     DAMAGED,
     UNDECODED,
-    FALLING,
-    FALLING_BEHIND_WRITER,
-    RISING,
-    STALE,
     LITTERED,
 ];
 
@@ -656,12 +661,36 @@ pub(crate) fn try_collection(
     Ok(parts.order)
 }
 
-#[test]
-fn unused_chunks_are_collected(rt: HostRuntime) -> Result<(), Fail> {
-    for (number, row) in COLLECTIONS.iter().enumerate() {
-        let _ = try_collection(&rt, rt.alloc(), [number, 0, 0, 0], row)?;
+fn try_collections(
+    rt: &impl Abort,
+    alloc: Global,
+    table: usize,
+    rows: &[Collection<'_>],
+) -> Result<(), Fail> {
+    for (number, row) in rows.iter().enumerate() {
+        let _ = try_collection(rt, alloc, [table, number, 0, 0], row)?;
     }
     Ok(())
+}
+
+#[test]
+fn unused_chunks_go_by_their_last_touch(rt: HostRuntime) -> Result<(), Fail> {
+    try_collections(&rt, rt.alloc(), 0, &BY_TOUCHES)
+}
+
+#[test]
+fn chunks_are_collected_by_any_clock(rt: HostRuntime) -> Result<(), Fail> {
+    try_collections(&rt, rt.alloc(), 1, &BY_CLOCKS)
+}
+
+#[test]
+fn chunks_of_snapshots_are_marked(rt: HostRuntime) -> Result<(), Fail> {
+    try_collections(&rt, rt.alloc(), 2, &BESIDE_SNAPSHOTS)
+}
+
+#[test]
+fn collections_end_over_any_folder(rt: HostRuntime) -> Result<(), Fail> {
+    try_collections(&rt, rt.alloc(), 3, &OVER_FOLDERS)
 }
 
 /// The first snapshot's archive has `abc` alone.
