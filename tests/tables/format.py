@@ -21,7 +21,7 @@ TABLES = {
         "above_the_limit": [blob(b"")],
     },
     "format_tests/src/commands.rt": {
-        "COMMANDS": [
+        "WRITER_COMMANDS": [
             open_writer(A),
             previous("root.didx", 21),
             new_fixed("disk.fidx", 4097, 8192),
@@ -35,6 +35,8 @@ TABLES = {
             put_file("", b""),
             finish(),
             abort(),
+        ],
+        "OTHER_COMMANDS": [
             list_after(),
             list_after(A),
             files(A),
@@ -44,6 +46,8 @@ TABLES = {
             verify(A),
             sync("host/a"),
             group("host/a"),
+        ],
+        "READER_COMMANDS": [
             open_reader(A),
             download(MANIFEST),
             download("", 578437695752307201),
@@ -51,8 +55,7 @@ TABLES = {
             range_of("root.didx", 258, 3),
             close_reader(),
         ],
-        "BAD_BODIES": [
-            done(),
+        "BAD_WRITER_BODIES": [
             exists(),
             open_writer(b"a\x00")[:-1],
             open_writer("a") + b"b",
@@ -73,6 +76,8 @@ TABLES = {
             put_file(b"a\x00", b"")[:-1],
             bad_manifest(0),
             abort() + b"\x00",
+        ],
+        "BAD_READER_BODIES": [
             open_reader(b"\x00")[:-1],
             download("a")[:-1],
             download("a") + b"\x00",
@@ -81,6 +86,8 @@ TABLES = {
             range_of("a", 0, 0)[:-1],
             b"\x17\x01a\x00\x00\x00\x00\x00\x00\x00\x00\x00\x00\x00\x00\x00\x00\x00\x00",
             unreadable(""),
+        ],
+        "BAD_OTHER_BODIES": [
             bytes([LIST]),
             list_after(b"a\x00")[:-1],
             files("a") + b"b",
@@ -90,10 +97,13 @@ TABLES = {
             verify(b"\x00")[:-1],
             sync("a") + b"b",
             gc() + b"\x00",
+        ],
+        "BAD_CODES": [
+            done(),
             bye() + b"\x00",
             bytes([255]),
         ],
-        "REPLIES": [
+        "SESSION_REPLIES": [
             frame(base()),
             frame(base(A)),
             frame(rest(u64(21) + BLOB_MAGIC[:2])),
@@ -109,6 +119,10 @@ TABLES = {
             frame(done()),
             frame(done()),
             frame(done()),
+            frame(part(blob(b"123456789"))),
+            frame(rest(u64(21))),
+        ],
+        "OTHER_REPLIES": [
             frame(keys()),
             frame(rest(u16(2) + text(A) + b"\0\1" + text("ct/a") + b"\1\0")),
             frame(file_rows(("root.didx", 5, sha256(b"abc")))),
@@ -120,8 +134,8 @@ TABLES = {
             frame(collected(1000000, 913300, 2, 0, 0)),
             frame(keys()),
             frame(keys("ab", "c")),
-            frame(part(blob(b"123456789"))),
-            frame(rest(u64(21))),
+        ],
+        "REFUSALS": [
             frame(bad_frame(0)),
             frame(too_long(16778241)),
             frame(wrong_state(2)),
@@ -139,6 +153,8 @@ TABLES = {
             frame(bad_blob(5)),
             frame(bad_blob(6)),
             frame(wrong_crc(0xcbf43927, 0xcbf43926)),
+        ],
+        "LATER_REFUSALS": [
             frame(wrong_digest(sha256(b"abc"))),
             frame(wrong_size(1, 5000)),
             frame(unknown_chunk(0)),
@@ -151,6 +167,8 @@ TABLES = {
             frame(bad_manifest(5)),
             frame(mismatch(3)),
             frame(mismatch(6, "root.didx")),
+        ],
+        "LAST_REFUSALS": [
             frame(not_allowed()),
             frame(too_many(1048576)),
             frame(bad_range(21)),
@@ -165,7 +183,7 @@ TABLES = {
             frame(refused(29)),
             frame(refused(30)),
         ],
-        "BAD_REPLIES": [
+        "BAD_SESSION_REPLIES": [
             done(),
             done(),
             done(),
@@ -175,6 +193,8 @@ TABLES = {
             done(),
             done(),
             rest(b"\1\2\3\4\5\6\7"),
+        ],
+        "BAD_REFUSALS": [
             bytes([31]),
             wrong_state(3),
             bad_blob(0),
@@ -186,6 +206,8 @@ TABLES = {
             mismatch(4),
             damaged(sha256(b"abc"), 0, sha256(b"")),
             bad_name() + b"\x00",
+        ],
+        "BAD_OTHER_REPLIES": [
             number(1),
             rows(("a", 2))[:-2] + b"\2\0",
             rest(u16(1) + text("a") + b"\1\5"),
@@ -237,6 +259,6 @@ TABLES = {
         ],
     },
     "format_tests/src/manifests.rt": {
-        "first_cause": [b'"\xff"'],
+        "no_text": [b'"\xff"'],
     },
 }

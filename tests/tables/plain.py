@@ -14,11 +14,9 @@ TABLES = {
         "COLLECT": [frames(gc(), bye())],
         "VERIFY": [frames(verify(A), bye())],
         "SYNC": [frames(sync("host/a"), bye())],
-        "jobs_are_done": [
-            frames(collected(0, 0, 0, 0, 0), done()),
-            frames(verified(1, 0, 0), done()),
-            frames(keys(A), done()),
-        ],
+        "a_collection_is_done": [frames(collected(0, 0, 0, 0, 0), done())],
+        "a_snapshot_is_verified": [frames(verified(1, 0, 0), done())],
+        "a_group_is_pulled": [frames(keys(A), done())],
     },
     "plain_tests/src/loading.rt": {
         "NO_JSON": [blob(b"x")],
@@ -38,12 +36,12 @@ TABLES = {
         "FIXED_DIGESTS": [sha256(ZEROS) + sha256(b"x")],
         "DYNAMIC_HEAD": [dynamic_header(bytes([2]) * 16, -1, dynamic_csum([b"abc", b"de"]))],
         "DYNAMIC_ENTRIES": [entries_of(ends_of([b"abc", b"de"]))],
-        "datastore": [
+        "put_chunks": [
             blob(b"x"),
             blob(b"abc"),
             blob(b"de"),
-            blob(b"set"),
         ],
+        "datastore": [blob(b"set")],
         "CASES": [blob(b"y")],
     },
     "plain_tests/src/weaving.rt": {
@@ -57,6 +55,8 @@ TABLES = {
             no_snapshot(),
             finish(),
             no_file(),
+        ],
+        "OTHER_MANIFESTS": [
             put(MANIFEST, b"x"),
             done(),
             put(MANIFEST, b"x"),
@@ -83,6 +83,8 @@ TABLES = {
             mismatch(5, "set.blob"),
             abort(),
             done(),
+        ],
+        "FIXED_ARCHIVE": [
             open_writer(A),
             base(),
             new_fixed("root.didx", 4097, 4096),
@@ -114,6 +116,8 @@ TABLES = {
             done(),
             open_writer(A),
             not_newer(A),
+        ],
+        "BASE_NAMED": [
             open_writer("host/a/2020-01-16T06:30:03Z"),
             base(A),
             new_dynamic("set.didx"),
@@ -224,6 +228,8 @@ TABLES = {
             keys("host/b/2020-12-31T00:00:00Z", "host/b/2021-01-03T00:00:00Z", "host/b/2021-01-04T00:00:00Z"),
             group("host/c"),
             keys(),
+        ],
+        "PRUNING": [
             prune("host/b", weekly=1001),
             too_many(1000),
             prune("host/b", weekly=2, dry=1),
@@ -271,6 +277,6 @@ TABLES = {
             forget("host/a/2020-01-14T00:00:00Z"),
             done(),
         ],
-        "snapshots_are_told_and_pruned": [frame(prune("host/b", last=1))],
+        "a_job_is_open_at_the_end": [frame(prune("host/b", last=1))],
     },
 }

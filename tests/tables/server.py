@@ -54,15 +54,11 @@ TABLES = {
             book(45, (b"abc", 23), (b"de", 32)),
             book(52, (b"abc", 23), (b"de", 32)),
         ],
-        "FOLDERS": [
-            book(14, (b"abc", 4), (b"de", 5)),
-            book(72, (b"abc", 71), (b"de", 70)),
-            book(71, (b"abc", 70), (b"de", 70)),
-            book(10, (b"abc", 5), (b"de", 4)),
-            book(21, (b"abc", 5), (b"xyz", 20)),
-            book(10, (b"abc", 5))[:-1] + b"\0",
-            book(4, (b"abc", 3)),
-        ],
+        "REFUSED_FOLDER": [book(14, (b"abc", 4), (b"de", 5))],
+        "UNDATED_SENT": [book(72, (b"abc", 71), (b"de", 70))],
+        "UNDATED_READ": [book(71, (b"abc", 70), (b"de", 70))],
+        "OTHER_CHUNKS": [book(10, (b"abc", 5), (b"de", 4)), book(21, (b"abc", 5), (b"xyz", 20))],
+        "OTHER_BOOK": [book(10, (b"abc", 5))[:-1] + b"\0", book(4, (b"abc", 3))],
         "OLD": [book(18, (b"abc", 14), (b"de", 14))],
         "NEW_BOOK": [book(24, (b"abc", 23), (b"de", 14))],
         "KEPT": [book(10, (b"abc", 5))],
@@ -365,8 +361,8 @@ TABLES = {
         "TO_BYE_FAULTS": [
             *4 * [frames(disk_fault(), halted(2), halted(2), halted(2), done())],
             *3 * [frames(disk_fault(), halted(4), done())],
-            *3 * [frames(disk_fault(), done())],
         ],
+        "LATER_FAULTS": 3 * [frames(disk_fault(), done())],
         "ABORTED_FAULTS": [
             *3 * [frames(disk_fault(), halted(1), halted(1))],
             frames(disk_fault(), halted(2)),
@@ -608,6 +604,8 @@ TABLES = {
         "NO_FILES_BESIDE": [frame(file_rows((MANIFEST, 86, sha256(blob(manifest(A))))))],
         "LISTED": [
             frame(forget("host/a")),
+        ],
+        "LISTED_BEHIND": [
             frame(list_after(A)),
             frame(list_after("host/a/2020-01-15T06:30:02Z")),
             frame(list_after("ct/z/1970-01-01T00:00:00Z")),
@@ -617,6 +615,8 @@ TABLES = {
             frame(list_after("host/a")),
             frame(list_after("host/a/2020-02-30T00:00:00Z")),
             frame(list_after("host/-/2020-01-15T06:30:03Z")),
+        ],
+        "OTHER_NAMES": [
             frame(files("")),
             frame(files("host/a")),
             frame(files(A_LATER)),
@@ -630,6 +630,8 @@ TABLES = {
             frame(forget("host/a")),
             frame(forget(A_LATER)),
             frame(forget("ct/a/2020-01-15T06:30:03Z")),
+        ],
+        "LISTED_HELD": [
             frame(forget("host/a")),
         ],
         "TOLD": [
@@ -687,6 +689,8 @@ TABLES = {
             frame(put_manifest("host/B/2020-01-15T06:30:03Z")),
             frame(open_writer("ct/b/2020-01-15T06:30:04Z")),
             frame(put_manifest("ct/b/2020-01-15T06:30:04Z")),
+        ],
+        "ORDERED_LISTED": [
             frame(
                 rows(
                     ("ct/b/2020-01-15T06:30:04Z", 1),
@@ -730,6 +734,8 @@ TABLES = {
                     ("vm/a/2020-01-15T06:30:03Z", 1),
                 ),
             ),
+        ],
+        "ORDERED_GROUPS": [
             frame(keys(A, A_LATER)),
             frame(group("host/a.x")),
             frame(keys("host/a.x/2020-01-15T06:30:03Z")),
@@ -785,6 +791,8 @@ TABLES = {
             frame(bad_manifest(2)),
             frame(put(MANIFEST, b'{"backup-id":"a","backup-time":"1","backup-type":"host","files":[1]}')),
             frame(bad_manifest(2)),
+        ],
+        "FILES_REFUSED": [
             frame(put(MANIFEST, b'{"backup-id":"a","backup-time":1579069803,"backup-type":"host","files":[1]}')),
             frame(bad_manifest(3)),
             frame(put_manifest(A, listed("root", 5, dynamic_csum([b"abc", b"de"])))),
@@ -834,6 +842,8 @@ TABLES = {
                 ),
             ),
             frame(bad_manifest(4)),
+        ],
+        "DIFFERING": [
             frame(
                 put_manifest(
                     "vm/b/2020-01-15T06:30:03Z",
@@ -1008,6 +1018,8 @@ TABLES = {
             frame(open_writer("host/a/2021-01-04T00:00:00Z")),
             frame(base("host/a/2021-01-03T00:00:00Z")),
             frame(put_manifest("host/a/2021-01-04T00:00:00Z")),
+        ],
+        "WEEKS_PRUNED": [
             frame(keys("host/a/2020-12-31T00:00:00Z", "host/a/2021-01-03T00:00:00Z", "host/a/2021-01-04T00:00:00Z")),
             frame(
                 rows(
@@ -1023,6 +1035,8 @@ TABLES = {
             frame(prune("host/a")),
             frame(marks(("host/a/2021-01-04T00:00:00Z", 1), ("host/a/2021-01-03T00:00:00Z", 1))),
             frame(keys("host/a/2021-01-03T00:00:00Z", "host/a/2021-01-04T00:00:00Z")),
+        ],
+        "COUNTS_REFUSED": [
             frame(prune("host/a", last=1001)),
             frame(prune("host/a", hourly=1001)),
             frame(prune("host/a", daily=1001)),
@@ -1038,11 +1052,15 @@ TABLES = {
             frame(prune("host/b", last=1)),
             frame(prune("host/b", last=1001)),
             frame(prune("vm/a", last=1)),
+        ],
+        "WEEKS_HELD": [
             frame(open_reader("host/a/2021-01-03T00:00:00Z")),
             frame(prune("host/a/2021-01-03T00:00:00Z", last=1001)),
             frame(open_writer("host/b/2021-01-04T00:00:00Z")),
             frame(prune("host/a/2021-01-03T00:00:00Z", last=1001)),
             frame(rows(("host/a/2021-01-03T00:00:00Z", 1), ("host/a/2021-01-04T00:00:00Z", 1))),
+        ],
+        "ONE_PERIOD": [
             frame(prune("host/a", yearly=2, dry=1)),
             frame(marks(("host/a/2021-01-04T00:00:00Z", 1), ("host/a/2021-01-03T00:00:00Z", 0))),
             frame(prune("host/a", monthly=1)),
@@ -1065,6 +1083,8 @@ TABLES = {
             frame(rows(("host/a/2020-01-14T06:30:03Z", 1), ("host/a/2020-01-15T18:30:03Z", 1))),
             frame(keys("host/a/2020-01-14T06:30:03Z", "host/a/2020-01-15T18:30:03Z")),
             frame(marks(("host/a/2020-01-15T18:30:03Z", 1), ("host/a/2020-01-14T06:30:03Z", 1))),
+        ],
+        "LAST_KEPT": [
             frame(prune("host/a", last=1)),
             frame(marks(("host/a/2020-01-15T18:30:03Z", 1), ("host/a/2020-01-14T06:30:03Z", 0))),
             frame(rows(("host/a/2020-01-15T18:30:03Z", 1))),
@@ -1126,6 +1146,8 @@ TABLES = {
             frame(append(0, (b"xyz", 0))),
             frame(close_index(0, 1, 3, dynamic_csum([b"xyz"]))),
             frame(put_manifest(B, listed("root.didx", 3, dynamic_csum([b"xyz"])))),
+        ],
+        "NOT_YET_ALLOWED": [
             frame(range_of("root.didx", 2, 2)),
             frame(range_of("root.didx", 6, 4194305)),
             frame(range_of("a.blob", 0, 1)),
@@ -1137,6 +1159,8 @@ TABLES = {
             frame(bad_range(4176)),
             frame(download(MANIFEST, 213)),
             frame(part(blob(manifest(A, listed("root.didx", 0, sha256(b"")))), 213)),
+        ],
+        "ALLOWED": [
             frame(get_chunk(sha256(b"xyz"))),
             frame(get_chunk(sha256(b""))),
             frame(range_of("root.didx", 2, 2)),
@@ -1145,6 +1169,8 @@ TABLES = {
             frame(range_of("root.didx", 3, 2)),
             frame(rest(b"de")),
             frame(range_of("root.didx", 5, 0)),
+        ],
+        "PAST_THE_END": [
             frame(range_of("root.didx", 4, 2)),
             frame(bad_range(5)),
             frame(range_of("root.didx", 6, 0)),
@@ -1176,6 +1202,8 @@ TABLES = {
             frame(not_newer(A)),
             frame(append(0, (b"", 0))),
             frame(previous("root.didx")),
+        ],
+        "REUSED_OVER": [
             frame(previous("root")),
             frame(previous("b.didx")),
             frame(previous("root.didx", 4177)),
@@ -1187,6 +1215,8 @@ TABLES = {
             frame(append(0, (b"de", 0), (b"abc", 2), (b"xyz", 5))),
             frame(close_index(0, 3, 8, dynamic_csum([b"de", b"abc", b"xyz"]))),
             frame(put_manifest(A_LATER, listed("root.didx", 8, dynamic_csum([b"de", b"abc", b"xyz"])))),
+        ],
+        "REUSED_READ": [
             frame(previous("root.didx")),
             frame(download("root.didx", 4096)),
             frame(part(dynamic_index(A, "root.didx", NOW, [b"de", b"abc", b"xyz"]), 4096)),

@@ -58,6 +58,27 @@ fn shown(alloc: Global, disk: &mut MemoryDisk) -> Result<String, Fail> {
     Ok(text)
 }
 
+// What stands there before a change and after it.
+#[derive(Clone, Copy)]
+enum Left {
+    Old,
+    Whole,
+    Half,
+    New,
+    Gone,
+}
+
+// The same, as it is shown.
+fn text_of(left: Left) -> &'static str {
+    match left {
+        Left::Old => "old//other/",
+        Left::Whole => "old/new one/other/",
+        Left::Half => "old/new/other/",
+        Left::New => "new one//other/",
+        Left::Gone => "//other/",
+    }
+}
+
 // A change on a disk that fails at its call k, counted from 0: what a crash leaves by each choice, the second of which is
 // what reads.
 fn try_change(
@@ -66,14 +87,19 @@ fn try_change(
     mut disk: FailingDisk<MemoryDisk>,
     change: Change,
     k: u64,
-    wants: &[&str; 3],
+    wants: &[Left; 3],
 ) -> Result<(), Fail> {
     let is_whole = k == calls_of(change);
     let outcome = make(rt, alloc, &mut disk, "a", change);
     same_at(rt, (change, k), outcome.is_ok(), is_whole);
     same_at(rt, (change, k), disk.faults(), if is_whole { 0 } else { 1 });
     let mut left = disk.into_inner();
-    same_at(rt, (change, k), shown(alloc, &mut left)?.as_str(), wants[1]);
+    same_at(
+        rt,
+        (change, k),
+        shown(alloc, &mut left)?.as_str(),
+        text_of(wants[1]),
+    );
     for choice in 0..3u8 {
         let mut crashed = left.crashed(alloc, choice)?;
         let reads = shown(alloc, &mut crashed)?;
@@ -81,46 +107,40 @@ fn try_change(
             rt,
             (change, k, choice),
             reads.as_str(),
-            wants[choice as usize],
+            text_of(wants[choice as usize]),
         );
     }
     Ok(())
 }
 
-// What stands there before a change and after it, as it is shown.
-const OLD: &str = "old//other/";
-
-const WHOLE: &str = "old/new one/other/";
-
-const HALF: &str = "old/new/other/";
-
-const NEW: &str = "new one//other/";
-
-const GONE: &str = "//other/";
-
-static CHANGES: [(Change, u64, [&str; 3]); 12] = [
-    (Change::Install, 0, [OLD, OLD, OLD]),
-    (Change::Install, 1, [OLD, WHOLE, HALF]),
-    (Change::Install, 2, [WHOLE, WHOLE, WHOLE]),
-    (Change::Install, 3, [WHOLE, NEW, NEW]),
-    (Change::InstallFirm, 0, [OLD, OLD, OLD]),
-    (Change::InstallFirm, 1, [OLD, WHOLE, HALF]),
-    (Change::InstallFirm, 2, [WHOLE, WHOLE, WHOLE]),
-    (Change::InstallFirm, 3, [WHOLE, NEW, NEW]),
-    (Change::InstallFirm, 4, [NEW, NEW, NEW]),
-    (Change::DropFirm, 0, [OLD, OLD, OLD]),
-    (Change::DropFirm, 1, [OLD, GONE, OLD]),
-    (Change::DropFirm, 2, [GONE, GONE, GONE]),
+static CHANGES: [(Change, u64, (Left, Left, Left)); 12] = [
+    (Change::Install, 0, (Left::Old, Left::Old, Left::Old)),
+    (Change::Install, 1, (Left::Old, Left::Whole, Left::Half)),
+    (Change::Install, 2, (Left::Whole, Left::Whole, Left::Whole)),
+    (Change::Install, 3, (Left::Whole, Left::New, Left::New)),
+    (Change::InstallFirm, 0, (Left::Old, Left::Old, Left::Old)),
+    (Change::InstallFirm, 1, (Left::Old, Left::Whole, Left::Half)),
+    (
+        Change::InstallFirm,
+        2,
+        (Left::Whole, Left::Whole, Left::Whole),
+    ),
+    (Change::InstallFirm, 3, (Left::Whole, Left::New, Left::New)),
+    (Change::InstallFirm, 4, (Left::New, Left::New, Left::New)),
+    (Change::DropFirm, 0, (Left::Old, Left::Old, Left::Old)),
+    (Change::DropFirm, 1, (Left::Old, Left::Gone, Left::Old)),
+    (Change::DropFirm, 2, (Left::Gone, Left::Gone, Left::Gone)),
 ];
 
 #[test]
 fn each_call_fails(rt: HostRuntime) -> Result<(), Fail> {
     let alloc = rt.alloc();
-    for (change, k, wants) in &CHANGES {
+    for (change, k, left) in &CHANGES {
+        let wants = [left.0, left.1, left.2];
         let failing = FailingDisk::at_calls(old_disk(alloc)?, Vec::from_slice(alloc, &[*k])?);
-        try_change(&rt, alloc, failing, *change, *k, wants)?;
+        try_change(&rt, alloc, failing, *change, *k, &wants)?;
         let stopping = FailingDisk::stopping_after(old_disk(alloc)?, *k);
-        try_change(&rt, alloc, stopping, *change, *k, wants)?;
+        try_change(&rt, alloc, stopping, *change, *k, &wants)?;
     }
     Ok(())
 }
@@ -131,7 +151,7 @@ fn drops_nothing(rt: HostRuntime) -> Result<(), Fail> {
     let alloc = rt.alloc();
     let mut disk = old_disk(alloc)?;
     drop_firm(&mut disk, "c")?;
-    same(&rt, shown(alloc, &mut disk)?.as_str(), OLD);
+    same(&rt, shown(alloc, &mut disk)?.as_str(), text_of(Left::Old));
     same(&rt, disk.steps().len(), 4);
     Ok(())
 }

@@ -104,11 +104,17 @@ static SHARES: [(u32, Ask, Option<u32>); 12] = [
     (0, Ask::FreeForRemoval(LATER), Some(0)),
 ];
 
-/// A group has one lane, a writer a base, and a snapshot is shared.
 #[test]
-fn lanes_hold_what_they_asked_for(rt: HostRuntime) -> Result<(), Fail> {
-    let alloc = rt.alloc();
-    ask_all(&rt, alloc, &GROUPS)?;
-    ask_all(&rt, alloc, &WRITERS)?;
-    ask_all(&rt, alloc, &SHARES)
+fn a_group_has_one_lane(rt: HostRuntime) -> Result<(), Fail> {
+    ask_all(&rt, rt.alloc(), &GROUPS)
+}
+
+#[test]
+fn a_writer_holds_its_base(rt: HostRuntime) -> Result<(), Fail> {
+    ask_all(&rt, rt.alloc(), &WRITERS)
+}
+
+#[test]
+fn a_snapshot_is_shared(rt: HostRuntime) -> Result<(), Fail> {
+    ask_all(&rt, rt.alloc(), &SHARES)
 }

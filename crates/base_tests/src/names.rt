@@ -38,7 +38,8 @@ static SNAPSHOTS: [Row; 10] = [
     ("vm/0/1970-01-01T00:00:00Z", Kind::Vm, "0", 0),
 ];
 
-static NO_SNAPSHOTS: [&str; 28] = [
+/// Texts with a wrong kind or id, or with too few or too many parts.
+static NO_SNAPSHOTS: [&str; 13] = [
     "",
     "host/a",
     "/a/2020-01-15T06:30:03Z",
@@ -52,6 +53,10 @@ static NO_SNAPSHOTS: [&str; 28] = [
     "host/aaaaaaaabbbbbbbbccccccccddddddddeeeeeeeeffffffff00000000111111112/2020-01-15T06:30:03Z",
     "host/a/2020-01-15T06:30:03Z/",
     "host/a/b/2020-01-15T06:30:03Z",
+];
+
+/// Texts with a wrong time.
+static NO_TIMES: [&str; 15] = [
     "host/a/2020-13-15T06:30:03Z",
     "host/a/2020-00-15T06:30:03Z",
     "host/a/2020-01-00T06:30:03Z",
@@ -116,19 +121,37 @@ fn snapshots(rt: HostRuntime) -> Result<(), Fail> {
     Ok(())
 }
 
-#[test]
-fn bad_names(rt: HostRuntime) -> Result<(), Fail> {
-    let alloc = rt.alloc();
-    for text in &NO_SNAPSHOTS {
+fn try_no_snapshots(rt: &impl Abort, alloc: Global, texts: &[&str]) -> Result<(), Fail> {
+    for text in texts {
         let key = SnapshotKey::parse(alloc, text.as_bytes())?;
-        same_at(&rt, *text, key.is_err(), true);
+        same_at(rt, *text, key.is_err(), true);
     }
+    Ok(())
+}
+
+#[test]
+fn no_snapshots(rt: HostRuntime) -> Result<(), Fail> {
+    try_no_snapshots(&rt, rt.alloc(), &NO_SNAPSHOTS)
+}
+
+#[test]
+fn no_times(rt: HostRuntime) -> Result<(), Fail> {
+    try_no_snapshots(&rt, rt.alloc(), &NO_TIMES)
+}
+
+#[test]
+fn no_groups(rt: HostRuntime) -> Result<(), Fail> {
     for text in &NO_GROUPS {
-        let key = GroupKey::parse(alloc, text.as_bytes())?;
+        let key = GroupKey::parse(rt.alloc(), text.as_bytes())?;
         same_at(&rt, *text, key.is_err(), true);
     }
+    Ok(())
+}
+
+#[test]
+fn no_file_names(rt: HostRuntime) -> Result<(), Fail> {
     for text in &NO_FILE_NAMES {
-        let name = FileName::check(alloc, text.as_bytes())?;
+        let name = FileName::check(rt.alloc(), text.as_bytes())?;
         same_at(&rt, *text, name.is_err(), true);
     }
     Ok(())
@@ -196,11 +219,17 @@ fn file_names(rt: HostRuntime) -> Result<(), Fail> {
 }
 
 #[test]
-fn lists(rt: HostRuntime) -> Result<(), Fail> {
+fn bytes(rt: HostRuntime) -> Result<(), Fail> {
     let alloc = rt.alloc();
     let bytes = Bytes::from_slice(alloc, b"abc")?;
     same(&rt, bytes.clone()?.into_vec().as_slice(), b"abc");
     same(&rt, Bytes::new(alloc) < bytes, true);
+    Ok(())
+}
+
+#[test]
+fn rows(rt: HostRuntime) -> Result<(), Fail> {
+    let alloc = rt.alloc();
     let rows = Rows::from_vec([7u64, 9].to_vec(alloc)?);
     same(&rt, rows.as_slice(), &[7, 9]);
     same(&rt, rows.into_vec().len(), 2);
@@ -209,9 +238,13 @@ fn lists(rt: HostRuntime) -> Result<(), Fail> {
 }
 
 #[test]
-fn dates_and_faults(rt: HostRuntime) -> Result<(), Fail> {
+fn dates(rt: HostRuntime) {
     let date = date_of_day(18_276);
     same(&rt, (date.year, date.month, date.day), (2020, 1, 15));
+}
+
+#[test]
+fn faults(rt: HostRuntime) -> Result<(), Fail> {
     let fault = BadBlob::WrongCrc {
         kept: 0xcbf4_3927,
         found: 0xcbf4_3926,

@@ -3,6 +3,7 @@ use port_traits::{
     Clock, Failed, FileSink, FileSource, FreeGate, Gate, MemSink, MemSource, SetClock, Sink,
     Source, WallClock, write_all_of, write_counted,
 };
+use std::process::Abort;
 use std::test::Fail;
 use std::{fs, io};
 
@@ -62,31 +63,46 @@ fn clocks_and_gates(rt: HostRuntime) -> Result<(), Fail> {
     Ok(())
 }
 
+fn write_hello<K: Sink + Send>(rt: &impl Abort, sink: &mut K) {
+    same(rt, put(sink, b"hello"), (Ok(()), 5));
+}
+
+fn read_hello<S: Source + Send>(rt: &impl Abort, source: &mut S) {
+    let mut into = [0u8; 8];
+    same(rt, read(source, &mut into), Ok(5));
+    same(rt, into, *b"hello\0\0\0");
+    same(rt, read(source, &mut into), Ok(0));
+}
+
 #[test]
 fn files_hold_what_was_written(rt: HostRuntime) -> Result<(), Fail> {
     let path = "port_traits_test.bin";
     fs::write(&rt, path, "old text that is longer")?;
-    let mut sink = FileSink::create(&rt, path);
-    same(&rt, put(&mut sink, b"hello"), (Ok(()), 5));
-    let mut source = FileSource::new(rt, String::from_str(rt.alloc(), path)?);
-    let mut into = [0u8; 8];
-    same(&rt, read(&mut source, &mut into), Ok(5));
-    same(&rt, into, *b"hello\0\0\0");
-    same(&rt, read(&mut source, &mut into), Ok(0));
+    write_hello(&rt, &mut FileSink::create(&rt, path));
+    let path_of_source = String::from_str(rt.alloc(), path)?;
+    read_hello(&rt, &mut FileSource::new(rt, path_of_source));
     fs::remove_file(&rt, path)?;
     Ok(())
 }
 
 #[test]
-fn files_that_are_not_there(rt: HostRuntime) -> Result<(), Fail> {
+fn a_source_that_is_not_there(rt: HostRuntime) -> Result<(), Fail> {
     let mut source = FileSource::new(rt, String::from_str(rt.alloc(), "no_such_file")?);
     same(&rt, read(&mut source, &mut [0; 8]), Err(Failed));
     same(&rt, source.faults(), 1);
+    Ok(())
+}
+
+#[test]
+fn a_sink_that_is_not_there(rt: HostRuntime) {
     let mut sink = FileSink::create(&rt, "no_such_folder/file");
     same(&rt, sink.faults(), 0);
     same(&rt, put(&mut sink, b"x"), (Err(Failed), 0));
     same(&rt, sink.faults(), 1);
+}
+
+#[test]
+fn a_sink_over_the_output(rt: HostRuntime) {
     let mut out = FileSink::over(io::writer(&rt));
     same(&rt, put(&mut out, b"x\n"), (Ok(()), 2));
-    Ok(())
 }

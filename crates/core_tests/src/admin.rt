@@ -42,13 +42,17 @@ static WRITTEN: Calls = &[
     (3, Call::Finish, DONE),
 ];
 
+fn written(rt: &impl Abort, alloc: Global) -> Result<Parts<MemoryDisk>, Fail> {
+    after(rt, alloc, WRITTEN)
+}
+
 /// LIST tells the snapshot of the other group alone, and that one behind the second.
 const OTHER_LISTED: &[u8] = b"!\0\0\0\0\x01\0\x1bhost/b/2020-01-15T06:30:03Z\0\x01";
 
 const TWO_LISTED: &[u8] =
     b"?\0\0\0\0\x02\0\x1bhost/a/2020-01-15T06:30:04Z\0\x01\x1bhost/b/2020-01-15T06:30:03Z\0\x01";
 
-const LISTED: Calls = &[
+static LISTED: Calls = &[
     (
         5,
         Call::List(b""),
@@ -64,14 +68,14 @@ const LISTED: Calls = &[
 const BOTH: &[u8] =
     b";\0\0\0\0\x02\0\x1bhost/a/2020-01-15T06:30:03Z\x1bhost/a/2020-01-15T06:30:04Z";
 
-const TOLD: Calls = &[
+static TOLD: Calls = &[
     (5, Call::Group(b"host/a"), BOTH),
     (5, Call::Group(b"vm/a"), NONE_THERE),
     (5, Call::Group(FIRST), BAD_NAME),
 ];
 
 /// The first steps of prunes, and what they are refused.
-const BEGUN: Calls = &[
+static BEGUN: Calls = &[
     (
         5,
         Call::Prune(b"host/b", 0),
@@ -88,7 +92,7 @@ const BEGUN: Calls = &[
 ];
 
 /// The files of a snapshot; then its manifest is a blob of other bytes, another snapshot's manifest, and gone.
-const FILES: Calls = &[
+static FILES: Calls = &[
     (
         5,
         Call::Files(FIRST),
@@ -109,13 +113,11 @@ const FILES: Calls = &[
 ];
 
 /// Snapshots are listed, groups are told, prunes begin, and files are told.
-static ASKED: [Calls; 4] = [LISTED, TOLD, BEGUN, FILES];
-
 #[test]
 fn snapshots_are_told(rt: HostRuntime) -> Result<(), Fail> {
     let alloc = rt.alloc();
-    for calls in &ASKED {
-        let mut parts = after(&rt, alloc, WRITTEN)?;
+    for calls in [LISTED, TOLD, BEGUN, FILES] {
+        let mut parts = written(&rt, alloc)?;
         try_calls(&rt, &mut parts, alloc, calls)?;
     }
     Ok(())
@@ -152,7 +154,7 @@ fn count_names(parts: &mut Parts<MemoryDisk>, alloc: Global, prefix: &str) -> Re
 #[test]
 fn snapshots_are_forgotten(rt: HostRuntime) -> Result<(), Fail> {
     let alloc = rt.alloc();
-    let mut parts = after(&rt, alloc, WRITTEN)?;
+    let mut parts = written(&rt, alloc)?;
     try_calls(&rt, &mut parts, alloc, HELD)?;
     let before = parts.disk.calls();
     try_calls(&rt, &mut parts, alloc, GONE)?;

@@ -20,7 +20,10 @@ pub(crate) type Rows = &'static [Row];
 /// How a collection goes where others' acts fall at one of its places, and what the core has in the end, and one that is opened then.
 #[derive(Clone, Copy)]
 struct Place {
-    collection: Rows,
+    /// Whether it opens, how many acts of it are told nothing, and the last.
+    starts: bool,
+    passes: usize,
+    last: Option<Row>,
     left: Kept,
     saved: Kept,
 }
@@ -168,13 +171,17 @@ pub(crate) const CLOSE_READER: Row = (4, Step::CloseReader, DONE, 0);
 const REUSE: Rows = &[OPEN, TAKE, BEGIN, NAME_ABC, CLOSE_ABC, PUT_SECOND, FINISH];
 
 const MARKED: Place = Place {
-    collection: &[START, PASS, PASS, PASS, TWO_USED],
+    starts: true,
+    passes: 3,
+    last: Some(TWO_USED),
     left: BOTH_STAY,
     saved: BOTH_STAY,
 };
 
 const MARKED_TWICE: Place = Place {
-    collection: &[START, PASS, PASS, PASS, PASS, TWO_USED],
+    starts: true,
+    passes: 4,
+    last: Some(TWO_USED),
     left: BOTH_STAY,
     saved: BOTH_STAY,
 };
@@ -185,13 +192,17 @@ const REUSE_ALONE: Rows = &[
 ];
 
 const ONE_MARKED: Place = Place {
-    collection: &[START, PASS, PASS, PASS, ONE_OF_TWO],
+    starts: true,
+    passes: 3,
+    last: Some(ONE_OF_TWO),
     left: ABC_STAYS,
     saved: ABC_STAYS,
 };
 
 const ONE_TOUCHED: Place = Place {
-    collection: &[START, PASS, PASS, ONE_OF_TWO],
+    starts: true,
+    passes: 2,
+    last: Some(ONE_OF_TWO),
     left: ABC_STAYS,
     saved: ABC_STAYS,
 };
@@ -252,39 +263,51 @@ const WRITE: Rows = &[
 
 /// A chunk that is sent before it is visited stays. One that is gone by then is there again, and is used.
 const TWO_TOUCHED: Place = Place {
-    collection: &[START, PASS, PASS, TWO_USED],
+    starts: true,
+    passes: 2,
+    last: Some(TWO_USED),
     left: BOTH_STAY,
     saved: BOTH_STAY,
 };
 
 const HALF_VISITED: Place = Place {
-    collection: &[START, PASS, PASS, ONE_CAME_BACK],
+    starts: true,
+    passes: 2,
+    last: Some(ONE_CAME_BACK),
     left: BOTH_STAY,
     saved: BOTH_STAY,
 };
 
 const VISITED: Place = Place {
-    collection: &[START, PASS, PASS, TWO_CAME_BACK],
+    starts: true,
+    passes: 2,
+    last: Some(TWO_CAME_BACK),
     left: BOTH_STAY,
     saved: BOTH_STAY,
 };
 
 /// The book was saved before: a core that is opened then has no entry of them.
 const SENT_BEHIND: Place = Place {
-    collection: &[START, PASS, PASS, TWO_GONE],
+    starts: true,
+    passes: 2,
+    last: Some(TWO_GONE),
     left: BOTH_STAY,
     saved: (1_000_000, Some(1_000_000), Some(1_000_000), 2),
 };
 
 /// One chunk is sent where none is there. It is used, whether it was listed or not.
 const ONE_SENT: Place = Place {
-    collection: &[START, PASS, ONE_USED],
+    starts: true,
+    passes: 1,
+    last: Some(ONE_USED),
     left: ABC_STAYS,
     saved: ABC_STAYS,
 };
 
 const ONE_SENT_BEHIND: Place = Place {
-    collection: &[START, PASS, NONE_USED],
+    starts: true,
+    passes: 1,
+    last: Some(NONE_USED),
     left: ABC_STAYS,
     saved: (1_000_000, Some(1_000_000), None, 1),
 };
@@ -294,7 +317,9 @@ const RECENT: &[u8] =
     b"PBSBOOK1\xf0~\x0e\0\0\0\0\0\x02\0\0\0\0\0\0\0\x95\x9aE\xd4No\xcfX6\x1e\xd0\x04h\x15V\xfeP\x12\x9f!\x09\xe8\x17\xde\xc0\x98\xc0\x0c\x9e]%xd\0\0\0\0\0\0\0\xbax\x16\xbf\x8f\x01\xcf\xeaAA@\xde]\xae\"#\xb0\x03a\xa3\x96\x17z\x9c\xb4\x10\xffa\xf2\0\x15\xad\xf0~\x0e\0\0\0\0\0\xa9\x7f|\xdf`{`>r\0\x97\x13\xb6\xff\xda\xd9\x0e\xbdld\x07\xba\xbe._\x91\x0f\xee.\x14\x8a5";
 
 const UNMARKED: Place = Place {
-    collection: &[START, PASS, PASS, ONE_PENDING],
+    starts: true,
+    passes: 2,
+    last: Some(ONE_PENDING),
     left: (1_000_000, Some(950_000), None, 0),
     saved: (1_000_000, Some(950_000), None, 0),
 };
@@ -339,232 +364,268 @@ const TWO_GONE_BY_OTHER: Row = (
 );
 
 const REFUSED: Place = Place {
-    collection: &[(5, Step::Start, b"\x05\0\0\0\x19\x06\0\0\0", 0)],
+    starts: false,
+    passes: 0,
+    last: Some((5, Step::Start, b"\x05\0\0\0\x19\x06\0\0\0", 0)),
     left: NONE_STAYS,
     saved: NONE_STAYS,
 };
 
 const OPENED: Place = Place {
-    collection: &[PASS, PASS, TWO_GONE],
+    starts: false,
+    passes: 2,
+    last: Some(TWO_GONE),
     left: NONE_STAYS,
     saved: NONE_STAYS,
 };
 
 /// Memory is wanting on the collector's lane. Its next act is the end, which saves nothing. `abc` is needed, and was touched at 5.
 const SHORT_AT_MARK: Place = Place {
-    collection: &[START, CUT],
+    starts: true,
+    passes: 0,
+    last: Some(CUT),
     left: (1_000_000, Some(5), Some(4), 0),
     saved: (10, Some(5), Some(4), 0),
 };
 
 const SHORT_AT_FIRST: Place = Place {
-    collection: &[START, PASS, CUT],
+    starts: true,
+    passes: 1,
+    last: Some(CUT),
     left: (1_000_000, Some(1_000_000), Some(4), 0),
     saved: (10, Some(5), Some(4), 0),
 };
 
 const SHORT_AT_SECOND: Place = Place {
-    collection: &[START, PASS, PASS, CUT],
+    starts: true,
+    passes: 2,
+    last: Some(CUT),
     left: ABC_STAYS,
     saved: (10, Some(5), None, 0),
 };
 
 const SHORT_AT_END: Place = Place {
-    collection: &[START, PASS, PASS, PASS, CUT],
+    starts: true,
+    passes: 3,
+    last: Some(CUT),
     left: ABC_STAYS,
     saved: (10, Some(5), None, 0),
 };
 
 /// The collector's lane ends, and another one's opens.
 const LEFT_AT_MARK: Place = Place {
-    collection: &[],
+    starts: false,
+    passes: 0,
+    last: None,
     left: (1_000_000, Some(5), Some(4), 0),
     saved: (10, Some(5), Some(4), 0),
 };
 
 const LEFT_AT_FIRST: Place = Place {
-    collection: &[PASS],
+    starts: false,
+    passes: 1,
+    last: None,
     left: (1_000_000, Some(1_000_000), Some(4), 0),
     saved: (10, Some(5), Some(4), 0),
 };
 
 const LEFT_AT_SECOND: Place = Place {
-    collection: &[PASS, PASS],
+    starts: false,
+    passes: 2,
+    last: None,
     left: ABC_STAYS,
     saved: (10, Some(5), None, 0),
 };
 
 const LEFT_AT_END: Place = Place {
-    collection: &[PASS, PASS, PASS],
+    starts: false,
+    passes: 3,
+    last: None,
     left: ABC_STAYS,
     saved: (10, Some(5), None, 0),
 };
 
-static WRITERS: [Beside; 5] = [
-    Beside {
-        files: BACKED_UP,
-        entries: 2,
-        before: &[],
-        acts: REUSE,
-        early: 6,
-        // where it finishes before the start, its index is marked too
-        places: &[MARKED_TWICE, MARKED, MARKED, MARKED, MARKED, MARKED],
-        after: &[
-            READ_SECOND,
-            AT_END_OF_ONE,
-            ABC,
-            CLOSE_READER,
-            READ_FIRST,
-            AT_END_OF_TWO,
-            DE_ABC,
-        ],
-    },
-    Beside {
-        files: BACKED_UP,
-        entries: 2,
-        before: &[],
-        acts: REUSE_ALONE,
-        early: 6,
-        places: &[ONE_MARKED, ONE_TOUCHED, MARKED, MARKED, MARKED, MARKED],
-        after: &[READ_SECOND, AT_END_OF_ONE, ABC],
-    },
-    Beside {
-        files: UNNEEDED,
-        entries: 0,
-        before: &[],
-        acts: WRITE,
-        early: 2,
-        places: &[MARKED, TWO_TOUCHED, HALF_VISITED, VISITED, SENT_BEHIND],
-        after: &[READ_FIRST, AT_END_OF_TWO, DE_ABC],
-    },
-    // the same, but that it finishes after the collection
-    Beside {
-        files: UNNEEDED,
-        entries: 0,
-        before: &[],
-        acts: &[OPEN_FIRST, BEGIN, SEND_DE, SEND_ABC],
-        early: 2,
-        places: &[TWO_TOUCHED, TWO_TOUCHED, HALF_VISITED, VISITED, SENT_BEHIND],
-        after: &[
-            NAME_BOTH,
-            CLOSE_BOTH,
-            PUT_FIRST,
-            FINISH,
-            READ_FIRST,
-            AT_END_OF_TWO,
-            DE_ABC,
-        ],
-    },
-    Beside {
-        files: NONE_OF_BOTH,
-        entries: 0,
-        before: &[],
-        acts: &[OPEN_FIRST, BEGIN, SEND_ABC],
-        early: 2,
-        places: &[ONE_SENT, ONE_SENT, ONE_SENT, ONE_SENT_BEHIND],
-        after: &[],
-    },
-];
+/// A writer takes over what its base has.
+static REUSED: Beside = Beside {
+    files: BACKED_UP,
+    entries: 2,
+    before: &[],
+    acts: REUSE,
+    early: 6,
+    // where it finishes before the start, its index is marked too
+    places: &[MARKED_TWICE, MARKED, MARKED, MARKED, MARKED, MARKED],
+    after: &[
+        READ_SECOND,
+        AT_END_OF_ONE,
+        ABC,
+        CLOSE_READER,
+        READ_FIRST,
+        AT_END_OF_TWO,
+        DE_ABC,
+    ],
+};
 
-static OTHERS: [Beside; 7] = [
-    Beside {
-        files: &[
-            (ABC_CHUNK, ABC_BLOB),
-            (DE_CHUNK, DE_BLOB),
-            (BOOK, RECENT),
-            (MANIFEST_PATH, OF_TWO),
-        ],
-        entries: 2,
-        before: &[],
-        acts: &[FORGET],
-        early: 0,
-        places: &[UNMARKED, UNMARKED, MARKED, MARKED, MARKED, MARKED],
-        after: &[],
-    },
-    Beside {
-        files: &[
-            (ABC_CHUNK, ABC_BLOB),
-            (DE_CHUNK, DE_BLOB),
-            (BOOK, BEFORE),
-            (MANIFEST_PATH, OF_MANY),
-        ],
-        entries: 1_001,
-        before: &[],
-        acts: MAKE_AGAIN,
-        early: 0,
-        // the third place is between its two marks
-        places: &[
-            ONE_MARKED,
-            ONE_TOUCHED,
-            MARKED,
-            MARKED_TWICE,
-            MARKED_TWICE,
-            MARKED_TWICE,
-            MARKED_TWICE,
-        ],
-        after: &[READ_FIRST, AT_END_OF_ONE, ABC],
-    },
-    Beside {
-        files: UNNEEDED,
-        entries: 0,
-        before: &[START_OTHER],
-        acts: &[PASS_OTHER],
-        early: 0,
-        places: &[REFUSED, REFUSED],
-        after: &[PASS_OTHER, TWO_GONE_BY_OTHER],
-    },
-    Beside {
-        files: UNNEEDED,
-        entries: 0,
-        before: &[START],
-        acts: &[(6, Step::Start, BUSY, 0), (6, Step::Pass, IN_NONE, 0)],
-        early: 0,
-        places: &[OPENED, OPENED, OPENED],
-        after: &[START_OTHER, PASS_OTHER, NONE_USED_BY_OTHER],
-    },
-    Beside {
-        files: ONE_NEEDED,
-        entries: 1,
-        before: &[],
-        acts: &[(5, Step::Short, NO_MEMORY, 2)],
-        early: 0,
-        places: &[
-            ONE_MARKED,
-            SHORT_AT_MARK,
-            SHORT_AT_FIRST,
-            SHORT_AT_SECOND,
-            SHORT_AT_END,
-            ONE_MARKED,
-        ],
-        after: &[(5, Step::Pass, IN_NONE, 0)],
-    },
-    // memory is wanting on other lanes, a writer's among them
-    Beside {
-        files: ONE_NEEDED,
-        entries: 1,
-        before: &[],
-        acts: &[
-            (7, Step::Short, NO_MEMORY, 2),
-            OPEN,
-            (3, Step::Short, NO_MEMORY, 2),
-            (3, Step::Abort, DONE, 0),
-        ],
-        early: 1,
-        places: &[
-            ONE_MARKED, ONE_MARKED, ONE_MARKED, ONE_MARKED, ONE_MARKED, ONE_MARKED,
-        ],
-        after: &[],
-    },
-    Beside {
-        files: ONE_NEEDED,
-        entries: 1,
-        before: &[START],
-        acts: &[(5, Step::End, b"", 6), START_OTHER],
-        early: 0,
-        places: &[LEFT_AT_MARK, LEFT_AT_FIRST, LEFT_AT_SECOND, LEFT_AT_END],
-        after: &[],
-    },
-];
+/// The same, and the base is forgotten.
+static REUSED_ALONE: Beside = Beside {
+    files: BACKED_UP,
+    entries: 2,
+    before: &[],
+    acts: REUSE_ALONE,
+    early: 6,
+    places: &[ONE_MARKED, ONE_TOUCHED, MARKED, MARKED, MARKED, MARKED],
+    after: &[READ_SECOND, AT_END_OF_ONE, ABC],
+};
+
+/// A writer sends what is there already.
+static WRITTEN: Beside = Beside {
+    files: UNNEEDED,
+    entries: 0,
+    before: &[],
+    acts: WRITE,
+    early: 2,
+    places: &[MARKED, TWO_TOUCHED, HALF_VISITED, VISITED, SENT_BEHIND],
+    after: &[READ_FIRST, AT_END_OF_TWO, DE_ABC],
+};
+
+/// The same, but that it finishes after the collection.
+static FINISHED_AFTER: Beside = Beside {
+    files: UNNEEDED,
+    entries: 0,
+    before: &[],
+    acts: &[OPEN_FIRST, BEGIN, SEND_DE, SEND_ABC],
+    early: 2,
+    places: &[TWO_TOUCHED, TWO_TOUCHED, HALF_VISITED, VISITED, SENT_BEHIND],
+    after: &[
+        NAME_BOTH,
+        CLOSE_BOTH,
+        PUT_FIRST,
+        FINISH,
+        READ_FIRST,
+        AT_END_OF_TWO,
+        DE_ABC,
+    ],
+};
+
+/// A writer sends what is not there, and goes no further.
+static SENT: Beside = Beside {
+    files: NONE_OF_BOTH,
+    entries: 0,
+    before: &[],
+    acts: &[OPEN_FIRST, BEGIN, SEND_ABC],
+    early: 2,
+    places: &[ONE_SENT, ONE_SENT, ONE_SENT, ONE_SENT_BEHIND],
+    after: &[],
+};
+
+/// A snapshot is forgotten.
+static FORGOTTEN: Beside = Beside {
+    files: &[
+        (ABC_CHUNK, ABC_BLOB),
+        (DE_CHUNK, DE_BLOB),
+        (BOOK, RECENT),
+        (MANIFEST_PATH, OF_TWO),
+    ],
+    entries: 2,
+    before: &[],
+    acts: &[FORGET],
+    early: 0,
+    places: &[UNMARKED, UNMARKED, MARKED, MARKED, MARKED, MARKED],
+    after: &[],
+};
+
+/// It is forgotten and made again.
+static MADE_AGAIN: Beside = Beside {
+    files: &[
+        (ABC_CHUNK, ABC_BLOB),
+        (DE_CHUNK, DE_BLOB),
+        (BOOK, BEFORE),
+        (MANIFEST_PATH, OF_MANY),
+    ],
+    entries: 1_001,
+    before: &[],
+    acts: MAKE_AGAIN,
+    early: 0,
+    // the third place is between its two marks
+    places: &[
+        ONE_MARKED,
+        ONE_TOUCHED,
+        MARKED,
+        MARKED_TWICE,
+        MARKED_TWICE,
+        MARKED_TWICE,
+        MARKED_TWICE,
+    ],
+    after: &[READ_FIRST, AT_END_OF_ONE, ABC],
+};
+
+/// Another lane's collector is open before, and goes on.
+static OTHER_IS_OPEN: Beside = Beside {
+    files: UNNEEDED,
+    entries: 0,
+    before: &[START_OTHER],
+    acts: &[PASS_OTHER],
+    early: 0,
+    places: &[REFUSED, REFUSED],
+    after: &[PASS_OTHER, TWO_GONE_BY_OTHER],
+};
+
+/// Another lane's collector is refused, and opens after.
+static OTHER_IS_REFUSED: Beside = Beside {
+    files: UNNEEDED,
+    entries: 0,
+    before: &[START],
+    acts: &[(6, Step::Start, BUSY, 0), (6, Step::Pass, IN_NONE, 0)],
+    early: 0,
+    places: &[OPENED, OPENED, OPENED],
+    after: &[START_OTHER, PASS_OTHER, NONE_USED_BY_OTHER],
+};
+
+/// Memory is wanting on the collector's lane.
+static SHORT: Beside = Beside {
+    files: ONE_NEEDED,
+    entries: 1,
+    before: &[],
+    acts: &[(5, Step::Short, NO_MEMORY, 2)],
+    early: 0,
+    places: &[
+        ONE_MARKED,
+        SHORT_AT_MARK,
+        SHORT_AT_FIRST,
+        SHORT_AT_SECOND,
+        SHORT_AT_END,
+        ONE_MARKED,
+    ],
+    after: &[(5, Step::Pass, IN_NONE, 0)],
+};
+
+/// Memory is wanting on other lanes, a writer's among them.
+static SHORT_ELSEWHERE: Beside = Beside {
+    files: ONE_NEEDED,
+    entries: 1,
+    before: &[],
+    acts: &[
+        (7, Step::Short, NO_MEMORY, 2),
+        OPEN,
+        (3, Step::Short, NO_MEMORY, 2),
+        (3, Step::Abort, DONE, 0),
+    ],
+    early: 1,
+    places: &[
+        ONE_MARKED, ONE_MARKED, ONE_MARKED, ONE_MARKED, ONE_MARKED, ONE_MARKED,
+    ],
+    after: &[],
+};
+
+/// The collector's lane ends, and another one's opens.
+static ENDED: Beside = Beside {
+    files: ONE_NEEDED,
+    entries: 1,
+    before: &[START],
+    acts: &[(5, Step::End, b"", 6), START_OTHER],
+    early: 0,
+    places: &[LEFT_AT_MARK, LEFT_AT_FIRST, LEFT_AT_SECOND, LEFT_AT_END],
+    after: &[],
+};
 
 /// What a clock reads first, and then always.
 type Clock = (&'static [u64], u64);
@@ -583,16 +644,32 @@ fn add(list: &mut Vec<Row>, rows: &[Row], from: usize, to: usize) -> Result<(), 
     Ok(())
 }
 
+/// The acts of a collection.
+fn collection_of(alloc: Global, place: &Place) -> Result<Vec<Row>, AllocError> {
+    let mut rows: Vec<Row> = Vec::new(alloc);
+    if place.starts {
+        rows.push(START)?;
+    }
+    for _ in 0..place.passes {
+        rows.push(PASS)?;
+    }
+    if let Some(last) = place.last {
+        rows.push(last)?;
+    }
+    Ok(rows)
+}
+
 /// What is done in all. So many of the acts come at an earlier place, and the rest at their own.
 fn woven(alloc: Global, table: &Beside, place: &Place, spot: Spot) -> Result<Vec<Row>, AllocError> {
     let [_, from, early, to] = spot;
+    let collection = collection_of(alloc, place)?;
     let mut list: Vec<Row> = Vec::new(alloc);
     add(&mut list, table.before, 0, usize::MAX)?;
-    add(&mut list, place.collection, 0, from)?;
+    add(&mut list, &collection, 0, from)?;
     add(&mut list, table.acts, 0, early)?;
-    add(&mut list, place.collection, from, to)?;
+    add(&mut list, &collection, from, to)?;
     add(&mut list, table.acts, early, usize::MAX)?;
-    add(&mut list, place.collection, to, usize::MAX)?;
+    add(&mut list, &collection, to, usize::MAX)?;
     add(&mut list, table.after, 0, usize::MAX)?;
     Ok(list)
 }
@@ -649,18 +726,27 @@ fn try_table(rt: &impl Abort, alloc: Global, number: usize, table: &Beside) -> R
     Ok(())
 }
 
-#[test]
-fn writers_fall_at_every_place(rt: HostRuntime) -> Result<(), Fail> {
-    for (number, table) in WRITERS.iter().enumerate() {
-        try_table(&rt, rt.alloc(), number, table)?;
+fn try_tables(rt: &impl Abort, alloc: Global, tables: &[&Beside]) -> Result<(), Fail> {
+    for (number, table) in tables.iter().enumerate() {
+        try_table(rt, alloc, number, *table)?;
     }
     Ok(())
 }
 
 #[test]
+fn writers_fall_at_every_place(rt: HostRuntime) -> Result<(), Fail> {
+    let tables = [&REUSED, &REUSED_ALONE, &WRITTEN, &FINISHED_AFTER, &SENT];
+    try_tables(&rt, rt.alloc(), &tables)
+}
+
+#[test]
 fn others_fall_at_every_place(rt: HostRuntime) -> Result<(), Fail> {
-    for (number, table) in OTHERS.iter().enumerate() {
-        try_table(&rt, rt.alloc(), number, table)?;
-    }
-    Ok(())
+    let tables = [&FORGOTTEN, &MADE_AGAIN, &OTHER_IS_OPEN, &OTHER_IS_REFUSED];
+    try_tables(&rt, rt.alloc(), &tables)
+}
+
+#[test]
+fn ends_fall_at_every_place(rt: HostRuntime) -> Result<(), Fail> {
+    let tables = [&SHORT, &SHORT_ELSEWHERE, &ENDED];
+    try_tables(&rt, rt.alloc(), &tables)
 }

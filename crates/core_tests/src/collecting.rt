@@ -43,7 +43,7 @@ const AT_CUTOFF: &[u8] =
     b"PBSBOOK1\x94\xef\x0d\0\0\0\0\0\x02\0\0\0\0\0\0\0\x95\x9aE\xd4No\xcfX6\x1e\xd0\x04h\x15V\xfeP\x12\x9f!\x09\xe8\x17\xde\xc0\x98\xc0\x0c\x9e]%x\x93\xef\x0d\0\0\0\0\0\xbax\x16\xbf\x8f\x01\xcf\xeaAA@\xde]\xae\"#\xb0\x03a\xa3\x96\x17z\x9c\xb4\x10\xffa\xf2\0\x15\xad\x94\xef\x0d\0\0\0\0\0\x89\xcel41S\xb3\xa3k\xe0\x05q\xd8\xa8\x7fa`\xe4\xd8\xea\x01\x11\xa5P\xec?j\x84fk\xb4\x8b";
 
 /// They are listed in byte order, `de` before `abc`. While the collector is open no other opens, and behind its end it has no act.
-const BY_CUTOFF: Collection<'static> = Collection {
+static BY_CUTOFF: Collection<'static> = Collection {
     files: &[
         (ABC_CHUNK, ABC_BLOB),
         (DE_CHUNK, DE_BLOB),
@@ -77,7 +77,7 @@ const RUNNING: &[u8] =
     b"PBSBOOK1\xa0\xbb\x0d\0\0\0\0\0\x02\0\0\0\0\0\0\0\x95\x9aE\xd4No\xcfX6\x1e\xd0\x04h\x15V\xfeP\x12\x9f!\x09\xe8\x17\xde\xc0\x98\xc0\x0c\x9e]%xs\xba\x0d\0\0\0\0\0\xbax\x16\xbf\x8f\x01\xcf\xeaAA@\xde]\xae\"#\xb0\x03a\xa3\x96\x17z\x9c\xb4\x10\xffa\xf2\0\x15\xad\xa0\xbb\x0d\0\0\0\0\0\x98i\xf1i/n\x91\x85\"y\xaeL\xdb\x05S.\xcf\xc3\x1f\xac*\xa2s.\xa06\x17L\x08\x08\x0c\xba";
 
 /// A later writer moves no cutoff. A lane with a session opens no collector.
-const BESIDE_WRITERS: Collection<'static> = Collection {
+static BESIDE_WRITERS: Collection<'static> = Collection {
     files: &[(ABC_CHUNK, ABC_BLOB), (DE_CHUNK, DE_BLOB), (BOOK, RUNNING)],
     entries: 0,
     clock: &[900_000, 990_000],
@@ -104,7 +104,7 @@ const BESIDE_WRITERS: Collection<'static> = Collection {
 };
 
 /// No cutoff is before 0, and nothing goes then.
-const EARLY: Collection<'static> = Collection {
+static EARLY: Collection<'static> = Collection {
     files: &[(ABC_CHUNK, ABC_BLOB), (DE_CHUNK, DE_BLOB), (BOOK, SAVED)],
     entries: 0,
     clock: &[],
@@ -125,7 +125,7 @@ const EARLY: Collection<'static> = Collection {
 };
 
 /// Without a book chunks stand as of the first act. Without chunks the first visit lists none.
-const WITHOUT_BOOK: Collection<'static> = Collection {
+static WITHOUT_BOOK: Collection<'static> = Collection {
     files: BOTH,
     entries: 0,
     clock: &[],
@@ -145,7 +145,7 @@ const WITHOUT_BOOK: Collection<'static> = Collection {
     saved: (1_000_000, Some(1_000_000), Some(1_000_000), 0),
 };
 
-const WITHOUT_CHUNKS: Collection<'static> = Collection {
+static WITHOUT_CHUNKS: Collection<'static> = Collection {
     files: NONE_OF_BOTH,
     entries: 0,
     clock: &[],
@@ -175,7 +175,7 @@ pub(crate) const OF_MANY: &[u8] =
     b"B\xab8\x07\xbe\x83p\xa1\xb1\x9e\xd2\x8d{\"backup-id\":\"a\",\"backup-time\":1579069803,\"backup-type\":\"host\",\"files\":[{\"crypt-mode\":\"none\",\"csum\":\"39bcb24a313367516a988a486e819b823754fff46947f95d873ce6dede24cd08\",\"filename\":\"root.didx\",\"size\":2003}]}";
 
 /// The chunks of a snapshot stay, and go once it is forgotten.
-const FORGOTTEN_BETWEEN: Collection<'static> = Collection {
+static FORGOTTEN_BETWEEN: Collection<'static> = Collection {
     files: &[
         (ABC_CHUNK, ABC_BLOB),
         (DE_CHUNK, DE_BLOB),
@@ -214,7 +214,7 @@ const FORGOTTEN_BETWEEN: Collection<'static> = Collection {
 };
 
 /// An index of 1,001 entries is marked in two acts. `abc` is the last.
-const IN_TWO_MARKS: Collection<'static> = Collection {
+static IN_TWO_MARKS: Collection<'static> = Collection {
     files: &[
         (ABC_CHUNK, ABC_BLOB),
         (DE_CHUNK, DE_BLOB),
@@ -242,7 +242,7 @@ const IN_TWO_MARKS: Collection<'static> = Collection {
 };
 
 /// Its snapshot is forgotten behind the first of them: the rest is passed over.
-const FORGOTTEN_HALF_MARKED: Collection<'static> = Collection {
+static FORGOTTEN_HALF_MARKED: Collection<'static> = Collection {
     files: &[
         (ABC_CHUNK, ABC_BLOB),
         (DE_CHUNK, DE_BLOB),
@@ -296,7 +296,7 @@ pub(crate) const ALL_THREE: &[u8] = b"\x17\x09root.didx\0\0\0\0\0\0\0\0\x03\0\0\
 
 /// A writer takes a chunk over from its base, and finishes. The base is forgotten before it is marked: what the writer took stays, and is
 /// restored, and the base's other chunk goes.
-pub(crate) const TAKEN_OVER: Collection<'static> = Collection {
+static TAKEN_OVER: Collection<'static> = Collection {
     files: &[
         (ABC_CHUNK, ABC_BLOB),
         (DE_CHUNK, DE_BLOB),
@@ -332,9 +332,13 @@ pub(crate) const TAKEN_OVER: Collection<'static> = Collection {
     saved: (1_000_000, Some(1_000_000), None, 0),
 };
 
+pub(crate) fn taken_over() -> &'static Collection<'static> {
+    &TAKEN_OVER
+}
+
 /// Want of memory ends a collector: its next act is the end, which tells it and saves nothing. So does any want of memory of its lane, and
 /// no other lane's. A lane's end closes its collector.
-const CUT_SHORT: Collection<'static> = Collection {
+static CUT_SHORT: Collection<'static> = Collection {
     files: &[(ABC_CHUNK, ABC_BLOB), (DE_CHUNK, DE_BLOB), (BOOK, SAVED)],
     entries: 0,
     clock: &[],
@@ -357,7 +361,7 @@ const CUT_SHORT: Collection<'static> = Collection {
 };
 
 /// A snapshot's manifest is damaged: no collector opens.
-const DAMAGED: Collection<'static> = Collection {
+static DAMAGED: Collection<'static> = Collection {
     files: &[
         (ABC_CHUNK, ABC_BLOB),
         (DE_CHUNK, DE_BLOB),
@@ -380,7 +384,7 @@ const DAMAGED: Collection<'static> = Collection {
 };
 
 /// An index does not decode: nothing is marked or visited, and the next act is the end, which tells its file and saves nothing.
-const UNDECODED: Collection<'static> = Collection {
+static UNDECODED: Collection<'static> = Collection {
     files: &[
         (ABC_CHUNK, ABC_BLOB),
         (DE_CHUNK, DE_BLOB),
@@ -412,7 +416,7 @@ const UNDECODED: Collection<'static> = Collection {
 const SAVED_LATER: &[u8] =
     b"PBSBOOK1@B\x0f\0\0\0\0\0\x02\0\0\0\0\0\0\0\x95\x9aE\xd4No\xcfX6\x1e\xd0\x04h\x15V\xfeP\x12\x9f!\x09\xe8\x17\xde\xc0\x98\xc0\x0c\x9e]%x\x93\xef\x0d\0\0\0\0\0\xbax\x16\xbf\x8f\x01\xcf\xeaAA@\xde]\xae\"#\xb0\x03a\xa3\x96\x17z\x9c\xb4\x10\xffa\xf2\0\x15\xad\x94\xef\x0d\0\0\0\0\0t{\xe66\x8da\x93\xc2\x8eoc\xa0H\xf2\xda\xc2U\x08\x11\x1d\xd8w\xea\xf1A\xbf\xa2\xb7<\x89RR";
 
-const FALLING: Collection<'static> = Collection {
+static FALLING: Collection<'static> = Collection {
     files: &[
         (ABC_CHUNK, ABC_BLOB),
         (DE_CHUNK, DE_BLOB),
@@ -437,7 +441,7 @@ const FALLING: Collection<'static> = Collection {
 };
 
 /// The writer began at 990,000, and so does the collector.
-const FALLING_BEHIND_WRITER: Collection<'static> = Collection {
+static FALLING_BEHIND_WRITER: Collection<'static> = Collection {
     files: &[(ABC_CHUNK, ABC_BLOB), (DE_CHUNK, DE_BLOB), (BOOK, RUNNING)],
     entries: 0,
     clock: &[990_000],
@@ -459,7 +463,7 @@ const FALLING_BEHIND_WRITER: Collection<'static> = Collection {
 };
 
 /// Each act has a moment of its own: what is marked is touched then, and is used.
-const RISING: Collection<'static> = Collection {
+static RISING: Collection<'static> = Collection {
     files: &[
         (ABC_CHUNK, ABC_BLOB),
         (DE_CHUNK, DE_BLOB),
@@ -486,7 +490,7 @@ const RISING: Collection<'static> = Collection {
 };
 
 /// The book lacks a chunk, which stands as of the first act.
-const STALE: Collection<'static> = Collection {
+static STALE: Collection<'static> = Collection {
     files: &[
         (ABC_CHUNK, ABC_BLOB),
         (DE_CHUNK, DE_BLOB),
@@ -514,7 +518,7 @@ const STALE: Collection<'static> = Collection {
 };
 
 /// The book is damaged. Opening removes what was not installed, and a folder without a manifest.
-const LITTERED: Collection<'static> = Collection {
+static LITTERED: Collection<'static> = Collection {
     files: &[
         (ABC_CHUNK, ABC_BLOB),
         (DE_CHUNK, DE_BLOB),
@@ -541,31 +545,6 @@ const LITTERED: Collection<'static> = Collection {
     left: (1_000_000, Some(1_000_000), Some(1_000_000), 0),
     saved: (1_000_000, Some(1_000_000), Some(1_000_000), 0),
 };
-
-static BY_TOUCHES: [Collection<'static>; 5] = [
-    BY_CUTOFF,
-    BESIDE_WRITERS,
-    EARLY,
-    WITHOUT_BOOK,
-    STALE,
-];
-
-static BY_CLOCKS: [Collection<'static>; 3] = [FALLING, FALLING_BEHIND_WRITER, RISING];
-
-static BESIDE_SNAPSHOTS: [Collection<'static>; 4] = [
-    FORGOTTEN_BETWEEN,
-    IN_TWO_MARKS,
-    FORGOTTEN_HALF_MARKED,
-    TAKEN_OVER,
-];
-
-static OVER_FOLDERS: [Collection<'static>; 5] = [
-    WITHOUT_CHUNKS,
-    CUT_SHORT,
-    DAMAGED,
-    UNDECODED,
-    LITTERED,
-];
 
 fn push(writer: &mut DynamicWriter, digest: &Digest32, length: u32) -> Result<(), Fail> {
     if writer.len() >= 1_048_576 || length == 0 || length > 16_777_216 {
@@ -665,32 +644,41 @@ fn try_collections(
     rt: &impl Abort,
     alloc: Global,
     table: usize,
-    rows: &[Collection<'_>],
+    rows: &[&Collection<'_>],
 ) -> Result<(), Fail> {
     for (number, row) in rows.iter().enumerate() {
-        let _ = try_collection(rt, alloc, [table, number, 0, 0], row)?;
+        let _ = try_collection(rt, alloc, [table, number, 0, 0], *row)?;
     }
     Ok(())
 }
 
 #[test]
 fn unused_chunks_go_by_their_last_touch(rt: HostRuntime) -> Result<(), Fail> {
-    try_collections(&rt, rt.alloc(), 0, &BY_TOUCHES)
+    let rows = [&BY_CUTOFF, &BESIDE_WRITERS, &EARLY, &WITHOUT_BOOK, &STALE];
+    try_collections(&rt, rt.alloc(), 0, &rows)
 }
 
 #[test]
 fn chunks_are_collected_by_any_clock(rt: HostRuntime) -> Result<(), Fail> {
-    try_collections(&rt, rt.alloc(), 1, &BY_CLOCKS)
+    let rows = [&FALLING, &FALLING_BEHIND_WRITER, &RISING];
+    try_collections(&rt, rt.alloc(), 1, &rows)
 }
 
 #[test]
 fn chunks_of_snapshots_are_marked(rt: HostRuntime) -> Result<(), Fail> {
-    try_collections(&rt, rt.alloc(), 2, &BESIDE_SNAPSHOTS)
+    let rows = [
+        &FORGOTTEN_BETWEEN,
+        &IN_TWO_MARKS,
+        &FORGOTTEN_HALF_MARKED,
+        taken_over(),
+    ];
+    try_collections(&rt, rt.alloc(), 2, &rows)
 }
 
 #[test]
 fn collections_end_over_any_folder(rt: HostRuntime) -> Result<(), Fail> {
-    try_collections(&rt, rt.alloc(), 3, &OVER_FOLDERS)
+    let rows = [&WITHOUT_CHUNKS, &CUT_SHORT, &DAMAGED, &UNDECODED, &LITTERED];
+    try_collections(&rt, rt.alloc(), 3, &rows)
 }
 
 /// The first snapshot's archive has `abc` alone.

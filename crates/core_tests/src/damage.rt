@@ -79,7 +79,7 @@ const ABC_RANGE: Call = Call::Range(NAME, 0, 3);
 
 /// What stands under the name of `abc`'s chunk, and what a range tells then: the chunk that is there, and each way in which it is
 /// not.
-const RANGES: Calls = &[
+static RANGES: Calls = &[
     (5, DOWNLOAD, AT_END),
     (5, ABC_RANGE, NOTHING_THERE),
     (5, Call::Put(ABC_CHUNK, ABC_BLOB), DONE),
@@ -93,7 +93,7 @@ const RANGES: Calls = &[
 ];
 
 /// Parts of two chunks, and the first that is damaged.
-const IN_ORDER: Calls = &[
+static IN_ORDER: Calls = &[
     (5, DOWNLOAD, AT_END),
     (5, Call::Put(ABC_CHUNK, ABC_BLOB), DONE),
     (5, Call::Put(DE_CHUNK, DE_BLOB), DONE),
@@ -105,7 +105,7 @@ const IN_ORDER: Calls = &[
 ];
 
 /// The chunk that is there is given, and each way in which it is not is told.
-const CHUNKS: Calls = &[
+static CHUNKS: Calls = &[
     (5, Call::GetChunk(ABC), NOT_ALLOWED),
     (5, DOWNLOAD, AT_END),
     (5, Call::GetChunk(NOTHING), NOT_ALLOWED),
@@ -124,12 +124,10 @@ const CHUNKS: Calls = &[
     (5, Call::GetChunk(ABC), NOTHING_THERE),
 ];
 
-static ASKED: [Calls; 3] = [RANGES, IN_ORDER, CHUNKS];
-
 #[test]
 fn damaged_chunks_are_told(rt: HostRuntime) -> Result<(), Fail> {
     let alloc = rt.alloc();
-    for calls in &ASKED {
+    for calls in [RANGES, IN_ORDER, CHUNKS] {
         let mut parts = opened(&rt, alloc)?;
         try_calls(&rt, &mut parts, alloc, calls)?;
     }

@@ -3,18 +3,18 @@ use crate::calls::{
     DONE, FIRST_BASE, IN_NONE, IN_READER, IN_WRITER, NO_BASE, NO_SNAPSHOT, NONE_THERE, ONE_LISTED,
 };
 use crate::fixtures::{FIRST, MemoryCore, SECOND, at, opened};
-use crate::steps::{Step, try_step};
+use crate::steps::{Row, Step, try_step};
 use core_state::{Act, enter};
 use std::process::Abort;
 use std::test::Fail;
-use store_types::{MEMORY_KIND, SnapshotKey};
+use store_types::{Entry, MEMORY_KIND, SnapshotKey};
 
 /// The first snapshot alone, as GROUP tells it.
 const ONE_KEY: &[u8] = b"\x1f\0\0\0\0\x01\0\x1bhost/a/2020-01-15T06:30:03Z";
 
 /// Two lanes want writers of one group, and a third wants to forget what is a base: each act with the frame of its reply, and
 /// the kind of its entry.
-static STEPS: [(u32, Step, &[u8], u8); 17] = [
+static STEPS: [Row; 17] = [
     (3, Step::OpenWriter(FIRST), NO_BASE, 0),
     (1, Step::OpenWriter(SECOND), b"\x05\0\0\0\x05\x03\0\0\0", 0),
     (3, Step::Manifest, DONE, 0),
@@ -94,19 +94,23 @@ static HOLDERS: [(u32, Step, &[u8], Option<u32>); 18] = [
     (6, Step::Prune, NONE_THERE, None),
 ];
 
+fn assert_entered(rt: &impl Abort, order: &[Entry], steps: &[Row]) {
+    same(rt, order.len(), steps.len());
+    for (entry, (lane, _, _, kind)) in order.iter().zip(steps) {
+        let entered = (entry.lane, entry.moment, entry.kind);
+        same(rt, entered, (*lane, 1000, *kind));
+    }
+}
+
 #[test]
 fn groups_have_one_writer(rt: HostRuntime) -> Result<(), Fail> {
     let alloc = rt.alloc();
     let mut core = opened(alloc, &[], 1000)?;
-    for (lane, step, expected, _) in &STEPS {
+    let steps: &[Row] = &STEPS;
+    for (lane, step, expected, _) in steps {
         try_step(&rt, &mut core, alloc, *lane, *step, expected)?;
     }
-    let order = core.parts().order;
-    same(&rt, order.len(), STEPS.len());
-    for (entry, (lane, _, _, kind)) in order.iter().zip(&STEPS) {
-        let entered = (entry.lane, entry.moment, entry.kind);
-        same(&rt, entered, (*lane, 1000, *kind));
-    }
+    assert_entered(&rt, &core.parts().order, steps);
     Ok(())
 }
 

@@ -58,7 +58,7 @@ const NOT_NEWER: &[u8] = b"\x09\0\0\0\x07l\xb1\x1e^\0\0\0\0";
 type Steps = &'static [(u32, Step, &'static [u8])];
 
 /// What is told of them.
-const TOLD: Steps = &[
+static TOLD: Steps = &[
     (5, Step::List, ALL_LISTED),
     (5, Step::Group(b"host/a"), BOTH),
     (
@@ -77,7 +77,7 @@ const TOLD: Steps = &[
 ];
 
 /// What begins a writer. The base is the whole snapshot, though a damaged one is later.
-const WRITTEN: Steps = &[
+static WRITTEN: Steps = &[
     (3, Step::OpenWriter(FIRST), NOT_NEWER),
     (3, Step::OpenWriter(SECOND), NOT_NEWER),
     (3, Step::OpenWriter(THIRD), FIRST_BASE),
@@ -115,12 +115,10 @@ fn opened(rt: &impl Abort, alloc: Global) -> Result<MemoryCore, Fail> {
     opened_over(alloc, left.disk, &[], 1000)
 }
 
-static ASKED: [Steps; 2] = [TOLD, WRITTEN];
-
 #[test]
 fn damaged_snapshots_are_told(rt: HostRuntime) -> Result<(), Fail> {
     let alloc = rt.alloc();
-    for steps in &ASKED {
+    for steps in [TOLD, WRITTEN] {
         let mut core = opened(&rt, alloc)?;
         try_steps(&rt, &mut core, alloc, steps)?;
     }

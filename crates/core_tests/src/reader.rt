@@ -28,7 +28,7 @@ static WRITTEN: Calls = &[
 ];
 
 /// A reader of one snapshot, and what it is refused.
-const READ: Calls = &[
+static READ: Calls = &[
     (5, Call::Download(NAME, 0), IN_NONE),
     (5, Call::OpenReader(SECOND), NO_SNAPSHOT),
     (5, Call::OpenReader(b"host/a"), BAD_NAME),
@@ -53,7 +53,7 @@ const READ: Calls = &[
 ];
 
 /// A reader is closed, and no other session is.
-const CLOSED: Calls = &[
+static CLOSED: Calls = &[
     (5, Call::CloseReader, IN_NONE),
     (3, Call::OpenWriter(OTHER), NO_BASE),
     (3, Call::CloseReader, IN_WRITER),
@@ -64,12 +64,10 @@ const CLOSED: Calls = &[
     (5, Call::CloseReader, IN_NONE),
 ];
 
-static ASKED: [Calls; 2] = [READ, CLOSED];
-
 #[test]
 fn snapshots_are_read(rt: HostRuntime) -> Result<(), Fail> {
     let alloc = rt.alloc();
-    for calls in &ASKED {
+    for calls in [READ, CLOSED] {
         let mut parts = after(&rt, alloc, WRITTEN)?;
         try_calls(&rt, &mut parts, alloc, calls)?;
     }

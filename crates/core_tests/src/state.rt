@@ -42,31 +42,52 @@ fn end(core: &mut MemoryCore) -> Result<Answer, Fail> {
     Ok(enter(core, at, END_KIND, None))
 }
 
+/// A core whose clock goes back, with two spare entries.
+fn with_spare(rt: &impl Abort, alloc: Global) -> Result<MemoryCore, Fail> {
+    let mut core = opened(alloc, &[100, 90], 110)?;
+    same(rt, core.journal.room(7), true);
+    core.journal.reserve(2)?;
+    same(rt, core.journal.spare, 2);
+    Ok(core)
+}
+
+fn try_want(rt: &impl Abort, core: &mut MemoryCore, alloc: Global) -> Result<(), Fail> {
+    let answer = want_memory(core, alloc)?;
+    same(rt, entered(&answer), (7, 100, 2, 0));
+    let is_told = matches!(answer.reply, Some(Reply::Refused(Refusal::NoMemory)));
+    same(rt, (answer.last, is_told), (false, true));
+    Ok(())
+}
+
+fn try_act(rt: &impl Abort, core: &mut MemoryCore, alloc: Global) -> Result<(), Fail> {
+    let answer = act(core, alloc)?;
+    same(rt, entered(&answer), (7, 100, 0, 1));
+    Ok(())
+}
+
+fn try_end(rt: &impl Abort, core: &mut MemoryCore) -> Result<(), Fail> {
+    let answer = end(core)?;
+    same(rt, entered(&answer), (7, 110, 6, 2));
+    Ok(())
+}
+
+/// Three entries, with this count of the disk's calls beside each.
+fn assert_order(rt: &impl Abort, core: MemoryCore, calls: u64) {
+    let parts = core.parts();
+    same(rt, parts.order.len(), 3);
+    same(rt, parts.calls.as_slice(), [calls; 3].as_slice());
+}
+
 /// Acts on one lane, by a clock that goes back.
 #[test]
 fn acts_are_entered(rt: HostRuntime) -> Result<(), Fail> {
     let alloc = rt.alloc();
-    let mut core = opened(alloc, &[100, 90], 110)?;
+    let mut core = with_spare(&rt, alloc)?;
     let calls = core.parts.disk.calls();
-
-    same(&rt, core.journal.room(7), true);
-    core.journal.reserve(2)?;
-    same(&rt, core.journal.spare, 2);
-
-    let first = want_memory(&mut core, alloc)?;
-    same(&rt, entered(&first), (7, 100, 2, 0));
-    same(&rt, first.last, false);
-    let is_told = matches!(first.reply, Some(Reply::Refused(Refusal::NoMemory)));
-    same(&rt, is_told, true);
-
-    let second = act(&mut core, alloc)?;
-    same(&rt, entered(&second), (7, 100, 0, 1));
-    let end = end(&mut core)?;
-    same(&rt, entered(&end), (7, 110, 6, 2));
-
-    let parts = core.parts();
-    same(&rt, parts.order.len(), 3);
-    same(&rt, parts.calls.as_slice(), [calls; 3].as_slice());
+    try_want(&rt, &mut core, alloc)?;
+    try_act(&rt, &mut core, alloc)?;
+    try_end(&rt, &mut core)?;
+    assert_order(&rt, core, calls);
     Ok(())
 }
 

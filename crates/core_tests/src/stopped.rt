@@ -7,7 +7,7 @@ use crate::beside::{
     START, TWO_USED,
 };
 use crate::calls::{IN_READER, NO_SNAPSHOT, frame};
-use crate::collecting::{Spot, TAKEN_OVER, folder, try_acts};
+use crate::collecting::{Spot, folder, taken_over, try_acts};
 use crate::fixtures::{FIRST, SECOND, opened_over};
 use crate::steps::{Step, do_step};
 use core_state::Answer;
@@ -25,41 +25,49 @@ static LISTED: [&[u8]; 3] = [
 ];
 
 /// Each is restored whole, and both chunks of the first are used as long as it is there.
-static RESTORED: [Rows; 3] = [
-    &[
-        (4, Step::OpenReader(SECOND), NO_SNAPSHOT, 0),
-        READ_FIRST,
-        AT_END_OF_TWO,
-        DE_ABC,
-        START,
-        PASS,
-        PASS,
-        PASS,
-        TWO_USED,
-    ],
-    &[
-        READ_FIRST,
-        AT_END_OF_TWO,
-        DE_ABC,
-        (4, Step::OpenReader(SECOND), IN_READER, 0),
-        CLOSE_READER,
-        READ_SECOND,
-        AT_END_OF_ONE,
-        ABC,
-        START,
-        PASS,
-        PASS,
-        PASS,
-        PASS,
-        TWO_USED,
-    ],
-    &[
-        (4, Step::OpenReader(FIRST), NO_SNAPSHOT, 0),
-        READ_SECOND,
-        AT_END_OF_ONE,
-        ABC,
-    ],
+static FIRST_RESTORED: Rows = &[
+    (4, Step::OpenReader(SECOND), NO_SNAPSHOT, 0),
+    READ_FIRST,
+    AT_END_OF_TWO,
+    DE_ABC,
+    START,
+    PASS,
+    PASS,
+    PASS,
+    TWO_USED,
 ];
+
+static BOTH_RESTORED: Rows = &[
+    READ_FIRST,
+    AT_END_OF_TWO,
+    DE_ABC,
+    (4, Step::OpenReader(SECOND), IN_READER, 0),
+    CLOSE_READER,
+    READ_SECOND,
+    AT_END_OF_ONE,
+    ABC,
+    START,
+    PASS,
+    PASS,
+    PASS,
+    PASS,
+    TWO_USED,
+];
+
+static SECOND_RESTORED: Rows = &[
+    (4, Step::OpenReader(FIRST), NO_SNAPSHOT, 0),
+    READ_SECOND,
+    AT_END_OF_ONE,
+    ABC,
+];
+
+fn restored(number: usize) -> Rows {
+    match number {
+        0 => FIRST_RESTORED,
+        1 => BOTH_RESTORED,
+        _ => SECOND_RESTORED,
+    }
+}
 
 /// Which of them are there after so many acts: the eighth is the FINISH, and the ninth the FORGET.
 fn listed_after(acts: usize) -> usize {
@@ -72,13 +80,15 @@ fn listed_after(acts: usize) -> usize {
 
 /// What they are done on.
 fn begun(alloc: Global) -> Result<MemoryDisk, Fail> {
-    folder(alloc, TAKEN_OVER.files, TAKEN_OVER.entries)
+    let row = taken_over();
+    folder(alloc, row.files, row.entries)
 }
 
 /// Does them all on a disk that may fail: how many were done before it did, and what stands on it.
 fn done_on(alloc: Global, disk: FailingDisk<MemoryDisk>) -> Result<(usize, MemoryDisk), Fail> {
-    let mut core = opened_over(alloc, disk, &[], TAKEN_OVER.then)?;
-    for (lane, step, _, _) in TAKEN_OVER.steps {
+    let row = taken_over();
+    let mut core = opened_over(alloc, disk, &[], row.then)?;
+    for (lane, step, _, _) in row.steps {
         do_step(&mut core, alloc, *lane, *step)?;
     }
     let parts = core.parts();
@@ -90,15 +100,15 @@ fn done_on(alloc: Global, disk: FailingDisk<MemoryDisk>) -> Result<(usize, Memor
 /// What was there before the act that failed is found, or what is there after it, and is restored.
 fn assert_found(rt: &impl Abort, alloc: Global, spot: Spot, disk: MemoryDisk) -> Result<(), Fail> {
     let [_, _, _, done] = spot;
-    let mut core = opened_over(alloc, disk, &[], TAKEN_OVER.then)?;
+    let mut core = opened_over(alloc, disk, &[], taken_over().then)?;
     let Answer { reply, .. } = do_step(&mut core, alloc, 4, Step::List)?;
     let told = frame(alloc, reply)?;
-    for (number, (listed, restored)) in LISTED.iter().zip(&RESTORED).enumerate() {
+    for (number, listed) in LISTED.iter().enumerate() {
         if told.as_bytes() == *listed {
             let fits = number == listed_after(done)
                 || number == listed_after(done.saturating_add(1));
             same_at(rt, spot, fits, true);
-            let _ = try_acts(rt, &mut core, alloc, spot, *restored)?;
+            let _ = try_acts(rt, &mut core, alloc, spot, restored(number))?;
             return Ok(());
         }
     }
@@ -125,7 +135,7 @@ fn try_disk(
 fn calls(alloc: Global) -> Result<(u64, u64), Fail> {
     let disk = begun(alloc)?;
     let before = disk.calls();
-    let core = opened_over(alloc, disk, &[], TAKEN_OVER.then)?;
+    let core = opened_over(alloc, disk, &[], taken_over().then)?;
     let opened = core.parts.disk.calls().saturating_sub(before);
     let (_, left) = done_on(alloc, FailingDisk::at_calls(begun(alloc)?, Vec::new(alloc)))?;
     Ok((opened, left.calls().saturating_sub(before)))

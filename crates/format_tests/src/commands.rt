@@ -7,8 +7,8 @@ use std::process::Abort;
 use std::test::Fail;
 use wire_commands::{BadFrame, Command, Reply};
 
-/// Bodies of commands.
-static COMMANDS: [&[u8]; 30] = [
+/// Bodies of commands of writers.
+static WRITER_COMMANDS: [&[u8]; 13] = [
     b"\x0a\x1bhost/a/2020-01-15T06:30:03Z",
     b"\x0b\x09root.didx\x15\0\0\0\0\0\0\0",
     b"\x0c\x09disk.fidx\x01\x10\0\0\0\0\0\0\0\x20\0\0\0\0\0\0",
@@ -22,6 +22,10 @@ static COMMANDS: [&[u8]; 30] = [
     b"\x11\0",
     b"\x12",
     b"\x13",
+];
+
+/// Of commands outside of sessions.
+static OTHER_COMMANDS: [&[u8]; 10] = [
     b"\x1e\0",
     b"\x1e\x1bhost/a/2020-01-15T06:30:03Z",
     b"\x1f\x1bhost/a/2020-01-15T06:30:03Z",
@@ -32,6 +36,10 @@ static COMMANDS: [&[u8]; 30] = [
     b"\x23\x06host/a",
     b"\x24",
     b"\x28\x06host/a",
+];
+
+/// Of commands of readers, and BYE.
+static READER_COMMANDS: [&[u8]; 7] = [
     b"\x14\x1bhost/a/2020-01-15T06:30:03Z",
     b"\x15\x0findex.json.blob\0\0\0\0\0\0\0\0",
     b"\x15\0\x01\x02\x03\x04\x05\x06\x07\x08",
@@ -41,11 +49,8 @@ static COMMANDS: [&[u8]; 30] = [
     b"\x3f",
 ];
 
-/// Bodies that are no commands.
-static BAD_BODIES: [&[u8]; 43] = [
-    b"",
-    b"\0",
-    b"\x63",
+/// Bodies that are no commands of writers.
+static BAD_WRITER_BODIES: [&[u8]; 20] = [
     b"\x0a",
     b"\x0a\x02a",
     b"\x0a\x01ab",
@@ -66,6 +71,10 @@ static BAD_BODIES: [&[u8]; 43] = [
     b"\x11\x02a",
     b"\x12\0",
     b"\x13\0",
+];
+
+/// Of readers.
+static BAD_READER_BODIES: [&[u8]; 8] = [
     b"\x14\x01",
     b"\x15\x01a\0\0\0\0\0\0\0",
     b"\x15\x01a\0\0\0\0\0\0\0\0\0",
@@ -74,6 +83,10 @@ static BAD_BODIES: [&[u8]; 43] = [
     b"\x17\x01a\0\0\0\0\0\0\0\0\0\0\0",
     b"\x17\x01a\0\0\0\0\0\0\0\0\0\0\0\0\0\0\0\0",
     b"\x18\0",
+];
+
+/// And none outside of sessions.
+static BAD_OTHER_BODIES: [&[u8]; 9] = [
     b"\x1e",
     b"\x1e\x02a",
     b"\x1f\x01ab",
@@ -83,13 +96,13 @@ static BAD_BODIES: [&[u8]; 43] = [
     b"\x22\x01",
     b"\x23\x01ab",
     b"\x24\0",
-    b"\x29",
-    b"\x3f\0",
-    b"\xff",
 ];
 
-/// The code of a command, and the frame of a reply to it.
-static REPLIES: [(u8, &[u8]); 70] = [
+/// Bodies with no command's code, and a BYE that is too long.
+static BAD_CODES: [&[u8]; 6] = [b"", b"\0", b"\x63", b"\x29", b"\x3f\0", b"\xff"];
+
+/// The code of a writer's or a reader's command or of BYE, and the frame of a reply to it.
+static SESSION_REPLIES: [(u8, &[u8]); 17] = [
     (10, b"\x02\0\0\0\0\0"),
     (10, b"\x1d\0\0\0\0\x1bhost/a/2020-01-15T06:30:03Z"),
     (11, b"\x0b\0\0\0\0\x15\0\0\0\0\0\0\0\x42\xab"),
@@ -108,6 +121,15 @@ static REPLIES: [(u8, &[u8]); 70] = [
     (23, b"\x01\0\0\0\0"),
     (24, b"\x01\0\0\0\0"),
     (63, b"\x01\0\0\0\0"),
+    (
+        21,
+        b"\x1e\0\0\0\0\x15\0\0\0\0\0\0\0\x42\xab\x38\x07\xbe\x83\x70\xa1\x26\x39\xf4\xcb123456789",
+    ),
+    (21, b"\x09\0\0\0\0\x15\0\0\0\0\0\0\0"),
+];
+
+/// The same, of commands outside of sessions.
+static OTHER_REPLIES: [(u8, &[u8]); 11] = [
     (30, b"\x03\0\0\0\0\0\0"),
     (
         30,
@@ -134,81 +156,64 @@ static REPLIES: [(u8, &[u8]); 70] = [
     ),
     (40, b"\x03\0\0\0\0\0\0"),
     (40, b"\x08\0\0\0\0\x02\0\x02ab\x01c"),
-    (
-        21,
-        b"\x1e\0\0\0\0\x15\0\0\0\0\0\0\0\x42\xab\x38\x07\xbe\x83\x70\xa1\x26\x39\xf4\xcb123456789",
-    ),
-    (21, b"\x09\0\0\0\0\x15\0\0\0\0\0\0\0"),
-    (99, b"\x09\0\0\0\x01\0\0\0\0\0\0\0\0"),
-    (99, b"\x05\0\0\0\x02\x01\x04\0\x01"),
-    (99, b"\x02\0\0\0\x03\x02"),
-    (99, b"\x01\0\0\0\x04"),
-    (99, b"\x05\0\0\0\x05\x03\0\0\0"),
-    (99, b"\x05\0\0\0\x06\x02\x01\0\0"),
-    (99, b"\x09\0\0\0\x07\x6b\xb1\x1e\x5e\0\0\0\0"),
-    (99, b"\x01\0\0\0\x08"),
-    (99, b"\x01\0\0\0\x09"),
-    (99, b"\x01\0\0\0\x0a"),
-    (99, b"\x02\0\0\0\x0b\x01"),
-    (99, b"\x02\0\0\0\x0b\x02"),
-    (99, b"\x02\0\0\0\x0b\x03"),
-    (99, b"\x02\0\0\0\x0b\x04"),
-    (99, b"\x02\0\0\0\x0b\x05"),
-    (99, b"\x02\0\0\0\x0b\x06"),
-    (99, b"\x0a\0\0\0\x0b\x07\x27\x39\xf4\xcb\x26\x39\xf4\xcb"),
-    (
-        99,
-        b"\x21\0\0\0\x0c\xba\x78\x16\xbf\x8f\x01\xcf\xea\x41\x41\x40\xde\x5d\xae\x22\x23\xb0\x03\x61\xa3\x96\x17\x7a\x9c\xb4\x10\xff\x61\xf2\0\x15\xad",
-    ),
-    (99, b"\x0d\0\0\0\x0d\x01\0\0\0\x88\x13\0\0\0\0\0\0"),
-    (99, b"\x05\0\0\0\x0e\0\0\0\0"),
-    (99, b"\x0d\0\0\0\x0f\x01\0\0\0\x03\0\0\0\0\0\0\0"),
-    (
-        99,
-        b"\x22\0\0\0\x10\x01\0\0\0\0\0\0\0\0\0\0\0\0\0\0\0\0\0\0\0\0\0\0\0\0\0\0\0\0\0\0\0\0",
-    ),
-    (
-        99,
-        b"\x22\0\0\0\x10\x02\x01\x10\0\0\0\0\0\0\0\0\0\0\0\0\0\0\0\0\0\0\0\0\0\0\0\0\0\0\0\0\0\0",
-    ),
-    (
-        99,
-        b"\x22\0\0\0\x10\x03\xe3\xb0\xc4\x42\x98\xfc\x1c\x14\x9a\xfb\xf4\xc8\x99\x6f\xb9\x24\x27\xae\x41\xe4\x64\x9b\x93\x4c\xa4\x95\x99\x1b\x78\x52\xb8\x55",
-    ),
-    (
-        99,
-        b"\x22\0\0\0\x10\x04\x05\0\0\0\0\0\0\0\0\0\0\0\0\0\0\0\0\0\0\0\0\0\0\0\0\0\0\0\0\0\0\0",
-    ),
-    (99, b"\x02\0\0\0\x11\x01"),
-    (99, b"\x02\0\0\0\x12\x05"),
-    (99, b"\x03\0\0\0\x13\0\x03"),
-    (99, b"\x0c\0\0\0\x13\x09root.didx\x06"),
-    (99, b"\x01\0\0\0\x14"),
-    (99, b"\x05\0\0\0\x15\0\0\x10\0"),
-    (99, b"\x09\0\0\0\x16\x15\0\0\0\0\0\0\0"),
-    (
-        99,
-        b"\x42\0\0\0\x17\xba\x78\x16\xbf\x8f\x01\xcf\xea\x41\x41\x40\xde\x5d\xae\x22\x23\xb0\x03\x61\xa3\x96\x17\x7a\x9c\xb4\x10\xff\x61\xf2\0\x15\xad\0\0\0\0\0\0\0\0\0\0\0\0\0\0\0\0\0\0\0\0\0\0\0\0\0\0\0\0\0\0\0\0\0",
-    ),
-    (
-        99,
-        b"\x42\0\0\0\x17\xba\x78\x16\xbf\x8f\x01\xcf\xea\x41\x41\x40\xde\x5d\xae\x22\x23\xb0\x03\x61\xa3\x96\x17\x7a\x9c\xb4\x10\xff\x61\xf2\0\x15\xad\x01\0\0\0\0\0\0\0\0\0\0\0\0\0\0\0\0\0\0\0\0\0\0\0\0\0\0\0\0\0\0\0\0",
-    ),
-    (
-        99,
-        b"\x42\0\0\0\x17\xba\x78\x16\xbf\x8f\x01\xcf\xea\x41\x41\x40\xde\x5d\xae\x22\x23\xb0\x03\x61\xa3\x96\x17\x7a\x9c\xb4\x10\xff\x61\xf2\0\x15\xad\x02\xe3\xb0\xc4\x42\x98\xfc\x1c\x14\x9a\xfb\xf4\xc8\x99\x6f\xb9\x24\x27\xae\x41\xe4\x64\x9b\x93\x4c\xa4\x95\x99\x1b\x78\x52\xb8\x55",
-    ),
-    (99, b"\x0b\0\0\0\x18\x09root.didx"),
-    (99, b"\x05\0\0\0\x19\x3f\0\0\0"),
-    (99, b"\x01\0\0\0\x1a"),
-    (99, b"\x09\0\0\0\x1b\x07\0\0\0\0\0\0\0"),
-    (99, b"\x01\0\0\0\x1c"),
-    (99, b"\x01\0\0\0\x1d"),
-    (99, b"\x01\0\0\0\x1e"),
 ];
 
-/// The code of a command, and a body that is no reply to it.
-static BAD_REPLIES: [(u8, &[u8]); 36] = [
+/// Frames of refusals: the numbers 1 to 11.
+static REFUSALS: [&[u8]; 17] = [
+    b"\x09\0\0\0\x01\0\0\0\0\0\0\0\0",
+    b"\x05\0\0\0\x02\x01\x04\0\x01",
+    b"\x02\0\0\0\x03\x02",
+    b"\x01\0\0\0\x04",
+    b"\x05\0\0\0\x05\x03\0\0\0",
+    b"\x05\0\0\0\x06\x02\x01\0\0",
+    b"\x09\0\0\0\x07\x6b\xb1\x1e\x5e\0\0\0\0",
+    b"\x01\0\0\0\x08",
+    b"\x01\0\0\0\x09",
+    b"\x01\0\0\0\x0a",
+    b"\x02\0\0\0\x0b\x01",
+    b"\x02\0\0\0\x0b\x02",
+    b"\x02\0\0\0\x0b\x03",
+    b"\x02\0\0\0\x0b\x04",
+    b"\x02\0\0\0\x0b\x05",
+    b"\x02\0\0\0\x0b\x06",
+    b"\x0a\0\0\0\x0b\x07\x27\x39\xf4\xcb\x26\x39\xf4\xcb",
+];
+
+/// The numbers 12 to 19.
+static LATER_REFUSALS: [&[u8]; 12] = [
+    b"\x21\0\0\0\x0c\xba\x78\x16\xbf\x8f\x01\xcf\xea\x41\x41\x40\xde\x5d\xae\x22\x23\xb0\x03\x61\xa3\x96\x17\x7a\x9c\xb4\x10\xff\x61\xf2\0\x15\xad",
+    b"\x0d\0\0\0\x0d\x01\0\0\0\x88\x13\0\0\0\0\0\0",
+    b"\x05\0\0\0\x0e\0\0\0\0",
+    b"\x0d\0\0\0\x0f\x01\0\0\0\x03\0\0\0\0\0\0\0",
+    b"\x22\0\0\0\x10\x01\0\0\0\0\0\0\0\0\0\0\0\0\0\0\0\0\0\0\0\0\0\0\0\0\0\0\0\0\0\0\0\0",
+    b"\x22\0\0\0\x10\x02\x01\x10\0\0\0\0\0\0\0\0\0\0\0\0\0\0\0\0\0\0\0\0\0\0\0\0\0\0\0\0\0\0",
+    b"\x22\0\0\0\x10\x03\xe3\xb0\xc4\x42\x98\xfc\x1c\x14\x9a\xfb\xf4\xc8\x99\x6f\xb9\x24\x27\xae\x41\xe4\x64\x9b\x93\x4c\xa4\x95\x99\x1b\x78\x52\xb8\x55",
+    b"\x22\0\0\0\x10\x04\x05\0\0\0\0\0\0\0\0\0\0\0\0\0\0\0\0\0\0\0\0\0\0\0\0\0\0\0\0\0\0\0",
+    b"\x02\0\0\0\x11\x01",
+    b"\x02\0\0\0\x12\x05",
+    b"\x03\0\0\0\x13\0\x03",
+    b"\x0c\0\0\0\x13\x09root.didx\x06",
+];
+
+/// The numbers from 20 on.
+static LAST_REFUSALS: [&[u8]; 13] = [
+    b"\x01\0\0\0\x14",
+    b"\x05\0\0\0\x15\0\0\x10\0",
+    b"\x09\0\0\0\x16\x15\0\0\0\0\0\0\0",
+    b"\x42\0\0\0\x17\xba\x78\x16\xbf\x8f\x01\xcf\xea\x41\x41\x40\xde\x5d\xae\x22\x23\xb0\x03\x61\xa3\x96\x17\x7a\x9c\xb4\x10\xff\x61\xf2\0\x15\xad\0\0\0\0\0\0\0\0\0\0\0\0\0\0\0\0\0\0\0\0\0\0\0\0\0\0\0\0\0\0\0\0\0",
+    b"\x42\0\0\0\x17\xba\x78\x16\xbf\x8f\x01\xcf\xea\x41\x41\x40\xde\x5d\xae\x22\x23\xb0\x03\x61\xa3\x96\x17\x7a\x9c\xb4\x10\xff\x61\xf2\0\x15\xad\x01\0\0\0\0\0\0\0\0\0\0\0\0\0\0\0\0\0\0\0\0\0\0\0\0\0\0\0\0\0\0\0\0",
+    b"\x42\0\0\0\x17\xba\x78\x16\xbf\x8f\x01\xcf\xea\x41\x41\x40\xde\x5d\xae\x22\x23\xb0\x03\x61\xa3\x96\x17\x7a\x9c\xb4\x10\xff\x61\xf2\0\x15\xad\x02\xe3\xb0\xc4\x42\x98\xfc\x1c\x14\x9a\xfb\xf4\xc8\x99\x6f\xb9\x24\x27\xae\x41\xe4\x64\x9b\x93\x4c\xa4\x95\x99\x1b\x78\x52\xb8\x55",
+    b"\x0b\0\0\0\x18\x09root.didx",
+    b"\x05\0\0\0\x19\x3f\0\0\0",
+    b"\x01\0\0\0\x1a",
+    b"\x09\0\0\0\x1b\x07\0\0\0\0\0\0\0",
+    b"\x01\0\0\0\x1c",
+    b"\x01\0\0\0\x1d",
+    b"\x01\0\0\0\x1e",
+];
+
+/// The code of a writer's or a reader's command or of none, and a body that is no reply to it.
+static BAD_SESSION_REPLIES: [(u8, &[u8]); 10] = [
     (11, b"\0"),
     (12, b"\0"),
     (13, b"\0"),
@@ -219,27 +224,26 @@ static BAD_REPLIES: [(u8, &[u8]); 36] = [
     (10, b"\0"),
     (21, b"\0\x01\x02\x03\x04\x05\x06\x07"),
     (22, b""),
-    (10, b""),
-    (10, b"\x1f"),
-    (10, b"\x03\x03"),
-    (10, b"\x0b\0"),
-    (10, b"\x0b\x08"),
-    (
-        10,
-        b"\x10\x05\0\0\0\0\0\0\0\0\0\0\0\0\0\0\0\0\0\0\0\0\0\0\0\0\0\0\0\0\0\0\0\0",
-    ),
-    (
-        10,
-        b"\x10\x01\0\0\0\0\0\0\0\0\0\0\0\0\0\0\0\0\0\0\0\0\0\0\0\0\0\0\0\0\0\0\0\x01",
-    ),
-    (10, b"\x12\x06"),
-    (10, b"\x13\x01a\x03"),
-    (10, b"\x13\0\x04"),
-    (
-        10,
-        b"\x17\xba\x78\x16\xbf\x8f\x01\xcf\xea\x41\x41\x40\xde\x5d\xae\x22\x23\xb0\x03\x61\xa3\x96\x17\x7a\x9c\xb4\x10\xff\x61\xf2\0\x15\xad\0\xe3\xb0\xc4\x42\x98\xfc\x1c\x14\x9a\xfb\xf4\xc8\x99\x6f\xb9\x24\x27\xae\x41\xe4\x64\x9b\x93\x4c\xa4\x95\x99\x1b\x78\x52\xb8\x55",
-    ),
-    (10, b"\x04\0"),
+];
+
+/// Bodies that are no refusals.
+static BAD_REFUSALS: [&[u8]; 12] = [
+    b"",
+    b"\x1f",
+    b"\x03\x03",
+    b"\x0b\0",
+    b"\x0b\x08",
+    b"\x10\x05\0\0\0\0\0\0\0\0\0\0\0\0\0\0\0\0\0\0\0\0\0\0\0\0\0\0\0\0\0\0\0\0",
+    b"\x10\x01\0\0\0\0\0\0\0\0\0\0\0\0\0\0\0\0\0\0\0\0\0\0\0\0\0\0\0\0\0\0\0\x01",
+    b"\x12\x06",
+    b"\x13\x01a\x03",
+    b"\x13\0\x04",
+    b"\x17\xba\x78\x16\xbf\x8f\x01\xcf\xea\x41\x41\x40\xde\x5d\xae\x22\x23\xb0\x03\x61\xa3\x96\x17\x7a\x9c\xb4\x10\xff\x61\xf2\0\x15\xad\0\xe3\xb0\xc4\x42\x98\xfc\x1c\x14\x9a\xfb\xf4\xc8\x99\x6f\xb9\x24\x27\xae\x41\xe4\x64\x9b\x93\x4c\xa4\x95\x99\x1b\x78\x52\xb8\x55",
+    b"\x04\0",
+];
+
+/// The code of a command outside of sessions, and a body that is no reply to it.
+static BAD_OTHER_REPLIES: [(u8, &[u8]); 14] = [
     (30, b"\0\x01"),
     (30, b"\0\x01\0\x01a\x02\0"),
     (30, b"\0\x01\0\x01a\x01\x05"),
@@ -283,21 +287,54 @@ fn try_command(rt: &impl Abort, alloc: Global, body: &[u8]) -> Result<(), Fail> 
     Ok(())
 }
 
-#[test]
-fn commands_are_read_and_written(rt: HostRuntime) -> Result<(), Fail> {
-    for body in &COMMANDS {
-        try_command(&rt, rt.alloc(), body)?;
+fn try_commands(rt: &impl Abort, alloc: Global, bodies: &[&[u8]]) -> Result<(), Fail> {
+    for body in bodies {
+        try_command(rt, alloc, body)?;
     }
     Ok(())
 }
 
 #[test]
-fn no_commands(rt: HostRuntime) -> Result<(), Fail> {
-    for body in &BAD_BODIES {
-        let command = Command::read(rt.alloc(), body)?;
-        same_at(&rt, *body, command.err(), Some(BadFrame));
+fn commands_of_writers(rt: HostRuntime) -> Result<(), Fail> {
+    try_commands(&rt, rt.alloc(), &WRITER_COMMANDS)
+}
+
+#[test]
+fn commands_of_readers(rt: HostRuntime) -> Result<(), Fail> {
+    try_commands(&rt, rt.alloc(), &READER_COMMANDS)
+}
+
+#[test]
+fn commands_outside_of_sessions(rt: HostRuntime) -> Result<(), Fail> {
+    try_commands(&rt, rt.alloc(), &OTHER_COMMANDS)
+}
+
+fn try_no_commands(rt: &impl Abort, alloc: Global, bodies: &[&[u8]]) -> Result<(), Fail> {
+    for body in bodies {
+        let command = Command::read(alloc, body)?;
+        same_at(rt, *body, command.err(), Some(BadFrame));
     }
     Ok(())
+}
+
+#[test]
+fn no_commands_of_writers(rt: HostRuntime) -> Result<(), Fail> {
+    try_no_commands(&rt, rt.alloc(), &BAD_WRITER_BODIES)
+}
+
+#[test]
+fn no_commands_of_readers(rt: HostRuntime) -> Result<(), Fail> {
+    try_no_commands(&rt, rt.alloc(), &BAD_READER_BODIES)
+}
+
+#[test]
+fn no_commands_outside_of_sessions(rt: HostRuntime) -> Result<(), Fail> {
+    try_no_commands(&rt, rt.alloc(), &BAD_OTHER_BODIES)
+}
+
+#[test]
+fn no_commands_by_their_codes(rt: HostRuntime) -> Result<(), Fail> {
+    try_no_commands(&rt, rt.alloc(), &BAD_CODES)
 }
 
 fn try_reply(rt: &impl Abort, alloc: Global, code: u8, frame: &[u8]) -> Result<(), Fail> {
@@ -310,19 +347,74 @@ fn try_reply(rt: &impl Abort, alloc: Global, code: u8, frame: &[u8]) -> Result<(
     Ok(())
 }
 
-#[test]
-fn replies_are_read_and_written(rt: HostRuntime) -> Result<(), Fail> {
-    for (code, frame) in &REPLIES {
-        try_reply(&rt, rt.alloc(), *code, frame)?;
+fn try_replies(rt: &impl Abort, alloc: Global, replies: &[(u8, &[u8])]) -> Result<(), Fail> {
+    for (code, frame) in replies {
+        try_reply(rt, alloc, *code, frame)?;
     }
     Ok(())
 }
 
 #[test]
-fn no_replies(rt: HostRuntime) -> Result<(), Fail> {
-    for (code, body) in &BAD_REPLIES {
-        let reply = Reply::read(rt.alloc(), *code, body)?;
-        same_at(&rt, (*code, *body), reply.is_none(), true);
+fn replies_in_sessions(rt: HostRuntime) -> Result<(), Fail> {
+    try_replies(&rt, rt.alloc(), &SESSION_REPLIES)
+}
+
+#[test]
+fn replies_outside_of_sessions(rt: HostRuntime) -> Result<(), Fail> {
+    try_replies(&rt, rt.alloc(), &OTHER_REPLIES)
+}
+
+/// Refusals as replies to a code that no command has.
+fn try_refusals(rt: &impl Abort, alloc: Global, frames: &[&[u8]]) -> Result<(), Fail> {
+    for frame in frames {
+        try_reply(rt, alloc, 99, frame)?;
+    }
+    Ok(())
+}
+
+#[test]
+fn refusals(rt: HostRuntime) -> Result<(), Fail> {
+    try_refusals(&rt, rt.alloc(), &REFUSALS)
+}
+
+#[test]
+fn later_refusals(rt: HostRuntime) -> Result<(), Fail> {
+    try_refusals(&rt, rt.alloc(), &LATER_REFUSALS)
+}
+
+#[test]
+fn last_refusals(rt: HostRuntime) -> Result<(), Fail> {
+    try_refusals(&rt, rt.alloc(), &LAST_REFUSALS)
+}
+
+fn try_no_reply(rt: &impl Abort, alloc: Global, code: u8, body: &[u8]) -> Result<(), Fail> {
+    let reply = Reply::read(alloc, code, body)?;
+    same_at(rt, (code, body), reply.is_none(), true);
+    Ok(())
+}
+
+fn try_no_replies(rt: &impl Abort, alloc: Global, bodies: &[(u8, &[u8])]) -> Result<(), Fail> {
+    for (code, body) in bodies {
+        try_no_reply(rt, alloc, *code, body)?;
+    }
+    Ok(())
+}
+
+#[test]
+fn no_replies_in_sessions(rt: HostRuntime) -> Result<(), Fail> {
+    try_no_replies(&rt, rt.alloc(), &BAD_SESSION_REPLIES)
+}
+
+#[test]
+fn no_replies_outside_of_sessions(rt: HostRuntime) -> Result<(), Fail> {
+    try_no_replies(&rt, rt.alloc(), &BAD_OTHER_REPLIES)
+}
+
+/// No replies to the opening of a writer.
+#[test]
+fn no_refusals(rt: HostRuntime) -> Result<(), Fail> {
+    for body in &BAD_REFUSALS {
+        try_no_reply(&rt, rt.alloc(), 10, body)?;
     }
     Ok(())
 }

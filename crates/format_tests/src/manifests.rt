@@ -14,8 +14,8 @@ const FRONT: &str =
 
 const BACK: &str = "]}";
 
-/// Texts without entries, and the cause; 0 where there is none.
-static WHOLE: [(&str, u8); 28] = [
+/// Texts without entries that are no JSON or lack a key, and the cause; 0 where there is none.
+static WHOLE: [(&str, u8); 13] = [
     (
         "{\"backup-id\":\"a\",\"backup-time\":1579069803,\"backup-type\":\"host\",\"files\":[]}",
         0,
@@ -50,6 +50,10 @@ static WHOLE: [(&str, u8); 28] = [
         "{\"backup-id\":\"a\",\"backup-time\":1,\"backup-type\":\"host\"}",
         2,
     ),
+];
+
+/// Texts with values that are not as they should be, and others beside them that are.
+static VALUES: [(&str, u8); 15] = [
     (
         "{\"backup-id\":1,\"backup-time\":1,\"backup-type\":\"host\",\"files\":[]}",
         2,
@@ -209,12 +213,30 @@ fn nested(alloc: Global, depth: usize) -> Result<String, AllocError> {
     Ok(text)
 }
 
+fn try_cause(rt: &impl Abort, alloc: Global, text: &str, want: u8) -> Result<(), Fail> {
+    let found = cause_of(alloc, text.as_bytes())?;
+    same_at(rt, text, found, want);
+    Ok(())
+}
+
 #[test]
 fn first_cause(rt: HostRuntime) -> Result<(), Fail> {
     for (text, cause) in &WHOLE {
-        let found = cause_of(rt.alloc(), text.as_bytes())?;
-        same_at(&rt, *text, found, *cause);
+        try_cause(&rt, rt.alloc(), text, *cause)?;
     }
+    Ok(())
+}
+
+#[test]
+fn first_cause_of_values(rt: HostRuntime) -> Result<(), Fail> {
+    for (text, cause) in &VALUES {
+        try_cause(&rt, rt.alloc(), text, *cause)?;
+    }
+    Ok(())
+}
+
+#[test]
+fn no_text(rt: HostRuntime) -> Result<(), Fail> {
     let found = cause_of(rt.alloc(), b"\"\xff\"")?;
     same(&rt, found, 1);
     Ok(())
@@ -224,8 +246,7 @@ fn first_cause(rt: HostRuntime) -> Result<(), Fail> {
 fn first_cause_of_entries(rt: HostRuntime) -> Result<(), Fail> {
     for (entries, cause) in &ENTRIES {
         let text = with_entries(rt.alloc(), entries)?;
-        let found = cause_of(rt.alloc(), text.as_bytes())?;
-        same_at(&rt, *entries, found, *cause);
+        try_cause(&rt, rt.alloc(), text.as_str(), *cause)?;
     }
     Ok(())
 }
@@ -266,69 +287,58 @@ fn what_is_read(rt: HostRuntime) -> Result<(), Fail> {
 /// A file's name, size and checksum.
 type Listed = (&'static str, u64, Digest32);
 
-/// Uploads beside a manifest that lists `root.didx` with size 5 and then `a.blob` with size 6, both with `ABC`: the file
-/// and the field that are told; 0 for none.
-static UPLOADS: [(&[Listed], &str, u8); 13] = [
-    (&[("a.blob", 6, ABC), ("root.didx", 5, ABC)], "", 0),
-    (
-        &[
-            ("a.blob", 6, ABC),
-            ("index.json.blob", 1, ZEROS),
-            ("root.didx", 5, ABC),
-        ],
-        "",
-        0,
-    ),
+/// `a.blob` and `root.didx` as the manifest lists them, or longer, with another checksum, or both; and other files.
+#[derive(Clone, Copy)]
+enum Upload {
+    A,
+    LongA,
+    WrongA,
+    Root,
+    LongRoot,
+    OtherRoot,
+    WrongRoot,
+    B,
+    C,
+    Manifest,
+    OtherManifest,
+}
+
+fn listed(upload: Upload) -> Listed {
+    match upload {
+        Upload::A => ("a.blob", 6, ABC),
+        Upload::LongA => ("a.blob", 7, ABC),
+        Upload::WrongA => ("a.blob", 7, ZEROS),
+        Upload::Root => ("root.didx", 5, ABC),
+        Upload::LongRoot => ("root.didx", 6, ABC),
+        Upload::OtherRoot => ("root.didx", 5, ZEROS),
+        Upload::WrongRoot => ("root.didx", 6, ZEROS),
+        Upload::B => ("b.blob", 1, ABC),
+        Upload::C => ("c.blob", 1, ABC),
+        Upload::Manifest => ("index.json.blob", 1, ZEROS),
+        Upload::OtherManifest => ("index.json.blob", 1, ABC),
+    }
+}
+
+/// Uploads beside a manifest that lists `root.didx` and then `a.blob`: the file and the field that are told; 0 for none.
+static UPLOADS: [(&[Upload], &str, u8); 13] = [
+    (&[Upload::A, Upload::Root], "", 0),
+    (&[Upload::A, Upload::Manifest, Upload::Root], "", 0),
     (&[], "root.didx", 4),
-    (&[("a.blob", 7, ABC)], "root.didx", 4),
-    (&[("root.didx", 5, ABC)], "a.blob", 4),
-    (&[("a.blob", 6, ABC), ("root.didx", 6, ABC)], "root.didx", 6),
+    (&[Upload::LongA], "root.didx", 4),
+    (&[Upload::Root], "a.blob", 4),
+    (&[Upload::A, Upload::LongRoot], "root.didx", 6),
+    (&[Upload::A, Upload::OtherRoot], "root.didx", 7),
+    (&[Upload::LongA, Upload::WrongRoot], "root.didx", 6),
+    (&[Upload::WrongA, Upload::B, Upload::Root], "a.blob", 6),
+    (&[Upload::B, Upload::Root], "a.blob", 4),
+    (&[Upload::A, Upload::B, Upload::Root], "b.blob", 5),
     (
-        &[("a.blob", 6, ABC), ("root.didx", 5, ZEROS)],
-        "root.didx",
-        7,
-    ),
-    (
-        &[("a.blob", 7, ABC), ("root.didx", 6, ZEROS)],
-        "root.didx",
-        6,
-    ),
-    (
-        &[
-            ("a.blob", 7, ZEROS),
-            ("b.blob", 1, ABC),
-            ("root.didx", 5, ABC),
-        ],
-        "a.blob",
-        6,
-    ),
-    (&[("b.blob", 6, ABC), ("root.didx", 5, ABC)], "a.blob", 4),
-    (
-        &[
-            ("a.blob", 6, ABC),
-            ("b.blob", 1, ABC),
-            ("root.didx", 5, ABC),
-        ],
+        &[Upload::A, Upload::B, Upload::C, Upload::Root],
         "b.blob",
         5,
     ),
     (
-        &[
-            ("a.blob", 6, ABC),
-            ("b.blob", 1, ABC),
-            ("c.blob", 1, ABC),
-            ("root.didx", 5, ABC),
-        ],
-        "b.blob",
-        5,
-    ),
-    (
-        &[
-            ("c.blob", 1, ABC),
-            ("root.didx", 5, ABC),
-            ("b.blob", 1, ABC),
-            ("a.blob", 6, ABC),
-        ],
+        &[Upload::C, Upload::Root, Upload::B, Upload::A],
         "b.blob",
         5,
     ),
@@ -344,15 +354,16 @@ static KEYS: [(Kind, &[u8], u64, u8); 6] = [
     (Kind::Host, b"b", 8, 2),
 ];
 
-fn facts(alloc: Global, files: &[Listed]) -> Result<Vec<FileFact>, Fail> {
+fn fact(alloc: Global, upload: Upload) -> Result<FileFact, Fail> {
+    let (name, size, csum) = listed(upload);
+    let name = FileName::check(alloc, name.as_bytes())??;
+    Ok(FileFact { name, size, csum })
+}
+
+fn facts(alloc: Global, uploads: &[Upload]) -> Result<Vec<FileFact>, Fail> {
     let mut facts = Vec::new(alloc);
-    for (name, size, csum) in files {
-        let name = FileName::check(alloc, name.as_bytes())??;
-        facts.push(FileFact {
-            name,
-            size: *size,
-            csum: *csum,
-        })?;
+    for upload in uploads {
+        facts.push(fact(alloc, *upload)?)?;
     }
     Ok(facts)
 }
@@ -391,13 +402,13 @@ fn try_upload(
 }
 
 /// The snapshot `host/a` at 7, with a manifest that lists these files.
-fn manifest(alloc: Global, files: &[Listed]) -> Result<Manifest, Fail> {
+fn manifest(alloc: Global, files: &[Upload]) -> Result<Manifest, Fail> {
     let key = key(alloc, Kind::Host, b"a", 7)?;
     let files = Rows::from_vec(facts(alloc, files)?);
     Ok(Manifest { key, files })
 }
 
-static LISTS: [Listed; 2] = [("root.didx", 5, ABC), ("a.blob", 6, ABC)];
+static LISTS: [Upload; 2] = [Upload::Root, Upload::A];
 
 #[test]
 fn first_mismatch(rt: HostRuntime) -> Result<(), Fail> {
@@ -415,7 +426,7 @@ fn first_mismatch(rt: HostRuntime) -> Result<(), Fail> {
 fn another_snapshot(rt: HostRuntime) -> Result<(), Fail> {
     let alloc = rt.alloc();
     let manifest = manifest(alloc, &LISTS)?;
-    let uploads = facts(alloc, &[("a.blob", 6, ABC), ("root.didx", 5, ABC)])?;
+    let uploads = facts(alloc, &[Upload::A, Upload::Root])?;
     for (kind, id, time, field) in &KEYS {
         let session = key(alloc, *kind, id, *time)?;
         try_upload(&rt, &manifest, &session, &uploads, ("", *field))?;
@@ -426,7 +437,7 @@ fn another_snapshot(rt: HostRuntime) -> Result<(), Fail> {
 #[test]
 fn a_manifest_that_lists_itself(rt: HostRuntime) -> Result<(), Fail> {
     let alloc = rt.alloc();
-    let files = [("index.json.blob", 1, ABC)];
+    let files = [Upload::OtherManifest];
     let manifest = manifest(alloc, &files)?;
     let session = key(alloc, Kind::Host, b"a", 7)?;
     let uploads = facts(alloc, &files)?;

@@ -98,7 +98,7 @@ fn told(woven: &Woven) -> Option<&[u8]> {
 }
 
 #[test]
-fn jobs_are_done(rt: HostRuntime) -> Result<(), Fail> {
+fn a_collection_is_done(rt: HostRuntime) -> Result<(), Fail> {
     let alloc = rt.alloc();
     let store = with_snapshot(alloc)?;
     let woven = collected(alloc, &store)?.ok().ok_or("a misfit")?;
@@ -109,14 +109,28 @@ fn jobs_are_done(rt: HostRuntime) -> Result<(), Fail> {
             b"\x29\0\0\0\0\0\0\0\0\0\0\0\0\0\0\0\0\0\0\0\0\0\0\0\0\0\0\0\0\0\0\0\0\0\0\0\0\0\0\0\0\0\0\0\0\x01\0\0\0\0".as_slice(),
         ),
     );
+    Ok(())
+}
+
+#[test]
+fn a_snapshot_is_verified(rt: HostRuntime) -> Result<(), Fail> {
+    let alloc = rt.alloc();
+    let store = with_snapshot(alloc)?;
     let woven = verified(alloc, &store)?.ok().ok_or("a misfit")?;
     same(
         &rt,
         told(&woven),
         Some(b"\x13\0\0\0\0\x01\0\0\0\0\0\0\0\0\0\0\0\0\0\0\0\0\0\x01\0\0\0\0".as_slice()),
     );
-    let empty = nothing(alloc)?;
-    let woven = pulled(alloc, &empty, &store)?.ok().ok_or("a misfit")?;
+    Ok(())
+}
+
+#[test]
+fn a_group_is_pulled(rt: HostRuntime) -> Result<(), Fail> {
+    let alloc = rt.alloc();
+    let remote = with_snapshot(alloc)?;
+    let store = nothing(alloc)?;
+    let woven = pulled(alloc, &store, &remote)?.ok().ok_or("a misfit")?;
     same(
         &rt,
         told(&woven),

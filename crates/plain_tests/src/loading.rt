@@ -71,6 +71,16 @@ fn whole(alloc: Global, rows: &[ListRow]) -> Result<String, AllocError> {
     Ok(text)
 }
 
+/// These are the whole snapshots.
+fn same_whole(rt: &impl Abort, alloc: Global, rows: &[ListRow], wanted: &str) -> Result<(), Fail> {
+    same(rt, whole(alloc, rows)?.as_str(), wanted);
+    Ok(())
+}
+
+fn count_damaged(rows: &[ListRow]) -> usize {
+    rows.iter().filter(|row| row.damaged).count()
+}
+
 /// The folder is loaded, opened, and loaded again. It has these whole snapshots, and so many damaged ones.
 fn try_folder(
     rt: &impl Abort,
@@ -80,14 +90,12 @@ fn try_folder(
     damaged: usize,
 ) -> Result<(), Fail> {
     let before = loaded(alloc, &mut disk)?;
-    same(rt, whole(alloc, before.as_slice())?.as_str(), wanted);
+    same_whole(rt, alloc, before.as_slice(), wanted)?;
     let mut found = opened(alloc, disk)?;
-    let rows = found.rows.as_slice();
-    same(rt, whole(alloc, rows)?.as_str(), wanted);
-    same(rt, rows.iter().filter(|row| row.damaged).count(), damaged);
+    same_whole(rt, alloc, found.rows.as_slice(), wanted)?;
+    same(rt, count_damaged(found.rows.as_slice()), damaged);
     let after = loaded(alloc, &mut found.disk)?;
-    same(rt, whole(alloc, after.as_slice())?.as_str(), wanted);
-    Ok(())
+    same_whole(rt, alloc, after.as_slice(), wanted)
 }
 
 /// What stands at a name of the datastore in place of what stood there, or nothing.
@@ -122,7 +130,7 @@ static DAMAGED: [Row; 8] = [
 ];
 
 /// Names that are none of a snapshot's files, and those that go.
-const JUNK: &[Change] = &[
+static JUNK: &[Change] = &[
     (".chunks/ba78/ba78", Some(ABC)),
     (".chunks/book", Some(ABC)),
     ("host/a/2020-01-15T06:30:03Z/notes.txt", Some(ABC)),
@@ -143,7 +151,7 @@ const JUNK: &[Change] = &[
     ),
 ];
 
-const LEAVING: &[Change] = &[
+static LEAVING: &[Change] = &[
     (
         "host/a/2020-01-15T06:30:03Z/index.json.blob.tmp",
         Some(OTHER_BLOB),
@@ -157,7 +165,7 @@ const LEAVING: &[Change] = &[
 ];
 
 /// Snapshots of all types, whatever key their manifests have, one of them damaged; and a file that no manifest lists.
-const MORE: &[Change] = &[
+static MORE: &[Change] = &[
     (
         "ct/z/2020-01-15T06:30:03Z/index.json.blob",
         Some(OTHER_BLOB),
@@ -172,8 +180,6 @@ const MORE: &[Change] = &[
 
 const MORE_WHOLE: &str =
     "ct/z/2020-01-15T06:30:03Z 1 host/a/2020-01-15T06:30:03Z 4 host/a-b/2020-01-15T06:30:03Z 1 vm/A/9999-12-31T23:59:59Z 1 ";
-
-static BESIDE: [Row; 3] = [(JUNK, BOTH, 0), (LEAVING, BOTH, 0), (MORE, MORE_WHOLE, 1)];
 
 fn change(
     disk: &mut MemoryDisk,
@@ -218,10 +224,9 @@ fn damaged_snapshots_are_left_out(rt: HostRuntime) -> Result<(), Fail> {
 
 #[test]
 fn other_names_are_passed_over(rt: HostRuntime) -> Result<(), Fail> {
-    for row in &BESIDE {
-        try_row(&rt, rt.alloc(), row)?;
-    }
-    Ok(())
+    try_row(&rt, rt.alloc(), &(JUNK, BOTH, 0))?;
+    try_row(&rt, rt.alloc(), &(LEAVING, BOTH, 0))?;
+    try_row(&rt, rt.alloc(), &(MORE, MORE_WHOLE, 1))
 }
 
 /// The header of the blob of a manifest that lists 63 empty blobs, and of one that lists 64.

@@ -66,18 +66,28 @@ fn with_zeros(
     Ok(bytes)
 }
 
-/// A datastore with two snapshots, whose names stand in another order than the snapshots.
-pub(crate) fn datastore(alloc: Global) -> Result<MemoryDisk, DiskError> {
-    let mut disk = MemoryDisk::new(alloc);
+/// Puts the chunks.
+fn put_chunks(disk: &mut MemoryDisk, alloc: Global) -> Result<(), DiskError> {
     let zeros = with_zeros(alloc, CHUNK_MAGIC, 4096, b"")?;
-    let fixed = with_zeros(alloc, FIXED_HEAD, 4016, FIXED_DIGESTS)?;
-    let dynamic = with_zeros(alloc, DYNAMIC_HEAD, 4032, DYNAMIC_ENTRIES)?;
     disk.put(alloc, ZEROS, &zeros)?;
     disk.put(alloc, X, b"B\xab8\x07\xbe\x83p\xa1\x83\x16\xdc\x8cx")?;
     disk.put(alloc, ABC, b"B\xab8\x07\xbe\x83p\xa1\xc2A$5abc")?;
-    disk.put(alloc, DE, b"B\xab8\x07\xbe\x83p\xa1\x8b)\x90}de")?;
+    disk.put(alloc, DE, b"B\xab8\x07\xbe\x83p\xa1\x8b)\x90}de")
+}
+
+/// Puts the indexes of the first snapshot's archives.
+fn put_indexes(disk: &mut MemoryDisk, alloc: Global) -> Result<(), DiskError> {
+    let fixed = with_zeros(alloc, FIXED_HEAD, 4016, FIXED_DIGESTS)?;
+    let dynamic = with_zeros(alloc, DYNAMIC_HEAD, 4032, DYNAMIC_ENTRIES)?;
     disk.put(alloc, FIXED, &fixed)?;
-    disk.put(alloc, DYNAMIC, &dynamic)?;
+    disk.put(alloc, DYNAMIC, &dynamic)
+}
+
+/// A datastore with two snapshots, whose names stand in another order than the snapshots.
+pub(crate) fn datastore(alloc: Global) -> Result<MemoryDisk, DiskError> {
+    let mut disk = MemoryDisk::new(alloc);
+    put_chunks(&mut disk, alloc)?;
+    put_indexes(&mut disk, alloc)?;
     disk.put(alloc, BLOB, b"B\xab8\x07\xbe\x83p\xa1\xdc%\x14\xe6set")?;
     disk.put(alloc, MANIFEST, MANIFEST_BLOB)?;
     disk.put(alloc, OTHER, OTHER_BLOB)?;

@@ -9,12 +9,15 @@ use std::test::Fail;
 use store_model::Ending;
 use store_types::{Bytes, Entry};
 
+/// The bodies of commands, and of the replies.
+type Turns = &'static [(&'static [u8], &'static [u8])];
+
 /// The body of a CHUNK of 4,096 zeros, but for these.
 const ZEROS: &[u8] =
     b"\x0e\xad\x7f\xac\xb2Xo\xc6\xe9f\xc0\x04\xd7\xd1\xd1k\x02OX\x05\xff|\xb4|z\x85\xda\xbd\x8bH\x89,\xa7B\xab8\x07\xbe\x83p\xa1\x11\x00\x1c\xc7";
 
 /// What the first lane sends and is told: the bodies of its commands and of the replies.
-static FIRST: [(&[u8], &[u8]); 50] = [
+static FIRST: Turns = &[
     (b"\x0a\x1bhost/a/2020-01-15T06:30:03Z", b"\x00\x00"),
     (b"\x18", b"\x03\x01"),
     (
@@ -22,7 +25,10 @@ static FIRST: [(&[u8], &[u8]); 50] = [
         b"\x08",
     ),
     (b"\x12", b"\x09"),
-    // Manifests that are none, of another group, and without an upload.
+];
+
+/// Manifests that are none, of another group, and without an upload.
+static OTHER_MANIFESTS: Turns = &[
     (
         b"\x11\x0findex.json.blobB\xab8\x07\xbe\x83p\xa1\x83\x16\xdc\x8cx",
         b"\x00",
@@ -51,7 +57,10 @@ static FIRST: [(&[u8], &[u8]); 50] = [
     ),
     (b"\x12", b"\x13\x08set.blob\x05"),
     (b"\x13", b"\x00"),
-    // A fixed archive of 4,097 bytes.
+];
+
+/// A fixed archive of 4,097 bytes.
+static FIXED_ARCHIVE: Turns = &[
     (b"\x0a\x1bhost/a/2020-01-15T06:30:03Z", b"\x00\x00"),
     (
         b"\x0c\x09root.didx\x01\x10\x00\x00\x00\x00\x00\x00\x00\x10\x00\x00\x00\x00\x00\x00",
@@ -104,7 +113,10 @@ static FIRST: [(&[u8], &[u8]); 50] = [
         b"\x0a\x1bhost/a/2020-01-15T06:30:03Z",
         b"\x07k\xb1\x1e^\x00\x00\x00\x00",
     ),
-    // A backup that names a piece of the base.
+];
+
+/// A backup that names a piece of the base.
+static BASE_NAMED: Turns = &[
     (
         b"\x0a\x1bhost/a/2020-01-16T06:30:03Z",
         b"\x00\x1bhost/a/2020-01-15T06:30:03Z",
@@ -167,7 +179,7 @@ static FIRST: [(&[u8], &[u8]); 50] = [
 ];
 
 /// The second lane, which tries two commands before the first finishes a snapshot, and reads that one at the end.
-static SECOND: [(&[u8], &[u8]); 17] = [
+static SECOND: Turns = &[
     // Sessions and locks.
     (b"\x13", b"\x03\x00"),
     (
@@ -269,16 +281,35 @@ fn push_frame(frames: &mut Vec<u8>, body: &[u8], zeros: usize) -> Result<(), All
     Ok(())
 }
 
-/// What a lane sends, and what it is told.
-fn frames_of(alloc: Global, turns: &[(&[u8], &[u8])]) -> Result<(Bytes, Bytes), AllocError> {
-    let mut sent = Vec::new(alloc);
-    let mut told = Vec::new(alloc);
+fn push_turns(
+    sent: &mut Vec<u8>,
+    told: &mut Vec<u8>,
+    turns: &[(&[u8], &[u8])],
+) -> Result<(), AllocError> {
     for (body, reply) in turns {
         let zeros = if *body == ZEROS { 4096 } else { 0 };
-        push_frame(&mut sent, body, zeros)?;
-        push_frame(&mut told, reply, 0)?;
+        push_frame(sent, body, zeros)?;
+        push_frame(told, reply, 0)?;
+    }
+    Ok(())
+}
+
+/// What a lane sends, and what it is told.
+fn frames_of(alloc: Global, parts: &[Turns]) -> Result<(Bytes, Bytes), AllocError> {
+    let mut sent = Vec::new(alloc);
+    let mut told = Vec::new(alloc);
+    for turns in parts {
+        push_turns(&mut sent, &mut told, turns)?;
     }
     Ok((Bytes::from_vec(sent), Bytes::from_vec(told)))
+}
+
+fn first_frames(alloc: Global) -> Result<(Bytes, Bytes), AllocError> {
+    frames_of(alloc, &[FIRST, OTHER_MANIFESTS, FIXED_ARCHIVE, BASE_NAMED])
+}
+
+fn second_frames(alloc: Global) -> Result<(Bytes, Bytes), AllocError> {
+    frames_of(alloc, &[SECOND])
 }
 
 /// The store of a datastore in which nothing is.
@@ -336,8 +367,8 @@ fn woven(
 #[test]
 fn two_lanes_take_turns(rt: HostRuntime) -> Result<(), Fail> {
     let alloc = rt.alloc();
-    let (first, told_first) = frames_of(alloc, &FIRST)?;
-    let (second, told_second) = frames_of(alloc, &SECOND)?;
+    let (first, told_first) = first_frames(alloc)?;
+    let (second, told_second) = second_frames(alloc)?;
     let store = nothing(alloc)?;
     let woven = woven(alloc, &store, first, second)?;
     let told = [told_first.as_slice(), told_second.as_slice()];
@@ -403,7 +434,7 @@ fn a_loaded_snapshot(rt: HostRuntime) -> Result<(), Fail> {
 }
 
 /// What a lane asks of six snapshots, and is told.
-static ASKING: [(&[u8], &[u8]); 19] = [
+static ASKING: Turns = &[
     // Listings.
     (
         b"\x1e\x00",
@@ -429,7 +460,10 @@ static ASKING: [(&[u8], &[u8]); 19] = [
         b"\x00\x03\x00\x1bhost/b/2020-12-31T00:00:00Z\x1bhost/b/2021-01-03T00:00:00Z\x1bhost/b/2021-01-04T00:00:00Z",
     ),
     (b"(\x06host/c", b"\x00\x00\x00"),
-    // A count above the limit, a dry run, and weeks across the year's end.
+];
+
+/// A count above the limit, a dry run, and weeks across the year's end; and what goes and stays beside the other lane.
+static PRUNING: Turns = &[
     (
         b"!\x06host/b\x00\x00\x00\x00\x00\x00\xe9\x03\x00\x00\x00\x00\x00",
         b"\x15\xe8\x03\x00\x00",
@@ -472,7 +506,7 @@ static ASKING: [(&[u8], &[u8]); 19] = [
 ];
 
 /// What another lane does in between.
-static BESIDE: [(&[u8], &[u8]); 7] = [
+static BESIDE: Turns = &[
     // A reader forgets and prunes nothing.
     (b"\x14\x1bhost/a/2020-01-15T06:30:03Z", b"\x00"),
     (b" \x1bhost/a/2020-01-14T00:00:00Z", b"\x03\x02"),
@@ -532,20 +566,31 @@ fn woven_over(
     )
 }
 
-#[test]
-fn snapshots_are_told_and_pruned(rt: HostRuntime) -> Result<(), Fail> {
-    let alloc = rt.alloc();
+/// The store of a datastore with these six.
+fn six(alloc: Global) -> Result<Plain, DiskError> {
     let mut disk = MemoryDisk::new(alloc);
     for name in &SIX {
         disk.put(alloc, name, MANIFEST)?;
     }
-    let store = Plain::load(alloc, &mut disk)?;
-    let (first, told_first) = frames_of(alloc, &ASKING)?;
-    let (second, told_second) = frames_of(alloc, &BESIDE)?;
+    Plain::load(alloc, &mut disk)
+}
+
+#[test]
+fn snapshots_are_told_and_pruned(rt: HostRuntime) -> Result<(), Fail> {
+    let alloc = rt.alloc();
+    let store = six(alloc)?;
+    let (first, told_first) = frames_of(alloc, &[ASKING, PRUNING])?;
+    let (second, told_second) = frames_of(alloc, &[BESIDE])?;
     let woven = woven_over(alloc, &store, first, second)?;
     let told = [told_first.as_slice(), told_second.as_slice()];
-    same_replies(&rt, woven, &told)?;
-    // A job that is open at a clean end.
+    same_replies(&rt, woven, &told)
+}
+
+/// A job that is open at a clean end.
+#[test]
+fn a_job_is_open_at_the_end(rt: HostRuntime) -> Result<(), Fail> {
+    let alloc = rt.alloc();
+    let store = six(alloc)?;
     let woven = asked(
         alloc,
         &store,

@@ -391,25 +391,42 @@ const MISLISTED: Calls = &[
     (Call::Finish, Err(Fault::ManifestMismatch("root.didx", 6))),
 ];
 
-/// What is called of a new writer, and then tried.
-static SESSIONS: [(Calls, Calls); 11] = [
+/// What is called of a new writer, and then tried: on dynamic archives.
+static DYNAMIC: [(Calls, Calls); 4] = [
     (BEGUN, ALL_OR_NOTHING),
     (GROWN, WRONG_FACTS),
     (GROWN, CLOSINGS),
     (BEGUN, NAMES),
-    (&[], MANIFESTS),
-    (&[], SIZES),
-    (&[], SHORT),
-    (&[], WHOLE),
+];
+
+/// On fixed archives, and on the manifest's file.
+static FIXED: [(Calls, Calls); 4] = [(&[], MANIFESTS), (&[], SIZES), (&[], SHORT), (&[], WHOLE)];
+
+/// At the end.
+static FINISHES: [(Calls, Calls); 3] = [
     (UPLOADED, NO_MANIFEST),
     (UPLOADED, LISTED),
     (UPLOADED, MISLISTED),
 ];
 
-#[test]
-fn sessions_are_told_what_they_may(rt: HostRuntime) -> Result<(), Fail> {
-    for (before, calls) in &SESSIONS {
-        try_after(&rt, rt.alloc(), *before, *calls)?;
+fn try_sessions(rt: &impl Abort, alloc: Global, sessions: &[(Calls, Calls)]) -> Result<(), Fail> {
+    for (before, calls) in sessions {
+        try_after(rt, alloc, *before, *calls)?;
     }
     Ok(())
+}
+
+#[test]
+fn dynamic_archives_are_written(rt: HostRuntime) -> Result<(), Fail> {
+    try_sessions(&rt, rt.alloc(), &DYNAMIC)
+}
+
+#[test]
+fn fixed_archives_and_blobs_are_written(rt: HostRuntime) -> Result<(), Fail> {
+    try_sessions(&rt, rt.alloc(), &FIXED)
+}
+
+#[test]
+fn sessions_are_finished(rt: HostRuntime) -> Result<(), Fail> {
+    try_sessions(&rt, rt.alloc(), &FINISHES)
 }

@@ -49,15 +49,24 @@ fn remove_abc(disk: &mut MemoryDisk) -> Result<bool, Fail> {
 }
 
 #[test]
+fn names_of_pieces(rt: HostRuntime) {
+    same(&rt, digest_of(b"abc"), ABC);
+    same(&rt, ChunkName::of(&ABC).as_str(), ABC_CHUNK);
+}
+
+/// Puts `abc`, which takes three steps the first time, and none where it is there.
+fn put_abc(rt: &impl Abort, alloc: Global, disk: &mut MemoryDisk) -> Result<(), Fail> {
+    put(alloc, disk, b"abc")?;
+    same(rt, disk.steps().len(), 3);
+    Ok(())
+}
+
+#[test]
 fn pieces_are_kept(rt: HostRuntime) -> Result<(), Fail> {
     let alloc = rt.alloc();
     let mut disk = MemoryDisk::new(alloc);
-    same(&rt, digest_of(b"abc"), ABC);
-    same(&rt, ChunkName::of(&ABC).as_str(), ABC_CHUNK);
-    put(alloc, &mut disk, b"abc")?;
-    same(&rt, disk.steps().len(), 3);
-    put(alloc, &mut disk, b"abc")?;
-    same(&rt, disk.steps().len(), 3);
+    put_abc(&rt, alloc, &mut disk)?;
+    put_abc(&rt, alloc, &mut disk)?;
     try_abc(&rt, alloc, &mut disk)?;
     same(&rt, remove_abc(&mut disk)?, true);
     same(&rt, remove_abc(&mut disk)?, false);
@@ -171,21 +180,33 @@ fn scan_failing(disk: &mut Failing, alloc: Global) -> Result<Vec<Digest32>, Disk
     scan(disk, alloc)
 }
 
-/// The second call of an insert fails, and the first of each other.
+/// The second call of an insert fails.
+fn try_inserts(rt: &impl Abort, alloc: Global, disk: &mut Failing) {
+    same(rt, insert_abc(disk, alloc), Err(DiskError::Failed));
+    same(rt, insert_abc(disk, alloc), Ok(()));
+}
+
+/// And the first of each other.
+fn try_others(rt: &impl Abort, alloc: Global, disk: &mut Failing) {
+    same(rt, load_abc(disk, alloc).err(), Some(LoadFault::Failed));
+    same(rt, remove_failing(disk), Err(Failed));
+    let scan_fault = scan_failing(disk, alloc).err();
+    same(rt, scan_fault, Some(DiskError::Failed));
+    same(rt, disk.faults(), 4);
+}
+
+fn try_load(rt: &impl Abort, alloc: Global, disk: &mut Failing) -> Result<(), Fail> {
+    let chunk = load_abc(disk, alloc)?;
+    same(rt, chunk.piece(), b"abc".as_slice());
+    Ok(())
+}
+
 #[test]
 fn faults_are_told(rt: HostRuntime) -> Result<(), Fail> {
     let alloc = rt.alloc();
     let plan = Vec::from_slice(alloc, &[1, 6, 7, 8])?;
     let mut disk = FailingDisk::at_calls(MemoryDisk::new(alloc), plan);
-    same(&rt, insert_abc(&mut disk, alloc), Err(DiskError::Failed));
-    same(&rt, insert_abc(&mut disk, alloc), Ok(()));
-    let load_fault = load_abc(&mut disk, alloc).err();
-    same(&rt, load_fault, Some(LoadFault::Failed));
-    same(&rt, remove_failing(&mut disk), Err(Failed));
-    let scan_fault = scan_failing(&mut disk, alloc).err();
-    same(&rt, scan_fault, Some(DiskError::Failed));
-    same(&rt, disk.faults(), 4);
-    let chunk = load_abc(&mut disk, alloc)?;
-    same(&rt, chunk.piece(), b"abc".as_slice());
-    Ok(())
+    try_inserts(&rt, alloc, &mut disk);
+    try_others(&rt, alloc, &mut disk);
+    try_load(&rt, alloc, &mut disk)
 }

@@ -36,6 +36,14 @@ static LEAVING: [&str; 7] = [
     "notes.tmp",
 ];
 
+fn names_staying() -> &'static [&'static str] {
+    &STAYING
+}
+
+fn names_leaving() -> &'static [&'static str] {
+    &LEAVING
+}
+
 fn put_all(disk: &mut MemoryDisk, alloc: Global, names: &[&str]) -> Result<(), Fail> {
     for name in names {
         if name.len() > 255 {
@@ -53,8 +61,8 @@ fn put_all(disk: &mut MemoryDisk, alloc: Global, names: &[&str]) -> Result<(), F
 
 fn folder(alloc: Global) -> Result<MemoryDisk, Fail> {
     let mut disk = MemoryDisk::new(alloc);
-    put_all(&mut disk, alloc, &LEAVING)?;
-    put_all(&mut disk, alloc, &STAYING)?;
+    put_all(&mut disk, alloc, names_leaving())?;
+    put_all(&mut disk, alloc, names_staying())?;
     Ok(disk)
 }
 
@@ -99,10 +107,20 @@ fn a_folder_is_opened(rt: HostRuntime) -> Result<(), Fail> {
     same(&rt, disk.calls(), before.saturating_add(CALLS));
     let text = told(alloc, &found)?;
     same(&rt, text.as_str(), TOLD);
-    same(&rt, disk.list(alloc, "")?.len(), STAYING.len());
-    same(&rt, count(&mut disk, &STAYING)?, STAYING.len());
-    let empty = open(&mut MemoryDisk::new(alloc), alloc)?;
-    same(&rt, told(alloc, &empty)?.as_str(), "0");
+    same(&rt, disk.list(alloc, "")?.len(), names_staying().len());
+    same(
+        &rt,
+        count(&mut disk, names_staying())?,
+        names_staying().len(),
+    );
+    Ok(())
+}
+
+#[test]
+fn an_empty_folder_is_opened(rt: HostRuntime) -> Result<(), Fail> {
+    let alloc = rt.alloc();
+    let found = open(&mut MemoryDisk::new(alloc), alloc)?;
+    same(&rt, told(alloc, &found)?.as_str(), "0");
     Ok(())
 }
 
@@ -119,9 +137,9 @@ fn open_left(
     let text = told(alloc, &found)?;
     same_at(rt, (k, choice), text.as_str(), TOLD);
     let names = crashed.list(alloc, "")?;
-    same_at(rt, (k, choice), names.len(), STAYING.len());
-    let staying = count(&mut crashed, &STAYING)?;
-    same_at(rt, (k, choice), staying, STAYING.len());
+    same_at(rt, (k, choice), names.len(), names_staying().len());
+    let staying = count(&mut crashed, names_staying())?;
+    same_at(rt, (k, choice), staying, names_staying().len());
     Ok(())
 }
 
@@ -137,9 +155,9 @@ fn try_opening(
     same_at(rt, k, has_failed, k < CALLS);
     same_at(rt, k, disk.faults(), if k < CALLS { 1 } else { 0 });
     let mut left = disk.into_inner();
-    let staying = count(&mut left, &STAYING)?;
-    same_at(rt, k, staying, STAYING.len());
-    let leaving = count(&mut left, &LEAVING)?;
+    let staying = count(&mut left, names_staying())?;
+    same_at(rt, k, staying, names_staying().len());
+    let leaving = count(&mut left, names_leaving())?;
     same_at(rt, k, leaving as u64, 9u64.saturating_sub(k.max(2)));
     for choice in 0..3u8 {
         open_left(rt, alloc, &left, k, choice)?;

@@ -115,6 +115,43 @@ fn shown_after(alloc: Global, left: &MemoryDisk, choice: u8) -> Result<String, F
     shown(alloc, &mut crashed)
 }
 
+// What stands there before a change and after it.
+#[derive(Clone, Copy)]
+enum Left {
+    Old,
+    Put,
+    TornPut,
+    New,
+    Unnamed,
+    Named,
+    Begun,
+    Torn,
+    Finished,
+    Whole,
+    Gone,
+    RootLeft,
+    Nothing,
+}
+
+// The same, as it is shown.
+fn text_of(left: Left) -> &'static str {
+    match left {
+        Left::Old => "///old//other/",
+        Left::Put => "///old/newest/other/",
+        Left::TornPut => "///old/new/other/",
+        Left::New => "///newest//other/",
+        Left::Unnamed => "////set/other/",
+        Left::Named => "///set//other/",
+        Left::Begun => "/manifest//set//other/",
+        Left::Torn => "/mani//set//other/",
+        Left::Finished => "manifest///set//other/",
+        Left::Whole => "manifest//root/set//other/",
+        Left::Gone => "//root/set//other/",
+        Left::RootLeft => "//root///other/",
+        Left::Nothing => "/////other/",
+    }
+}
+
 // A change on a disk that fails at its call k, counted from 0: what a crash leaves by each choice, the second of which is
 // what reads.
 fn try_change(
@@ -123,7 +160,7 @@ fn try_change(
     mut disk: FailingDisk<MemoryDisk>,
     change: Change,
     k: u64,
-    wants: [&str; 3],
+    wants: [Left; 3],
 ) -> Result<(), Fail> {
     let is_whole = k == calls_of(change);
     let is_made = make(&mut disk, alloc, change)?;
@@ -132,52 +169,38 @@ fn try_change(
     same_at(rt, (change, k), disk.faults(), faults);
     let mut left = disk.into_inner();
     let reads = shown(alloc, &mut left)?;
-    same_at(rt, (change, k), reads.as_str(), wants[1]);
+    same_at(rt, (change, k), reads.as_str(), text_of(wants[1]));
     for choice in 0..3u8 {
         let reads = shown_after(alloc, &left, choice)?;
-        let want = wants[choice as usize];
+        let want = text_of(wants[choice as usize]);
         same_at(rt, (change, k, choice), reads.as_str(), want);
     }
     Ok(())
 }
 
-const OLD: &str = "///old//other/";
-
-const PUT: &str = "///old/newest/other/";
-
-const TORN_PUT: &str = "///old/new/other/";
-
-const NEW: &str = "///newest//other/";
-
-const UNNAMED: &str = "////set/other/";
-
-const NAMED: &str = "///set//other/";
-
-const BEGUN: &str = "/manifest//set//other/";
-
-const TORN: &str = "/mani//set//other/";
-
-const FINISHED: &str = "manifest///set//other/";
-
-const WHOLE: &str = "manifest//root/set//other/";
-
-const GONE: &str = "//root/set//other/";
-
-static CHANGES: [(Change, u64, [&str; 3]); 14] = [
-    (Change::PutFile, 0, [OLD, OLD, OLD]),
-    (Change::PutFile, 1, [OLD, PUT, TORN_PUT]),
-    (Change::PutFile, 2, [PUT, PUT, PUT]),
-    (Change::PutFile, 3, [PUT, NEW, NEW]),
-    (Change::Finish, 0, [UNNAMED, NAMED, NAMED]),
-    (Change::Finish, 1, [UNNAMED, BEGUN, TORN]),
-    (Change::Finish, 2, [BEGUN, BEGUN, BEGUN]),
-    (Change::Finish, 3, [BEGUN, FINISHED, FINISHED]),
-    (Change::Finish, 4, [FINISHED, FINISHED, FINISHED]),
-    (Change::Forget, 0, [WHOLE, WHOLE, WHOLE]),
-    (Change::Forget, 1, [WHOLE, GONE, WHOLE]),
-    (Change::Forget, 2, [GONE, GONE, GONE]),
-    (Change::Forget, 3, [GONE, "//root///other/", GONE]),
-    (Change::Forget, 4, [GONE, "/////other/", GONE]),
+static CHANGES: [(Change, u64, (Left, Left, Left)); 14] = [
+    (Change::PutFile, 0, (Left::Old, Left::Old, Left::Old)),
+    (Change::PutFile, 1, (Left::Old, Left::Put, Left::TornPut)),
+    (Change::PutFile, 2, (Left::Put, Left::Put, Left::Put)),
+    (Change::PutFile, 3, (Left::Put, Left::New, Left::New)),
+    (Change::Finish, 0, (Left::Unnamed, Left::Named, Left::Named)),
+    (Change::Finish, 1, (Left::Unnamed, Left::Begun, Left::Torn)),
+    (Change::Finish, 2, (Left::Begun, Left::Begun, Left::Begun)),
+    (
+        Change::Finish,
+        3,
+        (Left::Begun, Left::Finished, Left::Finished),
+    ),
+    (
+        Change::Finish,
+        4,
+        (Left::Finished, Left::Finished, Left::Finished),
+    ),
+    (Change::Forget, 0, (Left::Whole, Left::Whole, Left::Whole)),
+    (Change::Forget, 1, (Left::Whole, Left::Gone, Left::Whole)),
+    (Change::Forget, 2, (Left::Gone, Left::Gone, Left::Gone)),
+    (Change::Forget, 3, (Left::Gone, Left::RootLeft, Left::Gone)),
+    (Change::Forget, 4, (Left::Gone, Left::Nothing, Left::Gone)),
 ];
 
 // The change fails at its call k alone, and from there on.
@@ -186,7 +209,7 @@ fn try_both(
     alloc: Global,
     change: Change,
     k: u64,
-    wants: [&str; 3],
+    wants: [Left; 3],
 ) -> Result<(), Fail> {
     let plan = Vec::from_slice(alloc, &[k])?;
     let failing = FailingDisk::at_calls(disk_before(alloc, change)?, plan);
@@ -198,8 +221,9 @@ fn try_both(
 #[test]
 fn each_call_fails(rt: HostRuntime) -> Result<(), Fail> {
     let alloc = rt.alloc();
-    for (change, k, wants) in &CHANGES {
-        try_both(&rt, alloc, *change, *k, *wants)?;
+    for (change, k, left) in &CHANGES {
+        let wants = [left.0, left.1, left.2];
+        try_both(&rt, alloc, *change, *k, wants)?;
     }
     Ok(())
 }

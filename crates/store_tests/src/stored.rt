@@ -175,12 +175,19 @@ static REFUSED: [(Read, Fault); 8] = [
 ];
 
 #[test]
-fn parts_are_read_or_refused(rt: HostRuntime) -> Result<(), Fail> {
+fn parts_are_read(rt: HostRuntime) -> Result<(), Fail> {
     let alloc = rt.alloc();
     let mut disk = disk_of_indexes(alloc)?;
     for (number, row) in READ.iter().enumerate() {
         try_read(&rt, &mut disk, alloc, number, row)?;
     }
+    Ok(())
+}
+
+#[test]
+fn parts_are_refused(rt: HostRuntime) -> Result<(), Fail> {
+    let alloc = rt.alloc();
+    let mut disk = disk_of_indexes(alloc)?;
     for (number, row) in REFUSED.iter().enumerate() {
         try_refused(&rt, &mut disk, alloc, number, row)?;
     }

@@ -1,10 +1,15 @@
 //! Sessions on a folder that holds a snapshot of another group, which an earlier run backed up.
 
+use super::fixed::fixed_refused;
 use super::frames::*;
-use super::manifests::MANIFESTS;
+use super::listings::{TAKEN_OUT, listed, ordered, told};
+use super::manifests::{finished, manifests};
+use super::prunes::{gone, one_each, weeks};
+use super::ranges::restored;
+use super::reuse::{again, reused};
 use super::talks::{
-    LISTINGS, ORDERS, PRUNES, Steps, TALKS, Talk, add_step, fixed_talk, manifest_talk, talk_of,
-    try_talk,
+    BOTH, FIVE, LAST_DAY, LAST_WEEK, LATER, ROOTS, Steps, THIRD, Talk, add_step, fixed_talk,
+    manifest_talk, talk_of, try_talk,
 };
 use super::*;
 
@@ -181,35 +186,55 @@ fn try_talk_beside(
     assert_has(rt, &mut left, STAYING)
 }
 
-fn try_rows(rt: &impl Abort, alloc: Global, rows: &[(&[Steps], Files)]) -> Result<(), Fail> {
-    for (parts, files) in rows {
-        try_talk_beside(rt, alloc, &talk_beside(alloc, parts)?, files)?;
-    }
-    Ok(())
+/// Serves a session of these steps there.
+fn try_parts(
+    rt: &impl Abort,
+    alloc: Global,
+    parts: &[Steps],
+    files: &[(&str, u64)],
+) -> Result<(), Fail> {
+    try_talk_beside(rt, alloc, &talk_beside(alloc, parts)?, files)
 }
 
 #[test]
 fn commands_are_answered_beside(rt: HostRuntime) -> Result<(), Fail> {
     let alloc = rt.alloc();
-    for parts in &TALKS {
-        try_talk_beside(&rt, alloc, &talk_beside(alloc, parts)?, NOTHING)?;
-    }
+    try_parts(&rt, alloc, &restored(), NOTHING)?;
+    try_parts(&rt, alloc, &reused(), NOTHING)?;
+    try_parts(&rt, alloc, &[fixed_refused()], NOTHING)?;
+    try_parts(&rt, alloc, &[finished()], NOTHING)?;
     try_talk_beside(&rt, alloc, &fixed_talk(alloc)?, NOTHING)
 }
 
 #[test]
 fn snapshots_are_told_beside(rt: HostRuntime) -> Result<(), Fail> {
     let alloc = rt.alloc();
-    try_rows(&rt, alloc, &LISTINGS)?;
-    try_rows(&rt, alloc, &ORDERS)?;
-    try_rows(&rt, alloc, &PRUNES)
+    try_parts(&rt, alloc, &listed(), NOTHING)?;
+    try_parts(&rt, alloc, &[ROOT_SENT, told()], LATER)?;
+    try_parts(&rt, alloc, &[ROOT_SENT, told(), TAKEN_OUT], BOTH)?;
+    try_parts(&rt, alloc, &ordered(), FIVE)
+}
+
+#[test]
+fn snapshots_are_pruned_beside(rt: HostRuntime) -> Result<(), Fail> {
+    let alloc = rt.alloc();
+    try_parts(&rt, alloc, &weeks(), LAST_WEEK)?;
+    try_parts(&rt, alloc, &one_each(), LAST_DAY)?;
+    try_parts(&rt, alloc, &[gone()], THIRD)?;
+    try_parts(&rt, alloc, &[again()], ROOTS)
+}
+
+fn try_manifests(rt: &impl Abort, alloc: Global, rows: &[(&[u8], &[u8])]) -> Result<(), Fail> {
+    for row in rows {
+        try_talk_beside(rt, alloc, &manifest_talk(alloc, row)?, NOTHING)?;
+    }
+    Ok(())
 }
 
 #[test]
 fn manifests_are_checked_beside(rt: HostRuntime) -> Result<(), Fail> {
-    let alloc = rt.alloc();
-    for row in &MANIFESTS {
-        try_talk_beside(&rt, alloc, &manifest_talk(alloc, row)?, NOTHING)?;
+    for rows in manifests() {
+        try_manifests(&rt, rt.alloc(), rows)?;
     }
     Ok(())
 }

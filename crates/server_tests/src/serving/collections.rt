@@ -20,13 +20,6 @@ struct Collection {
     chunks: &'static [&'static str],
 }
 
-/// What stands in a folder, and the runs on it, one after another.
-#[derive(Clone, Copy)]
-struct Folder {
-    before: Contents,
-    runs: &'static [Collection],
-}
-
 const GC: &[u8] = b"\x01\0\0\0$";
 
 const BYE: &[u8] = b"\x01\0\0\0?";
@@ -35,7 +28,7 @@ const VW_FILE: &str =
     ".chunks/eac4/eac42ad34c8f70c750fec028bcca658e27582f140dee8b0ec6b4a3ebafd946e9";
 
 /// A snapshot's index is marked, and both of its chunks are used.
-const USED: Collection = Collection {
+static USED: Collection = Collection {
     run: Run {
         clock: &[1_000_000],
         steps: &[
@@ -60,7 +53,7 @@ const USED: Collection = Collection {
 };
 
 /// Once it is forgotten, and a day has passed, both go.
-const GONE: Collection = Collection {
+static GONE: Collection = Collection {
     run: Run {
         clock: &[1_100_000],
         steps: &[
@@ -79,7 +72,7 @@ const GONE: Collection = Collection {
 };
 
 /// Where no chunk is there, the act that lists them visits none.
-const NONE_LEFT: Collection = Collection {
+static NONE_LEFT: Collection = Collection {
     run: Run {
         clock: &[1_200_000],
         steps: &[
@@ -100,7 +93,7 @@ const NONE_LEFT: Collection = Collection {
 };
 
 /// Two chunks are sent, a second apart.
-const SENT: Collection = Collection {
+static SENT: Collection = Collection {
     run: Run {
         clock: &[913_298, 913_299, 913_300],
         steps: &[
@@ -117,7 +110,7 @@ const SENT: Collection = Collection {
 };
 
 /// The one goes that was touched before the cutoff, and the one stays that was touched at it.
-const AT_CUTOFF: Collection = Collection {
+static AT_CUTOFF: Collection = Collection {
     run: Run {
         clock: &[1_000_000],
         steps: &[(
@@ -132,7 +125,7 @@ const AT_CUTOFF: Collection = Collection {
 };
 
 /// Within the first day the cutoff is 0.
-const EARLY: Collection = Collection {
+static EARLY: Collection = Collection {
     run: Run {
         clock: &[50, 60, 70, 100],
         steps: &[
@@ -152,7 +145,7 @@ const EARLY: Collection = Collection {
 };
 
 /// A first backup, of `abc` and `de`.
-const BOTH_KEPT: Collection = Collection {
+static BOTH_KEPT: Collection = Collection {
     run: Run {
         clock: &[1_000_000],
         steps: FIRST_BACKUP,
@@ -177,7 +170,7 @@ const LIST_OVER: &[u8] =
     b"\xe6\0\0\0\x11\x0findex.json.blobB\xab8\x07\xbe\x83p\xa1V6\xb9\x09{\"backup-id\":\"a\",\"backup-time\":1579069804,\"backup-type\":\"host\",\"files\":[{\"crypt-mode\":\"none\",\"csum\":\"08a0970d069981ea04351adc7716726ad87b1bd69e3a68b5603b5eb80e304aca\",\"filename\":\"root.didx\",\"size\":6}]}";
 
 /// One over it, of `abc`, which it takes over, and `xyz`.
-const BACKED_UP_OVER: Collection = Collection {
+static BACKED_UP_OVER: Collection = Collection {
     run: Run {
         clock: &[1_100_000],
         steps: &[
@@ -198,7 +191,7 @@ const BACKED_UP_OVER: Collection = Collection {
 };
 
 /// A third sends `vw` and is aborted, and the first is forgotten.
-const ABORTED_THIRD: Collection = Collection {
+static ABORTED_THIRD: Collection = Collection {
     run: Run {
         clock: &[1_200_000],
         steps: &[
@@ -223,7 +216,7 @@ const ALL_SIX: &[u8] = b"\x17\0\0\0\x17\x09root.didx\0\0\0\0\0\0\0\0\x06\0\0\0";
 const SIX_BYTES: &[u8] = b"\x07\0\0\0\0abcxyz";
 
 /// The chunks of the second are used, `vw` is pending, `de` goes. The second restores whole.
-const ONE_OF_EACH: Collection = Collection {
+static ONE_OF_EACH: Collection = Collection {
     run: Run {
         clock: &[1_250_000],
         steps: &[
@@ -244,7 +237,7 @@ const ONE_OF_EACH: Collection = Collection {
 };
 
 /// A lane with a session collects nothing.
-const REFUSED: Collection = Collection {
+static REFUSED: Collection = Collection {
     run: Run {
         clock: &[1_100_000],
         steps: &[
@@ -267,7 +260,7 @@ const UNTOUCHED: &[u8] =
     b"PBSBOOK1@B\x0f\0\0\0\0\0\x01\0\0\0\0\0\0\0\xbax\x16\xbf\x8f\x01\xcf\xeaAA@\xde]\xae\"#\xb0\x03a\xa3\x96\x17z\x9c\xb4\x10\xffa\xf2\0\x15\xad\x05\0\0\0\0\0\0\0R5\xcb\xee\xe5\xb1\xfe\x13[)\xf7eP\x90^\xfd\xbd\xfc\x8f\xb8l\xe6;\x1e\xff\xc5\xd7\x85\x9e{\x95'";
 
 /// No collection begins where a snapshot is damaged.
-const MANIFEST_DAMAGED: Collection = Collection {
+static MANIFEST_DAMAGED: Collection = Collection {
     run: Run {
         clock: &[1_000_000],
         steps: &[(GC, NO_MANIFEST)],
@@ -278,7 +271,7 @@ const MANIFEST_DAMAGED: Collection = Collection {
     chunks: &[ABC_FILE],
 };
 
-const INDEX_MISSING: Collection = Collection {
+static INDEX_MISSING: Collection = Collection {
     run: Run {
         clock: &[1_000_000],
         steps: &[(GC, NO_INDEX)],
@@ -290,7 +283,7 @@ const INDEX_MISSING: Collection = Collection {
 };
 
 /// An index that is none is found as it is to be marked. That ends the collection, and no chunk is visited.
-const INDEX_DAMAGED: Collection = Collection {
+static INDEX_DAMAGED: Collection = Collection {
     run: Run {
         clock: &[1_000_000],
         steps: &[(GC, NO_INDEX), (GC, NO_INDEX)],
@@ -303,44 +296,16 @@ const INDEX_DAMAGED: Collection = Collection {
 
 const ROOT: &str = "host/a/2020-01-15T06:30:03Z/root.didx";
 
-static FOLDERS: [Folder; 8] = [
-    Folder {
-        before: &[],
-        runs: &[USED, GONE, NONE_LEFT],
-    },
-    Folder {
-        before: &[],
-        runs: &[SENT, AT_CUTOFF],
-    },
-    Folder {
-        before: &[],
-        runs: &[EARLY],
-    },
-    Folder {
-        before: &[],
-        runs: &[BOTH_KEPT, BACKED_UP_OVER, ABORTED_THIRD, ONE_OF_EACH],
-    },
-    Folder {
-        before: &[],
-        runs: &[BOTH_KEPT, REFUSED],
-    },
-    Folder {
-        before: &[(MANIFEST, b"no blob"), (ABC_FILE, ABC_CHUNK), (BOOK, KEPT)],
-        runs: &[MANIFEST_DAMAGED],
-    },
-    Folder {
-        before: &[(MANIFEST, ROOT_LISTED), (ABC_FILE, ABC_CHUNK), (BOOK, KEPT)],
-        runs: &[INDEX_MISSING],
-    },
-    Folder {
-        before: &[
-            (MANIFEST, ROOT_LISTED),
-            (ROOT, b"no index"),
-            (ABC_FILE, ABC_CHUNK),
-            (BOOK, KEPT),
-        ],
-        runs: &[INDEX_DAMAGED],
-    },
+/// What stands in a folder whose snapshot is damaged: its manifest is none, its index is missing, or is none.
+const NO_MANIFEST_THERE: Contents = &[(MANIFEST, b"no blob"), (ABC_FILE, ABC_CHUNK), (BOOK, KEPT)];
+
+const NO_INDEX_THERE: Contents = &[(MANIFEST, ROOT_LISTED), (ABC_FILE, ABC_CHUNK), (BOOK, KEPT)];
+
+const OTHER_INDEX_THERE: Contents = &[
+    (MANIFEST, ROOT_LISTED),
+    (ROOT, b"no index"),
+    (ABC_FILE, ABC_CHUNK),
+    (BOOK, KEPT),
 ];
 
 fn kinds_of(alloc: Global, order: &[Entry]) -> Result<Vec<u8>, AllocError> {
@@ -386,20 +351,37 @@ fn try_collections(
     rt: &impl Abort,
     alloc: Global,
     before: &[(&str, &[u8])],
-    runs: &[Collection],
+    runs: &[&Collection],
 ) -> Result<MemoryDisk, Fail> {
     let mut disk = disk_of(alloc, before)?;
     for row in runs {
-        disk = try_collection(rt, alloc, disk, row)?;
+        disk = try_collection(rt, alloc, disk, *row)?;
     }
     Ok(disk)
 }
 
 #[test]
 fn collections_take_what_is_unused(rt: HostRuntime) -> Result<(), Fail> {
-    for folder in &FOLDERS {
-        let _ = try_collections(&rt, rt.alloc(), folder.before, folder.runs)?;
-    }
+    let _ = try_collections(&rt, rt.alloc(), &[], &[&USED, &GONE, &NONE_LEFT])?;
+    let _ = try_collections(&rt, rt.alloc(), &[], &[&SENT, &AT_CUTOFF])?;
+    let _ = try_collections(&rt, rt.alloc(), &[], &[&EARLY])?;
+    Ok(())
+}
+
+#[test]
+fn collections_keep_what_backups_need(rt: HostRuntime) -> Result<(), Fail> {
+    let disk = two_backups(&rt, rt.alloc())?;
+    let disk = try_collection(&rt, rt.alloc(), disk, &ABORTED_THIRD)?;
+    let _ = try_collection(&rt, rt.alloc(), disk, &ONE_OF_EACH)?;
+    let _ = try_collections(&rt, rt.alloc(), &[], &[&BOTH_KEPT, &REFUSED])?;
+    Ok(())
+}
+
+#[test]
+fn damaged_snapshots_are_not_collected(rt: HostRuntime) -> Result<(), Fail> {
+    let _ = try_collections(&rt, rt.alloc(), NO_MANIFEST_THERE, &[&MANIFEST_DAMAGED])?;
+    let _ = try_collections(&rt, rt.alloc(), NO_INDEX_THERE, &[&INDEX_MISSING])?;
+    let _ = try_collections(&rt, rt.alloc(), OTHER_INDEX_THERE, &[&INDEX_DAMAGED])?;
     Ok(())
 }
 
@@ -407,7 +389,7 @@ const COLLECTED: &[u8] =
     b")\0\0\0\0\x80O\x12\0\0\0\0\0\xd4\xfc\x10\0\0\0\0\0\x02\0\0\0\0\0\0\0\0\0\0\0\0\0\0\0\x01\0\0\0\0\0\0\0";
 
 /// Behind two backups the first is forgotten, and `de` goes.
-const SWEPT: Run = Run {
+static SWEPT: Run = Run {
     clock: &[1_200_000],
     steps: &[(FORGET, DONE), (GC, COLLECTED), (LIST, LATER_LISTED)],
     status: Status::Ok,
@@ -416,7 +398,7 @@ const SWEPT: Run = Run {
 
 /// What stands there before.
 fn two_backups(rt: &impl Abort, alloc: Global) -> Result<MemoryDisk, Fail> {
-    try_collections(rt, alloc, &[], &[BOTH_KEPT, BACKED_UP_OVER])
+    try_collections(rt, alloc, &[], &[&BOTH_KEPT, &BACKED_UP_OVER])
 }
 
 /// The writing calls of its acts, each by its first letter. FORGET removes a manifest and an index, and syncs between; of three chunks the
@@ -548,7 +530,7 @@ const BOTH_LISTED: &[u8] =
     b"?\0\0\0\0\x02\0\x1bhost/a/2020-01-15T06:30:03Z\0\x02\x1bhost/a/2020-01-15T06:30:04Z\0\x02";
 
 /// What a later run finds, and collects: both snapshots; the second, and `de` still; or the second alone.
-const BOTH_FOUND: Steps = &[
+static BOTH_FOUND: Steps = &[
     (LIST, BOTH_LISTED),
     (READ, DONE),
     (FROM_END, AT_END),
@@ -564,7 +546,7 @@ const BOTH_FOUND: Steps = &[
     ),
 ];
 
-const LATER_FOUND: Steps = &[
+static LATER_FOUND: Steps = &[
     (LIST, LATER_LISTED),
     (READ, NO_SNAPSHOT),
     (FROM_END, NO_SESSION),
@@ -580,7 +562,7 @@ const LATER_FOUND: Steps = &[
     ),
 ];
 
-const SWEPT_FOUND: Steps = &[
+static SWEPT_FOUND: Steps = &[
     (LIST, LATER_LISTED),
     (READ, NO_SNAPSHOT),
     (FROM_END, NO_SESSION),
@@ -596,14 +578,20 @@ const SWEPT_FOUND: Steps = &[
     ),
 ];
 
-static FOUND: [Steps; 3] = [BOTH_FOUND, LATER_FOUND, SWEPT_FOUND];
+fn found(number: usize) -> Steps {
+    match number {
+        0 => BOTH_FOUND,
+        1 => LATER_FOUND,
+        _ => SWEPT_FOUND,
+    }
+}
 
 /// The number of what a later run finds.
 fn found_on(alloc: Global, disk: MemoryDisk) -> Result<Option<usize>, Fail> {
-    let mut ports = [port_of(alloc, BOTH_FOUND)?];
+    let mut ports = [port_of(alloc, found(0))?];
     let _served = serve_on(alloc, &mut ports, disk, &[1_300_000])?;
-    for (number, steps) in FOUND.iter().enumerate() {
-        if told_to(&ports)? == told_of(alloc, steps)?.as_slice() {
+    for number in 0..3 {
+        if told_to(&ports)? == told_of(alloc, found(number))?.as_slice() {
             return Ok(Some(number));
         }
     }
@@ -683,7 +671,7 @@ fn moments_never_fall(rt: HostRuntime) -> Result<(), Fail> {
 }
 
 /// A backup, and a day later a FORGET and a collection.
-const IN_ONE_SESSION: Run = Run {
+static IN_ONE_SESSION: Run = Run {
     clock: &[
         1_000_000, 1_000_000, 1_000_000, 1_000_000, 1_000_000, 1_000_000, 1_000_000, 1_000_000,
         1_100_000,
@@ -722,18 +710,19 @@ fn assert_cut_short(rt: &impl Abort, order: &[Entry]) {
 #[test]
 fn a_collection_lacks_memory(rt: HostRuntime) -> Result<(), Fail> {
     let alloc = rt.alloc();
+    let run = &IN_ONE_SESSION;
     // what is handed in takes memory too
-    let Ok(port) = port_of(alloc, IN_ONE_SESSION.steps) else {
+    let Ok(port) = port_of(alloc, run.steps) else {
         return Ok(());
     };
     let mut ports = [port];
     let disk = MemoryDisk::new(alloc);
-    let Ok(served) = serve_on(alloc, &mut ports, disk, IN_ONE_SESSION.clock) else {
+    let Ok(served) = serve_on(alloc, &mut ports, disk, run.clock) else {
         return Ok(());
     };
     assert_cut_short(&rt, &served.order);
     if served.status == Status::Ok {
-        let told = told_of(alloc, IN_ONE_SESSION.steps)?;
+        let told = told_of(alloc, run.steps)?;
         same(&rt, told_to(&ports)?, told.as_slice());
     }
     println!(rt; "status {}", served.status.number())?;

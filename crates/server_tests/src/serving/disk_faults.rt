@@ -1,7 +1,7 @@
 //! Each call of the disk behind opening fails in turn, and the store is stopped after each.
 
-use super::prunes::GONE;
-use super::reuse::AGAIN;
+use super::prunes::gone;
+use super::reuse::again;
 use super::talks::talk_of;
 use super::*;
 use disk_trait::{FailingDisk, Step};
@@ -132,7 +132,7 @@ static TO_THE_END_FAULTS: [Fault; 10] = [
 
 /// FINISH installs the manifest and syncs, each upload installs its file, and the end removes both. A fault of the end is not
 /// told, and the end then comes again, without a call. In the end the put of the book fails.
-static TO_BYE_FAULTS: [Fault; 13] = [
+static TO_BYE_FAULTS: [Fault; 7] = [
     Fault {
         told: 11,
         behind: b"\x01\0\0\0\x1a\x09\0\0\0\x1b\x02\0\0\0\0\0\0\0\x09\0\0\0\x1b\x02\0\0\0\0\0\0\0\x09\0\0\0\x1b\x02\0\0\0\0\0\0\0\x01\0\0\0\0",
@@ -182,6 +182,10 @@ static TO_BYE_FAULTS: [Fault; 13] = [
         kinds: &[0, 0, 0, 0, 5, 5, 6],
         files: FIRST_STAGED,
     },
+];
+
+/// The calls behind these seven, from the second upload on.
+static LATER_FAULTS: [Fault; 6] = [
     Fault {
         told: 54,
         behind: b"\x01\0\0\0\x1a\x01\0\0\0\0",
@@ -393,22 +397,41 @@ fn try_disk(
     assert_holds(rt, alloc, served.disk.into_inner(), fault.files)
 }
 
-#[test]
-fn each_call_of_the_disk_fails(rt: HostRuntime) -> Result<(), Fail> {
-    let alloc = rt.alloc();
-    for (call, fault) in TO_THE_END_FAULTS.iter().enumerate() {
-        try_disk(&rt, alloc, &TO_THE_END, call as u64, fault)?;
-    }
-    for (call, fault) in TO_BYE_FAULTS.iter().enumerate() {
-        try_disk(&rt, alloc, &TO_BYE, call as u64, fault)?;
-    }
-    for (call, fault) in ABORTED_FAULTS.iter().enumerate() {
-        try_disk(&rt, alloc, &ABORTED, call as u64, fault)?;
-    }
-    for (call, fault) in STORED_FAULTS.iter().enumerate() {
-        try_disk(&rt, alloc, &STORED, call as u64, fault)?;
+/// The calls from this number on fail, each in turn.
+fn try_faults(
+    rt: &impl Abort,
+    alloc: Global,
+    session: &Session,
+    first: u64,
+    faults: &[Fault],
+) -> Result<(), Fail> {
+    for (number, fault) in faults.iter().enumerate() {
+        try_disk(
+            rt,
+            alloc,
+            session,
+            first.saturating_add(number as u64),
+            fault,
+        )?;
     }
     Ok(())
+}
+
+#[test]
+fn each_call_of_the_disk_fails(rt: HostRuntime) -> Result<(), Fail> {
+    try_faults(&rt, rt.alloc(), &TO_THE_END, 0, &TO_THE_END_FAULTS)
+}
+
+#[test]
+fn each_call_before_bye_fails(rt: HostRuntime) -> Result<(), Fail> {
+    try_faults(&rt, rt.alloc(), &TO_BYE, 0, &TO_BYE_FAULTS)?;
+    try_faults(&rt, rt.alloc(), &TO_BYE, 7, &LATER_FAULTS)
+}
+
+#[test]
+fn each_call_of_an_upload_fails(rt: HostRuntime) -> Result<(), Fail> {
+    try_faults(&rt, rt.alloc(), &ABORTED, 0, &ABORTED_FAULTS)?;
+    try_faults(&rt, rt.alloc(), &STORED, 0, &STORED_FAULTS)
 }
 
 /// What is left of a session whose disk stops after some call behind opening, and then is lost by a crash: beside temporary names,
@@ -580,9 +603,15 @@ fn acts_have_their_writing_calls(rt: HostRuntime) -> Result<(), Fail> {
         let (session, acts) = row;
         try_writings(&rt, alloc, session.input, acts)?;
     }
+    Ok(())
+}
+
+#[test]
+fn prunes_and_restores_have_their_writing_calls(rt: HostRuntime) -> Result<(), Fail> {
+    let alloc = rt.alloc();
     try_writings(&rt, alloc, PRUNED, &PRUNINGS)?;
-    let restored = talk_of(alloc, &[AGAIN])?;
+    let restored = talk_of(alloc, &[again()])?;
     try_writings(&rt, alloc, &restored.sent, &RESTORINGS)?;
-    let forgotten = talk_of(alloc, &[GONE])?;
+    let forgotten = talk_of(alloc, &[gone()])?;
     try_writings(&rt, alloc, &forgotten.sent, &FORGETTINGS)
 }

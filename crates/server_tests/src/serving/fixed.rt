@@ -14,7 +14,7 @@ pub const APPEND_Y: &[u8] =
     b",\0\0\0\x0f\0\x01\0\xa1\xfc\xe468T\xff\x88\x8c\xffK\x8exu\xd6\0\xc2h#\x90A*\x8c\xf7\x9b7\xd0\xb1\x11H\xb0\xfa\0\x10\0\0\0\0\0\0";
 
 /// Sizes that are refused, and an archive that ends before its size.
-pub const FIXED_REFUSED: Steps = &[
+pub static FIXED_REFUSED: Steps = &[
     (NEW_4097, NO_SESSION),
     (OPEN, NO_BASE),
     (
@@ -84,8 +84,12 @@ pub const FIXED_REFUSED: Steps = &[
     (ABORT, DONE),
 ];
 
+pub fn fixed_refused() -> Steps {
+    FIXED_REFUSED
+}
+
 /// An archive of 4,097 bytes, up to a piece of 4,096 `x`, which come next.
-pub const BEGUN: Steps = &[
+pub static BEGUN: Steps = &[
     (OPEN, NO_BASE),
     (NEW_4097, FIRST),
     (
@@ -95,7 +99,7 @@ pub const BEGUN: Steps = &[
 ];
 
 /// The pieces `y` and `yz`, the archive, and its index, up to the reserved bytes of its header: 4,016 zeros, which come next.
-pub const FILLED: Steps = &[
+pub static FILLED: Steps = &[
     (b"", DONE),
     (
         b".\0\0\0\x0e\xa1\xfc\xe468T\xff\x88\x8c\xffK\x8exu\xd6\0\xc2h#\x90A*\x8c\xf7\x9b7\xd0\xb1\x11H\xb0\xfaB\xab8\x07\xbe\x83p\xa1\x15&\xdb\xfby",
@@ -168,7 +172,7 @@ pub const FILLED: Steps = &[
 ];
 
 /// The index's two digests; parts of the archive; and over it one of 8,192 bytes.
-pub const DIGESTS: Steps = &[
+pub static DIGESTS: Steps = &[
     (
         b"",
         b"\xa2\xe6Y\xda\xcbF\x91\xe8\x87\xac\x019\xf8\x89=\x04vN\xe1\x97\xd7\x0f\xb7=1\x90\xd5a\x13\xd1\x8e>\xa1\xfc\xe468T\xff\x88\x8c\xffK\x8exu\xd6\0\xc2h#\x90A*\x8c\xf7\x9b7\xd0\xb1\x11H\xb0\xfa",

@@ -100,13 +100,21 @@ const LATER_LEFT: Files = &[
     ("host/a/2020-01-15T06:30:04Z/root.didx", 4176),
 ];
 
+fn try_first(rt: &impl Abort, alloc: Global) -> Result<MemoryDisk, Fail> {
+    let talk = talk_of(alloc, &[ROOT_SENT, FIRST_RUN])?;
+    try_talk(rt, alloc, MemoryDisk::new(alloc), &talk)
+}
+
+fn try_second(rt: &impl Abort, alloc: Global, disk: MemoryDisk) -> Result<MemoryDisk, Fail> {
+    let talk = talk_of(alloc, &[FOUND, OVER, FORGOTTEN])?;
+    try_talk(rt, alloc, disk, &talk)
+}
+
 #[test]
 fn a_later_run_goes_on(rt: HostRuntime) -> Result<(), Fail> {
     let alloc = rt.alloc();
-    let first = talk_of(alloc, &[ROOT_SENT, FIRST_RUN])?;
-    let once = try_talk(&rt, alloc, MemoryDisk::new(alloc), &first)?;
-    let second = talk_of(alloc, &[FOUND, OVER, FORGOTTEN])?;
-    let twice = try_talk(&rt, alloc, once, &second)?;
+    let once = try_first(&rt, alloc)?;
+    let twice = try_second(&rt, alloc, once)?;
     let left = try_talk(&rt, alloc, twice, &talk_of(alloc, &[LEFT])?)?;
     assert_holds(&rt, alloc, left, LATER_LEFT)
 }
@@ -205,78 +213,82 @@ const NEWER_DAMAGED: Steps = &[
     (OPEN, NO_BASE),
 ];
 
-/// Folders, each with a run on it.
-static FOLDERS: [Folder; 6] = [
-    // the manifest is none: what it may have listed stays until the next opening
-    Folder {
-        before: &[
-            ("host/a/2020-01-15T06:30:03Z/a.conf.blob", CONF),
-            (MANIFEST, b"abc"),
-        ],
-        run: MANIFEST_DAMAGED,
-        after: &[("host/a/2020-01-15T06:30:03Z/a.conf.blob", 21)],
-    },
-    // a listed file is missing: those that are there go, and one that is not listed stays until the next opening
-    Folder {
-        before: &[
-            ("host/a/2020-01-15T06:30:03Z/b.blob", CONF),
-            (MANIFEST, BOTH_LISTED),
-            ("host/a/2020-01-15T06:30:03Z/root.didx", b"abc"),
-        ],
-        run: FILE_MISSING,
-        after: &[("host/a/2020-01-15T06:30:03Z/b.blob", 21)],
-    },
-    Folder {
-        before: &[
-            (MANIFEST, ROOT_LISTED),
-            ("host/a/2020-01-15T06:30:03Z/root.didx", b"abc"),
-        ],
-        run: INDEX_DAMAGED,
-        after: NOTHING,
-    },
-    Folder {
-        before: &[
-            (MANIFEST, PLAIN),
-            ("host/a/2020-01-15T06:30:04Z/index.json.blob", b"abc"),
-        ],
-        run: NEWER_DAMAGED,
-        after: NOTHING,
-    },
-    // a snapshot that was not finished
-    Folder {
-        before: &[
-            (ABC_FILE, b"abc"),
-            ("host/a/2020-01-15T06:30:03Z/a.conf.blob", CONF),
-            ("host/a/2020-01-15T06:30:03Z/index.json.blob.tmp", PLAIN),
-            ("host/a/2020-01-15T06:30:03Z/root.didx", b"abc"),
-        ],
-        run: &[(LIST, NONE_THERE), (READ, NO_SNAPSHOT), (OPEN, NO_BASE)],
-        after: &[(ABC_FILE, 3)],
-    },
-    // names of other forms stay, but for those with `.tmp`; a book that is none is written over
-    Folder {
-        before: &[
-            (".chunks/959a.tmp", b"a"),
-            (".chunks/ba78/ba78", b"a"),
-            (".chunks/book", b"a"),
-            (".chunks/other/names/abc", b"a"),
-            ("host/a/2020-01-15T06:30:03Z/notes.txt", b"a"),
-            ("host/a/2020-01-15T06:30:03Z/x/index.json.blob", b"a"),
-            ("host/a/notes.blob", b"a"),
-            ("notes.tmp", b"a"),
-            ("notes.txt", b"a"),
-        ],
-        run: &[(LIST, NONE_THERE), (GROUP, NONE_THERE)],
-        after: &[
-            (".chunks/ba78/ba78", 1),
-            (".chunks/other/names/abc", 1),
-            ("host/a/2020-01-15T06:30:03Z/notes.txt", 1),
-            ("host/a/2020-01-15T06:30:03Z/x/index.json.blob", 1),
-            ("host/a/notes.blob", 1),
-            ("notes.txt", 1),
-        ],
-    },
-];
+/// The manifest is none: what it may have listed stays until the next opening.
+static MANIFEST_IS_NONE: Folder = Folder {
+    before: &[
+        ("host/a/2020-01-15T06:30:03Z/a.conf.blob", CONF),
+        (MANIFEST, b"abc"),
+    ],
+    run: MANIFEST_DAMAGED,
+    after: &[("host/a/2020-01-15T06:30:03Z/a.conf.blob", 21)],
+};
+
+/// A listed file is missing: those that are there go, and one that is not listed stays until the next opening.
+static FILE_IS_MISSING: Folder = Folder {
+    before: &[
+        ("host/a/2020-01-15T06:30:03Z/b.blob", CONF),
+        (MANIFEST, BOTH_LISTED),
+        ("host/a/2020-01-15T06:30:03Z/root.didx", b"abc"),
+    ],
+    run: FILE_MISSING,
+    after: &[("host/a/2020-01-15T06:30:03Z/b.blob", 21)],
+};
+
+/// The index is none.
+static INDEX_IS_NONE: Folder = Folder {
+    before: &[
+        (MANIFEST, ROOT_LISTED),
+        ("host/a/2020-01-15T06:30:03Z/root.didx", b"abc"),
+    ],
+    run: INDEX_DAMAGED,
+    after: NOTHING,
+};
+
+/// The newer manifest is none.
+static NEWER_IS_DAMAGED: Folder = Folder {
+    before: &[
+        (MANIFEST, PLAIN),
+        ("host/a/2020-01-15T06:30:04Z/index.json.blob", b"abc"),
+    ],
+    run: NEWER_DAMAGED,
+    after: NOTHING,
+};
+
+/// A snapshot that was not finished.
+static UNFINISHED_IS_LEFT: Folder = Folder {
+    before: &[
+        (ABC_FILE, b"abc"),
+        ("host/a/2020-01-15T06:30:03Z/a.conf.blob", CONF),
+        ("host/a/2020-01-15T06:30:03Z/index.json.blob.tmp", PLAIN),
+        ("host/a/2020-01-15T06:30:03Z/root.didx", b"abc"),
+    ],
+    run: &[(LIST, NONE_THERE), (READ, NO_SNAPSHOT), (OPEN, NO_BASE)],
+    after: &[(ABC_FILE, 3)],
+};
+
+/// Names of other forms stay, but for those with `.tmp`; a book that is none is written over.
+static NAMES_ARE_OTHER: Folder = Folder {
+    before: &[
+        (".chunks/959a.tmp", b"a"),
+        (".chunks/ba78/ba78", b"a"),
+        (".chunks/book", b"a"),
+        (".chunks/other/names/abc", b"a"),
+        ("host/a/2020-01-15T06:30:03Z/notes.txt", b"a"),
+        ("host/a/2020-01-15T06:30:03Z/x/index.json.blob", b"a"),
+        ("host/a/notes.blob", b"a"),
+        ("notes.tmp", b"a"),
+        ("notes.txt", b"a"),
+    ],
+    run: &[(LIST, NONE_THERE), (GROUP, NONE_THERE)],
+    after: &[
+        (".chunks/ba78/ba78", 1),
+        (".chunks/other/names/abc", 1),
+        ("host/a/2020-01-15T06:30:03Z/notes.txt", 1),
+        ("host/a/2020-01-15T06:30:03Z/x/index.json.blob", 1),
+        ("host/a/notes.blob", 1),
+        ("notes.txt", 1),
+    ],
+};
 
 /// A disk with these files.
 pub fn disk_of(alloc: Global, files: &[(&str, &[u8])]) -> Result<MemoryDisk, DiskError> {
@@ -289,15 +301,24 @@ pub fn disk_of(alloc: Global, files: &[(&str, &[u8])]) -> Result<MemoryDisk, Dis
     Ok(disk)
 }
 
+fn try_folder(rt: &impl Abort, alloc: Global, folder: &Folder) -> Result<(), Fail> {
+    let disk = disk_of(alloc, folder.before)?;
+    let left = try_talk(rt, alloc, disk, &talk_of(alloc, &[folder.run])?)?;
+    assert_holds(rt, alloc, left, folder.after)
+}
+
+#[test]
+fn damaged_snapshots_are_opened(rt: HostRuntime) -> Result<(), Fail> {
+    try_folder(&rt, rt.alloc(), &MANIFEST_IS_NONE)?;
+    try_folder(&rt, rt.alloc(), &FILE_IS_MISSING)?;
+    try_folder(&rt, rt.alloc(), &INDEX_IS_NONE)?;
+    try_folder(&rt, rt.alloc(), &NEWER_IS_DAMAGED)
+}
+
 #[test]
 fn folders_are_opened(rt: HostRuntime) -> Result<(), Fail> {
-    let alloc = rt.alloc();
-    for folder in &FOLDERS {
-        let disk = disk_of(alloc, folder.before)?;
-        let left = try_talk(&rt, alloc, disk, &talk_of(alloc, &[folder.run])?)?;
-        assert_holds(&rt, alloc, left, folder.after)?;
-    }
-    Ok(())
+    try_folder(&rt, rt.alloc(), &UNFINISHED_IS_LEFT)?;
+    try_folder(&rt, rt.alloc(), &NAMES_ARE_OTHER)
 }
 
 /// The header of the blob of a manifest that lists 64 empty blobs.

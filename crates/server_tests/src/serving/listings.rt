@@ -33,7 +33,7 @@ const NO_FILES_BESIDE: &[u8] =
     b":\0\0\0\0\x01\x0findex.json.blobV\0\0\0\0\0\0\0\xc1j.\x19\xd5R\x1a\xca\xf0\x88\xf4=\x8do\x0b\xa1\x15\x198\xc1]X\x98\xda\xe2Gt$tAN\xa2";
 
 /// One snapshot, from before its backup until it is forgotten.
-pub const LISTED: Steps = &[
+pub static LISTED: Steps = &[
     (LIST, NONE_THERE),
     (GROUP, NONE_THERE),
     (FILES, NO_SNAPSHOT),
@@ -50,7 +50,10 @@ pub const LISTED: Steps = &[
     (LIST, ONE_LISTED),
     (GROUP, ONE_KEY),
     (FILES, NO_FILES_BESIDE),
-    // behind a snapshot, which need not be there
+];
+
+/// LIST behind a snapshot, which need not be there, and its names.
+pub static LISTED_BEHIND: Steps = &[
     (b"\x1d\0\0\0\x1e\x1bhost/a/2020-01-15T06:30:03Z", NONE_THERE),
     (b"\x1d\0\0\0\x1e\x1bhost/a/2020-01-15T06:30:02Z", ONE_LISTED),
     (b"\x1b\0\0\0\x1e\x19ct/z/1970-01-01T00:00:00Z", ONE_LISTED),
@@ -61,6 +64,10 @@ pub const LISTED: Steps = &[
     (b"\x08\0\0\0\x1e\x06host/a", BAD_NAME),
     (b"\x1d\0\0\0\x1e\x1bhost/a/2020-02-30T00:00:00Z", BAD_NAME),
     (b"\x1d\0\0\0\x1e\x1bhost/-/2020-01-15T06:30:03Z", BAD_NAME),
+];
+
+/// FILES, GROUP and FORGET of other names.
+pub static OTHER_NAMES: Steps = &[
     (b"\x02\0\0\0\x1f\0", BAD_NAME),
     (b"\x08\0\0\0\x1f\x06host/a", BAD_NAME),
     (
@@ -80,7 +87,10 @@ pub const LISTED: Steps = &[
     (b"\x08\0\0\0 \x06host/a", BAD_NAME),
     (b"\x1d\0\0\0 \x1bhost/a/2020-01-15T06:30:04Z", NO_SNAPSHOT),
     (b"\x1b\0\0\0 \x19ct/a/2020-01-15T06:30:03Z", NO_SNAPSHOT),
-    // with a reader, and with a writer that has it as base
+];
+
+/// It is told with a reader, and with a writer that has it as base.
+pub static LISTED_HELD: Steps = &[
     (READ, DONE),
     (LIST, ONE_LISTED),
     (GROUP, ONE_KEY),
@@ -97,7 +107,10 @@ pub const LISTED: Steps = &[
     // what is aborted is not told
     (LIST, ONE_LISTED),
     (GROUP, ONE_KEY),
-    // it is forgotten, and the group may begin with the same time again
+];
+
+/// It is forgotten, and the group may begin with the same time again.
+pub static LISTED_GONE: Steps = &[
     (FORGET, DONE),
     (FORGET, NO_SNAPSHOT),
     (LIST, NONE_THERE),
@@ -108,8 +121,12 @@ pub const LISTED: Steps = &[
     (ABORT, DONE),
 ];
 
+pub fn listed() -> [Steps; 5] {
+    [LISTED, LISTED_BEHIND, OTHER_NAMES, LISTED_HELD, LISTED_GONE]
+}
+
 /// Behind `ROOT_SENT`: files stand in byte order of their names, with what the manifest says of them.
-pub const TOLD: Steps = &[
+pub static TOLD: Steps = &[
     (LIST_BOTH, DONE),
     (FINISH, DONE),
     (
@@ -169,8 +186,12 @@ pub const TOLD: Steps = &[
     (OPEN_LATER, b"\x09\0\0\0\x07l\xb1\x1e^\0\0\0\0"),
 ];
 
+pub fn told() -> Steps {
+    TOLD
+}
+
 /// Behind it: the newer one goes too.
-pub const TAKEN_OUT: Steps = &[
+pub static TAKEN_OUT: Steps = &[
     (b"\x1d\0\0\0 \x1bhost/a/2020-01-15T06:30:04Z", DONE),
     (LIST, NONE_THERE),
     (
@@ -180,7 +201,7 @@ pub const TAKEN_OUT: Steps = &[
 ];
 
 /// Snapshots stand by their kind, then by the bytes of their ids, then by time.
-pub const ORDERED: Steps = &[
+pub static ORDERED: Steps = &[
     (b"\x1b\0\0\0\x0a\x19vm/a/2020-01-15T06:30:03Z", NO_BASE),
     (
         b"e\0\0\0\x11\x0findex.json.blobB\xab8\x07\xbe\x83p\xa1\xaf)\x03\xd8{\"backup-id\":\"a\",\"backup-time\":1579069803,\"backup-type\":\"vm\",\"files\":[]}",
@@ -211,6 +232,10 @@ pub const ORDERED: Steps = &[
         DONE,
     ),
     (FINISH, DONE),
+];
+
+/// LIST of all, and behind each.
+pub static ORDERED_LISTED: Steps = &[
     (
         LIST,
         b"\xb5\0\0\0\0\x06\0\x19ct/b/2020-01-15T06:30:04Z\0\x01\x1bhost/B/2020-01-15T06:30:03Z\0\x01\x1bhost/a/2020-01-15T06:30:03Z\0\x01\x1bhost/a/2020-01-15T06:30:04Z\0\x01\x1dhost/a.x/2020-01-15T06:30:03Z\0\x01\x19vm/a/2020-01-15T06:30:03Z\0\x01",
@@ -249,6 +274,10 @@ pub const ORDERED: Steps = &[
         b"\x1d\0\0\0\x1e\x1bhost/A/2020-01-15T06:30:03Z",
         b"\x99\0\0\0\0\x05\0\x1bhost/B/2020-01-15T06:30:03Z\0\x01\x1bhost/a/2020-01-15T06:30:03Z\0\x01\x1bhost/a/2020-01-15T06:30:04Z\0\x01\x1dhost/a.x/2020-01-15T06:30:03Z\0\x01\x19vm/a/2020-01-15T06:30:03Z\0\x01",
     ),
+];
+
+/// Their groups, before one is forgotten and behind it.
+pub static ORDERED_GROUPS: Steps = &[
     (
         GROUP,
         b";\0\0\0\0\x02\0\x1bhost/a/2020-01-15T06:30:03Z\x1bhost/a/2020-01-15T06:30:04Z",
@@ -273,6 +302,10 @@ pub const ORDERED: Steps = &[
         b"!\0\0\0\0\x01\0\x1dhost/a.x/2020-01-15T06:30:03Z",
     ),
 ];
+
+pub fn ordered() -> [Steps; 3] {
+    [ORDERED, ORDERED_LISTED, ORDERED_GROUPS]
+}
 
 /// A backup of a manifest without files, and LIST.
 pub const BACKED_UP: &[u8] =

@@ -8,7 +8,7 @@ pub const PUT_CONF: &[u8] =
     b"\"\0\0\0\x11\x0ba.conf.blobB\xab8\x07\xbe\x83p\xa1&9\xf4\xcb123456789";
 
 /// FINISH without a session, without a manifest, with one that lists all, and with an index open.
-pub const FINISHED: Steps = &[
+pub static FINISHED: Steps = &[
     (FINISH, NO_SESSION),
     (OPEN, NO_BASE),
     (NEW, FIRST),
@@ -38,8 +38,12 @@ pub const FINISHED: Steps = &[
     (FINISH, b"\x02\0\0\0\x11\x01"),
 ];
 
+pub fn finished() -> Steps {
+    FINISHED
+}
+
 /// BLOB of a manifest behind `ROOT_SENT` and `PUT_CONF`, and the reply to FINISH. By number: a bad manifest's cause; what differs.
-pub static MANIFESTS: [(&[u8], &[u8]); 32] = [
+pub static MANIFESTS: Steps = &[
     // 1: not UTF-8, and no JSON
     (
         b"\x1e\0\0\0\x11\x0findex.json.blobB\xab8\x07\xbe\x83p\xa1\0\0\0\xff\xff",
@@ -83,7 +87,10 @@ pub static MANIFESTS: [(&[u8], &[u8]); 32] = [
         b"a\0\0\0\x11\x0findex.json.blobB\xab8\x07\xbe\x83p\xa1\x962!\x19{\"backup-id\":\"a\",\"backup-time\":\"1\",\"backup-type\":\"host\",\"files\":[1]}",
         b"\x02\0\0\0\x12\x02",
     ),
-    // 3: no object; a name, a size or a checksum out of its grammar
+];
+
+/// The same, of the files in it.
+pub static FILES_REFUSED: Steps = &[
     (
         b"h\0\0\0\x11\x0findex.json.blobB\xab8\x07\xbe\x83p\xa1\xde.\xd5\x0d{\"backup-id\":\"a\",\"backup-time\":1579069803,\"backup-type\":\"host\",\"files\":[1]}",
         b"\x02\0\0\0\x12\x03",
@@ -122,7 +129,10 @@ pub static MANIFESTS: [(&[u8], &[u8]); 32] = [
         b"f\x01\0\0\x11\x0findex.json.blobB\xab8\x07\xbe\x83p\xa1^]\x0d\xee{\"backup-id\":\"b\",\"backup-time\":1579069803,\"backup-type\":\"host\",\"files\":[{\"crypt-mode\":\"none\",\"csum\":\"da464aae3d9f63d06f308710062b5db41996b1e36990b92ecc693440e6660151\",\"filename\":\"root.didx\",\"size\":5},{\"crypt-mode\":\"none\",\"csum\":\"da464aae3d9f63d06f308710062b5db41996b1e36990b92ecc693440e6660151\",\"filename\":\"root.didx\",\"size\":5}]}",
         b"\x02\0\0\0\x12\x04",
     ),
-    // 1 before 2, 2 before 3, 3 before the files
+];
+
+/// The same, of what differs: 1 before 2, 2 before 3, 3 before the files.
+pub static DIFFERING: Steps = &[
     (
         b"g\x01\0\0\x11\x0findex.json.blobB\xab8\x07\xbe\x83p\xa1$2\xe4?{\"backup-id\":\"b\",\"backup-time\":1579069803,\"backup-type\":\"vm\",\"files\":[{\"crypt-mode\":\"none\",\"csum\":\"69dcb4830c28203c26a1dade2d893d7f1d13cdba5eb39e348b008f3a5a0fb688\",\"filename\":\"a.conf.blob\",\"size\":21},{\"crypt-mode\":\"none\",\"csum\":\"da464aae3d9f63d06f308710062b5db41996b1e36990b92ecc693440e6660151\",\"filename\":\"root.didx\",\"size\":5}]}",
         b"\x03\0\0\0\x13\0\x01",
@@ -179,3 +189,7 @@ pub static MANIFESTS: [(&[u8], &[u8]); 32] = [
         b"\x0c\0\0\0\x13\x09root.didx\x05",
     ),
 ];
+
+pub fn manifests() -> [Steps; 3] {
+    [MANIFESTS, FILES_REFUSED, DIFFERING]
+}

@@ -23,7 +23,7 @@ pub const WEEKS_MARKED: &[u8] =
     b"Z\0\0\0\0\x03\0\x1bhost/a/2021-01-04T00:00:00Z\x01\x1bhost/a/2021-01-03T00:00:00Z\x01\x1bhost/a/2020-12-31T00:00:00Z\0";
 
 /// Snapshots of the last day of a year and of the next.
-pub const WEEKS: Steps = &[
+pub static WEEKS: Steps = &[
     // no snapshot is there yet
     (TWO_WEEKS, NONE_THERE),
     (DRY_TWO_WEEKS, NONE_THERE),
@@ -55,7 +55,10 @@ pub const WEEKS: Steps = &[
         DONE,
     ),
     (FINISH, DONE),
-    // a dry run removes nothing, and tells the same
+];
+
+/// A dry run removes nothing, and tells the same.
+pub static WEEKS_PRUNED: Steps = &[
     (DRY_TWO_WEEKS, WEEKS_MARKED),
     (
         GROUP,
@@ -91,7 +94,10 @@ pub const WEEKS: Steps = &[
         GROUP,
         b";\0\0\0\0\x02\0\x1bhost/a/2021-01-03T00:00:00Z\x1bhost/a/2021-01-04T00:00:00Z",
     ),
-    // counts, of which a name comes first
+];
+
+/// Counts, of which a name comes first.
+pub static COUNTS_REFUSED: Steps = &[
     (
         b"\x15\0\0\0!\x06host/a\xe9\x03\0\0\0\0\0\0\0\0\0\0\0",
         TOO_MANY,
@@ -142,7 +148,10 @@ pub const WEEKS: Steps = &[
         b"\x13\0\0\0!\x04vm/a\x01\0\0\0\0\0\0\0\0\0\0\0\0",
         NONE_THERE,
     ),
-    // a lane with a session comes before both
+];
+
+/// A lane with a session comes before both.
+pub static WEEKS_HELD: Steps = &[
     (b"\x1d\0\0\0\x14\x1bhost/a/2021-01-03T00:00:00Z", DONE),
     (TWO_WEEKS, IN_READER),
     (
@@ -163,7 +172,10 @@ pub const WEEKS: Steps = &[
         LIST,
         b"?\0\0\0\0\x02\0\x1bhost/a/2021-01-03T00:00:00Z\0\x01\x1bhost/a/2021-01-04T00:00:00Z\0\x01",
     ),
-    // of two in one week, month and year the newer is kept
+];
+
+/// Of two in one week, month and year the newer is kept.
+pub static ONE_PERIOD: Steps = &[
     (
         b"\x15\0\0\0!\x06host/a\0\0\0\0\0\0\0\0\0\0\x02\0\x01",
         b"=\0\0\0\0\x02\0\x1bhost/a/2021-01-04T00:00:00Z\x01\x1bhost/a/2021-01-03T00:00:00Z\0",
@@ -175,8 +187,12 @@ pub const WEEKS: Steps = &[
     (GROUP, b"\x1f\0\0\0\0\x01\0\x1bhost/a/2021-01-04T00:00:00Z"),
 ];
 
+pub fn weeks() -> [Steps; 5] {
+    [WEEKS, WEEKS_PRUNED, COUNTS_REFUSED, WEEKS_HELD, ONE_PERIOD]
+}
+
 /// Two snapshots of one day and one of the day before: the last serves its day.
-pub const ONE_EACH: Steps = &[
+pub static ONE_EACH: Steps = &[
     (b"\x1d\0\0\0\x0a\x1bhost/a/2020-01-14T06:30:03Z", NO_BASE),
     (
         b"g\0\0\0\x11\x0findex.json.blobB\xab8\x07\xbe\x83p\xa17\xcch\xdf{\"backup-id\":\"a\",\"backup-time\":1578983403,\"backup-type\":\"host\",\"files\":[]}",
@@ -224,7 +240,10 @@ pub const ONE_EACH: Steps = &[
         LAST_AND_DAY,
         b"=\0\0\0\0\x02\0\x1bhost/a/2020-01-15T18:30:03Z\x01\x1bhost/a/2020-01-14T06:30:03Z\x01",
     ),
-    // the newest goes first, but the last stays
+];
+
+/// The newest goes first, but the last stays.
+pub static LAST_KEPT: Steps = &[
     (
         b"\x15\0\0\0!\x06host/a\x01\0\0\0\0\0\0\0\0\0\0\0\0",
         b"=\0\0\0\0\x02\0\x1bhost/a/2020-01-15T18:30:03Z\x01\x1bhost/a/2020-01-14T06:30:03Z\0",
@@ -259,8 +278,12 @@ pub const ONE_EACH: Steps = &[
     ),
 ];
 
+pub fn one_each() -> [Steps; 2] {
+    [ONE_EACH, LAST_KEPT]
+}
+
 /// Two backups, the first with a file, which is forgotten; a third, of which a PRUNE keeps it alone.
-pub const GONE: Steps = &[
+pub static GONE: Steps = &[
     (OPEN, NO_BASE),
     (PUT_CONF, DONE),
     (
@@ -294,6 +317,10 @@ pub const GONE: Steps = &[
         b"=\0\0\0\0\x02\0\x1bhost/a/2020-01-15T06:30:05Z\x01\x1bhost/a/2020-01-15T06:30:04Z\0",
     ),
 ];
+
+pub fn gone() -> Steps {
+    GONE
+}
 
 /// Two backups; PRUNE that keeps the last, as a dry run, in earnest, and of 1,001; and GROUP. A PRUNE is one step more for each
 /// snapshot that it removes.

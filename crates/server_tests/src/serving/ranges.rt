@@ -7,7 +7,7 @@ use super::talks::Steps;
 pub const UNASKED: Steps = &[(GET_ABC, NO_SESSION), (ALL_FIVE, NO_SESSION)];
 
 /// Behind `ROOT_SENT`.
-pub const RESTORED: Steps = &[
+pub static RESTORED: Steps = &[
     (LIST_BOTH, DONE),
     (GET_ABC, IN_WRITER),
     (ALL_FIVE, IN_WRITER),
@@ -30,7 +30,10 @@ pub const RESTORED: Steps = &[
     ),
     (FINISH, DONE),
     (READ, DONE),
-    // before any DOWNLOAD: nothing is allowed, and names come first
+];
+
+/// Before any DOWNLOAD: nothing is allowed, and names come first.
+pub static NOT_YET_ALLOWED: Steps = &[
     (GET_ABC, NOT_ALLOWED),
     (
         b"\x17\0\0\0\x17\x09root.didx\x02\0\0\0\0\0\0\0\x02\0\0\0",
@@ -71,7 +74,10 @@ pub const RESTORED: Steps = &[
     ),
     (GET_ABC, NOT_ALLOWED),
     (ALL_FIVE, NOT_ALLOWED),
-    // one of the index allows its digests, whatever the offset, and again
+];
+
+/// One of the index allows its digests, whatever the offset, and again.
+pub static ALLOWED: Steps = &[
     (FROM_END, AT_END),
     (FROM_END, AT_END),
     (GET_ABC, BLOB_ABC),
@@ -98,7 +104,10 @@ pub const RESTORED: Steps = &[
         b"\x17\0\0\0\x17\x09root.didx\x05\0\0\0\0\0\0\0\0\0\0\0",
         DONE,
     ),
-    // past the content's end; more than one reply holds comes first
+];
+
+/// Past the content's end; more than one reply holds comes first.
+pub static PAST_THE_END: Steps = &[
     (
         b"\x17\0\0\0\x17\x09root.didx\x04\0\0\0\0\0\0\0\x02\0\0\0",
         b"\x09\0\0\0\x16\x05\0\0\0\0\0\0\0",
@@ -125,3 +134,14 @@ pub const RESTORED: Steps = &[
     (GET_ABC, NOT_ALLOWED),
     (ALL_FIVE, NOT_ALLOWED),
 ];
+
+pub fn restored() -> [Steps; 6] {
+    [
+        UNASKED,
+        ROOT_SENT,
+        RESTORED,
+        NOT_YET_ALLOWED,
+        ALLOWED,
+        PAST_THE_END,
+    ]
+}

@@ -1,7 +1,7 @@
 //! Each call of the disk behind opening fails in turn: in two backups and a restore, and where snapshots are forgotten and pruned.
 
-use super::prunes::GONE;
-use super::reuse::AGAIN;
+use super::prunes::gone;
+use super::reuse::again;
 use super::talks::{Steps, talk_of};
 use super::*;
 use disk_trait::FailingDisk;
@@ -65,6 +65,6 @@ fn try_each_call(rt: &impl Abort, alloc: Global, steps: Steps) -> Result<(), Fai
 
 #[test]
 fn each_call_of_a_restore_fails(rt: HostRuntime) -> Result<(), Fail> {
-    try_each_call(&rt, rt.alloc(), AGAIN)?;
-    try_each_call(&rt, rt.alloc(), GONE)
+    try_each_call(&rt, rt.alloc(), again())?;
+    try_each_call(&rt, rt.alloc(), gone())
 }

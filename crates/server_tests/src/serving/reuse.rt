@@ -18,7 +18,7 @@ pub const NONE_BEFORE: Steps = &[
 ];
 
 /// Behind `ROOT_SENT`: a second backup that sends one piece, and names those of the first.
-pub const REUSED: Steps = &[
+pub static REUSED: Steps = &[
     (LIST_BOTH, DONE),
     (FINISH, DONE),
     // the next must be later
@@ -37,7 +37,10 @@ pub const REUSED: Steps = &[
     ),
     (b"\x13\0\0\0\x0b\x09root.didx\0\0\0\0\0\0\0\0", NO_SNAPSHOT),
     (ABORT, DONE),
-    // over the first snapshot
+];
+
+/// Over the first snapshot.
+pub static REUSED_OVER: Steps = &[
     (OPEN_LATER, BASE),
     (NEW, FIRST),
     (APPEND_ABC, UNKNOWN),
@@ -72,7 +75,10 @@ pub const REUSED: Steps = &[
         DONE,
     ),
     (FINISH, DONE),
-    // it restores whole, and so does the first
+];
+
+/// It restores whole, and so does the first.
+pub static REUSED_READ: Steps = &[
     (READ_LATER, DONE),
     (b"\x13\0\0\0\x0b\x09root.didx\0\0\0\0\0\0\0\0", IN_READER),
     (
@@ -92,8 +98,12 @@ pub const REUSED: Steps = &[
     (OPEN_LATER, b"\x09\0\0\0\x07l\xb1\x1e^\0\0\0\0"),
 ];
 
+pub fn reused() -> [Steps; 5] {
+    [NONE_BEFORE, ROOT_SENT, REUSED, REUSED_OVER, REUSED_READ]
+}
+
 /// Two backups of one archive, the second by PREVIOUS alone, and its restore.
-pub const AGAIN: Steps = &[
+pub static AGAIN: Steps = &[
     (OPEN, NO_BASE),
     (NEW, FIRST),
     (SEND_ABC, DONE),
@@ -121,3 +131,7 @@ pub const AGAIN: Steps = &[
     (ALL_FIVE, b"\x06\0\0\0\0abcde"),
     (CLOSE_READER, DONE),
 ];
+
+pub fn again() -> Steps {
+    AGAIN
+}

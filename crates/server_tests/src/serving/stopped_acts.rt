@@ -27,7 +27,7 @@ const CONF_TOLD: &[u8] =
     b"\x1e\0\0\0\0\x15\0\0\0\0\0\0\0B\xab8\x07\xbe\x83p\xa1&9\xf4\xcb123456789";
 
 /// What a second run asks: LIST, and the file of the first snapshot.
-const ASKED: &[&[u8]] = &[LIST, READ, CONF, CLOSE_READER];
+static ASKED: &[&[u8]] = &[LIST, READ, CONF, CLOSE_READER];
 
 const CONF_FILE: &str = "host/a/2020-01-15T06:30:03Z/a.conf.blob";
 
@@ -64,12 +64,18 @@ const UPLOADED_STEPS: Steps = &[
     (PUT_B, DONE),
 ];
 
-const UPLOADS: Run = Run {
-    steps: &[FIRST_STEPS, UPLOADED_STEPS],
-    calls: 29,
-    asked: ASKED,
-    states: &[NONE_LEFT, ONE_LEFT],
-};
+static UPLOAD_STEPS: &[Steps] = &[FIRST_STEPS, UPLOADED_STEPS];
+
+static UPLOAD_STATES: &[State] = &[NONE_LEFT, ONE_LEFT];
+
+fn uploads() -> Run {
+    Run {
+        steps: UPLOAD_STEPS,
+        calls: 29,
+        asked: ASKED,
+        states: UPLOAD_STATES,
+    }
+}
 
 /// Two backups more, and a PRUNE that keeps the last: it is three steps, of which two forget, the newer snapshot first.
 const PRUNED_STEPS: Steps = &[
@@ -136,19 +142,25 @@ const LAST_LEFT: State = State {
     ],
 };
 
-const PRUNES: Run = Run {
-    steps: &[FIRST_STEPS, PRUNED_STEPS],
-    calls: 26,
-    asked: ASKED,
-    states: &[
-        NONE_LEFT,
-        ONE_LEFT,
-        TWO_LEFT,
-        THREE_LEFT,
-        FIRST_AND_LAST_LEFT,
-        LAST_LEFT,
-    ],
-};
+static PRUNE_STEPS: &[Steps] = &[FIRST_STEPS, PRUNED_STEPS];
+
+static PRUNE_STATES: &[State] = &[
+    NONE_LEFT,
+    ONE_LEFT,
+    TWO_LEFT,
+    THREE_LEFT,
+    FIRST_AND_LAST_LEFT,
+    LAST_LEFT,
+];
+
+fn prunes() -> Run {
+    Run {
+        steps: PRUNE_STEPS,
+        calls: 26,
+        asked: ASKED,
+        states: PRUNE_STATES,
+    }
+}
 
 /// DOWNLOAD of the index of `root.fidx` from its end on, and the reply; RANGE of all three bytes, and the reply.
 const FIXED_END: &[u8] = b"\x13\0\0\0\x15\x09root.fidx \x10\0\0\0\0\0\0";
@@ -206,20 +218,26 @@ const FIXED_LEFT: State = State {
     told: &[FIRST_LISTED, DONE, AT_FIXED_END, THREE_BYTES, DONE],
 };
 
+static RESTORE_STEPS: &[Steps] = &[FIXED_STEPS, FIXED_RESTORED];
+
+static RESTORE_ASKED: &[&[u8]] = &[LIST, READ, FIXED_END, ALL_THREE, CLOSE_READER];
+
+static RESTORE_STATES: &[State] = &[NO_FIXED_LEFT, FIXED_LEFT];
+
 /// The chunk has four calls, the index three, FINISH four, DOWNLOAD two, RANGE, GET_CHUNK and FILES one each.
-const RESTORES: Run = Run {
-    steps: &[FIXED_STEPS, FIXED_RESTORED],
-    calls: 22,
-    asked: &[LIST, READ, FIXED_END, ALL_THREE, CLOSE_READER],
-    states: &[NO_FIXED_LEFT, FIXED_LEFT],
-};
+fn restores() -> Run {
+    Run {
+        steps: RESTORE_STEPS,
+        calls: 22,
+        asked: RESTORE_ASKED,
+        states: RESTORE_STATES,
+    }
+}
 
 /// Uploads that are stopped are not found, a prune has forgotten some, and a restore leaves its snapshot.
-static RUNS: [Run; 3] = [UPLOADS, PRUNES, RESTORES];
-
 #[test]
 fn stopped_acts_are_found_before_or_after(rt: HostRuntime) -> Result<(), Fail> {
-    for run in &RUNS {
+    for run in &[uploads(), prunes(), restores()] {
         try_stops(&rt, rt.alloc(), run)?;
     }
     Ok(())

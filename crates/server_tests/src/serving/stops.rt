@@ -29,22 +29,30 @@ pub struct Run {
 const ROOT_FINISHED: Steps = &[(LIST_BOTH, DONE), (FINISH, DONE)];
 
 /// A backup of eight commands, one over it of seven, and a FORGET of the first; LIST, and of each snapshot the archive.
-const ARCHIVES: Run = Run {
-    steps: &[ROOT_SENT, ROOT_FINISHED, OVER, &[(FORGET, DONE)]],
-    calls: 33,
-    asked: &[
-        LIST,
-        READ,
-        FROM_END,
-        ALL_FIVE,
-        CLOSE_READER,
-        READ_LATER,
-        FROM_END,
-        ALL_FIVE,
-        CLOSE_READER,
-    ],
-    states: &[NONE_LEFT, FIRST_LEFT, BOTH_LEFT, LATER_LEFT],
-};
+static ARCHIVE_STEPS: &[Steps] = &[ROOT_SENT, ROOT_FINISHED, OVER, &[(FORGET, DONE)]];
+
+static ARCHIVE_ASKED: &[&[u8]] = &[
+    LIST,
+    READ,
+    FROM_END,
+    ALL_FIVE,
+    CLOSE_READER,
+    READ_LATER,
+    FROM_END,
+    ALL_FIVE,
+    CLOSE_READER,
+];
+
+static ARCHIVE_STATES: &[State] = &[NONE_LEFT, FIRST_LEFT, BOTH_LEFT, LATER_LEFT];
+
+fn archives() -> Run {
+    Run {
+        steps: ARCHIVE_STEPS,
+        calls: 33,
+        asked: ARCHIVE_ASKED,
+        states: ARCHIVE_STATES,
+    }
+}
 
 const ROOT: &str = "host/a/2020-01-15T06:30:03Z/root.didx";
 
@@ -233,7 +241,7 @@ pub fn try_stops(rt: &impl Abort, alloc: Global, run: &Run) -> Result<(), Fail> 
 
 #[test]
 fn a_stopped_run_is_found_before_or_after(rt: HostRuntime) -> Result<(), Fail> {
-    try_stops(&rt, rt.alloc(), &ARCHIVES)
+    try_stops(&rt, rt.alloc(), &archives())
 }
 
 /// Calls that FINISH has made as its disk stops, the kind of crash, and the number of the state that is found. It puts, syncs,
@@ -295,7 +303,7 @@ fn try_crash(
     let count = OPENING.saturating_add(before).saturating_add(*calls);
     let disk = FailingDisk::stopping_after(MemoryDisk::new(alloc), count);
     let left = served_on(alloc, steps, disk)?.disk.into_inner();
-    let found = found_on(alloc, &ARCHIVES, left.crashed(alloc, *choice)?)?;
+    let found = found_on(alloc, &archives(), left.crashed(alloc, *choice)?)?;
     same(
         rt,
         (*calls, *choice, found),
@@ -329,11 +337,12 @@ const BEFORE_PUT: u64 = 16;
 
 /// A second run finds what was finished, whether a crash comes or not.
 fn try_found(rt: &impl Abort, alloc: Global, left: MemoryDisk) -> Result<(), Fail> {
+    let run = archives();
     for choice in 0..3 {
-        let found = found_on(alloc, &ARCHIVES, left.crashed(alloc, choice)?)?;
+        let found = found_on(alloc, &run, left.crashed(alloc, choice)?)?;
         same(rt, (choice, found), (choice, Some(1)));
     }
-    same(rt, found_on(alloc, &ARCHIVES, left)?, Some(1));
+    same(rt, found_on(alloc, &run, left)?, Some(1));
     Ok(())
 }
 

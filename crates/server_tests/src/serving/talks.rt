@@ -1,13 +1,13 @@
 //! Sessions command by command, each done or refused by its own tests.
 
 use super::damaged::{DAMAGED, READING, WHOLE};
-use super::fixed::{BEGUN, DIGESTS, FILLED, FIXED_REFUSED};
+use super::fixed::{BEGUN, DIGESTS, FILLED, fixed_refused};
 use super::frames::{ABORT, ALL_FIVE, DONE, EXISTS, FINISH, GET_ABC, LIST_BOTH, ROOT_SENT};
-use super::listings::{GROUP, LIST, LISTED, NONE_THERE, ORDERED, TAKEN_OUT, TOLD};
-use super::manifests::{FINISHED, MANIFESTS, PUT_CONF};
-use super::prunes::{GONE, ONE_EACH, WEEKS};
-use super::ranges::{RESTORED, UNASKED};
-use super::reuse::{AGAIN, NONE_BEFORE, REUSED};
+use super::listings::{GROUP, LIST, NONE_THERE, TAKEN_OUT, listed, ordered, told};
+use super::manifests::{PUT_CONF, finished, manifests};
+use super::prunes::{gone, one_each, weeks};
+use super::ranges::restored;
+use super::reuse::{again, reused};
 use super::*;
 
 /// What is sent, and what is replied to it.
@@ -76,24 +76,22 @@ const ABC_FILE: &str =
 const DE_FILE: &str =
     ".chunks/959a/959a45d44e6fcf58361ed004681556fe50129f2109e817dec098c00c9e5d2578";
 
-const BOTH: Files = &[(DE_FILE, 14), (ABC_FILE, 15)];
+pub const BOTH: Files = &[(DE_FILE, 14), (ABC_FILE, 15)];
 
-/// Sessions on an empty disk.
-pub static TALKS: [&[Steps]; 4] = [
-    &[UNASKED, ROOT_SENT, RESTORED],
-    &[NONE_BEFORE, ROOT_SENT, REUSED],
-    &[FIXED_REFUSED],
-    &[FINISHED],
-];
+/// Serves a session on an empty disk.
+fn try_parts(rt: &impl Abort, alloc: Global, parts: &[Steps]) -> Result<(), Fail> {
+    let talk = talk_of(alloc, parts)?;
+    try_talk(rt, alloc, MemoryDisk::new(alloc), &talk)?;
+    Ok(())
+}
 
 #[test]
 fn commands_are_answered(rt: HostRuntime) -> Result<(), Fail> {
     let alloc = rt.alloc();
-    for parts in &TALKS {
-        let talk = talk_of(alloc, parts)?;
-        try_talk(&rt, alloc, MemoryDisk::new(alloc), &talk)?;
-    }
-    Ok(())
+    try_parts(&rt, alloc, &restored())?;
+    try_parts(&rt, alloc, &reused())?;
+    try_parts(&rt, alloc, &[fixed_refused()])?;
+    try_parts(&rt, alloc, &[finished()])
 }
 
 /// Serves a session on an empty disk, which then holds these files.
@@ -109,7 +107,7 @@ fn try_kept(
 }
 
 /// What is left of two snapshots, of five, and of those that are pruned.
-const LATER: Files = &[
+pub const LATER: Files = &[
     (DE_FILE, 14),
     (ABC_FILE, 15),
     ("host/a/2020-01-15T06:30:04Z/a.conf.blob", 21),
@@ -117,7 +115,7 @@ const LATER: Files = &[
     ("host/a/2020-01-15T06:30:04Z/z.blob", 12),
 ];
 
-const FIVE: Files = &[
+pub const FIVE: Files = &[
     ("ct/b/2020-01-15T06:30:04Z/index.json.blob", 84),
     ("host/B/2020-01-15T06:30:03Z/index.json.blob", 86),
     ("host/a.x/2020-01-15T06:30:03Z/index.json.blob", 88),
@@ -125,16 +123,16 @@ const FIVE: Files = &[
     ("vm/a/2020-01-15T06:30:03Z/index.json.blob", 84),
 ];
 
-const LAST_WEEK: Files = &[("host/a/2021-01-04T00:00:00Z/index.json.blob", 86)];
+pub const LAST_WEEK: Files = &[("host/a/2021-01-04T00:00:00Z/index.json.blob", 86)];
 
-const LAST_DAY: Files = &[
+pub const LAST_DAY: Files = &[
     ("host/a/2020-01-16T06:30:03Z/index.json.blob", 86),
     ("host/b/2020-01-15T06:30:03Z/index.json.blob", 86),
 ];
 
-const THIRD: Files = &[("host/a/2020-01-15T06:30:05Z/index.json.blob", 86)];
+pub const THIRD: Files = &[("host/a/2020-01-15T06:30:05Z/index.json.blob", 86)];
 
-const ROOTS: Files = &[
+pub const ROOTS: Files = &[
     (DE_FILE, 14),
     (ABC_FILE, 15),
     (MANIFEST, 213),
@@ -143,34 +141,22 @@ const ROOTS: Files = &[
     ("host/a/2020-01-15T06:30:04Z/root.didx", 4176),
 ];
 
-/// Sessions with what they leave on an empty disk.
-pub static LISTINGS: [(&[Steps], Files); 2] = [(&[LISTED], NOTHING), (&[ROOT_SENT, TOLD], LATER)];
-
-pub static ORDERS: [(&[Steps], Files); 2] = [
-    (&[ROOT_SENT, TOLD, TAKEN_OUT], BOTH),
-    (&[ORDERED], FIVE),
-];
-
-pub static PRUNES: [(&[Steps], Files); 4] = [
-    (&[WEEKS], LAST_WEEK),
-    (&[ONE_EACH], LAST_DAY),
-    (&[GONE], THIRD),
-    (&[AGAIN], ROOTS),
-];
-
-fn try_rows(rt: &impl Abort, alloc: Global, rows: &[(&[Steps], Files)]) -> Result<(), Fail> {
-    for (parts, files) in rows {
-        try_kept(rt, alloc, parts, files)?;
-    }
-    Ok(())
-}
-
 #[test]
 fn snapshots_are_told_and_go(rt: HostRuntime) -> Result<(), Fail> {
     let alloc = rt.alloc();
-    try_rows(&rt, alloc, &LISTINGS)?;
-    try_rows(&rt, alloc, &ORDERS)?;
-    try_rows(&rt, alloc, &PRUNES)
+    try_kept(&rt, alloc, &listed(), NOTHING)?;
+    try_kept(&rt, alloc, &[ROOT_SENT, told()], LATER)?;
+    try_kept(&rt, alloc, &[ROOT_SENT, told(), TAKEN_OUT], BOTH)?;
+    try_kept(&rt, alloc, &ordered(), FIVE)
+}
+
+#[test]
+fn snapshots_are_pruned(rt: HostRuntime) -> Result<(), Fail> {
+    let alloc = rt.alloc();
+    try_kept(&rt, alloc, &weeks(), LAST_WEEK)?;
+    try_kept(&rt, alloc, &one_each(), LAST_DAY)?;
+    try_kept(&rt, alloc, &[gone()], THIRD)?;
+    try_kept(&rt, alloc, &[again()], ROOTS)
 }
 
 /// An archive of 4,097 bytes, and one of 8,192 over it.
@@ -202,13 +188,19 @@ pub fn manifest_talk(alloc: Global, row: &(&[u8], &[u8])) -> Result<Talk, AllocE
     Ok(talk)
 }
 
+fn try_manifests(rt: &impl Abort, alloc: Global, rows: &[(&[u8], &[u8])]) -> Result<(), Fail> {
+    for row in rows {
+        let talk = manifest_talk(alloc, row)?;
+        let disk = try_talk(rt, alloc, MemoryDisk::new(alloc), &talk)?;
+        assert_holds(rt, alloc, disk, BOTH)?;
+    }
+    Ok(())
+}
+
 #[test]
 fn manifests_are_checked(rt: HostRuntime) -> Result<(), Fail> {
-    let alloc = rt.alloc();
-    for row in &MANIFESTS {
-        let talk = manifest_talk(alloc, row)?;
-        let disk = try_talk(&rt, alloc, MemoryDisk::new(alloc), &talk)?;
-        assert_holds(&rt, alloc, disk, BOTH)?;
+    for rows in manifests() {
+        try_manifests(&rt, rt.alloc(), rows)?;
     }
     Ok(())
 }
@@ -217,8 +209,8 @@ fn manifests_are_checked(rt: HostRuntime) -> Result<(), Fail> {
 #[test]
 fn unfinished_backups_end(rt: HostRuntime) -> Result<(), Fail> {
     let alloc = rt.alloc();
-    let listed: [(&[u8], &[u8]); 2] = [(LIST, NONE_THERE), (GROUP, NONE_THERE)];
-    let talk = talk_of(alloc, &[&listed, ROOT_SENT, &listed])?;
+    let none_there: [(&[u8], &[u8]); 2] = [(LIST, NONE_THERE), (GROUP, NONE_THERE)];
+    let talk = talk_of(alloc, &[&none_there, ROOT_SENT, &none_there])?;
     let once = try_talk(&rt, alloc, MemoryDisk::new(alloc), &talk)?;
     let twice = try_talk(&rt, alloc, once, &talk)?;
     assert_holds(&rt, alloc, twice, BOTH)
