@@ -92,6 +92,23 @@ def run_on(root, session):
     return usage.ru_maxrss * 1024
 
 
+def beyond_empty(root, session):
+    """Seconds that a run of the session on the folder takes, less those of an empty one, which opens the folder and saves the book as
+    well."""
+    empty = f"{session}-empty"
+    write(empty, b"")
+    without = least(lambda: run_on(root, empty))
+    return least(lambda: run_on(root, session)) - without
+
+
+def hash_all(paths, processes=1):
+    """`sha256sum` over the files, by so many processes at once, each over an equal part."""
+    parts = [paths[first::processes] for first in range(min(processes, len(paths)))]
+    runs = [subprocess.Popen(["sha256sum", *part], stdout=subprocess.DEVNULL) for part in parts]
+    if any([run.wait() for run in runs]):
+        sys.exit(f"{os.path.basename(sys.argv[0])}: sha256sum failed")
+
+
 def least(call, times=3):
     """Seconds that the fastest of some calls takes, after one that is not counted."""
     call()

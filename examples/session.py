@@ -489,3 +489,7 @@ def halted(entry):
 
 def no_memory():
     return refused(28)
+
+
+def no_remote():
+    return refused(29)

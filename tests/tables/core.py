@@ -144,6 +144,12 @@ TABLES = {
         "RANGES": [frame(rest(b"abc"))],
         "IN_ORDER": [frame(rest(b"bcd"))],
         "CHUNKS": [frame(rest(blob(b"abc")))],
+        "ABC_DATA": [frame(rest(blob(b"abc")))],
+        "TORN_DATA": [frame(rest(blob(b"abd", crc=0x352441c2)))],
+        "DE_DATA": [frame(rest(blob(b"de")))],
+        "TWO_ENTRIES": [frame(bad_range(2))],
+        "NO_INDEX": [frame(unreadable(f"{A}/root.didx"))],
+        "PARTS": [frame(bad_range(4176)), frame(part(blob(b"abc"), 12))],
     },
     "core_tests/src/dispatch.rt": {
         "ONE_KEY": [frame(keys(A))],

@@ -44,6 +44,15 @@ TABLES = {
         "datastore": [blob(b"set")],
         "CASES": [blob(b"y")],
     },
+    "plain_tests/src/verifies.rt": {
+        "DIGEST": [sha256(b"x")],
+        "BLOB": [blob(b"x")],
+        "GONE": [
+            file_rows(("a.conf.blob", 21, sha256(blob(b"123456789"))), (MANIFEST, 86, sha256(blob(manifest(A))))),
+            unreadable(f"{A}/a.conf.blob"),
+            part(blob(manifest(A))),
+        ],
+    },
     "plain_tests/src/weaving.rt": {
         "ZEROS": [chunk_as(sha256(ZEROS), blob(b"", crc=0xc71c0011))],
         "FIRST": [

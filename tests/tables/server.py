@@ -6,9 +6,23 @@ from tables.common import *
 BOTH_LISTED = [listed_blob("a.conf.blob", blob(b"123456789")), listed("root.didx", 5, dynamic_csum([b"abc", b"de"]))]
 # What one lists of an archive of one piece of a fixed size.
 FIXED_LISTED = listed("root.fidx", 3, fixed_csum([b"abc"]))
+# The blob of 4 MiB, and one of a byte more.
+LARGE_BLOBS = [blob(bytes((4 << 20) - 12)), blob(bytes((4 << 20) - 11))]
 # The third snapshot of a group, and one of another group that stands behind all others.
 A_THIRD = "host/a/2020-01-15T06:30:05Z"
 OTHER = "vm/z/2020-01-15T06:30:03Z"
+
+
+
+def both_listed(snapshot=A, conf=blob(b"123456789"), size=5, csum=dynamic_csum([b"abc", b"de"])):
+    """The manifest's file of a snapshot with a blob and an archive, listed as these."""
+    return blob(manifest(snapshot, listed_blob("a.conf.blob", conf), listed("root.didx", size, csum)))
+
+
+def verified_both(*faults):
+    """What a VERIFY tells of it, where the archive's index is one."""
+    return frame(verified(3, 2, 5, *faults))
+
 
 TABLES = {
     "server_tests/src/books.rt": {
@@ -910,6 +924,8 @@ TABLES = {
         ],
     },
     "server_tests/src/serving/memory.rt": {
+        "SHORT": [frame(no_memory())],
+        "SHORT_AND_DONE": [frames(no_memory(), done())],
         "OVER_BASE": [
             frames(
                 open_writer(A),
@@ -1188,6 +1204,64 @@ TABLES = {
             frame(disk_fault()),
             frame(halted(0))[:5],
         ],
+    },
+    "server_tests/src/serving/syncs.rt": {
+        "SYNC": [frame(sync("host/a"))],
+        "NO_REMOTE": [frame(no_remote())],
+        "SYNCED": [frame(sync("host")), frame(sync(A)), frame(sync("host"))],
+    },
+    "server_tests/src/serving/verifies.rt": {
+        "VERIFY": [frame(verify(A))],
+        "VERIFY_LATER": [frame(verify(A_LATER))],
+        "NO_FAULT": [frame(verified(2, 2, 5))],
+        "ABC_DAMAGED": [frame(verified(2, 2, 5, file_fault("root.didx", 23, sha256(b"abc"))))],
+        "VERIFIED": [frame(verify("host/a")), frame(forget(A))],
+        "AS_SENT": [verified_both()],
+        "CONF_DIFFERS": [verified_both(file_fault("a.conf.blob", 19))],
+        "CONF_UNREADABLE": [verified_both(file_fault("a.conf.blob", 24))],
+        "ROOT_DIFFERS": [verified_both(file_fault("root.didx", 19))],
+        "ABC_IS_DAMAGED": [verified_both(file_fault("root.didx", 23, sha256(b"abc")))],
+        "DE_IS_DAMAGED": [verified_both(file_fault("root.didx", 23, sha256(b"de")))],
+        "SHORTER": [blob(b"12345678")],
+        "OF_ANOTHER_GROUP": [both_listed(B)],
+        "CONF_FAULTS": [
+            blob(b"123456780"),
+            both_listed(conf=b"abc"),
+            blob(b"123456789", crc=0xcbf43927),
+            both_listed(conf=blob(b"123456789", crc=0xcbf43927)),
+            both_listed(conf=b""),
+            blob(b""),
+            both_listed(conf=blob(b"")),
+        ],
+        "ROOT_FAULTS": [
+            verified_both(file_fault(MANIFEST, 19)),
+            frame(verified(3, 0, 0, file_fault("root.didx", 24))),
+            both_listed(size=6),
+            both_listed(csum=dynamic_csum([b"abc", b"xyz"])),
+        ],
+        "CHUNK_FAULTS": [
+            blob(b"abc"),
+            verified_both(
+                file_fault("a.conf.blob", 19),
+                file_fault(MANIFEST, 19),
+                file_fault("root.didx", 23, sha256(b"de")),
+            ),
+        ],
+        "FIRST_FIXED": [
+            frame(verified(2, 2, 4097)),
+            frame(verified(2, 2, 4097, file_fault("root.fidx", 23, sha256(b"y")))),
+        ],
+        "LATER_FIXED": [
+            frame(verified(2, 2, 8192)),
+            frame(verified(2, 2, 8192)),
+            frame(verified(2, 2, 8192, file_fault("root.fidx", 23, sha256(X)))),
+        ],
+        "LARGE_BLOBS": [
+            it
+            for file in LARGE_BLOBS
+            for it in (file[:12], blob(manifest(A, listed_blob("a.blob", file))))
+        ],
+        "TWO_FILES": [frame(verified(2, 0, 0))],
     },
     "server_tests/src/serving/reuse.rt": {
         "APPEND_ABC": [frame(append(0, (b"abc", 0)))],

@@ -1,5 +1,5 @@
 -- What it takes that bytes hold a piece.
-use Rattle.std.proofs.Common.{◌≡◌, ◌<◌, ◌≤◌, ℕ, List, Bool, true, false, ◌&&◌, length, drop, MatchResult, Result, Ok, Err, if◌then◌else◌, refl, sym, ap, subst, ◌∙◌, arith, drop-drop}
+use Rattle.std.proofs.Common.{◌≡◌, ◌<◌, ◌≤◌, ℕ, List, Bool, true, false, ◌&&◌, length, drop, MatchResult, OnOk, is_ok, Result, Ok, Err, if◌then◌else◌, refl, sym, ap, subst, ◌∙◌, arith, drop-drop}
 use Rattle.std.specs.Prelude.{nat_le}
 use Rattle.std.specs.Str.{bytes_eq}
 use Rattle.std.proofs.lemmas.Bool.{and_parts, leb-true, le-leb}
@@ -15,7 +15,7 @@ use Rattle.store_types.specs.declared.refusal.ChunkFault.{ChunkFault}
 use Rattle.store_types.specs.declared.refusal.ChunkFault.TheVariants.{NotABlob, Other}
 use Rattle.store_files.specs.Archive.{digest_of}
 use Rattle.store_files.specs.Folder.{IsPiece}
-use Rattle.chunk_store.specs.Pieces.{by_data, checked, piece_in}
+use Rattle.chunk_store.specs.Pieces.{IsChunk, TellsChecked, TestsPiece, by_data, checked, piece_in}
 
 -- the data stand behind the header
 pub data_behind_header : (p : List ℕ) → drop 12 (blob p) ≡ p
@@ -90,3 +90,32 @@ piece_is digest bytes p are is = by_case (data_of bytes) refl is
       where
         not_ok : ◌≡◌ {A = Result (List ℕ) ChunkFault} (Err NotABlob) (Ok p) → ⊥
         not_ok e = cc
+
+-- ---- bytes that were tested
+
+module _ (digest bytes p : List ℕ) (is : data_of bytes ≡ Ok p) where
+  -- the answer of the data is that of the bytes
+  pub tests_from : {A : Type 0} (told : Result A ChunkFault) → TellsChecked digest p told → TestsPiece digest bytes told
+  tests_from (Ok x) passes = ap is_ok (piece_from digest bytes p is ∙ passes)
+  tests_from (Err fault) found = piece_from digest bytes p is ∙ found
+
+  -- and what passes is a chunk
+  pub chunk_from : {A : Type 0} (told : Result A ChunkFault) → AreBytes bytes → TellsChecked digest p told → OnOk told (IsChunk digest bytes)
+  chunk_from (Ok x) are passes =
+      let held = piece_is digest bytes p are (piece_from digest bytes p is ∙ passes) in
+      (p, held.0, (blob-from_data_of bytes p are is).0, held.1)
+  chunk_from (Err fault) are found = tt
+
+module _ (digest bytes : List ℕ) (chunk : IsChunk digest bytes) where
+  -- its piece stands behind the header
+  piece_behind : drop 12 bytes ≡ chunk.0
+  piece_behind = ap (drop 12) chunk.2 ∙ data_behind_header chunk.0
+
+  pub chunk_spelled : bytes ≡ blob (drop 12 bytes)
+  chunk_spelled = chunk.2 ∙ ap blob (sym piece_behind)
+
+  pub chunk_told : piece_in digest bytes ≡ Ok (drop 12 bytes)
+  chunk_told = piece_in_blob digest bytes chunk.0 chunk.2 (chunk.1).2 chunk.1 chunk.3 ∙ ap Ok (sym piece_behind)
+
+  pub chunk_piece : IsPiece (drop 12 bytes) × (sha256 (drop 12 bytes) ≡ digest)
+  chunk_piece = subst (λ x. IsPiece x × (sha256 x ≡ digest)) (sym piece_behind) (chunk.1, chunk.3)

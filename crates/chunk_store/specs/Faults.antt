@@ -1,11 +1,15 @@
 -- Why a chunk isn't loaded, by what the disk answered.
-use Rattle.std.specs.Prelude.{◌≡◌, ℕ, List, Result, Ok, Err, IfOk, IfErr, MatchResult}
+use Rattle.std.specs.Prelude.{◌≡◌, ℕ, List, None, Some, Result, Ok, Err, IfOk, IfErr, MatchResult, Vec}
+use Rattle.std.specs.declared.alloc.Global.{Global}
+use Rattle.std.specs.FinMap.{get}
 use Rattle.sha2.specs.Sha256.{sha256}
 use Rattle.disk_trait.specs.declared.disk.Disk.{Ghosts}
 use Rattle.disk_trait.specs.declared.disk.DiskError.{DiskError}
 use Rattle.disk_trait.specs.declared.disk.DiskError.TheVariants as disk
 use Rattle.store_types.specs.declared.names.Digest32.{Digest32}
 use Rattle.store_types.specs.declared.refusal.ChunkFault.{ChunkFault}
+use Rattle.store_types.specs.declared.refusal.ChunkFault.TheVariants.{Nothing}
+use Rattle.store_files.specs.Folder.{chunk_name}
 use Rattle.chunk_store.specs.Pieces.{found_at, IsHeld}
 use Rattle.chunk_store.specs.declared.chunk.LoadFault.{LoadFault}
 use Rattle.chunk_store.specs.declared.chunk.LoadFault.TheVariants.{Damaged, Failed, NoMemory}
@@ -31,6 +35,12 @@ TellsDamage d disk digest result = d.honest disk → IfErr result (λ e. (asked 
 -- the chunk is the piece with this digest
 abbrev pub LoadsPiece : {D E : Type 0} → Ghosts D → D → List ℕ → Result (List ℕ) E → Type 0
 LoadsPiece d disk digest result = d.honest disk → IfOk result (λ chunk. found_at (d.content disk) digest ≡ Ok chunk)
+
+-- the bytes are those of the file under the digest, or nothing is there
+abbrev pub ReadsBytes : {D : Type 0} → Ghosts D → D → Digest32 → Result (Vec ℕ Global) LoadFault → Type 0
+ReadsBytes d disk digest result = d.honest disk → MatchResult result
+    (λ bytes. get (d.content disk) (chunk_name digest.0) ≡ Some bytes.items)
+    (λ e. (asked : Digest32) (found : ChunkFault) → e ≡ Damaged asked found → (found ≡ Nothing) × (get (d.content disk) (chunk_name digest.0) ≡ None))
 
 -- a piece that stands there is loaded
 abbrev pub LoadsHeld : {D : Type 0} → Ghosts D → D → List ℕ → Result (List ℕ) LoadFault → Type 0

@@ -1,5 +1,5 @@
 -- The map from digests to pieces that files stand for.
-use Rattle.std.specs.Prelude.{◌≡◌, ◌⊎◌, ℕ, List, length, ◌&&◌, nat_le, if◌then◌else◌, Option, Some, None, Result, Ok, Err, is_some, IsSome, OnOk, MatchResult}
+use Rattle.std.specs.Prelude.{◌≡◌, ◌⊎◌, ℕ, List, length, ◌&&◌, nat_le, if◌then◌else◌, Option, Some, None, Result, Ok, Err, is_some, IsSome, IsOk, OnOk, MatchResult}
 use Rattle.std.specs.Result.{result_ok}
 use Rattle.std.specs.Str.{bytes_eq}
 use Rattle.std.specs.FinMap.{get}
@@ -41,6 +41,10 @@ piece_in digest bytes = by_data digest (data_of bytes)
 -- the answer is that piece, or why there is none
 abbrev pub TellsPiece : List ℕ → List ℕ → Result (List ℕ) ChunkFault → Type 0
 TellsPiece digest bytes result = MatchResult result (λ chunk. piece_in digest bytes ≡ Ok chunk) (λ fault. piece_in digest bytes ≡ Err fault)
+
+-- the answer is whether they hold one
+abbrev pub TestsPiece : {A : Type 0} → List ℕ → List ℕ → Result A ChunkFault → Type 0
+TestsPiece digest bytes result = MatchResult result (λ _. IsOk (piece_in digest bytes)) (λ fault. piece_in digest bytes ≡ Err fault)
 
 -- of the blob of a piece with the digest, the answer is the piece
 abbrev pub TakesBlob : {E : Type 0} → List ℕ → List ℕ → Result (List ℕ) E → Type 0

@@ -1,11 +1,11 @@
 //! Chunks as they are read.
 
-ghost use Rattle.std.specs.Prelude.{◌≡◌, IfOk};
+ghost use Rattle.std.specs.Prelude.{◌≡◌, IfOk, OnOk};
 ghost use Rattle.sha2.specs.Sha256.{sha256};
 ghost use Rattle.blob_codec.specs.Blob.{blob as blob_of};
 ghost use Rattle.store_files.specs.Folder.{IsPiece};
-ghost use Rattle.chunk_store.specs.Pieces.{TellsChecked, TellsPiece, TakesBlob};
-ghost use Rattle.chunk_store.specs.declared.chunk.LoadFault.TheVariants.{Failed as FailedDisk, NoMemory};
+ghost use Rattle.chunk_store.specs.Pieces.{IsChunk, TellsChecked, TellsPiece, TestsPiece, TakesBlob};
+ghost use Rattle.chunk_store.specs.declared.chunk.LoadFault.TheVariants.{NoMemory};
 ghost use Rattle.chunk_store.specs.Faults.{load_fault};
 
 use blob_codec::{HEADER_SIZE, decode};
@@ -90,6 +90,18 @@ fn check_piece(digest: &Digest32, piece: &[u8]) -> Result<(), ChunkFault>
     Ok(())
 }
 
+/// Whether the bytes of a chunk's file are the blob of a piece with this digest, or why they are none. It takes no
+/// memory.
+pub fn test(digest: &Digest32, text: &[u8]) -> Result<(), ChunkFault>
+    ensures tests { TestsPiece digest.now.0 text.now result }
+    ensures chunk { OnOk result (IsChunk digest.now.0 text.now) }
+{
+    let Ok(piece) = decode(text) else {
+        return Err(ChunkFault::NotABlob);
+    };
+    check_piece(digest, piece)
+}
+
 /// The chunk whose file has these bytes, or why there is none with this digest.
 pub fn check(digest: &Digest32, text: Vec<u8>) -> Result<Chunk, ChunkFault>
     ensures value { TellsPiece digest.now.0 text.items result }
@@ -97,9 +109,6 @@ pub fn check(digest: &Digest32, text: Vec<u8>) -> Result<Chunk, ChunkFault>
     // the blob of a piece with the digest
     ensures blob { TakesBlob digest.now.0 text.items result }
 {
-    let Ok(piece) = decode(&text) else {
-        return Err(ChunkFault::NotABlob);
-    };
-    check_piece(digest, piece)?;
+    test(digest, &text)?;
     Ok(Chunk { text })
 }

@@ -9,7 +9,7 @@ mod listing;
 mod name;
 mod store;
 
-pub use chunk::{Chunk, LoadFault};
+pub use chunk::{Chunk, LoadFault, test};
 pub use listing::{digests_named, scan};
 pub use name::ChunkName;
-pub use store::{insert, insert_blob, load, remove};
+pub use store::{insert, insert_blob, load, read, remove};

@@ -7,7 +7,7 @@ ghost use Rattle.disk_trait.specs.Effects.{OnlyReads, StepsOn, KeepsFiles, DiskT
 ghost use Rattle.blob_codec.specs.Blob.{blob as blob_of};
 ghost use Rattle.store_files.specs.Folder.{IsPiece, chunk_name};
 ghost use Rattle.chunk_store.specs.declared.chunk.LoadFault.TheVariants.{Damaged};
-ghost use Rattle.chunk_store.specs.Faults.{IsDamageAsked, LoadsHeld, LoadsPiece, TellsDamage};
+ghost use Rattle.chunk_store.specs.Faults.{IsDamageAsked, LoadsHeld, LoadsPiece, ReadsBytes, TellsDamage};
 ghost use Rattle.chunk_store.specs.Pieces.{IsChunk, KeepsPresent, OkAdds, OkAddsBlob, OkKeepsWhole, OkStores, OkTakes, StepsStore};
 
 use crate::chunk::{Chunk, LoadFault, check};
@@ -75,6 +75,21 @@ pub fn insert<D: Disk>(
     Ok(())
 }
 
+/// The bytes of the chunk's file under a digest, whatever they are. It is damaged where nothing is there.
+pub fn read<D: Disk>(disk: &mut D, alloc: Global, digest: &Digest32) -> Result<Vec<u8>, LoadFault>
+    ensures reads { OnlyReads D.Disk disk.old disk.new (IsErrOf result LoadFault.Failed) }
+    ensures tick { Ticks D.honest D.calls disk.old disk.new }
+    ensures bytes { ReadsBytes D.Disk disk.old digest.now result }
+    ensures asked { IfErr result (IsDamageAsked digest.now) }
+    ensures unchanged { IsErrOf result LoadFault.NoMemory → D.faults disk.new ≡ D.faults disk.old }
+{
+    let name = ChunkName::of(digest);
+    match disk.read(alloc, name.as_str())? {
+        Some(text) => Ok(text),
+        None => Err(damaged(digest, ChunkFault::Nothing)),
+    }
+}
+
 /// The chunk under a digest. It is damaged where nothing is there, where the file is no blob, and where its data are not
 /// a piece with this digest: the first of these is told, the last with the digest of the data.
 pub fn load<D: Disk>(disk: &mut D, alloc: Global, digest: &Digest32) -> Result<Chunk, LoadFault>
@@ -89,10 +104,7 @@ pub fn load<D: Disk>(disk: &mut D, alloc: Global, digest: &Digest32) -> Result<C
     ensures asked { IfErr result (IsDamageAsked digest.now) }
     ensures unchanged { IsErrOf result LoadFault.NoMemory → D.faults disk.new ≡ D.faults disk.old }
 {
-    let name = ChunkName::of(digest);
-    let Some(text) = disk.read(alloc, name.as_str())? else {
-        return Err(damaged(digest, ChunkFault::Nothing));
-    };
+    let text = read(disk, alloc, digest)?;
     match check(digest, text) {
         Ok(chunk) => Ok(chunk),
         Err(found) => Err(damaged(digest, found)),

@@ -3,7 +3,7 @@ use Rattle.std.proofs.Common.{◌≡◌, false, refl}
 use Rattle.wire_commands.specs.declared.command.Command.TheVariants.{OpenWriter, Previous, NewFixed, NewDynamic, Chunk as ChunkCommand, Append, CloseIndex, Blob as BlobCommand, Finish, Abort, OpenReader, Download, GetChunk, Range, CloseReader, List as ListAll, Files as FilesOf, Forget, Prune, Verify, Sync, Gc, Group, Bye}
 use Rattle.store_history.specs.Acts.{IsWellFormed, class_of, stepping}
 use Rattle.store_history.specs.declared.act.Act.{Act}
-use Rattle.store_history.specs.declared.act.Act.TheVariants.{Plain, JobGroup, Blob, Chunk, Start, Step, Short, End}
+use Rattle.store_history.specs.declared.act.Act.TheVariants.{Plain, JobGroup, Blob, Chunk, ReadFile, ReadChunk, RemoteList, Start, Step, Short, End}
 use Rattle.store_history.specs.LastTouches.{may_touch}
 use Rattle.core_admin.specs.AdminActs.{IsAdmins}
 
@@ -36,6 +36,9 @@ admins_formed (JobGroup (Prune group keep dry)) h = tt
 admins_formed (JobGroup _) h = absurd h
 admins_formed (Blob name checked) h = absurd h
 admins_formed (Chunk digest checked) h = absurd h
+admins_formed (ReadFile name offset) h = absurd h
+admins_formed (ReadChunk name entry) h = absurd h
+admins_formed (RemoteList command) h = absurd h
 admins_formed Start h = absurd h
 admins_formed Step h = absurd h
 admins_formed Short h = absurd h
@@ -46,6 +49,9 @@ admins_step (Plain c) h = refl
 admins_step (JobGroup c) h = refl
 admins_step (Blob name checked) h = absurd h
 admins_step (Chunk digest checked) h = absurd h
+admins_step (ReadFile name offset) h = absurd h
+admins_step (ReadChunk name entry) h = absurd h
+admins_step (RemoteList command) h = absurd h
 admins_step Start h = absurd h
 admins_step Step h = absurd h
 admins_step Short h = absurd h

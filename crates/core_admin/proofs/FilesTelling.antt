@@ -25,11 +25,11 @@ use Rattle.core_state.specs.Stops.{Gives, IfRefused, told}
 use Rattle.core_state.specs.declared.stop.Stop.{Stop}
 use Rattle.core_state.specs.declared.stop.Stop.TheVariants as stops
 use Rattle.core_state.specs.Unreadables.{Asked, part_read, TellsUnreadable}
-use Rattle.core_state.specs.Replies.{answers_files}
+use Rattle.core_state.specs.Replies.{answers_files, reply_told}
 use Rattle.core_state.specs.Unchanged.{is_uncalled}
 use Rattle.core_state.proofs.Commanding.{refused_as}
 use Rattle.core_state.proofs.Unreadables.{tells_other, tells_failed, tells_read}
-use Rattle.core_admin.specs.FilesTold.{AnswersFiles, AnswersOf, HasBytes, IfTold, asked_at, asked_files, asked_of, rows_in, rows_read, files_told}
+use Rattle.core_admin.specs.FilesTold.{AnswersFiles, AnswersOf, HasBytes, IfTold, TellsFiles, asked_at, asked_files, asked_of, rows_in, rows_read, files_told}
 use Rattle.core_state.specs.Found.{named_kept}
 use Rattle.core_admin.proofs.FilesRead.{files_read}
 use Rattle.core_state.proofs.ByKept.{Stops, stopped}
@@ -37,7 +37,7 @@ use Rattle.core_admin.proofs.Told.{tells}
 
 -- ---- what is told
 
-abbrev pub as_rows : Result (List FileRow) Refusal → Result Reply Refusal
+abbrev as_rows : Result (List FileRow) Refusal → Result Reply Refusal
 as_rows told = told >>= λ rows. Ok (Files rows)
 
 module _ (m : Content) (text : List ℕ) (catalogue : List Listed) where
@@ -51,13 +51,13 @@ module _ (m : Content) (text : List ℕ) (catalogue : List Listed) where
   unfolding files_told
   files_by = refl
 
-  pub told_refused : (r : Refusal) → named_kept text catalogue ≡ Err r → files_told m text catalogue ≡ Err r
+  told_refused : (r : Refusal) → named_kept text catalogue ≡ Err r → files_told m text catalogue ≡ Err r
   told_refused r is = files_by ∙ ap told_by is
 
-  pub told_rows : (k : Kept) → named_kept text catalogue ≡ Ok k → k.unreadable ≡ None → files_told m text catalogue ≡ as_rows (rows_read m k)
+  told_rows : (k : Kept) → named_kept text catalogue ≡ Ok k → k.unreadable ≡ None → files_told m text catalogue ≡ as_rows (rows_read m k)
   told_rows k is whole = files_by ∙ ap told_by is ∙ ap (told_of k) whole
 
-  pub told_damaged : (k : Kept) (path : List ℕ) → named_kept text catalogue ≡ Ok k → k.unreadable ≡ Some path → files_told m text catalogue ≡ Err (Unreadable path)
+  told_damaged : (k : Kept) (path : List ℕ) → named_kept text catalogue ≡ Ok k → k.unreadable ≡ Some path → files_told m text catalogue ≡ Err (Unreadable path)
   told_damaged k path is damage = files_by ∙ ap told_by is ∙ ap (told_of k) damage
 
 -- ---- whether the manifest is unreadable
@@ -151,37 +151,46 @@ module _ {D : Type 0} (d : Ghosts D) (disk : D) (text : List ℕ) (catalogue : L
   tells_stopped k stop result stops is whole path_is gives =
       stopped (λ r. TellsUnreadable d disk (asked_files text catalogue) (kind_by (told r)) (Some (reply_by (told r)))) result stop stops (unread_by k stop is whole path_is gives)
 
--- ---- what is told as the reading stopped
+-- ---- what is told as the reading ended
 
 module _ (text : List ℕ) (catalogue : List Listed) (k : Kept) (is : named_kept text catalogue ≡ Ok k) (whole : k.unreadable ≡ None) where
-  told_by_stop : (m : Content) (stop : Stop) → Gives (λ rows. rows) (Err stop) (rows_read m k) → Gives (λ reply. reply) (Err stop) (files_told m text catalogue)
-  told_by_stop m (stops.Refused r) gives = told_rows m text catalogue k is whole ∙ ap as_rows gives
-  told_by_stop m stops.NoMemory gives = tt
-  told_by_stop m stops.DiskFailed gives = tt
-
-  pub told_stopped : (m : Content) (stop : Stop) (result : Result Reply Stop) → Stops result stop → Gives (λ rows. rows) (Err stop) (rows_read m k) → Gives (λ reply. reply) result (files_told m text catalogue)
-  told_stopped m stop result stops gives = stopped (λ r. Gives (λ reply. reply) r (files_told m text catalogue)) result stop stops (told_by_stop m stop gives)
-
   answers_so : (reply : Reply) → AnswersOf k.key None reply → AnswersFiles (named_kept text catalogue) reply
   answers_so reply answers = subst (λ found. AnswersFiles found reply) (sym is) (subst (λ damage. AnswersOf k.key damage reply) (sym whole) answers)
 
-  pub answers_rows : (rows : List FileRow) → AnswersFiles (named_kept text catalogue) (Files rows)
-  answers_rows rows = answers_so (Files rows) tt
+  module _ {D : Type 0} (d : Ghosts D) (disk : D) where
+    pub answers_rows : (rows : List FileRow) → (d.honest disk → rows_read (d.content disk) k ≡ Ok rows) → TellsFiles d disk text catalogue (Files rows)
+    answers_rows rows gives = record {
+      kept = answers_so (Files rows) tt;
+      listed = λ h. sym (ap reply_told (told_rows (d.content disk) text catalogue k is whole ∙ ap as_rows (gives h)));
+    }
 
-  answers_by_stop : (stop : Stop) → IfRefused (λ r. r ≡ Unreadable (manifest_path k.key)) stop → IfOk (told (Err stop)) (AnswersFiles (named_kept text catalogue))
-  answers_by_stop (stops.Refused r) path_is = answers_so (Refused r) (subst (λ r. AnswersOf k.key None (Refused r)) (sym path_is) refl)
-  answers_by_stop stops.NoMemory path_is = tt
-  answers_by_stop stops.DiskFailed path_is = tt
+    answers_by_stop : (stop : Stop) → IfRefused (λ r. r ≡ Unreadable (manifest_path k.key)) stop → (d.honest disk → Gives (λ rows. rows) (Err stop) (rows_read (d.content disk) k))
+        → IfOk (told (Err stop)) (TellsFiles d disk text catalogue)
+    answers_by_stop (stops.Refused r) path_is gives = record {
+      kept = answers_so (Refused r) (subst (λ r. AnswersOf k.key None (Refused r)) (sym path_is) refl);
+      listed = λ h. sym (ap reply_told (told_rows (d.content disk) text catalogue k is whole ∙ ap as_rows (gives h)));
+    }
+    answers_by_stop stops.NoMemory path_is gives = tt
+    answers_by_stop stops.DiskFailed path_is gives = tt
 
-  pub answers_stopped : (stop : Stop) (result : Result Reply Stop) → Stops result stop → IfRefused (λ r. r ≡ Unreadable (manifest_path k.key)) stop → IfOk (told result) (AnswersFiles (named_kept text catalogue))
-  answers_stopped stop result stops path_is = stopped (λ r. IfOk (told r) (AnswersFiles (named_kept text catalogue))) result stop stops (answers_by_stop stop path_is)
+    pub answers_stopped : (stop : Stop) (result : Result Reply Stop) → Stops result stop → IfRefused (λ r. r ≡ Unreadable (manifest_path k.key)) stop
+        → (d.honest disk → Gives (λ rows. rows) (Err stop) (rows_read (d.content disk) k)) → IfOk (told result) (TellsFiles d disk text catalogue)
+    answers_stopped stop result stops path_is gives = stopped (λ r. IfOk (told r) (TellsFiles d disk text catalogue)) result stop stops (answers_by_stop stop path_is gives)
 
--- ---- what is told of a damaged snapshot
+-- ---- what is told of a damaged snapshot, and of none
 
-pub answers_damaged : (text : List ℕ) (catalogue : List Listed) (k : Kept) (path : List ℕ) → named_kept text catalogue ≡ Ok k → k.unreadable ≡ Some path
-    → AnswersFiles (named_kept text catalogue) (Refused (Unreadable path))
-answers_damaged text catalogue k path is damage =
-    subst (λ found. AnswersFiles found (Refused (Unreadable path))) (sym is) (subst (λ o. AnswersOf k.key o (Refused (Unreadable path))) (sym damage) refl)
+module _ (text : List ℕ) (catalogue : List Listed) {D : Type 0} (d : Ghosts D) (disk : D) where
+  pub answers_damaged : (k : Kept) (path : List ℕ) → named_kept text catalogue ≡ Ok k → k.unreadable ≡ Some path → TellsFiles d disk text catalogue (Refused (Unreadable path))
+  answers_damaged k path is damage = record {
+    kept = subst (λ found. AnswersFiles found (Refused (Unreadable path))) (sym is) (subst (λ o. AnswersOf k.key o (Refused (Unreadable path))) (sym damage) refl);
+    listed = λ h. sym (ap reply_told (told_damaged (d.content disk) text catalogue k path is damage));
+  }
+
+  pub answers_refused : (r : Refusal) → named_kept text catalogue ≡ Err r → TellsFiles d disk text catalogue (Refused r)
+  answers_refused r is = record {
+    kept = subst (λ found. AnswersFiles found (Refused r)) (sym is) refl;
+    listed = λ h. sym (ap reply_told (told_refused (d.content disk) text catalogue r is));
+  }
 
 -- ---- the refusal
 

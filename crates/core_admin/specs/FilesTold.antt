@@ -17,11 +17,11 @@ use Rattle.store_model.specs.Stands.{file_limit}
 use Rattle.store_files.specs.Folder.{manifest_path}
 use Rattle.core_state.specs.declared.kept.Kept.{Kept}
 use Rattle.core_state.specs.declared.kept.Listed.{Listed}
-use Rattle.core_state.specs.declared.parts.Parts.{Parts}
 use Rattle.core_state.specs.declared.stop.Stop.{Stop}
 use Rattle.core_state.specs.declared.stop.Stop.TheVariants as stops
 use Rattle.core_state.specs.Found.{named_kept}
 use Rattle.core_state.specs.Listing.{listing_at}
+use Rattle.core_state.specs.Replies.{reply_told}
 use Rattle.core_state.specs.Stops.{Gives}
 use Rattle.core_state.specs.Unreadables.{Asked, as_listing, known}
 use Rattle.core_admin.specs.declared.file_list.ManifestFile.{ManifestFile}
@@ -64,11 +64,6 @@ ListsThere m path read = option_map (λ (r : ManifestFile). (r.bytes.items, mani
 abbrev pub GivesRows : Content → Kept → Result (List FileRow) Stop → Type 0
 GivesRows m k result = Gives (λ rows. rows) result (rows_read m k)
 
--- an honest disk reads as before, and is told by what the manifest on it lists
-abbrev pub TellsFiles : {D : Type 0} → Ghosts D → Parts D → Parts D → List ℕ → Result Reply Stop → Type 0
-TellsFiles d old new text result =
-    d.honest old.disk → (d.content new.disk ≡ d.content old.disk) × Gives (λ reply. reply) result (files_told (d.content old.disk) text old.catalogue.items)
-
 -- what stands at the path, if anything, is bytes
 abbrev pub HasBytes : Content → List ℕ → Type 0
 HasBytes m path = (text : List ℕ) → get m path ≡ Some text → AreBytes text
@@ -95,6 +90,11 @@ AnswersOf key None _ = ⊥
 abbrev pub AnswersFiles : Result Kept Refusal → Reply → Type 0
 AnswersFiles (Ok k) reply = AnswersOf k.key k.unreadable reply
 AnswersFiles (Err refusal) reply = reply ≡ Refused refusal
+
+-- and on an honest disk, whatever it holds, exactly by what the manifest on it lists
+pub record TellsFiles {D : Type 0} (d : Ghosts D) (disk : D) (text : List ℕ) (catalogue : List Listed) (reply : Reply) : Type 0 where
+  pub kept : AnswersFiles (named_kept text catalogue) reply
+  pub listed : d.honest disk → reply ≡ reply_told (files_told (d.content disk) text catalogue)
 
 -- the row of a file's name, of a number of 64 bits and of a SHA-256
 abbrev pub IsFileRow : FileRow → Type 0

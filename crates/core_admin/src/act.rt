@@ -23,7 +23,7 @@ fn perform<D: Disk>(parts: &mut Parts<D>, alloc: Global, at: Place, act: Act) ->
     requires kind { IsAdmins act }
     ensures does { ActDoes D.Disk parts.old parts.new at act result }
     ensures leaves { ActLeaves D.Disk parts.old parts.new at act result }
-    ensures by_kept { ActAnswersBy parts.old at act result }
+    ensures by_kept { ActAnswersBy D.Disk parts.old at act result }
     ensures unreadable { ActUnreadable D.Disk (λ _. asked_of_admin act) parts.old at result }
 {
     match act {
@@ -54,8 +54,8 @@ pub fn admin_act<D: Disk, E, C: Clock>(
     requires kind { IsAdmins act }
     ensures applies { ActApplies D.Disk C.Clock core.old core.new lane act result }
     ensures keeps { ActKeeps D.Disk core.old core.new lane act result }
-    // on any disk its own tests answer what the core keeps; of FILES, whether there is such a snapshot
-    ensures by_kept { CoreAnswersBy core.old lane act result }
+    // on any disk its own tests answer what the core keeps; FILES, on an honest one, what stands there
+    ensures by_kept { CoreAnswersBy D.Disk core.old lane act result }
     // a manifest is unreadable exactly where it is, as far as the disk tells
     ensures unreadable { CoreUnreadable D.Disk (λ _. asked_of_admin act) core.old lane result }
 {

@@ -18,7 +18,7 @@ ghost use Rattle.core_state.specs.Unreadables.{ActUnreadable};
 ghost use Rattle.core_state.specs.declared.stop.Stop.TheVariants.{DiskFailed};
 ghost use Rattle.core_admin.specs.AnsweredBy.{ActAnswersBy};
 ghost use Rattle.core_admin.specs.FileRows.{row_shown, rows_shown, sized_row};
-ghost use Rattle.core_admin.specs.FilesTold.{GivesRows, HasBytes, IsFileRow, ListsThere, TellsFiles, TellsOfBytes, asked_files};
+ghost use Rattle.core_admin.specs.FilesTold.{GivesRows, HasBytes, IsFileRow, ListsThere, TellsOfBytes, asked_files};
 
 use core_state::{Kept, Parts, Place, Stop, StoredFile, snapshot_named};
 use disk_trait::{Disk, DiskError};
@@ -173,10 +173,8 @@ pub fn files<D: Disk>(
     ensures does { PlainDoes D.Disk parts.old parts.new _at (Files snapshot.now) result }
     ensures leaves { PlainLeaves D.Disk parts.old parts.new _at (Files snapshot.now) result }
     // on any disk, where there is such a snapshot: the file that makes it damaged, exactly where one does; else rows, or
-    // that the manifest is unreadable
-    ensures by_kept { ActAnswersBy parts.old _at (Plain (Files snapshot.now)) result }
-    // any honest disk reads as before, and is told by what its manifest lists
-    ensures told { TellsFiles D.Disk parts.old parts.new snapshot.now result }
+    // that the manifest is unreadable. On an honest disk, whatever it holds, just what the manifest there lists, or that
+    ensures by_kept { ActAnswersBy D.Disk parts.old _at (Plain (Files snapshot.now)) result }
     // it is unreadable exactly where it is, as far as the disk tells
     ensures unreadable { ActUnreadable D.Disk (λ _. asked_files snapshot.now) parts.old _at result }
 {

@@ -274,20 +274,20 @@ module _ {D E C : Type 0} (d : Ghosts D) (clock : clocks.Ghosts C) (old mid new 
 
   stopped_keeps : (stop : Stop) → GivesCollector mid.parts mid.collector at (Err stop) → Settles d mid new k at.moment (told (Err stop)) answer → ActKeeps d old new k Start answer
   stopped_keeps (stops.Refused refusal) gives settles =
-      start_settled_keeps d clock old mid new k at.moment (Ok (replies.Refused refusal)) refusal answer admitted.ready (λ _. filled) refl
+      start_settled_keeps d clock old mid new k at.moment Start tt (Ok (replies.Refused refusal)) refusal answer admitted.ready (λ _. filled) refl
       (no_fault refusal (start_refusal mid.collector (session_at mid.parts at.lane) (mid.parts).catalogue.items refusal gives)) settles
   stopped_keeps stops.NoMemory gives settles =
-      start_settled_keeps d clock old mid new k at.moment (Err disks.NoMemory) refusals.NoMemory answer admitted.ready (λ _. filled) refl memory_apart settles
+      start_settled_keeps d clock old mid new k at.moment Start tt (Err disks.NoMemory) refusals.NoMemory answer admitted.ready (λ _. filled) refl memory_apart settles
   stopped_keeps stops.DiskFailed gives settles = absurd gives
 
   stopped_applies : (stop : Stop) → GivesCollector mid.parts mid.collector at (Err stop) → StopHasText stop → Settles d mid new k at.moment (told (Err stop)) answer → ActApplies d clock old new k Start answer
   stopped_applies (stops.Refused refusal) gives text settles =
       let refuses = start_refusal mid.collector (session_at mid.parts at.lane) (mid.parts).catalogue.items refusal gives in
-      start_settled_applies d clock old mid new k at.moment (Ok (replies.Refused refusal)) refusal answer admitted.ready (λ _. filled) refl (no_fault refusal refuses) settles lt text refuses
-      (λ h s. start_told_stands d clock.readings old mid h k at.moment s admitted.ready new refusal answer lt (sym (may_be h s) ∙ sym told_old ∙ gives) settles)
+      start_settled_applies d clock old mid new k at.moment Start tt (Ok (replies.Refused refusal)) refusal answer admitted.ready (λ _. filled) refl (no_fault refusal refuses) settles lt text refuses
+      (λ h s. start_told_stands d clock.readings old mid h k at.moment s admitted.ready new Start refusal answer tt lt (sym (may_be h s) ∙ sym told_old ∙ gives) settles)
   stopped_applies stops.NoMemory gives text settles =
-      start_settled_applies d clock old mid new k at.moment (Err disks.NoMemory) refusals.NoMemory answer admitted.ready (λ _. filled) refl memory_apart settles lt tt tt
-      (λ h s. start_short_stands d clock.readings old mid h k at.moment s admitted.ready new answer lt settles)
+      start_settled_applies d clock old mid new k at.moment Start tt (Err disks.NoMemory) refusals.NoMemory answer admitted.ready (λ _. filled) refl memory_apart settles lt tt tt
+      (λ h s. start_short_stands d clock.readings old mid h k at.moment s admitted.ready new Start answer tt lt settles)
   stopped_applies stops.DiskFailed gives text settles = absurd gives
 
   by_kind : (n : ℕ) → new.collector ≡ collector_by n k mid.collector → (answer.entry).kind ≡ n → new.collector ≡ collector_by (answer.entry).kind k old.collector

@@ -3,7 +3,7 @@ use Rattle.std.proofs.Common.{◌≡◌, ◌<◌, ◌≤◌, ◌+◌, ℕ, ⊎_e
 use Rattle.std.proofs.lemmas.Bool.{cases_lt}
 use Rattle.core_state.specs.declared.journal.Journal.{Journal}
 use Rattle.core_state.specs.declared.state.Core.{Core}
-use Rattle.core_state.specs.Entering.{Fills, SameEntries, held_by}
+use Rattle.core_state.specs.Entering.{Fills, held_by}
 use Rattle.std.specs.Prelude.{slice_index}
 use Rattle.core_laws.specs.Playing.{AllWhole, SameCore}
 

@@ -1,20 +1,19 @@
 -- The chunk files that a whole sweep leaves.
-use Rattle.std.proofs.Common.{◌≡◌, ◌≤◌, ◌↔◌, ℕ, List, [], ◌∷◌, ◌++◌, Option, Some, None, refl, sym, ap, subst, ◌∙◌}
+use Rattle.std.proofs.Common.{◌≡◌, ◌↔◌, ℕ, List, [], ◌∷◌, ◌++◌, Option, Some, None, refl, sym, ap, subst, ◌∙◌}
 use Rattle.std.specs.Option.{IsSome}
 use Rattle.std.specs.FinMap.{get}
 use Rattle.disk_trait.specs.declared.disk.Disk.{Ghosts}
 use Rattle.port_traits.specs.Readings.{Readings}
 use Rattle.store_files.specs.Archive.{Snapshot}
-use Rattle.store_files.specs.Folder.{IsDigest, chunk_name}
+use Rattle.store_files.specs.Folder.{chunk_name}
 use Rattle.store_history.specs.declared.act.Event.{Event}
 use Rattle.store_history.specs.History.{World, after, after_all}
-use Rattle.store_history.specs.Sweeping.{Sweep, Swept, swept_after, swept_all}
-use Rattle.store_upkeep.specs.Laws.{IsWhole, LeavesRight}
-use Rattle.store_upkeep.specs.Safety.{OpensStocked}
+use Rattle.store_history.specs.Sweeping.{Swept, swept_after, swept_all}
+use Rattle.store_upkeep.specs.Laws.{LeavesRight}
 use Rattle.store_upkeep.proofs.Whole.{sweeps_leave}
 use Rattle.core_state.specs.declared.state.Core.{Core}
-use Rattle.core_state.specs.History.{History, StandsFor, world}
-use Rattle.core_state.specs.KeepsTouches.{KeepsTouches, swept_of, touches_of_history}
+use Rattle.core_state.specs.History.{world}
+use Rattle.core_state.specs.KeepsTouches.{swept_of, touches_of_history}
 use Rattle.core_laws.specs.Laws.{IsRecent, SweepsLeaveChunkFiles}
 use Rattle.core_laws.specs.Playing.{with_more}
 

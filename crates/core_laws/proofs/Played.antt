@@ -1,5 +1,5 @@
 -- A list of acts, by one act more.
-use Rattle.std.proofs.Common.{◌≡◌, ◌<◌, ◌≤◌, ◌+◌, ℕ, suc, List, [], ◌∷◌, ◌++◌, map, ⊎_elim, refl, sym, ap, subst, ◌∙◌, arith}
+use Rattle.std.proofs.Common.{◌≡◌, ◌<◌, ◌≤◌, ◌+◌, ℕ, List, [], ◌∷◌, ◌++◌, ⊎_elim, refl, sym, ap, subst, ◌∙◌, arith}
 use Rattle.std.proofs.lemmas.List.{append_assoc, append-nil, map-append}
 use Rattle.std.proofs.lemmas.Bool.{cases_lt}
 use Rattle.disk_trait.specs.declared.disk.Disk.{Ghosts}
@@ -8,14 +8,13 @@ use Rattle.store_history.specs.declared.act.Act.{Act}
 use Rattle.store_history.specs.declared.act.Answer.{Answer}
 use Rattle.store_history.specs.declared.act.Event.{Event}
 use Rattle.store_history.specs.Acts.{Class, stepping, starting, sweeping, wanting, ending, class_of}
-use Rattle.core_state.specs.declared.journal.Journal.{Journal}
 use Rattle.core_state.specs.declared.state.Core.{Core}
 use Rattle.core_state.specs.Applies.{ActApplies, ActKeeps}
 use Rattle.core_state.specs.Closing.{is_closing}
 use Rattle.core_state.specs.Entering.{OthersHold, held_by}
-use Rattle.core_state.specs.History.{History, event_of, then_event}
+use Rattle.core_state.specs.History.{event_of}
 use Rattle.core_state.specs.Records.{Reaches}
-use Rattle.core_state.specs.Reserved.{ClassKeeps, HasRoom, Keeps, KeepsSpare}
+use Rattle.core_state.specs.Reserved.{ClassKeeps, Keeps, KeepsSpare}
 use Rattle.core_state.proofs.Reaching.{reaches_more}
 use Rattle.core_laws.specs.Playing.{AllWhole, HasPlayed, SameCore, asked_in, with_more}
 use Rattle.core_laws.proofs.Reserving.{reserved_reaches}

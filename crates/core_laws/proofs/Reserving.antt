@@ -1,5 +1,5 @@
 -- Entries that are reserved change nothing of what a core stands for.
-use Rattle.std.proofs.Common.{◌≡◌, ◌≤◌, ℕ, length, List, Option, None, sym, ap, subst, ◌∙◌}
+use Rattle.std.proofs.Common.{◌≡◌, ◌≤◌, ℕ, length, Option, is_some, sym, ap, subst, ◌∙◌}
 use Rattle.std.specs.FinMap.{get}
 use Rattle.std.specs.Prelude.{◌↔◌, IsSome}
 use Rattle.disk_trait.specs.declared.disk.Disk.{Ghosts}
@@ -41,6 +41,7 @@ module _ {D E C : Type 0} (d : Ghosts D) (readings : C → Option Readings) (old
     time = subst (λ (c : C). KeepsTime readings c h) (sym same.clock) s.time;
     reached = subst (λ (p : Parts D). (world h).calls ≤ d.calls p.disk) (sym same.parts) s.reached;
     honest = subst (λ (p : Parts D). d.honest p.disk) (sym same.parts) s.honest;
+    remote = ap is_some same.remote ∙ s.remote;
     shows = subst (λ (p : Parts D). Shows p (world h).store) (sym same.parts) s.shows;
     collecting = ap open_in same.collector ∙ s.collecting;
     files = λ none. subst (λ (p : Parts D). IsOnDisk (d.content p.disk) (world h).store) (sym same.parts) (s.files none);

@@ -1,5 +1,5 @@
 -- The book that the end of a whole sweep saves.
-use Rattle.std.proofs.Common.{◌≡◌, ◌↔◌, ℕ, Bool, true, false, if◌then◌else◌, List, [], ◌∷◌, ◌++◌, length, max, Option, Some, None, option_map, IsTrue, refl, sym, ap, subst, ◌∙◌}
+use Rattle.std.proofs.Common.{◌≡◌, ◌↔◌, ℕ, Bool, false, if◌then◌else◌, List, [], ◌∷◌, ◌++◌, length, max, Option, Some, None, option_map, IsTrue, refl, sym, ap, subst, ◌∙◌}
 use Rattle.std.specs.Option.{IsSome}
 use Rattle.std.specs.FinMap.{get}
 use Rattle.disk_trait.specs.Files.{Files}
@@ -9,27 +9,24 @@ use Rattle.file_install.proofs.InstallLaws.{installed_name}
 use Rattle.port_traits.specs.declared.clock.Clock as clocks
 use Rattle.store_types.specs.declared.refusal.Refusal.TheVariants.{DiskFault}
 use Rattle.store_files.specs.Archive.{Snapshot}
-use Rattle.store_files.specs.Book.{Book, FitsBook, book_text}
-use Rattle.store_files.specs.Folder.{IsDigest, chunk_name}
+use Rattle.store_files.specs.Book.{Book, book_text}
+use Rattle.store_files.specs.Folder.{chunk_name}
 use Rattle.wire_commands.specs.declared.reply.Reply.{Reply}
 use Rattle.wire_commands.specs.declared.reply.Reply.TheVariants.{Refused}
 use Rattle.atime_book.specs.Touches.{as_of, last_of}
-use Rattle.store_history.specs.declared.act.Act.{Act}
 use Rattle.store_history.specs.declared.act.Act.TheVariants.{Step}
 use Rattle.store_history.specs.declared.act.Answer.{Answer}
 use Rattle.store_history.specs.declared.act.Event.{Event}
 use Rattle.store_history.specs.Acts.{class_of, sweeping}
-use Rattle.store_history.specs.History.{Opening, World, after as world_after, after_all, close_kind, kind, kind_of, lane, moment, opened, reply}
-use Rattle.store_history.specs.LastTouches.{LastTouches, touched}
+use Rattle.store_history.specs.History.{Opening, World, after as world_after, close_kind, kind, kind_of, lane, moment, opened, reply}
+use Rattle.store_history.specs.LastTouches.{LastTouches}
 use Rattle.store_history.specs.Legal.{IsLegal, Right}
-use Rattle.store_history.specs.Saved.{HoldsBook, book_name}
+use Rattle.store_history.specs.Saved.{book_name}
 use Rattle.store_history.specs.Sweeping.{Swept, swept, swept_after, swept_all, taken_by, touched_after, without}
 use Rattle.core_state.specs.declared.state.Core.{Core}
 use Rattle.core_state.specs.Answers.{StepHasCause, done, failed, fault_after, halted, short, step_as_any, step_ends, step_passes}
-use Rattle.core_state.specs.Applies.{ActApplies, ActKeeps}
 use Rattle.core_state.specs.Changes.{Change, after}
-use Rattle.core_state.specs.Collectors.{is_cut}
-use Rattle.core_state.specs.History.{History, StandsFor, event_of, then_event}
+use Rattle.core_state.specs.History.{StandsFor, event_of, then_event}
 use Rattle.core_state.specs.KeepsTouches.{KeepsTouches, touches_of_history}
 use Rattle.core_state.specs.Passes.{StepLeaves}
 use Rattle.core_state.specs.Replies.{may_end}

@@ -10,9 +10,8 @@ use Rattle.store_history.specs.Acts.{IsWellFormed}
 use Rattle.store_history.specs.History.{lane}
 use Rattle.core_state.specs.declared.state.Core.{Core}
 use Rattle.core_state.specs.Entering.{SameEntries, held_by}
-use Rattle.core_state.specs.History.{History, IsClear, StandsFor}
-use Rattle.core_state.specs.KeepsTouches.{KeepsTouches}
-use Rattle.core_state.specs.Records.{Reaches, Records}
+use Rattle.core_state.specs.History.{History}
+use Rattle.core_state.specs.Records.{Reaches}
 
 -- the reserve of every lane is whole
 abbrev pub AllWhole : {D E C : Type 0} → Core D E C → Type 0

@@ -1,6 +1,6 @@
 -- A core that was opened with the snapshots that its disk stands for.
 use Rattle.disk_trait.specs.declared.disk.Disk.{Ghosts}
-use Rattle.std.proofs.Common.{◌≡◌, ◌⊎◌, inl, inr, ◌≤◌, ℕ, zero, suc, List, [], ◌∷◌, length, map, replicate, Option, Some, None, IfSome, refl, sym, ap, subst, ◌∙◌, arith}
+use Rattle.std.proofs.Common.{◌≡◌, ◌⊎◌, inl, inr, ◌≤◌, ℕ, zero, suc, List, [], ◌∷◌, length, map, replicate, Option, Some, None, IfSome, is_some, refl, sym, ap, subst, ◌∙◌, arith}
 use Rattle.std.specs.FinMap.{get}
 use Rattle.std.specs.List.{Contains}
 use Rattle.std.proofs.lemmas.Bool.{cases_lt}
@@ -84,12 +84,12 @@ only_before m c ps may only p there = told (may (chunk_name (sha256 p)))
     told (inr gone) = absurd (not_there (get c (chunk_name (sha256 p))) (blob p) gone.0 there)
 
 module _ {D E C : Type 0} (d : Ghosts D) (readings : C → Option Readings) (old : D) (core : Core D E C) (L : List Snapshot) (R : Option (List Snapshot)) where
-  pub opened_stands : HasBegun core → d.honest (core.parts).disk → Stands (d.content old) L
+  pub opened_stands : HasBegun core → is_some core.remote ≡ is_some R → d.honest (core.parts).disk → Stands (d.content old) L
       → MayClean (d.content old) (d.content old) (d.content (core.parts).disk) → IsCatalogue (d.content (core.parts).disk) (core.parts).catalogue.items
       → IsBookOf (d.content (core.parts).disk) core.upkeep
       → StandsFor d readings core (began (opening_of d old (core.parts).disk L) R (readings core.clock))
   unfolding after_all
-  opened_stands begun honest stands may catalogue book =
+  opened_stands begun remote honest stands may catalogue book =
       let m = d.content old in
       let c = d.content (core.parts).disk in
       let after : Stands c L = stands_cleaned m c L stands may in
@@ -102,6 +102,7 @@ module _ {D E C : Type 0} (d : Ghosts D) (readings : C → Option Readings) (old
         time = keeps_time readings core.clock (readings core.clock) refl;
         reached = omega arith;
         honest = honest;
+        remote = remote;
         shows = record {
           catalogue = kept_shown c L catalogue.found after catalogue.lists first_number (core.parts).catalogue.items catalogue.listed;
           sessions = begun.sessions ∙ sym (map_replicate L 64);

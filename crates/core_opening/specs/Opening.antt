@@ -1,5 +1,5 @@
 -- What a datastore is opened with, and what opening leaves.
-use Rattle.std.specs.Prelude.{◌≡◌, ◌≤◌, ◌+◌, ◌↔◌, ℕ, Bool, true, ◌&&◌, List, [], ◌∷◌, map, replicate, Option, None, Some, Result, Ok, Err, IsTrue, IfOk}
+use Rattle.std.specs.Prelude.{◌≡◌, ◌≤◌, ◌+◌, ◌↔◌, ℕ, Bool, true, ◌&&◌, List, [], ◌∷◌, map, replicate, Option, None, Some, is_some, Result, Ok, Err, IsTrue, IfOk}
 use Rattle.std.specs.List.{Contains, list_all}
 use Rattle.disk_trait.specs.Disk.{Serves, Same}
 use Rattle.disk_trait.specs.Effects.{StepsOn}
@@ -152,10 +152,10 @@ pub record HasBegun {D E C : Type 0} (core : Core D E C) : Type 0 where
   pub locks : (core.parts).locks ≡ no_locks
 
 -- Where an honest disk stands for a list of snapshots, the core stands for the history without events that was opened with it, whatever the
--- remote has.
+-- remote has, where there is one.
 abbrev pub StandsOpened : {D E C : Type 0} → Ghosts D → (C → Option Readings) → D → C → Core D E C → Type 0
 StandsOpened d readings disk clock core =
-    (L : List Snapshot) (R : Option (List Snapshot)) → d.honest disk → Stands (d.content disk) L
+    (L : List Snapshot) (R : Option (List Snapshot)) → is_some core.remote ≡ is_some R → d.honest disk → Stands (d.content disk) L
     → StandsFor d readings core (began (opening_of d disk (core.parts).disk L) R (readings clock))
 
 -- its book is that of this history

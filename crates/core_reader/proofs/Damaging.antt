@@ -24,7 +24,7 @@ use Rattle.core_state.specs.Settles.{Settles, kind_by, reply_by}
 use Rattle.core_state.specs.Stops.{Gives, IfRefused, told}
 use Rattle.core_state.specs.declared.stop.Stop.{Stop}
 use Rattle.core_state.specs.declared.stop.Stop.TheVariants as kinds
-use Rattle.core_reader.specs.Chunks.{or_damaged, chunk_at, parts_at, IsDamageAmong, StopsAmong}
+use Rattle.core_reader.specs.Chunks.{or_damaged, chunk_at, parts_at, IsDamageAmong, StopsAmong, StopsAt}
 use Rattle.core_reader.specs.Damages.{digests_of, first_damage, TellsDamaged}
 
 -- ---- replies
@@ -97,48 +97,44 @@ nothing_first : {A : Type 0} (x : A) → None ≡ Some x → ⊥
 nothing_first x e = cc
 
 -- an act that stopped
-by_stopped : {D : Type 0} (g : Ghosts D) (disk : D) (chunks : List Digest32) (stop : Stop) (result : Result Reply Stop) → IsErrAnd result (λ x. x ≡ stop)
-    → TellsDamaged g disk chunks (kind_by (told (Err stop))) (Some (reply_by (told (Err stop)))) → TellsDamaged g disk chunks (kind_by (told result)) (Some (reply_by (told result)))
-by_stopped g disk chunks stop (Ok reply) is tells = absurd is
-by_stopped g disk chunks stop (Err x) is tells =
-    subst (λ y. TellsDamaged g disk chunks (kind_by (told (Err y))) (Some (reply_by (told (Err y))))) (sym is) tells
+by_stopped : {D : Type 0} (g : Ghosts D) (disk : D) (may : Digest32 → Type 0) (damage : Files → Option (Digest32 × ChunkFault)) (stop : Stop) (result : Result Reply Stop) → IsErrAnd result (λ x. x ≡ stop)
+    → TellsDamaged g disk may damage (kind_by (told (Err stop))) (Some (reply_by (told (Err stop)))) → TellsDamaged g disk may damage (kind_by (told result)) (Some (reply_by (told result)))
+by_stopped g disk may damage stop (Ok reply) is tells = absurd is
+by_stopped g disk may damage stop (Err x) is tells =
+    subst (λ y. TellsDamaged g disk may damage (kind_by (told (Err y))) (Some (reply_by (told (Err y))))) (sym is) tells
 
-module _ {D : Type 0} (g : Ghosts D) (disk : D) where
-  -- no chunk is needed
-  pub damages_none : (chunks : List Digest32) (kind : ℕ) (reply : Option Reply) → IsUndamaged reply → chunks ≡ [] → TellsDamaged g disk chunks kind reply
-  damages_none chunks kind reply other none = record {
+-- of these chunks the first that is damaged is told
+abbrev pub TellsFirst : {D : Type 0} → Ghosts D → D → List Digest32 → ℕ → Option Reply → Type 0
+TellsFirst g disk chunks kind reply = TellsDamaged g disk (λ digest. Contains chunks digest) (λ m. first_damage m chunks) kind reply
+
+module _ {D : Type 0} (g : Ghosts D) (disk : D) (may : Digest32 → Type 0) (damage : Files → Option (Digest32 × ChunkFault)) where
+  -- nothing is damaged
+  pub damages_none : (kind : ℕ) (reply : Option Reply) → IsUndamaged reply → (g.honest disk → damage (g.content disk) ≡ None) → TellsDamaged g disk may damage kind reply
+  damages_none kind reply other none = record {
     named = λ d f e. absurd (other d f e);
     cause = λ d f e h. absurd (other d f e);
-    damaged = λ d f k h first. absurd (nothing_first (d, f) (sym (ap (first_damage (g.content disk)) none) ∙ first));
+    damaged = λ d f k h first. absurd (nothing_first (d, f) (sym (none h) ∙ first));
   }
 
   -- it was not done
-  pub damages_stopped : (chunks : List Digest32) (kind : ℕ) (reply : Option Reply) → IsUndamaged reply → (kind ≡ 0 → ⊥) → TellsDamaged g disk chunks kind reply
-  damages_stopped chunks kind reply other is = record {
+  pub damages_stopped : (kind : ℕ) (reply : Option Reply) → IsUndamaged reply → (kind ≡ 0 → ⊥) → TellsDamaged g disk may damage kind reply
+  damages_stopped kind reply other is = record {
     named = λ d f e. absurd (other d f e);
     cause = λ d f e h. absurd (other d f e);
     damaged = λ d f k h first. absurd (is k);
   }
 
-  pub damages_failed : (chunks : List Digest32) (e : DiskError) → TellsDamaged g disk chunks (kind_by (Err e)) (Some (reply_by (Err e)))
-  damages_failed chunks DiskMemory = damages_stopped chunks 2 (Some (Refused NoMemory)) memory_undamaged (λ k. omega (arith, k))
-  damages_failed chunks DiskFailed = damages_stopped chunks 5 (Some (Refused DiskFault)) fault_undamaged (λ k. omega (arith, k))
+  pub damages_failed : (e : DiskError) → TellsDamaged g disk may damage (kind_by (Err e)) (Some (reply_by (Err e)))
+  damages_failed DiskMemory = damages_stopped 2 (Some (Refused NoMemory)) memory_undamaged (λ k. omega (arith, k))
+  damages_failed DiskFailed = damages_stopped 5 (Some (Refused DiskFault)) fault_undamaged (λ k. omega (arith, k))
 
-  -- each is whole
-  pub damages_whole : (chunks : List Digest32) (reply : Reply) → IsUndamaged (Some reply) → (g.honest disk → first_damage (g.content disk) chunks ≡ None) → TellsDamaged g disk chunks 0 (Some reply)
-  damages_whole chunks reply other whole = record {
-    named = λ d f e. absurd (other d f e);
-    cause = λ d f e h. absurd (other d f e);
-    damaged = λ d f k h first. absurd (nothing_first (d, f) (sym (whole h) ∙ first));
-  }
-
-  -- one is damaged
-  pub damages_told : (chunks : List Digest32) (refusal : Refusal) → IsDamageAmong chunks refusal
-      → (g.honest disk → (d : Digest32) (f : ChunkFault) → refusal ≡ Damaged d f → first_damage (g.content disk) chunks ≡ Some (d, f)) → TellsDamaged g disk chunks 0 (Some (Refused refusal))
-  damages_told chunks refusal among first = record {
-    named = λ d f e. subst (Contains chunks) (digests d f e) among.1;
-    cause = λ d f e h. first h d f (refused d f e);
-    damaged = λ d f k h is. ap (λ r. Some (Refused r)) ((among.2).1 ∙ damages d f (sym (first h among.0 (among.2).0 (among.2).1) ∙ is));
+  -- a chunk is, by what is found there
+  pub damages_told : (digest : Digest32) (found : ChunkFault) (refusal : Refusal) → refusal ≡ Damaged digest found → may digest → (g.honest disk → damage (g.content disk) ≡ Some (digest, found))
+      → TellsDamaged g disk may damage 0 (Some (Refused refusal))
+  damages_told digest found refusal is named first = record {
+    named = λ d f e. subst may (digest_same digest d found f (sym is ∙ refused d f e)) named;
+    cause = λ d f e h. first h ∙ told_same digest d found f (sym is ∙ refused d f e);
+    damaged = λ d f k h was. ap (λ r. Some (Refused r)) (is ∙ damages d f (sym (first h) ∙ was));
   }
     where
       refused : (d : Digest32) (f : ChunkFault) → Some (Refused refusal) ≡ Some (Refused (Damaged d f)) → refusal ≡ Damaged d f
@@ -147,68 +143,106 @@ module _ {D : Type 0} (g : Ghosts D) (disk : D) where
       digest_same : (a b : Digest32) (f g : ChunkFault) → Damaged a f ≡ Damaged b g → a ≡ b
       digest_same a b f g e = cc
 
-      digests : (d : Digest32) (f : ChunkFault) → Some (Refused refusal) ≡ Some (Refused (Damaged d f)) → among.0 ≡ d
-      digests d f e = digest_same among.0 d (among.2).0 f (sym (among.2).1 ∙ refused d f e)
+      fault_same : (a b : Digest32) (f g : ChunkFault) → Damaged a f ≡ Damaged b g → f ≡ g
+      fault_same a b f g e = cc
+
+      told_same : (a b : Digest32) (f g : ChunkFault) → Damaged a f ≡ Damaged b g → ◌≡◌ {A = Option (Digest32 × ChunkFault)} (Some (a, f)) (Some (b, g))
+      told_same a b f g e = ap (λ (x : Digest32). let o : Option (Digest32 × ChunkFault) = Some (x, f) in o) (digest_same a b f g e)
+          ∙ ap (λ (x : ChunkFault). let o : Option (Digest32 × ChunkFault) = Some (b, x) in o) (fault_same a b f g e)
 
       both : (x y : Digest32 × ChunkFault) → Some x ≡ Some y → x ≡ y
       both x y e = cc
 
-      damages : (d : Digest32) (f : ChunkFault) → ◌≡◌ {A = Option (Digest32 × ChunkFault)} (Some (among.0, (among.2).0)) (Some (d, f)) → Damaged among.0 (among.2).0 ≡ Damaged d f
-      damages d f e = ap (λ (x : Digest32 × ChunkFault). Damaged x.0 x.1) (both (among.0, (among.2).0) (d, f) e)
+      damages : (d : Digest32) (f : ChunkFault) → ◌≡◌ {A = Option (Digest32 × ChunkFault)} (Some (digest, found)) (Some (d, f)) → Damaged digest found ≡ Damaged d f
+      damages d f e = ap (λ (x : Digest32 × ChunkFault). Damaged x.0 x.1) (both (digest, found) (d, f) e)
 
-  -- stopped before its chunks are read
-  pub damages_unread : (chunks : List Digest32) (stop : Stop) (result : Result Reply Stop) → IsErrAnd result (λ x. x ≡ stop)
-      → IfRefused (λ refusal. (chunks ≡ []) × ((digest : Digest32) (found : ChunkFault) → refusal ≡ Damaged digest found → ⊥)) stop
-      → TellsDamaged g disk chunks (kind_by (told result)) (Some (reply_by (told result)))
-  damages_unread chunks stop result stops none = by_stopped g disk chunks stop result stops (by_stop stop none)
+  -- stopped before a chunk is read
+  pub damages_unread : (stop : Stop) (result : Result Reply Stop) → IsErrAnd result (λ x. x ≡ stop)
+      → IfRefused (λ refusal. (g.honest disk → damage (g.content disk) ≡ None) × ((digest : Digest32) (found : ChunkFault) → refusal ≡ Damaged digest found → ⊥)) stop
+      → TellsDamaged g disk may damage (kind_by (told result)) (Some (reply_by (told result)))
+  damages_unread stop result stops none = by_stopped g disk may damage stop result stops (by_stop stop none)
     where
       same : (r q : Refusal) → Some (Refused r) ≡ Some (Refused q) → r ≡ q
       same r q e = cc
 
+      by_stop : (stop : Stop) → IfRefused (λ refusal. (g.honest disk → damage (g.content disk) ≡ None) × ((digest : Digest32) (found : ChunkFault) → refusal ≡ Damaged digest found → ⊥)) stop
+          → TellsDamaged g disk may damage (kind_by (told (Err stop))) (Some (reply_by (told (Err stop))))
+      by_stop (kinds.Refused refusal) h = damages_none 0 (Some (Refused refusal)) (λ d f e. h.1 d f (same refusal (Damaged d f) e)) h.0
+      by_stop kinds.NoMemory h = damages_failed DiskMemory
+      by_stop kinds.DiskFailed h = damages_failed DiskFailed
+
+  -- stopped as a chunk was read
+  pub damages_found : (digest : Digest32) (stop : Stop) (result : Result Reply Stop) → IsErrAnd result (λ x. x ≡ stop) → StopsAt digest stop → may digest
+      → (g.honest disk → (found : ChunkFault) → stop ≡ kinds.Refused (Damaged digest found) → damage (g.content disk) ≡ Some (digest, found))
+      → TellsDamaged g disk may damage (kind_by (told result)) (Some (reply_by (told result)))
+  damages_found digest stop result stops at named first = by_stopped g disk may damage stop result stops (by_stop stop at first)
+    where
+      by_stop : (stop : Stop) → StopsAt digest stop → (g.honest disk → (found : ChunkFault) → stop ≡ kinds.Refused (Damaged digest found) → damage (g.content disk) ≡ Some (digest, found))
+          → TellsDamaged g disk may damage (kind_by (told (Err stop))) (Some (reply_by (told (Err stop))))
+      by_stop (kinds.Refused refusal) h first = damages_told digest (h.0).0 refusal (h.0).1 named (λ honest. first honest (h.0).0 (ap (λ r. kinds.Refused r) (h.0).1))
+      by_stop kinds.NoMemory h first = damages_failed DiskMemory
+      by_stop kinds.DiskFailed h first = damages_failed DiskFailed
+
+-- ---- of a list of chunks
+
+module _ {D : Type 0} (g : Ghosts D) (disk : D) where
+  first_told : (chunks : List Digest32) (refusal : Refusal) → IsDamageAmong chunks refusal
+      → (g.honest disk → (d : Digest32) (f : ChunkFault) → refusal ≡ Damaged d f → first_damage (g.content disk) chunks ≡ Some (d, f)) → TellsFirst g disk chunks 0 (Some (Refused refusal))
+  first_told chunks refusal among first =
+      damages_told g disk (λ digest. Contains chunks digest) (λ m. first_damage m chunks) among.0 (among.2).0 refusal (among.2).1 among.1 (λ h. first h among.0 (among.2).0 (among.2).1)
+
+  -- stopped before they are read: none is needed
+  pub first_unread : (chunks : List Digest32) (stop : Stop) (result : Result Reply Stop) → IsErrAnd result (λ x. x ≡ stop)
+      → IfRefused (λ refusal. (chunks ≡ []) × ((digest : Digest32) (found : ChunkFault) → refusal ≡ Damaged digest found → ⊥)) stop
+      → TellsFirst g disk chunks (kind_by (told result)) (Some (reply_by (told result)))
+  first_unread chunks stop result stops none = damages_unread g disk (λ digest. Contains chunks digest) (λ m. first_damage m chunks) stop result stops (by_stop stop none)
+    where
       by_stop : (stop : Stop) → IfRefused (λ refusal. (chunks ≡ []) × ((digest : Digest32) (found : ChunkFault) → refusal ≡ Damaged digest found → ⊥)) stop
-          → TellsDamaged g disk chunks (kind_by (told (Err stop))) (Some (reply_by (told (Err stop))))
-      by_stop (kinds.Refused refusal) h = damages_none chunks 0 (Some (Refused refusal)) (λ d f e. h.1 d f (same refusal (Damaged d f) e)) h.0
-      by_stop kinds.NoMemory h = damages_failed chunks DiskMemory
-      by_stop kinds.DiskFailed h = damages_failed chunks DiskFailed
+          → IfRefused (λ refusal. (g.honest disk → first_damage (g.content disk) chunks ≡ None) × ((digest : Digest32) (found : ChunkFault) → refusal ≡ Damaged digest found → ⊥)) stop
+      by_stop (kinds.Refused refusal) h = (λ honest. ap (first_damage (g.content disk)) h.0, h.1)
+      by_stop kinds.NoMemory h = tt
+      by_stop kinds.DiskFailed h = tt
 
   -- by what was read
-  pub damages_read : {A : Type 0} (show : A → List ℕ) (parts : List Part) (chunks : List Digest32) (stop : Stop) (result : Result Reply Stop) → IsErrAnd result (λ x. x ≡ stop)
+  pub first_read : {A : Type 0} (show : A → List ℕ) (parts : List Part) (chunks : List Digest32) (stop : Stop) (result : Result Reply Stop) → IsErrAnd result (λ x. x ≡ stop)
       → chunks ≡ digests_of parts → StopsAmong (digests_of parts) stop → (g.honest disk → Gives show (Err stop) (parts_at (g.content disk) parts))
-      → TellsDamaged g disk chunks (kind_by (told result)) (Some (reply_by (told result)))
-  damages_read show parts chunks stop result stops is among gives = by_stopped g disk chunks stop result stops (by_stop stop among gives)
+      → TellsFirst g disk chunks (kind_by (told result)) (Some (reply_by (told result)))
+  first_read show parts chunks stop result stops is among gives = by_stopped g disk (λ digest. Contains chunks digest) (λ m. first_damage m chunks) stop result stops (by_stop stop among gives)
     where
       by_stop : (stop : Stop) → StopsAmong (digests_of parts) stop → (g.honest disk → Gives show (Err stop) (parts_at (g.content disk) parts))
-          → TellsDamaged g disk chunks (kind_by (told (Err stop))) (Some (reply_by (told (Err stop))))
+          → TellsFirst g disk chunks (kind_by (told (Err stop))) (Some (reply_by (told (Err stop))))
       by_stop (kinds.Refused refusal) h gives =
-          subst (λ c. TellsDamaged g disk c 0 (Some (Refused refusal))) (sym is)
-          (damages_told (digests_of parts) refusal h.0 (λ honest d f e. parts_damage (g.content disk) parts d f (gives honest ∙ ap (λ x. Err x) e)))
-      by_stop kinds.NoMemory h gives = damages_failed chunks DiskMemory
-      by_stop kinds.DiskFailed h gives = damages_failed chunks DiskFailed
+          subst (λ c. TellsFirst g disk c 0 (Some (Refused refusal))) (sym is)
+          (first_told (digests_of parts) refusal h.0 (λ honest d f e. parts_damage (g.content disk) parts d f (gives honest ∙ ap (λ x. Err x) e)))
+      by_stop kinds.NoMemory h gives = damages_failed g disk (λ digest. Contains chunks digest) (λ m. first_damage m chunks) DiskMemory
+      by_stop kinds.DiskFailed h gives = damages_failed g disk (λ digest. Contains chunks digest) (λ m. first_damage m chunks) DiskFailed
 
   -- all that is needed was given
-  pub damages_given : (parts : List Part) (chunks : List Digest32) (bytes sent : List ℕ) → chunks ≡ digests_of parts → (g.honest disk → parts_at (g.content disk) parts ≡ Ok bytes)
-      → TellsDamaged g disk chunks 0 (Some (Data sent))
-  damages_given parts chunks bytes sent is gives =
-      subst (λ c. TellsDamaged g disk c 0 (Some (Data sent))) (sym is)
-      (damages_whole (digests_of parts) (Data sent) (λ d f e. cc) (λ honest. parts_whole (g.content disk) parts bytes (gives honest)))
+  pub first_given : (parts : List Part) (chunks : List Digest32) (bytes sent : List ℕ) → chunks ≡ digests_of parts → (g.honest disk → parts_at (g.content disk) parts ≡ Ok bytes)
+      → TellsFirst g disk chunks 0 (Some (Data sent))
+  first_given parts chunks bytes sent is gives =
+      subst (λ c. TellsFirst g disk c 0 (Some (Data sent))) (sym is)
+      (damages_none g disk (λ digest. Contains (digests_of parts) digest) (λ m. first_damage m (digests_of parts)) 0 (Some (Data sent)) (λ d f e. cc)
+      (λ honest. parts_whole (g.content disk) parts bytes (gives honest)))
 
 -- ---- acts
 
 -- an act that is refused before it is done
-pub damages_refused : {D E C : Type 0} (g : Ghosts D) (readings : C → Option Readings) (old new : Core D E C) (lane : ℕ) (disk : D) (chunks : List Digest32) (answer : Answer)
-    → Refuses g readings old new lane answer → TellsDamaged g disk chunks (answer.entry).kind answer.reply
-damages_refused g readings old new lane disk chunks answer (is_short is) =
+pub damages_refused : {D E C : Type 0} (g : Ghosts D) (readings : C → Option Readings) (old new : Core D E C) (lane : ℕ) (disk : D) (may : Digest32 → Type 0) (damage : Files → Option (Digest32 × ChunkFault)) (answer : Answer)
+    → Refuses g readings old new lane answer → TellsDamaged g disk may damage (answer.entry).kind answer.reply
+damages_refused g readings old new lane disk may damage answer (is_short is) =
     let kind : (answer.entry).kind ≡ 2 = ap (λ x. x.kind) (is.entered).entry in
-    damages_stopped g disk chunks _ answer.reply (λ d f e. memory_undamaged d f (sym (is.entered).reply_is ∙ e)) (λ k. absurd (omega (arith, k, kind)))
-damages_refused g readings old new lane disk chunks answer (is_halted is) =
+    damages_stopped g disk may damage _ answer.reply (λ d f e. memory_undamaged d f (sym (is.entered).reply_is ∙ e)) (λ k. absurd (omega (arith, k, kind)))
+damages_refused g readings old new lane disk may damage answer (is_halted is) =
     let kind : (answer.entry).kind ≡ 5 = ap (λ x. x.kind) (is.entered).entry in
-    damages_stopped g disk chunks _ answer.reply (λ d f e. halted_undamaged is.first d f (sym (is.entered).reply_is ∙ e)) (λ k. absurd (omega (arith, k, kind)))
+    damages_stopped g disk may damage _ answer.reply (λ d f e. halted_undamaged is.first d f (sym (is.entered).reply_is ∙ e)) (λ k. absurd (omega (arith, k, kind)))
 
 -- an act that was done, as its command tells
-pub damages_done : {D E C : Type 0} (d : Ghosts D) (readings : C → Option Readings) (old mid acted new : Core D E C) (lane moment : ℕ) (chunks : Parts D → List Digest32) (result : Result Reply DiskError) (answer : Answer)
-    → IsReady readings old mid lane moment → TellsDamaged d (mid.parts).disk (chunks mid.parts) (kind_by result) (Some (reply_by result)) → Settles d acted new lane moment result answer
-    → TellsDamaged d (old.parts).disk (chunks old.parts) (answer.entry).kind answer.reply
-damages_done d readings old mid acted new lane moment chunks result answer ready tells e =
-    subst (λ r. TellsDamaged d (old.parts).disk (chunks old.parts) (answer.entry).kind r) (sym e.reply_is)
-    (subst (λ x. TellsDamaged d (old.parts).disk (chunks old.parts) x.kind (Some (reply_by result))) (sym e.entry)
-    (subst (λ p. TellsDamaged d p.disk (chunks p) (kind_by result) (Some (reply_by result))) (ready.begun).parts tells))
+pub damages_done : {D E C : Type 0} (d : Ghosts D) (readings : C → Option Readings) (old mid acted new : Core D E C) (lane moment : ℕ) (may : Parts D → Digest32 → Type 0)
+    (damage : Parts D → Files → Option (Digest32 × ChunkFault)) (result : Result Reply DiskError) (answer : Answer)
+    → IsReady readings old mid lane moment → TellsDamaged d (mid.parts).disk (may mid.parts) (damage mid.parts) (kind_by result) (Some (reply_by result)) → Settles d acted new lane moment result answer
+    → TellsDamaged d (old.parts).disk (may old.parts) (damage old.parts) (answer.entry).kind answer.reply
+damages_done d readings old mid acted new lane moment may damage result answer ready tells e =
+    subst (λ r. TellsDamaged d (old.parts).disk (may old.parts) (damage old.parts) (answer.entry).kind r) (sym e.reply_is)
+    (subst (λ x. TellsDamaged d (old.parts).disk (may old.parts) (damage old.parts) x.kind (Some (reply_by result))) (sym e.entry)
+    (subst (λ p. TellsDamaged d p.disk (may p) (damage p) (kind_by result) (Some (reply_by result))) (ready.begun).parts tells))

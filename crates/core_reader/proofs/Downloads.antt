@@ -224,22 +224,22 @@ refused_part (Err cause) entries refusal e = ap (λ x. Err x) (same cause e)
 
 module _ {D : Type 0} (d : Ghosts D) (old : Parts D) (s : Store) (lane m : ℕ) (name path : List ℕ) (offset : ℕ) (v : model.Reader) (r : Reading)
     (at : session s lane ≡ reader v) (is : shown_reader s.snapshots v ≡ r) (good : is_file_name name ≡ true) (h : Holds d old s) (found : path_in r.key name old.catalogue.items ≡ Some path) where
-  abbrev there : IsThere s.snapshots v.key name path
+  abbrev pub there : IsThere s.snapshots v.key name path
   there = is_there name old.catalogue.items s.snapshots v.key path (h.shows).catalogue (ap (λ (x : Reading). path_in x.key name old.catalogue.items) is ∙ found)
 
-  abbrev stored : Content
+  abbrev pub stored : Content
   stored = (there.file).content
 
-  text_there : get (d.content old.disk) path ≡ Some (file_text stored)
+  pub text_there : get (d.content old.disk) path ≡ Some (file_text stored)
   text_there = there_text (d.content old.disk) s.snapshots v.key name path there ((h.files).snapshots).files
 
-  kind_there : names_content stored name ≡ true
+  pub kind_there : names_content stored name ≡ true
   kind_there = there_kind s.snapshots v.key name path there ((h.shows).sound).each
 
-  step_there : outcome s lane m (Download name offset) ≡ with_part s lane (note name stored v) (part_from (file_text stored) offset)
+  pub step_there : outcome s lane m (Download name offset) ≡ with_part s lane (note name stored v) (part_from (file_text stored) offset)
   step_there = down_part s lane m name offset v there.file at good (there_named s.snapshots v.key name path there)
 
-  part_there : part_at (d.content old.disk) path offset ≡ part_from (file_text stored) offset
+  pub part_there : part_at (d.content old.disk) path offset ≡ part_from (file_text stored) offset
   part_there = ap (λ (o : Option (List ℕ)). or_else (Unreadable path) o >>= λ text. part_from text offset) text_there
 
   -- the part is refused

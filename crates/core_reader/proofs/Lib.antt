@@ -9,3 +9,6 @@ pub mod Ranging
 pub mod Loads
 pub mod Damaging
 pub mod Telling
+pub mod ReadPart
+pub mod ReadEntry
+pub mod ReadTold

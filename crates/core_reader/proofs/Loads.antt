@@ -1,5 +1,5 @@
 -- Chunks and parts of them as they are read.
-use Rattle.std.proofs.Common.{◌≡◌, IsErrAnd, IsErrOf, IsTrue, subst, true, false, ◌<◌, ◌≤◌, ◌+◌, ℕ, zero, suc, List, [], ◌∷◌, ◌++◌, length, drop, get_or, Some, Result, Ok, Err, refl, sym, ap, ◌∙◌, append_assoc, append-nil, arith}
+use Rattle.std.proofs.Common.{◌≡◌, IsErrAnd, IsErrOf, IsTrue, subst, true, false, ◌<◌, ◌≤◌, ◌+◌, ℕ, zero, suc, List, [], ◌∷◌, ◌++◌, length, drop, get_or, None, Some, Result, Ok, Err, refl, sym, ap, ◌∙◌, append_assoc, append-nil, arith}
 use Rattle.std.specs.List.{All}
 use Rattle.std.specs.FinMap.{get}
 use Rattle.std.proofs.lemmas.List.Elements.{All-head, All-tail}
@@ -8,7 +8,9 @@ use Rattle.disk_trait.specs.Files.{Files}
 use Rattle.store_types.specs.declared.names.Digest32.{Digest32}
 use Rattle.store_types.specs.declared.refusal.BadBlob.{BadBlob}
 use Rattle.store_types.specs.declared.refusal.ChunkFault.{ChunkFault}
+use Rattle.store_types.specs.declared.refusal.ChunkFault.TheVariants.{Nothing}
 use Rattle.store_types.specs.declared.refusal.Refusal.{Refusal}
+use Rattle.store_types.specs.declared.refusal.Refusal.TheVariants.{Damaged}
 use Rattle.store_types.specs.Chain.Refusing.{◌>>=◌}
 use Rattle.blob_codec.specs.Blob.{blob, data_of}
 use Rattle.store_files.specs.Archive.{digest_of}
@@ -16,13 +18,16 @@ use Rattle.store_files.specs.Folder.{chunk_name}
 use Rattle.restore_reader.specs.declared.ranges.Part.{Part}
 use Rattle.restore_reader.specs.Cutting.{ArePartsOf, cut, joined, total_of}
 use Rattle.chunk_store.specs.Pieces.{IsHeld, by_data, piece_in, found_in, found_at}
+use Rattle.chunk_store.specs.Faults.{IsDamageAsked, IsNotDamaged}
+use Rattle.chunk_store.specs.declared.chunk.LoadFault.{LoadFault}
+use Rattle.chunk_store.specs.declared.chunk.LoadFault.TheVariants as loads
 use Rattle.chunk_store.proofs.Blobs.{data_behind_header, data_is, checked_piece}
 use Rattle.core_state.specs.Replies.{refuses_get, refuses_range}
 use Rattle.core_state.specs.Unchanged.{is_uncalled}
 use Rattle.core_state.specs.Stops.{Gives, IfRefused, StopHasText}
 use Rattle.core_state.specs.declared.stop.Stop.{Stop}
 use Rattle.core_state.specs.declared.stop.Stop.TheVariants.{Refused, NoMemory, DiskFailed}
-use Rattle.core_reader.specs.Chunks.{or_damaged, chunk_at, parts_at, IsDamageOf, StopsAmong, StopsAt}
+use Rattle.core_reader.specs.Chunks.{or_damaged, bytes_at, bytes_in, chunk_at, parts_at, stop_by_load, IsDamageOf, StopsAmong, StopsAt}
 
 -- ---- pieces that stand there
 
@@ -179,3 +184,69 @@ parts_done m front xs none = ap (λ l. behind front (parts_at m l)) none ∙ ap 
 pub total_more : (front : List ℕ) (xs rest : List Part) (x : Part) (piece : List ℕ) (all : ℕ) → xs ≡ x ∷ rest → length front + total_of xs ≤ all → length (front ++ cut x piece) + total_of rest ≤ all
 total_more front xs rest x piece all next le =
     omega (arith, le, ap total_of next, Rattle.std.proofs.lemmas.List.length-append front (cut x piece), length-take x.length (drop x.from piece))
+
+-- ---- what a fault of the store of chunks stops by
+
+stop_failed : {B : Type 0} (stop : Stop) → IsErrOf {T = B} (Err stop) DiskFailed → stop ≡ DiskFailed
+stop_failed stop e = cc
+
+pub load_failed : {A B : Type 0} (result : Result A LoadFault) (fault : LoadFault) (stop : Stop) → result ≡ Err fault → stop ≡ stop_by_load fault → IsErrOf {T = B} (Err stop) DiskFailed → IsErrOf result loads.Failed
+load_failed result (loads.Damaged digest found) stop was is failed = absurd (apart (sym is ∙ stop_failed stop failed))
+  where
+    apart : Refused (Damaged digest found) ≡ DiskFailed → ⊥
+    apart e = cc
+load_failed result loads.Failed stop was is failed = was
+load_failed result loads.NoMemory stop was is failed = absurd (apart (sym is ∙ stop_failed stop failed))
+  where
+    apart : NoMemory ≡ DiskFailed → ⊥
+    apart e = cc
+
+pub load_at : (digest : Digest32) (fault : LoadFault) (stop : Stop) → stop ≡ stop_by_load fault → StopHasText stop → IsDamageAsked digest fault → StopsAt digest stop
+load_at digest fault stop is text asked = subst (StopsAt digest) (sym is) (by_fault fault (subst StopHasText is text) asked)
+  where
+    by_fault : (fault : LoadFault) → StopHasText (stop_by_load fault) → IsDamageAsked digest fault → StopsAt digest (stop_by_load fault)
+    by_fault (loads.Damaged other found) text asked = ((found, ap (λ x. Damaged x found) (asked other found refl)), text)
+    by_fault loads.Failed text asked = tt
+    by_fault loads.NoMemory text asked = tt
+
+-- nothing stands there
+pub bytes_stopped : (m : Files) (digest : Digest32) (fault : LoadFault) (stop : Stop) → stop ≡ stop_by_load fault → IsDamageAsked digest fault
+    → ((other : Digest32) (found : ChunkFault) → fault ≡ loads.Damaged other found → (found ≡ Nothing) × (get m (chunk_name digest.0) ≡ None))
+    → Gives {A = List ℕ} (λ bytes. bytes) (Err stop) (bytes_at m digest)
+bytes_stopped m digest fault stop is asked none = subst (λ x. Gives {A = List ℕ} (λ bytes. bytes) (Err x) (bytes_at m digest)) (sym is) (by_fault fault asked none)
+  where
+    by_fault : (fault : LoadFault) → IsDamageAsked digest fault
+        → ((other : Digest32) (found : ChunkFault) → fault ≡ loads.Damaged other found → (found ≡ Nothing) × (get m (chunk_name digest.0) ≡ None))
+        → Gives {A = List ℕ} (λ bytes. bytes) (Err (stop_by_load fault)) (bytes_at m digest)
+    by_fault (loads.Damaged other found) asked none =
+        let (nothing, gone) = none other found refl in
+        ap (bytes_in digest) gone ∙ ap (λ f. Err (Damaged digest f)) (sym nothing) ∙ ap (λ x. Err (Damaged x found)) (sym (asked other found refl))
+    by_fault loads.Failed asked none = tt
+    by_fault loads.NoMemory asked none = tt
+
+-- what stands there is no piece's blob
+pub chunk_stopped : (m : Files) (digest : Digest32) (fault : LoadFault) (stop : Stop) → stop ≡ stop_by_load fault
+    → ((other : Digest32) (found : ChunkFault) → fault ≡ loads.Damaged other found → (other ≡ digest) × (found_at m digest.0 ≡ Err found))
+    → Gives {A = List ℕ} (λ chunk. chunk) (Err stop) (chunk_at m digest)
+chunk_stopped m digest fault stop is tells = subst (λ x. Gives {A = List ℕ} (λ chunk. chunk) (Err x) (chunk_at m digest)) (sym is) (by_fault fault tells)
+  where
+    by_fault : (fault : LoadFault) → ((other : Digest32) (found : ChunkFault) → fault ≡ loads.Damaged other found → (other ≡ digest) × (found_at m digest.0 ≡ Err found))
+        → Gives {A = List ℕ} (λ chunk. chunk) (Err (stop_by_load fault)) (chunk_at m digest)
+    by_fault (loads.Damaged other found) tells =
+        let (same, there) = tells other found refl in
+        ap (or_damaged digest) there ∙ ap (λ x. Err (Damaged x found)) (sym same)
+    by_fault loads.Failed tells = tt
+    by_fault loads.NoMemory tells = tt
+
+-- of a piece that stands there that is by memory or disk alone
+pub held_stopped : (fault : LoadFault) (stop : Stop) (p : List ℕ) → stop ≡ stop_by_load fault → IsNotDamaged fault → Gives {A = List ℕ} {B = List ℕ} (λ chunk. chunk) (Err stop) (Ok p)
+held_stopped fault stop p is whole = subst (λ x. Gives {A = List ℕ} {B = List ℕ} (λ chunk. chunk) (Err x) (Ok p)) (sym is) (by_fault fault whole)
+  where
+    by_fault : (fault : LoadFault) → IsNotDamaged fault → Gives {A = List ℕ} {B = List ℕ} (λ chunk. chunk) (Err (stop_by_load fault)) (Ok p)
+    by_fault (loads.Damaged digest found) whole = absurd whole
+    by_fault loads.Failed whole = tt
+    by_fault loads.NoMemory whole = tt
+
+pub bytes_there : (m : Files) (digest : Digest32) (bytes : List ℕ) (result : Result (List ℕ) Stop) → get m (chunk_name digest.0) ≡ Some bytes
+    → Gives {A = List ℕ} (λ bytes. bytes) result (bytes_in digest (Some bytes)) → Gives {A = List ℕ} (λ bytes. bytes) result (bytes_at m digest)
+bytes_there m digest bytes result there gives = subst (λ o. Gives {A = List ℕ} (λ bytes. bytes) result (bytes_in digest o)) (sym there) gives

@@ -126,17 +126,17 @@ noted_leaves d old new at file offset reply F plain reads same =
 -- ---- what is told
 
 module _ {D : Type 0} (d : Ghosts D) (disk : D) where
-  abbrev Tells : Option Asked → Result Reply Stop → Type 0
+  abbrev pub Tells : Option Asked → Result Reply Stop → Type 0
   Tells asked result = TellsUnreadable d disk asked (kind_by (told result)) (Some (reply_by (told result)))
 
-  by_stopped : (asked : Option Asked) (stop : Stop) (result : Result Reply Stop) → IsErrAnd result (λ x. x ≡ stop) → Tells asked (Err stop) → Tells asked result
-  by_stopped asked stop (Ok reply) is tells = absurd is
-  by_stopped asked stop (Err x) is tells = subst (λ y. Tells asked (Err y)) (sym is) tells
+  pub tells_by : (asked : Option Asked) (stop : Stop) (result : Result Reply Stop) → IsErrAnd result (λ x. x ≡ stop) → Tells asked (Err stop) → Tells asked result
+  tells_by asked stop (Ok reply) is tells = absurd is
+  tells_by asked stop (Err x) is tells = subst (λ y. Tells asked (Err y)) (sym is) tells
 
   -- stopped before it is read
   pub tells_unread : (asked : Option Asked) (stop : Stop) (result : Result Reply Stop) → IsErrAnd result (λ x. x ≡ stop)
       → IfRefused (λ refusal. (asked ≡ None) × ((name : List ℕ) → refusal ≡ Unreadable name → ⊥)) stop → Tells asked result
-  tells_unread asked stop result stops none = by_stopped asked stop result stops (by_stop stop none)
+  tells_unread asked stop result stops none = tells_by asked stop result stops (by_stop stop none)
     where
       same : (r : Refusal) (name : List ℕ) → Some (replies.Refused r) ≡ Some (replies.Refused (Unreadable name)) → r ≡ Unreadable name
       same r name e = cc
@@ -149,7 +149,7 @@ module _ {D : Type 0} (d : Ghosts D) (disk : D) where
   -- stopped by what was read
   pub tells_stopped : {A B : Type 0} (f : A → Reply) (asked : Option Asked) (a : Asked) (read : Result B ReadError) (e : ReadError) → read ≡ Err e → (result : Result Reply Stop) → IsErrAnd result (λ x. x ≡ stop_by_read e) → asked ≡ Some a
       → reads.IfRefused (RefusesPart a.path) e → (d.honest disk → reads.Gives f (Err e) (part_read (d.content disk) a)) → Tells asked result
-  tells_stopped f asked a read e was result stops is kind gives = by_stopped asked (stop_by_read e) result stops (by_error e kind gives)
+  tells_stopped f asked a read e was result stops is kind gives = tells_by asked (stop_by_read e) result stops (by_error e kind gives)
     where
       by_error : (e : ReadError) → reads.IfRefused (RefusesPart a.path) e → (d.honest disk → reads.Gives f (Err e) (part_read (d.content disk) a)) → Tells asked (Err (stop_by_read e))
       by_error (errors.Refused refusal) kind gives = tells_read d disk asked a (Err refusal) is kind (λ h. sym (gives h))

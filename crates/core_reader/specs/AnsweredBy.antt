@@ -1,15 +1,20 @@
--- What OPEN_READER answers by what the core keeps, on any disk.
-use Rattle.std.specs.Prelude.{ℕ, List, Result, Ok}
+-- What OPEN_READER answers by what the core keeps, on any disk, and that it opens; what a VERIFY's reads answer by what stands on an honest one.
+use Rattle.disk_trait.specs.declared.disk.Disk.{Ghosts}
+use Rattle.std.specs.Prelude.{◌≡◌, ℕ, true, List, Result, Ok, OnOk}
+use Rattle.disk_trait.specs.Files.{Files}
 use Rattle.lock_book.specs.Locks.{Locks}
 use Rattle.store_types.specs.declared.refusal.Refusal.{Refusal}
 use Rattle.store_types.specs.declared.refusal.Refusal.TheVariants.{Unreadable}
 use Rattle.store_types.specs.Chain.Refusing.{◌>>=◌, if_none}
+use Rattle.store_types.specs.FileNames.{is_fixed_name}
 use Rattle.wire_commands.specs.declared.command.Command.TheVariants.{OpenReader}
 use Rattle.wire_commands.specs.declared.reply.Reply.{Reply}
-use Rattle.wire_commands.specs.declared.reply.Reply.TheVariants.{Done}
+use Rattle.wire_commands.specs.declared.reply.Reply.TheVariants.{Data, Done}
 use Rattle.store_history.specs.declared.act.Act.{Act}
-use Rattle.store_history.specs.declared.act.Act.TheVariants.{Plain}
+use Rattle.store_history.specs.declared.act.Act.TheVariants.{Plain, ReadFile, ReadChunk}
 use Rattle.store_history.specs.declared.act.Answer.{Answer}
+use Rattle.snapshot_files.specs.Entry.{entry_at}
+use Rattle.snapshot_files.specs.Parts.{part_at}
 use Rattle.core_state.specs.declared.entering.Place.{Place}
 use Rattle.core_state.specs.declared.kept.Kept.{Kept}
 use Rattle.core_state.specs.declared.kept.Listed.{Listed}
@@ -17,8 +22,12 @@ use Rattle.core_state.specs.declared.kept.Session.{Session}
 use Rattle.core_state.specs.declared.parts.Parts.{Parts}
 use Rattle.core_state.specs.declared.state.Core.{Core}
 use Rattle.core_state.specs.declared.stop.Stop.{Stop}
-use Rattle.core_state.specs.ByKept.{ActTells, CoreTells}
-use Rattle.core_reader.specs.Asked.{to_read}
+use Rattle.core_state.specs.ByKept.{ActTells, ByKept, CoreTells}
+use Rattle.core_state.specs.Closing.{is_reader}
+use Rattle.core_state.specs.Wanted.{session_at}
+use Rattle.core_reader.specs.Asked.{index_of, place_of, to_read}
+use Rattle.core_reader.specs.Chunks.{bytes_at}
+use Rattle.core_reader.specs.ReaderActs.{CoreOpens}
 
 -- where no file is known to make it damaged
 abbrev pub opens_whole : Kept → Result Reply Refusal
@@ -28,11 +37,44 @@ opens_whole k = if_none Unreadable k.unreadable >>= λ _. Ok Done
 abbrev pub reader_told : List ℕ → ℕ → Session → List Listed → Locks → Result Reply Refusal
 reader_told text lane session catalogue locks = to_read text session catalogue >>= opens_whole
 
--- of the acts of readers OPEN_READER alone is answered so
-abbrev pub ActAnswersBy : {D : Type 0} → Parts D → Place → Act → Result Reply Stop → Type 0
-ActAnswersBy old at (Plain (OpenReader snapshot)) result = ActTells (reader_told snapshot) old at result
-ActAnswersBy old at act result = Unit {0}
+-- a part of a file of the lane's snapshot, as it stands there, or the refusal
+abbrev pub part_told : List ℕ → ℕ → Files → ℕ → Session → List Listed → Locks → Result Reply Refusal
+part_told name offset files lane session catalogue locks = place_of name session catalogue >>= λ path. part_at files path offset
 
-abbrev pub CoreAnswersBy : {D E C : Type 0} → Core D E C → ℕ → Act → Answer → Type 0
-CoreAnswersBy old lane (Plain (OpenReader snapshot)) answer = CoreTells (reader_told snapshot) old lane answer
-CoreAnswersBy old lane act answer = Unit {0}
+-- the bytes of the chunk at an entry of one of its indexes, as they stand there, or the refusal
+abbrev pub chunk_told : List ℕ → ℕ → Files → ℕ → Session → List Listed → Locks → Result Reply Refusal
+chunk_told name place files lane session catalogue locks = do
+  path ← index_of name session catalogue
+  digest ← entry_at files path (is_fixed_name name) place
+  bytes ← bytes_at files digest
+  Ok (Data bytes)
+
+-- an OPEN_READER that is done is answered by what the core keeps, on any disk, and the lane then has a reader
+pub record ActOpens {D : Type 0} (snapshot : List ℕ) (old new : Parts D) (at : Place) (result : Result Reply Stop) : Type 0 where
+  pub answers : ActTells (reader_told snapshot) old at result
+  pub opened : OnOk result (is_reader (session_at new at.lane) ≡ true)
+
+-- a read is answered by what stands on an honest disk, whatever it holds
+abbrev pub ActReads : {D : Type 0} → Ghosts D → (Files → ByKept) → Parts D → Place → Result Reply Stop → Type 0
+ActReads d wanted old at result = d.honest old.disk → ActTells (wanted (d.content old.disk)) old at result
+
+-- so are these of the acts of readers
+abbrev pub ActAnswersBy : {D : Type 0} → Ghosts D → Parts D → Parts D → Place → Act → Result Reply Stop → Type 0
+ActAnswersBy d old new at (Plain (OpenReader snapshot)) result = ActOpens snapshot old new at result
+ActAnswersBy d old new at (ReadFile name offset) result = ActReads d (part_told name offset) old at result
+ActAnswersBy d old new at (ReadChunk name entry) result = ActReads d (chunk_told name entry) old at result
+ActAnswersBy d old new at act result = Unit {0}
+
+-- and the core's answers
+pub record CoreOpensBy {D E C : Type 0} (snapshot : List ℕ) (old new : Core D E C) (lane : ℕ) (answer : Answer) : Type 0 where
+  pub answers : CoreTells (reader_told snapshot) old lane answer
+  pub opened : CoreOpens new lane (Plain (OpenReader snapshot)) answer
+
+abbrev pub CoreReads : {D E C : Type 0} → Ghosts D → (Files → ByKept) → Core D E C → ℕ → Answer → Type 0
+CoreReads d wanted old lane answer = d.honest (old.parts).disk → CoreTells (wanted (d.content (old.parts).disk)) old lane answer
+
+abbrev pub CoreAnswersBy : {D E C : Type 0} → Ghosts D → Core D E C → Core D E C → ℕ → Act → Answer → Type 0
+CoreAnswersBy d old new lane (Plain (OpenReader snapshot)) answer = CoreOpensBy snapshot old new lane answer
+CoreAnswersBy d old new lane (ReadFile name offset) answer = CoreReads d (part_told name offset) old lane answer
+CoreAnswersBy d old new lane (ReadChunk name entry) answer = CoreReads d (chunk_told name entry) old lane answer
+CoreAnswersBy d old new lane act answer = Unit {0}

@@ -1,13 +1,14 @@
 -- What a reader asks for.
-use Rattle.std.specs.Prelude.{◌≡◌, ℕ, Bool, List, Option, None, Some, option_map, if◌then◌else◌, Result, Ok, Err, string_bytes}
+use Rattle.std.specs.Prelude.{◌≡◌, ℕ, Bool, List, Option, None, Some, option_map, if◌then◌else◌, Result, Ok, Err, String, string_bytes}
+use Rattle.std.specs.declared.alloc.Global.{Global}
 use Rattle.std.specs.Result.{result_ok}
 use Rattle.store_types.specs.declared.refusal.Refusal.{Refusal}
 use Rattle.store_types.specs.declared.refusal.Refusal.TheVariants.{BadName, NoFile}
 use Rattle.store_types.specs.Chain.Refusing.{◌>>=◌, unless, or_else}
-use Rattle.store_types.specs.FileNames.{is_file_name, is_index_name}
+use Rattle.store_types.specs.FileNames.{is_file_name, is_fixed_name, is_index_name}
 use Rattle.wire_commands.specs.declared.command.Command.TheVariants.{Download, OpenReader}
 use Rattle.store_history.specs.declared.act.Act.{Act}
-use Rattle.store_history.specs.declared.act.Act.TheVariants.{Plain}
+use Rattle.store_history.specs.declared.act.Act.TheVariants.{Plain, ReadFile, ReadChunk}
 use Rattle.store_files.specs.DynamicIndex.{Ended}
 use Rattle.store_files.specs.Archive.{Archive, Snapshot, archive, ends_from}
 use Rattle.store_model.specs.Store.{Reader as PlainReader, reader as reader_of}
@@ -24,7 +25,7 @@ use Rattle.core_state.specs.declared.stop.Stop.{Stop}
 use Rattle.core_state.specs.Found.{named_kept, path_in}
 use Rattle.core_state.specs.Shown.{files_named, shown_session}
 use Rattle.core_state.specs.Stops.{Gives}
-use Rattle.core_state.specs.Unreadables.{Asked, from_offset, known, whole_by}
+use Rattle.core_state.specs.Unreadables.{Asked, at_entry, from_offset, known, whole_by}
 use Rattle.core_state.specs.Wanted.{reader_in, session_at, want_idle}
 use Rattle.core_reader.specs.declared.downloading.AskedFile.{AskedFile}
 
@@ -67,10 +68,44 @@ file_asked file offset session catalogue = do
 abbrev pub asked_download : List ℕ → ℕ → Session → List Listed → Option Asked
 asked_download file offset session catalogue = result_ok (file_asked file offset session catalogue)
 
+-- ---- a VERIFY's own reads
+
+-- the file of the snapshot of the lane's reader that has this name, where it stands, or the refusal before it is read
+unfoldable pub place_of : List ℕ → Session → List Listed → Result (List ℕ) Refusal
+place_of name session catalogue = do
+  r ← reader_in session
+  or_else NoFile (path_in r.key name catalogue)
+
+-- it is told where, or the refusal
+abbrev pub GivesPlace : {D : Type 0} → Parts D → ℕ → List ℕ → Result (String Global) Stop → Type 0
+GivesPlace parts lane name result = Gives (λ (path : String Global). string_bytes path) result (place_of name (session_at parts lane) parts.catalogue.items)
+
+-- a part of it, whatever it is
+abbrev pub as_part : ℕ → List ℕ → Asked
+as_part offset path = record { path = path; way = from_offset None offset }
+
+abbrev pub asked_part : List ℕ → ℕ → Session → List Listed → Option Asked
+asked_part name offset session catalogue = option_map (as_part offset) (result_ok (place_of name session catalogue))
+
+-- an index of the snapshot of the lane's reader that has this name, where it stands, or the refusal before it is read
+unfoldable pub index_of : List ℕ → Session → List Listed → Result (List ℕ) Refusal
+index_of name session catalogue = do
+  r ← reader_in session
+  _ ← unless NoFile (is_index_name name)
+  or_else NoFile (path_in r.key name catalogue)
+
+abbrev pub as_entry : List ℕ → ℕ → List ℕ → Asked
+as_entry name place path = record { path = path; way = at_entry (is_fixed_name name) place }
+
+abbrev pub asked_entry : List ℕ → ℕ → Session → List Listed → Option Asked
+asked_entry name place session catalogue = option_map (as_entry name place) (result_ok (index_of name session catalogue))
+
 -- the file that an act asks for
 abbrev pub asked_file : Act → Session → List Listed → Option Asked
 asked_file (Plain (OpenReader snapshot)) session catalogue = asked_open snapshot session catalogue
 asked_file (Plain (Download file offset)) session catalogue = asked_download file offset session catalogue
+asked_file (ReadFile name offset) session catalogue = asked_part name offset session catalogue
+asked_file (ReadChunk name entry) session catalogue = asked_entry name entry session catalogue
 asked_file act session catalogue = None
 
 -- a file that was found, read as a part from an offset

@@ -1,21 +1,46 @@
 -- Chunks as a reader's answers have them.
-use Rattle.std.specs.Prelude.{◌≡◌, ℕ, List, [], ◌∷◌, ◌++◌, Result, Ok, Err, Vec}
+use Rattle.std.specs.Prelude.{◌≡◌, ℕ, List, [], ◌∷◌, ◌++◌, length, nat_lt, if◌then◌else◌, Option, None, Some, Result, Ok, Err, Vec}
+use Rattle.std.specs.FinMap.{get}
 use Rattle.std.specs.List.{All, Contains}
 use Rattle.std.specs.declared.alloc.Global.{Global}
 use Rattle.disk_trait.specs.Files.{Files}
 use Rattle.store_types.specs.declared.names.Digest32.{Digest32}
 use Rattle.store_types.specs.declared.refusal.ChunkFault.{ChunkFault}
+use Rattle.store_types.specs.declared.refusal.ChunkFault.TheVariants.{Nothing, NotABlob}
 use Rattle.store_types.specs.declared.refusal.Refusal.{Refusal}
 use Rattle.store_types.specs.declared.refusal.Refusal.TheVariants.{Damaged}
 use Rattle.store_types.specs.Chain.Refusing.{◌>>=◌}
 use Rattle.store_files.specs.Archive.{digest_of}
+use Rattle.store_files.specs.Folder.{chunk_name}
 use Rattle.restore_reader.specs.declared.ranges.Part.{Part}
 use Rattle.restore_reader.specs.Cutting.{ArePartsOf, cut, joined}
 use Rattle.wire_commands.specs.declared.reply.Reply.TheVariants.{Refused}
 use Rattle.wire_commands.specs.HasText.{ReplyHasText}
 use Rattle.chunk_store.specs.Pieces.{IsHeld, found_at}
+use Rattle.chunk_store.specs.declared.chunk.LoadFault.{LoadFault}
+use Rattle.chunk_store.specs.declared.chunk.LoadFault.TheVariants as loads
 use Rattle.core_state.specs.declared.stop.Stop.{Stop}
+use Rattle.core_state.specs.declared.stop.Stop.TheVariants as stops
 use Rattle.core_state.specs.Stops.{Gives, IfRefused}
+
+-- a blob has no more bytes than that
+abbrev pub blob_limit : ℕ
+blob_limit = 16_777_228
+
+-- ---- as they are read
+
+-- the bytes of the chunk's file, or that it is damaged: nothing stands there, or more than a blob may have
+abbrev pub bytes_in : Digest32 → Option (List ℕ) → Result (List ℕ) Refusal
+bytes_in digest None = Err (Damaged digest Nothing)
+bytes_in digest (Some bytes) = if nat_lt blob_limit (length bytes) then Err (Damaged digest NotABlob) else Ok bytes
+
+abbrev pub bytes_at : Files → Digest32 → Result (List ℕ) Refusal
+bytes_at files digest = bytes_in digest (get files (chunk_name digest.0))
+
+abbrev pub GivesBytes : Files → Digest32 → Result (List ℕ) Stop → Type 0
+GivesBytes files digest result = Gives (λ bytes. bytes) result (bytes_at files digest)
+
+-- ---- as they are tested
 
 abbrev pub or_damaged : Digest32 → Result (List ℕ) ChunkFault → Result (List ℕ) Refusal
 or_damaged digest (Ok piece) = Ok piece
@@ -51,6 +76,12 @@ abbrev pub GivesHeldParts : Files → List Part → Result (Vec ℕ Global) Stop
 GivesHeldParts files parts result =
     (pieces : List (List ℕ)) → ArePartsOf parts pieces → All (IsHeld files) pieces
     → Gives (λ (bytes : Vec ℕ Global). bytes.items) result (Ok (joined parts pieces))
+
+-- a chunk is not loaded
+abbrev pub stop_by_load : LoadFault → Stop
+stop_by_load (loads.Damaged digest found) = stops.Refused (Damaged digest found)
+stop_by_load loads.Failed = stops.DiskFailed
+stop_by_load loads.NoMemory = stops.NoMemory
 
 -- it tells of the chunk with this digest
 abbrev pub IsDamageOf : Digest32 → Refusal → Type 0

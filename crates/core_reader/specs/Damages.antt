@@ -1,17 +1,21 @@
 -- When a chunk is told to be damaged.
 use Rattle.disk_trait.specs.declared.disk.Disk.{Ghosts}
-use Rattle.std.specs.Prelude.{◌≡◌, ℕ, List, [], ◌∷◌, map, Option, None, Some, if◌then◌else◌, Result, Ok, Err}
+use Rattle.std.specs.Prelude.{◌≡◌, ℕ, Bool, List, [], ◌∷◌, length, map, nat_lt, Option, None, Some, if◌then◌else◌, Result, Ok, Err}
+use Rattle.std.specs.FinMap.{get}
 use Rattle.std.specs.List.{Contains}
 use Rattle.disk_trait.specs.Files.{Files}
 use Rattle.store_types.specs.declared.names.Digest32.{Digest32}
 use Rattle.store_types.specs.declared.refusal.ChunkFault.{ChunkFault}
+use Rattle.store_types.specs.declared.refusal.ChunkFault.TheVariants.{Nothing, NotABlob}
+use Rattle.store_files.specs.Folder.{chunk_name}
+use Rattle.snapshot_files.specs.Entry.{entry_at}
 use Rattle.store_types.specs.declared.refusal.Refusal.{Refusal}
 use Rattle.store_types.specs.declared.refusal.Refusal.TheVariants.{Damaged}
 use Rattle.wire_commands.specs.declared.command.Command.TheVariants.{GetChunk, Range}
 use Rattle.wire_commands.specs.declared.reply.Reply.{Reply}
 use Rattle.wire_commands.specs.declared.reply.Reply.TheVariants.{Refused}
 use Rattle.store_history.specs.declared.act.Act.{Act}
-use Rattle.store_history.specs.declared.act.Act.TheVariants.{Plain}
+use Rattle.store_history.specs.declared.act.Act.TheVariants.{Plain, ReadChunk}
 use Rattle.store_history.specs.declared.act.Answer.{Answer}
 use Rattle.restore_reader.specs.declared.ranges.Part.{Part}
 use Rattle.restore_reader.specs.Steps.{is_allowed}
@@ -25,8 +29,10 @@ use Rattle.core_state.specs.declared.state.Core.{Core}
 use Rattle.core_state.specs.declared.stop.Stop.{Stop}
 use Rattle.core_state.specs.Settles.{kind_by, reply_by}
 use Rattle.core_state.specs.Stops.{told}
+use Rattle.core_state.specs.Unreadables.{Asked, Way, at_entry}
 use Rattle.core_state.specs.Wanted.{session_at}
-use Rattle.core_reader.specs.Asked.{range_asked}
+use Rattle.core_reader.specs.Asked.{asked_entry, range_asked}
+use Rattle.core_reader.specs.Chunks.{blob_limit}
 
 -- ---- the chunks that an answer needs, in order
 
@@ -50,24 +56,52 @@ needed act session catalogue = []
 
 -- ---- what is told
 
+-- A VERIFY's read needs the chunk of an entry, of which the disk tells the digest. Its bytes are not tested: nothing stands there, or
+-- more than a blob may have.
+abbrev pub bytes_damage : Digest32 → Option (List ℕ) → Option (Digest32 × ChunkFault)
+bytes_damage digest None = Some (digest, Nothing)
+bytes_damage digest (Some bytes) = if nat_lt blob_limit (length bytes) then Some (digest, NotABlob) else None
+
+abbrev pub entry_damage : Files → List ℕ → Bool → ℕ → Option (Digest32 × ChunkFault)
+entry_damage files path is_fixed place =
+    elim (entry_at files path is_fixed place) [ Ok digest ↦ bytes_damage digest (get files (chunk_name digest.0)) | Err refusal ↦ None ]
+
+abbrev pub damage_so : Way → Files → List ℕ → Option (Digest32 × ChunkFault)
+damage_so (at_entry is_fixed place) files path = entry_damage files path is_fixed place
+damage_so way files path = None
+
+abbrev pub asked_damage : Files → Option Asked → Option (Digest32 × ChunkFault)
+asked_damage files None = None
+asked_damage files (Some a) = damage_so a.way files a.path
+
 -- the first of these that is damaged, and by what is found there
 abbrev pub first_damage : Files → List Digest32 → Option (Digest32 × ChunkFault)
 first_damage files [] = None
 first_damage files (d ∷ ds) = elim (found_at files d.0) [ Ok piece ↦ first_damage files ds | Err found ↦ Some (d, found) ]
 
+-- what an act's chunks are found to be
+abbrev pub damage_by : Act → Session → List Listed → Files → Option (Digest32 × ChunkFault)
+damage_by (ReadChunk name entry) session catalogue files = asked_damage files (asked_entry name entry session catalogue)
+damage_by act session catalogue files = first_damage files (needed act session catalogue)
+
+-- a chunk that an act may tell of: on any disk one of those that it needs; a VERIFY's read learns which one from the disk
+abbrev pub MayName : Act → Session → List Listed → Digest32 → Type 0
+MayName (ReadChunk name entry) session catalogue digest = Unit {0}
+MayName act session catalogue digest = Contains (needed act session catalogue) digest
+
 -- A chunk that the answer needs is told to be damaged. On an honest disk, whatever it holds, that is so exactly where one is, of the
 -- first such, with what is found there: want of memory and faults of the disk, which have kinds of their own, apart.
-pub record TellsDamaged {D : Type 0} (d : Ghosts D) (disk : D) (chunks : List Digest32) (kind : ℕ) (reply : Option Reply) : Type 0 where
-  pub named : (digest : Digest32) (found : ChunkFault) → reply ≡ Some (Refused (Damaged digest found)) → Contains chunks digest
-  pub cause : (digest : Digest32) (found : ChunkFault) → reply ≡ Some (Refused (Damaged digest found)) → d.honest disk → first_damage (d.content disk) chunks ≡ Some (digest, found)
-  pub damaged : (digest : Digest32) (found : ChunkFault) → kind ≡ 0 → d.honest disk → first_damage (d.content disk) chunks ≡ Some (digest, found) → reply ≡ Some (Refused (Damaged digest found))
+pub record TellsDamaged {D : Type 0} (d : Ghosts D) (disk : D) (may_name : Digest32 → Type 0) (damage : Files → Option (Digest32 × ChunkFault)) (kind : ℕ) (reply : Option Reply) : Type 0 where
+  pub named : (digest : Digest32) (found : ChunkFault) → reply ≡ Some (Refused (Damaged digest found)) → may_name digest
+  pub cause : (digest : Digest32) (found : ChunkFault) → reply ≡ Some (Refused (Damaged digest found)) → d.honest disk → damage (d.content disk) ≡ Some (digest, found)
+  pub damaged : (digest : Digest32) (found : ChunkFault) → kind ≡ 0 → d.honest disk → damage (d.content disk) ≡ Some (digest, found) → reply ≡ Some (Refused (Damaged digest found))
 
 -- the same of an act, by how its command ended
 abbrev pub ActDamaged : {D : Type 0} → Ghosts D → Parts D → Place → Act → Result Reply Stop → Type 0
 ActDamaged d old at act result =
-    TellsDamaged d old.disk (needed act (session_at old at.lane) old.catalogue.items) (kind_by (told result)) (Some (reply_by (told result)))
+    TellsDamaged d old.disk (MayName act (session_at old at.lane) old.catalogue.items) (damage_by act (session_at old at.lane) old.catalogue.items) (kind_by (told result)) (Some (reply_by (told result)))
 
 -- and by the core's answer
 abbrev pub CoreDamaged : {D E C : Type 0} → Ghosts D → Core D E C → ℕ → Act → Answer → Type 0
 CoreDamaged d old lane act answer =
-    TellsDamaged d (old.parts).disk (needed act (session_at old.parts lane) (old.parts).catalogue.items) (answer.entry).kind answer.reply
+    TellsDamaged d (old.parts).disk (MayName act (session_at old.parts lane) (old.parts).catalogue.items) (damage_by act (session_at old.parts lane) (old.parts).catalogue.items) (answer.entry).kind answer.reply

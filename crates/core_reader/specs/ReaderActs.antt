@@ -1,12 +1,17 @@
 -- The acts of readers.
-use Rattle.std.specs.Prelude.{ℕ, List, Result}
+use Rattle.std.specs.Prelude.{◌≡◌, ℕ, true, List, Some, Result}
 use Rattle.disk_trait.specs.declared.disk.Disk.{Ghosts}
 use Rattle.wire_commands.specs.declared.command.Command.TheVariants.{OpenReader, Download, GetChunk, Range, CloseReader}
 use Rattle.wire_commands.specs.declared.reply.Reply.{Reply}
+use Rattle.wire_commands.specs.declared.reply.Reply.TheVariants.{Done}
 use Rattle.store_history.specs.declared.act.Act.{Act}
-use Rattle.store_history.specs.declared.act.Act.TheVariants.{Plain}
+use Rattle.store_history.specs.declared.act.Act.TheVariants.{Plain, ReadFile, ReadChunk}
+use Rattle.store_history.specs.declared.act.Answer.{Answer}
+use Rattle.core_state.specs.Closing.{is_reader}
+use Rattle.core_state.specs.Wanted.{session_at}
 use Rattle.core_state.specs.declared.entering.Place.{Place}
 use Rattle.core_state.specs.declared.parts.Parts.{Parts}
+use Rattle.core_state.specs.declared.state.Core.{Core}
 use Rattle.core_state.specs.declared.stop.Stop.{Stop}
 use Rattle.core_state.specs.Commands.{PlainDoes, PlainLeaves}
 
@@ -16,7 +21,16 @@ IsReaders (Plain (Download file offset)) = Unit {0}
 IsReaders (Plain (GetChunk digest)) = Unit {0}
 IsReaders (Plain (Range file offset len)) = Unit {0}
 IsReaders (Plain CloseReader) = Unit {0}
+IsReaders (ReadFile name offset) = Unit {0}
+IsReaders (ReadChunk name entry) = Unit {0}
 IsReaders _ = ⊥
+
+-- ---- the session that an OPEN_READER leaves
+
+-- once it is done the lane has a reader
+abbrev pub CoreOpens : {D E C : Type 0} → Core D E C → ℕ → Act → Answer → Type 0
+CoreOpens new lane (Plain (OpenReader snapshot)) answer = answer.reply ≡ Some Done → is_reader (session_at new.parts lane) ≡ true
+CoreOpens new lane act answer = Unit {0}
 
 -- ---- the two of a RANGE
 

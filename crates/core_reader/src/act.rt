@@ -15,6 +15,7 @@ use crate::closing::close_reader;
 use crate::downloading::download;
 use crate::opening::open_reader;
 use crate::ranges::range;
+use crate::reading::{read_chunk, read_file};
 use core_state::{Act, Admitted, Answer, Core, Parts, Place, Stop, begin, settle};
 use disk_trait::Disk;
 use port_traits::Clock;
@@ -26,7 +27,7 @@ fn perform<D: Disk>(parts: &mut Parts<D>, alloc: Global, at: Place, act: Act) ->
     requires kind { IsReaders act }
     ensures does { ActDoes D.Disk parts.old parts.new at act result }
     ensures leaves { ActLeaves D.Disk parts.old parts.new at act result }
-    ensures by_kept { ActAnswersBy parts.old at act result }
+    ensures by_kept { ActAnswersBy D.Disk parts.old parts.new at act result }
     ensures unreadable { ActUnreadable D.Disk (asked_file act) parts.old at result }
     ensures damaged { ActDamaged D.Disk parts.old at act result }
 {
@@ -46,11 +47,13 @@ fn perform<D: Disk>(parts: &mut Parts<D>, alloc: Global, at: Place, act: Act) ->
             },
         ) => range(parts, alloc, at, file.as_slice(), offset, length),
         Act::Plain(Command::CloseReader) => close_reader(parts, at),
+        Act::ReadFile { name, offset } => read_file(parts, alloc, at, &name, offset),
+        Act::ReadChunk { name, entry } => read_chunk(parts, alloc, at, &name, entry),
         _ => unreachable!(),
     }
 }
 
-/// Does a reader's command on a lane, and enters it in the order.
+/// Does a reader's command or a read of a VERIFY on a lane, and enters it in the order.
 pub fn reader_act<D: Disk, E, C: Clock>(
     core: &mut Core<D, E, C>,
     alloc: Global,
@@ -62,8 +65,9 @@ pub fn reader_act<D: Disk, E, C: Clock>(
     requires kind { IsReaders act }
     ensures applies { ActApplies D.Disk C.Clock core.old core.new lane act result }
     ensures keeps { ActKeeps D.Disk core.old core.new lane act result }
-    // on any disk OPEN_READER answers what the core keeps
-    ensures by_kept { CoreAnswersBy core.old lane act result }
+    // on any disk OPEN_READER answers what the core keeps, and once it is done the lane has a reader; a VERIFY's
+    // reads answer, on an honest one, what stands there
+    ensures by_kept { CoreAnswersBy D.Disk core.old core.new lane act result }
     ensures unreadable { CoreUnreadable D.Disk (asked_file act) core.old lane result }
     ensures damaged { CoreDamaged D.Disk core.old lane act result }
 {

@@ -1,4 +1,4 @@
-//! The commands of a reader, as acts of the core. Each does the step of the plain store.
+//! The commands of a reader and the reads of a VERIFY, as acts of the core. Each does the step of the plain store.
 #![tactic(auto)]
 
 mod act;
@@ -9,6 +9,7 @@ mod loading;
 mod lookups;
 mod opening;
 mod ranges;
+mod reading;
 
 pub use act::reader_act;
 pub use chunks::get_chunk;
@@ -16,3 +17,4 @@ pub use closing::close_reader;
 pub use downloading::download;
 pub use opening::open_reader;
 pub use ranges::range;
+pub use reading::{read_chunk, read_file};

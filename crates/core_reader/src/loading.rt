@@ -4,15 +4,65 @@ ghost use Rattle.std.specs.Prelude.{◌≡◌, ◌≤◌, IfOk, IfErr, IsErrOf, 
 ghost use Rattle.disk_trait.specs.Effects.{OnlyReads};
 ghost use Rattle.restore_reader.specs.Cutting.{cut, total_of};
 ghost use Rattle.core_state.specs.declared.stop.Stop.TheVariants.{DiskFailed};
-ghost use Rattle.core_reader.specs.Chunks.{GivesChunk, GivesHeld, GivesHeldParts, GivesParts, StopsAmong, StopsAt};
+ghost use Rattle.core_state.specs.Stops.{Gives, StopHasText};
+ghost use Rattle.core_reader.specs.Chunks.{bytes_in, GivesBytes, GivesChunk, GivesHeld, GivesHeldParts, GivesParts, StopsAmong, StopsAt, stop_by_load};
 ghost use Rattle.core_reader.specs.Damages.{digests_of};
 
-use chunk_store::{Chunk, LoadFault, load};
+use chunk_store::{Chunk, LoadFault, load, read};
 use core_state::Stop;
 use disk_trait::Disk;
 use restore_reader::Part;
 use std::alloc::Global;
-use store_types::{Digest32, Refusal};
+use store_types::{Bytes, ChunkFault, Digest32, Refusal};
+
+/// How many bytes a blob has at most.
+const BLOB_LIMIT: usize = 16_777_228;
+
+/// Why the chunk isn't loaded, as a stop.
+fn stopped(fault: LoadFault) -> Stop
+    ensures value { result ≡ stop_by_load fault }
+    ensures text { StopHasText result }
+{
+    match fault {
+        LoadFault::Damaged { digest, found } => Stop::Refused(Refusal::Damaged {
+            digest,
+            fault: found,
+        }),
+        LoadFault::Failed => Stop::DiskFailed,
+        LoadFault::NoMemory => Stop::NoMemory,
+    }
+}
+
+/// The bytes of a chunk's file, which is damaged where it is longer than a blob may be.
+fn as_blob(digest: Digest32, bytes: Vec<u8>) -> Result<Bytes, Stop>
+    ensures value { Gives (λ bytes. bytes) result (bytes_in digest (Some bytes.items)) }
+    ensures size { IfOk result (λ bytes. length bytes ≤ 16_777_228) }
+    ensures damage { IfErr result (StopsAt digest) }
+    ensures unfailed { IsErrOf result DiskFailed → ⊥ }
+{
+    if bytes.len() > BLOB_LIMIT {
+        return Err(Stop::Refused(Refusal::Damaged {
+            digest,
+            fault: ChunkFault::NotABlob,
+        }));
+    }
+    Ok(Bytes::from_vec(bytes))
+}
+
+/// The bytes of the chunk's file, as they stand on the disk: whether they are a blob with this digest is not tested. It
+/// is refused as damaged where nothing is there, and where it is longer than a blob may be.
+pub fn read_bytes<D: Disk>(disk: &mut D, alloc: Global, digest: &Digest32) -> Result<Bytes, Stop>
+    ensures reads { OnlyReads D.Disk disk.old disk.new (IsErrOf result DiskFailed) }
+    ensures value { D.honest disk.old → GivesBytes (D.content disk.old) digest.now result }
+    // on any disk
+    ensures size { IfOk result (λ bytes. length bytes ≤ 16_777_228) }
+    ensures damage { IfErr result (StopsAt digest.now) }
+{
+    match read(disk, alloc, digest) {
+        Ok(bytes) => as_blob(*digest, bytes),
+        Err(fault) => Err(stopped(fault)),
+    }
+}
 
 /// The chunk with this digest. It is refused as damaged where nothing is there, where the file is no blob, and where its
 /// data are not a piece with this digest.
@@ -27,12 +77,7 @@ pub fn read_chunk<D: Disk>(disk: &mut D, alloc: Global, digest: &Digest32) -> Re
 {
     match load(disk, alloc, digest) {
         Ok(chunk) => Ok(chunk),
-        Err(LoadFault::Damaged { digest, found }) => Err(Stop::Refused(Refusal::Damaged {
-            digest,
-            fault: found,
-        })),
-        Err(LoadFault::Failed) => Err(Stop::DiskFailed),
-        Err(LoadFault::NoMemory) => Err(Stop::NoMemory),
+        Err(fault) => Err(stopped(fault)),
     }
 }
 

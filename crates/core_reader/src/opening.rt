@@ -4,8 +4,7 @@ ghost use Rattle.std.specs.Prelude.{◌<◌};
 ghost use Rattle.wire_commands.specs.declared.command.Command.TheVariants.{OpenReader};
 ghost use Rattle.core_state.specs.Commands.{PlainDoes, PlainLeaves};
 ghost use Rattle.core_state.specs.Unreadables.{ActUnreadable};
-ghost use Rattle.store_history.specs.declared.act.Act.TheVariants.{Plain};
-ghost use Rattle.core_reader.specs.AnsweredBy.{ActAnswersBy};
+ghost use Rattle.core_reader.specs.AnsweredBy.{ActOpens};
 ghost use Rattle.core_reader.specs.Asked.{asked_open};
 
 use core_state::{Parts, Place, Session, Stop, snapshot_named};
@@ -28,8 +27,8 @@ pub fn open_reader<D: Disk>(
     requires { at.lane < 64 }
     ensures does { PlainDoes D.Disk parts.old parts.new at (OpenReader snapshot.now) result }
     ensures leaves { PlainLeaves D.Disk parts.old parts.new at (OpenReader snapshot.now) result }
-    // on any disk
-    ensures by_kept { ActAnswersBy parts.old at (Plain (OpenReader snapshot.now)) result }
+    // on any disk; once it is done, the lane has a reader
+    ensures by_kept { ActOpens snapshot.now parts.old parts.new at result }
     // it is told as damaged exactly where it is, on an honest disk
     ensures unreadable { ActUnreadable D.Disk (asked_open snapshot.now) parts.old at result }
 {

@@ -46,6 +46,7 @@ begun_acted d readings old mid h k m act n s b same shown = record {
   calls = (b.entries).calls;
   later = let e = ap (λ p. d.calls p.disk) b.parts in omega (arith, e);
   honest = subst (λ p. d.honest p.disk) (sym b.parts) s.honest;
+  remote = b.remote;
   fault = b.fault ∙ s.fault ∙ sym same.fault;
   shows = subst (Shows mid.parts) (sym same.store) (subst (λ p. Shows p (world h).store) (sym b.parts) s.shows);
   collecting = shown;
@@ -140,6 +141,7 @@ pub record IsDone {D E C : Type 0} (d : Ghosts D) (readings : C → Option Readi
   pub journal : acted.journal ≡ mid.journal
   pub clock : acted.clock ≡ mid.clock
   pub fault : acted.fault ≡ mid.fault
+  pub remote : acted.remote ≡ mid.remote
   pub collector : acted.collector ≡ mid.collector
   pub later : d.calls (mid.parts).disk ≤ d.calls (acted.parts).disk
 
@@ -157,6 +159,7 @@ acted_by g readings old mid acted h k m act n fault d shown is honest shows file
       calls = ap (λ j. j.calls.items) d.journal ∙ (b.entries).calls;
       later = let e = ap (λ p. g.calls p.disk) b.parts in let l = d.later in omega (arith, e, l);
       honest = honest;
+      remote = d.remote ∙ b.remote;
       fault = is;
       shows = shows;
       collecting = ap (λ c. open_in (collector_by n k c)) d.collector ∙ shown;

@@ -1,5 +1,5 @@
 -- The two records of a command, lifted once over the beginning and the entry of an act.
-use Rattle.std.proofs.Common.{◌≡◌, ◌<◌, ◌≤◌, ◌||◌, ℕ, Bool, true, false, length, is_some, Option, Some, None, Result, Ok, Err, IfOk, IfSome, IsSome, IsTrue, IsErrOf, inl, inr, refl, sym, ap, subst, ◌∙◌, arith}
+use Rattle.std.proofs.Common.{◌≡◌, ◌<◌, ◌≤◌, ◌||◌, ℕ, Bool, true, false, length, is_some, Option, Some, None, Result, Ok, Err, IfOk, IfSome, IsSome, IsTrue, IsErrOf, inl, refl, sym, ap, subst, ◌∙◌, arith}
 use Rattle.store_files.specs.Folder.{HasWholeChunks}
 use Rattle.core_state.specs.Chunks.{HoldsOnly, IsSafe}
 use Rattle.disk_trait.specs.Disk.{Serves}
@@ -13,7 +13,7 @@ use Rattle.store_types.specs.declared.refusal.Refusal.TheVariants.{DiskFault}
 use Rattle.wire_commands.specs.declared.reply.Reply.{Reply}
 use Rattle.wire_commands.specs.declared.reply.Reply.TheVariants as replies
 use Rattle.store_history.specs.declared.act.Act.{Act}
-use Rattle.store_history.specs.declared.act.Act.TheVariants.{Chunk, Start, Step, Short, End}
+use Rattle.store_history.specs.declared.act.Act.TheVariants.{Chunk, RemoteList, Start, Step, Short, End}
 use Rattle.store_history.specs.declared.act.Answer.{Answer}
 use Rattle.store_history.specs.Acts.{IsWellFormed, class_of, stepping, starting, sweeping, wanting, ending}
 use Rattle.store_history.specs.History.{act_outcome}
@@ -25,14 +25,14 @@ use Rattle.core_state.specs.declared.entering.Place.{Place}
 use Rattle.core_state.specs.declared.state.Core.{Core}
 use Rattle.core_state.specs.declared.stop.Stop.{Stop}
 use Rattle.core_state.specs.declared.stop.Stop.TheVariants.{Refused, NoMemory, DiskFailed}
-use Rattle.core_state.specs.Answers.{IsTold, HasCause, done as was_done, short as was_short, failed as has_failed, halted as was_halted, start_as_any}
+use Rattle.core_state.specs.Answers.{IsTold, HasCause, done as was_done, short as was_short, failed as has_failed, halted as was_halted}
 use Rattle.core_state.specs.Applies.{ActApplies, ActKeeps, IsClearFor, IsDone}
 use Rattle.core_state.specs.Begins.{AdmittedHasText, IsAdmitted, IsNotShort, IsReady, IsShort, ReadsClock, Refuses, short, halted}
 use Rattle.core_state.specs.Changes.{Change, IsFirm, LeavesChange, after, by_reply, by_stop, stays}
 use Rattle.core_state.specs.Catalogue.{listed_by}
 use Rattle.core_state.specs.Closing.{HasClosed, closes, closes_by, is_closing}
 use Rattle.core_state.specs.Collectors.{collector_by}
-use Rattle.core_state.specs.Commands.{ActDoes, ActLeaves, IsNoRefusal, change_at, is_admins, is_collectors, is_step}
+use Rattle.core_state.specs.Commands.{ActDoes, ActLeaves, IsNoRefusal, change_at, is_still, is_collectors, is_step}
 use Rattle.core_state.specs.Entering.{held_by}
 use Rattle.core_state.specs.History.{History, event_of, pieces_of, then_event, world}
 use Rattle.core_state.specs.Holds.{Holds}
@@ -44,13 +44,14 @@ use Rattle.core_state.specs.Upkeeps.{touches_kept}
 use Rattle.core_state.specs.Wanted.{session_at}
 use Rattle.core_state.proofs.Answered.{IsAsked, refused_stands, short_stands, done_stands}
 use Rattle.core_state.proofs.Answering.{refused_answered, short_answered, done_answered, refused_told, short_told, where_some, where_none, refused_same}
+use Rattle.core_state.proofs.Beginning.{IsStart, start_caused, start_class, start_closes, start_formed, start_no_step, start_told}
 use Rattle.core_state.proofs.Calls.{later}
 use Rattle.core_state.proofs.Caused.{refused_caused, short_caused, done_caused, step_caused, want_caused}
 use Rattle.core_state.proofs.Chunks.{clear_safe}
 use Rattle.core_state.proofs.Commanding.{same_leaves, unlisted}
 use Rattle.core_state.proofs.ForeignLemmas.{never_told}
 use Rattle.core_state.proofs.KeepingTouches.{touches_more}
-use Rattle.core_state.proofs.Recorded.{records_more, refused_timely, settled_timely, short_timely, start_fits, start_tells, step_kind, tells_reply, wanting_kind}
+use Rattle.core_state.proofs.Recorded.{asked_fits, records_more, refused_timely, settled_timely, short_timely, step_kind, tells_reply, wanting_kind}
 use Rattle.core_state.proofs.Recovering.{StandsMore, recovers_more}
 use Rattle.core_state.proofs.Reserves.{refused_keeps, done_keeps, closing_kind, closing_before, no_end_keeps}
 use Rattle.core_state.proofs.Touching.{early_more, entered_touches, refusal_untouched}
@@ -141,8 +142,13 @@ step_other Short step = cc
 step_other End step = cc
 step_other act step = record { end = λ e. cc; sweep = λ e. cc; step = λ e. cc; no = refl }
 
-start_other : IsNoEnd Start
-start_other = record { end = λ e. cc; sweep = λ e. cc; step = λ e. cc; no = refl }
+pub start_other : (act : Act) → IsStart act → IsNoEnd act
+start_other Start is = record { end = λ e. cc; sweep = λ e. cc; step = λ e. cc; no = refl }
+start_other (RemoteList c) is = record { end = λ e. cc; sweep = λ e. cc; step = λ e. cc; no = refl }
+start_other act is = absurd is
+
+start_asked : (act : Act) → IsStart act → IsAsked (class_of act)
+start_asked act is = subst IsAsked (sym (start_class act is)) tt
 
 pub step_plain : (act : Act) → class_of act ≡ stepping → is_collectors act ≡ false
 step_plain Start step = cc
@@ -151,9 +157,9 @@ step_plain Short step = cc
 step_plain End step = cc
 step_plain act step = refl
 
--- it is on the store as a whole, where it is that or the collector's
-step_admin : (act : Act) → class_of act ≡ stepping → (is_admins act || is_collectors act) ≡ true → is_admins act ≡ true
-step_admin act step is = first_holds (is_admins act) (is_collectors act) (step_plain act step) is
+-- it leaves sessions and locks, where it does or is a collector's
+step_still : (act : Act) → class_of act ≡ stepping → (is_still act || is_collectors act) ≡ true → is_still act ≡ true
+step_still act step is = first_holds (is_still act) (is_collectors act) (step_plain act step) is
   where
     first_holds : (a b : Bool) → b ≡ false → (a || b) ≡ true → a ≡ true
     first_holds true b off is = refl
@@ -187,6 +193,7 @@ class_told : (act : Act) (answer : Answer) → IsNoEnd act → (class_of act ≡
 class_told End answer other no_start is = absurd (other.end refl)
 class_told Step answer other no_start is = absurd (other.sweep refl)
 class_told Start answer other no_start is = absurd (no_start refl)
+class_told (RemoteList c) answer other no_start is = is
 class_told act answer other no_start is = is
 
 -- an act that never ends a session
@@ -285,7 +292,7 @@ module _ {D E C : Type 0} (d : Ghosts D) (clock : clocks.Ghosts C) where
         collector = λ _. refused_collector old new lane answer refuses;
         stepped = λ is. absurd (other.step is);
         memory = memory;
-        reserve = no_end_keeps old new lane act answer other.end other.sweep (refused_keeps d clock.readings old new lane _ answer refuses);
+        reserve = no_end_keeps old new lane act answer other.end other.sweep (refused_keeps d clock.readings old new lane _ answer refuses memory);
       }
 
   pub refused_keeps_all : (old new : Core D E C) (lane : ℕ) (act : Act) (answer : Answer) → class_of act ≡ stepping
@@ -311,31 +318,34 @@ module _ {D E C : Type 0} (d : Ghosts D) (clock : clocks.Ghosts C) where
         cause = step_caused d old new act answer step cause;
       }
 
-  -- ---- the start of a collector that is refused before it is done
+  -- ---- a start that is refused before it is done
 
-  start_closes_none : (old : Core D E C) (lane : ℕ) → is_closing old lane Start ≡ true → ⊥
-  start_closes_none old lane closing = closes_none old.fault Start (session_at old.parts lane) refl closing
+  pub start_closes_none : (old : Core D E C) (lane : ℕ) (act : Act) → IsStart act → is_closing old lane act ≡ true → ⊥
+  start_closes_none old lane act starts closing = closes_none old.fault act (session_at old.parts lane) (start_closes act (session_at old.parts lane) starts) closing
 
-  pub start_refused_keeps : (old new : Core D E C) (lane : ℕ) (answer : Answer) → Refuses d clock.readings old new lane answer → ActKeeps d old new lane Start answer
-  start_refused_keeps old new lane answer refuses =
-      refused_kept old new lane Start answer start_other refuses (λ closing. absurd (start_closes_none old lane closing))
+  pub start_refused_keeps : (old new : Core D E C) (lane : ℕ) (act : Act) (answer : Answer) → IsStart act → Refuses d clock.readings old new lane answer → ActKeeps d old new lane act answer
+  start_refused_keeps old new lane act answer starts refuses =
+      refused_kept old new lane act answer (start_other act starts) refuses (λ closing. absurd (start_closes_none old lane act starts closing))
 
-  pub start_refused_applies : (old new : Core D E C) (lane : ℕ) (answer : Answer) → lane < 64 → Refuses d clock.readings old new lane answer → AdmittedHasText (Answered answer)
-      → ActApplies d clock old new lane Start answer
-  start_refused_applies old new lane answer lt refuses text =
+  pub start_refused_applies : (old new : Core D E C) (lane : ℕ) (act : Act) (answer : Answer) → IsStart act → lane < 64 → Refuses d clock.readings old new lane answer → AdmittedHasText (Answered answer)
+      → ActApplies d clock old new lane act answer
+  start_refused_applies old new lane act answer starts lt refuses text =
       let answers = refused_answered d clock.readings old new lane answer refuses text in
       let timely = refused_timely d clock.readings old new lane answer refuses in
-      let cause = refused_caused d clock.readings old new lane Start answer refuses in
-      let keeps = start_refused_keeps old new lane answer refuses in
-      let more : StandsMore d clock old new Start answer = λ h s clear. refused_stands d clock.readings old new h lane Start answer s lt tt tt refuses (λ closing. absurd (start_closes_none old lane closing)) in record {
+      let cause = refused_caused d clock.readings old new lane act answer refuses in
+      let caused = start_caused d old new act answer starts cause in
+      let no_step = start_no_step act starts in
+      let keeps = start_refused_keeps old new lane act answer starts refuses in
+      let more : StandsMore d clock old new act answer = λ h s clear. refused_stands d clock.readings old new h lane act answer s lt (start_formed act starts) (start_asked act starts) refuses
+      (λ closing. absurd (start_closes_none old lane act starts closing)) in record {
         history = λ h s kept clear. more h s clear;
-        records = λ h. records_more d clock.readings old new lane Start answer h answers timely (start_fits d old new answer (start_as_any cause)) (start_tells d old new answer (start_as_any cause) answers.text) keeps.listed (early_by old new lane Start answer refl timely keeps);
-        recovers = λ told start h s clear kept. recovers_more d clock old new lane Start answer lt more answers (start_as_any cause) keeps refl told start h s clear;
-        touches = touches_more d clock old new lane Start answer lt tt more answers (start_as_any cause) keeps refl (refused_collector old new lane answer refuses) (no_start_kind d old new Start answer cause);
+        records = λ h. records_more d clock.readings old new lane act answer h answers timely (asked_fits d old new act answer (start_class act starts) cause) (tells_reply d old new act answer cause answers.text) keeps.listed (early_by old new lane act answer no_step timely keeps);
+        recovers = λ told start h s clear kept. recovers_more d clock old new lane act answer lt more answers caused keeps no_step told start h s clear;
+        touches = touches_more d clock old new lane act answer lt (start_formed act starts) more answers caused keeps no_step (refused_collector old new lane answer refuses) (no_start_kind d old new act answer cause);
         answers = answers;
         timely = timely;
-        told = inr (no_start_kind d old new Start answer cause, refused_told d clock.readings old new lane answer refuses);
-        cause = start_as_any cause;
+        told = start_told act answer starts (no_start_kind d old new act answer cause) (refused_told d clock.readings old new lane answer refuses);
+        cause = caused;
       }
 
   -- want of memory that was met outside the core
@@ -393,7 +403,7 @@ module _ {D E C : Type 0} (d : Ghosts D) (clock : clocks.Ghosts C) where
             ∙ ap (λ p. listed_by act (Some (reply_by (told result))) at.number (session_at p at.lane) p.catalogue.items) before
             ∙ ap (λ n. listed_by act (Some (reply_by (told result))) n (session_at old.parts at.lane) (old.parts).catalogue.items) (number ∙ sym (settles.place ∙ ap (λ j. length j.entries.items) rest.journal))
             ∙ ap (λ r. listed_by act r answer.place (session_at old.parts at.lane) (old.parts).catalogue.items) (sym reply);
-        admin = λ is. (ap (λ p. p.sessions.items) settles.parts ∙ (leaves.admin (step_admin act step is)).0 ∙ ap (λ p. p.sessions.items) before, ap (λ p. p.locks) settles.parts ∙ (leaves.admin (step_admin act step is)).1 ∙ ap (λ p. p.locks) before);
+        admin = λ is. (ap (λ p. p.sessions.items) settles.parts ∙ (leaves.admin (step_still act step is)).0 ∙ ap (λ p. p.sessions.items) before, ap (λ p. p.locks) settles.parts ∙ (leaves.admin (step_still act step is)).1 ∙ ap (λ p. p.locks) before);
         ended = λ ends done. ap (λ p. session_at p at.lane) settles.parts ∙ done_told _ result (leaves.ended ends) (if_plain answer.reply _ reply done);
         halted = where_none _ _ ready.no_fault;
         remote = settles.remote ∙ rest.remote ∙ (ready.begun).remote;
@@ -437,7 +447,7 @@ module _ {D E C : Type 0} (d : Ghosts D) (clock : clocks.Ghosts C) where
       more : StandsMore d clock old new act answer
       more h s clear =
           done_stands d clock.readings old mid acted new h at.lane at.moment act (λ st. act_outcome h.remote (record (world h) { store = st }) at.lane at.moment act) (told result) answer s lt formed step refl
-          (record { ready = ready; journal = rest.journal; clock = rest.clock; fault = rest.fault; collector = rest.collector; later = later d (mid.parts).disk (acted.parts).disk _ leaves.crash }) (λ safe. does.step safe h.remote (world h)) leaves.adds leaves.closed settles
+          (record { ready = ready; journal = rest.journal; clock = rest.clock; fault = rest.fault; remote = rest.remote; collector = rest.collector; later = later d (mid.parts).disk (acted.parts).disk _ leaves.crash }) (λ safe. does.step safe h.remote (world h)) leaves.adds leaves.closed settles
           (λ whole only. safe_for (d.content (mid.parts).disk) h act answer (d.calls (new.parts).disk) formed clear whole only)
 
   ready_at : (old mid : Core D E C) (lane : ℕ) (at : Place) → IsAdmitted clock.readings old mid lane at → IsReady clock.readings old mid at.lane at.moment

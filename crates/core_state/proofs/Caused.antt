@@ -9,14 +9,14 @@ use Rattle.store_types.specs.declared.refusal.Refusal.TheVariants.{DiskFault}
 use Rattle.wire_commands.specs.declared.reply.Reply.{Reply}
 use Rattle.wire_commands.specs.declared.reply.Reply.TheVariants.{Refused}
 use Rattle.store_history.specs.declared.act.Act.{Act}
-use Rattle.store_history.specs.declared.act.Act.TheVariants.{Plain, JobGroup, Blob, Chunk, Start, Step, Short, End}
+use Rattle.store_history.specs.declared.act.Act.TheVariants.{Plain, JobGroup, Blob, Chunk, ReadFile, ReadChunk, RemoteList, Start, Step, Short, End}
 use Rattle.store_history.specs.declared.act.Answer.{Answer}
 use Rattle.store_history.specs.Acts.{class_of, stepping, wanting}
 use Rattle.core_state.specs.declared.state.Core.{Core}
 use Rattle.core_state.specs.Settles.{IsEntered, Settles}
 use Rattle.core_state.specs.Begins.{IsBegun, IsShort, Refuses, short as is_short, halted as is_halted, IsReady}
 use Rattle.core_state.specs.Replies.{may_answer}
-use Rattle.core_state.specs.Answers.{HasCause, done, short, failed, halted, EndHasCause, ended, end_failed, start_as_any, IsCaused}
+use Rattle.core_state.specs.Answers.{HasCause, done, short, failed, halted, EndHasCause, ended, end_failed, IsCaused}
 
 pub short_caused : {D E C : Type 0} (d : Ghosts D) (readings : C → Option Readings) (old new : Core D E C) (lane : ℕ) (act : Act) (answer : Answer)
     → IsShort d readings old new lane answer → HasCause d old new act answer
@@ -62,14 +62,13 @@ step_caused d old new (Plain command) answer step h = h
 step_caused d old new (JobGroup command) answer step h = h
 step_caused d old new (Blob name checked) answer step h = h
 step_caused d old new (Chunk digest checked) answer step h = h
+step_caused d old new (ReadFile name offset) answer step h = h
+step_caused d old new (ReadChunk name entry) answer step h = h
+step_caused d old new (RemoteList command) answer step h = cc
 step_caused d old new Start answer step h = cc
 step_caused d old new Step answer step h = cc
 step_caused d old new Short answer step h = cc
 step_caused d old new End answer step h = cc
-
--- the start of a collector that does not open one
-pub start_caused : {D E C : Type 0} (d : Ghosts D) (old new : Core D E C) (answer : Answer) → HasCause d old new Start answer → IsCaused d old new Start answer
-start_caused d old new answer h = start_as_any h
 
 pub want_caused : {D E C : Type 0} (d : Ghosts D) (readings : C → Option Readings) (old new : Core D E C) (lane : ℕ) (act : Act) (answer : Answer)
     → class_of act ≡ wanting → IsShort d readings old new lane answer → IsCaused d old new act answer

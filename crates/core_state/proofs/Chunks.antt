@@ -114,6 +114,9 @@ pub safe : (m : Files) (ps : List (List ℕ)) (act : Act) → HasWholeChunks m �
 safe m ps (acts.Plain c) whole only formed clear = tt
 safe m ps (acts.JobGroup command) whole only formed clear = tt
 safe m ps (acts.Blob name checked) whole only formed clear = tt
+safe m ps (acts.ReadFile name offset) whole only formed clear = tt
+safe m ps (acts.ReadChunk name entry) whole only formed clear = tt
+safe m ps (acts.RemoteList command) whole only formed clear = tt
 safe m ps acts.Start whole only formed clear = tt
 safe m ps acts.Step whole only formed clear = tt
 safe m ps acts.Short whole only formed clear = tt

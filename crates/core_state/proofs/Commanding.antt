@@ -22,6 +22,7 @@ use Rattle.store_model.specs.Store as model
 use Rattle.store_model.specs.Store.{Store, Outcome, session, want_reader, ended}
 use Rattle.store_model.specs.WriterSteps.{checked_blob}
 use Rattle.store_model.specs.ArchiveSteps.{checked_chunk}
+use Rattle.store_model.specs.ReaderSteps.{read_file, read_chunk}
 use Rattle.store_model.specs.Steps.{outcome, answered}
 use Rattle.store_history.specs.declared.act.Act.{Act}
 use Rattle.store_history.specs.declared.act.Act.TheVariants as acts
@@ -42,7 +43,7 @@ use Rattle.core_state.specs.Catalogue.{listed_by}
 use Rattle.core_state.specs.Changes.{Change, IsFirm, LeavesChange, MayLeave, after, by_stop, change_of, stays, undone, installs, stores, drops, finishes, forgets}
 use Rattle.core_state.specs.Chunks.{Adds, IsSafe}
 use Rattle.core_state.specs.Closing.{HasClosed, closes, is_reader, is_writer}
-use Rattle.core_state.specs.Commands.{ActDoes, ActLeaves, IsNoRefusal, change_at, ends_session, is_admins, is_quiet, reads_only}
+use Rattle.core_state.specs.Commands.{ActDoes, ActLeaves, IsNoRefusal, change_at, ends_session, is_quiet, is_still, reads_only}
 use Rattle.core_state.specs.Due.{IsDue}
 use Rattle.core_state.specs.Holds.{Holds, IsOnDisk, Shows, Does, Acts}
 use Rattle.core_state.specs.Replies.{may_answer}
@@ -236,6 +237,9 @@ act_does s lane moment (acts.Plain command) = outcome s lane moment command
 act_does s lane moment (acts.JobGroup command) = outcome s lane moment command
 act_does s lane moment (acts.Blob name checked) = checked_blob s lane name (data_in checked)
 act_does s lane moment (acts.Chunk digest checked) = checked_chunk s lane (data_in checked)
+act_does s lane moment (acts.ReadFile name offset) = read_file s lane name offset
+act_does s lane moment (acts.ReadChunk name entry) = read_chunk s lane name entry
+act_does s lane moment (acts.RemoteList command) = Err refusals.NoMemory
 act_does s lane moment acts.Start = Err refusals.NoMemory
 act_does s lane moment acts.Step = Err refusals.NoMemory
 act_does s lane moment acts.Short = Err refusals.NoMemory
@@ -247,6 +251,9 @@ does_is remote w s lane moment (acts.Plain command) = refl
 does_is remote w s lane moment (acts.JobGroup command) = refl
 does_is remote w s lane moment (acts.Blob name checked) = refl
 does_is remote w s lane moment (acts.Chunk digest checked) = refl
+does_is remote w s lane moment (acts.ReadFile name offset) = refl
+does_is remote w s lane moment (acts.ReadChunk name entry) = refl
+does_is remote w s lane moment (acts.RemoteList command) = refl
 does_is remote w s lane moment acts.Start = refl
 does_is remote w s lane moment acts.Step = refl
 does_is remote w s lane moment acts.Short = refl
@@ -314,8 +321,8 @@ quiet_reads acts.Step quiet = cc
 quiet_reads acts.End quiet = cc
 quiet_reads act quiet = refl
 
-pub no_admins : {P : Type 0} (act : Act) → is_admins act ≡ false → is_admins act ≡ true → P
-no_admins act other is = absurd (false_true (sym other ∙ is))
+pub not_still : {P : Type 0} (act : Act) → is_still act ≡ false → is_still act ≡ true → P
+not_still act other is = absurd (false_true (sym other ∙ is))
 
 not_failed : (refusal : Refusal) → IsErrOf {T = Reply} (Err (Refused refusal)) DiskFailed → ⊥
 not_failed refusal e = cc
@@ -651,7 +658,7 @@ module _ {D : Type 0} (d : Ghosts D) where
 
   pub changed_leaves : (old new : Parts D) (at : Place) (act : Act) (reply : Reply) → new.disk ≡ old.disk → IsNoRefusal reply → change_at old at.lane act ≡ stays
       → new.catalogue.items ≡ listed_by act (Some reply) at.number (session_at old at.lane) old.catalogue.items
-      → is_admins act ≡ false → (ends_session act ≡ true → session_at new at.lane ≡ Idle) → ActLeaves d old new at act (Ok reply)
+      → is_still act ≡ false → (ends_session act ≡ true → session_at new at.lane ≡ Idle) → ActLeaves d old new at act (Ok reply)
   changed_leaves old new at act reply same plain change listed other ended =
       let none = reads_none old.disk new.disk ⊥ same (λ f. f) in record {
         unchanged = done_unchanged old new reply plain;
@@ -661,7 +668,7 @@ module _ {D : Type 0} (d : Ghosts D) where
         crash = same_leaves old.disk new.disk _ none.crash;
         firm = stays_firm old.disk new.disk (change_at old at.lane act) change;
         listed = listed;
-        admin = no_admins act other;
+        admin = not_still act other;
         adds = adds_same d old new act (told (Ok reply)) none.same;
         due = λ f. absurd (not_done reply f);
         closed = λ closing. ended (closes_ends act (session_at old at.lane) closing);
@@ -689,7 +696,7 @@ module _ {D : Type 0} (d : Ghosts D) where
       → (d.honest old.disk → d.content new.disk ≡ after (change_at old at.lane act) (d.content old.disk))
       → LeavesChange d old.disk new.disk (change_at old at.lane act) → IsFirm d old.disk new.disk (change_at old at.lane act)
       → new.catalogue.items ≡ listed_by act (Some reply) at.number (session_at old at.lane) old.catalogue.items
-      → (is_admins act ≡ true → (new.sessions.items ≡ old.sessions.items) × (new.locks ≡ old.locks))
+      → (is_still act ≡ true → (new.sessions.items ≡ old.sessions.items) × (new.locks ≡ old.locks))
       → Adds d old new act (Ok reply) → (ends_session act ≡ true → session_at new at.lane ≡ Idle) → ActLeaves d old new at act (Ok reply)
   writes_leaves old new at act reply plain called content crash firm listed admin adds ended = record {
     unchanged = done_unchanged old new reply plain;

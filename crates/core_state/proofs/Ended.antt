@@ -28,6 +28,7 @@ pub record IsClosed {D E C : Type 0} (d : Ghosts D) (readings : C → Option Rea
   pub journal : acted.journal ≡ mid.journal
   pub clock : acted.clock ≡ mid.clock
   pub fault : acted.fault ≡ mid.fault
+  pub remote : acted.remote ≡ mid.remote
   pub collector : acted.collector ≡ mid.collector
   pub later : d.calls (mid.parts).disk ≤ d.calls (acted.parts).disk
 
@@ -43,6 +44,7 @@ closed_by g readings old mid acted h k m n fault d shown is honest shows files c
   calls = ap (λ j. j.calls.items) d.journal ∙ (b.entries).calls;
   later = let e = ap (λ p. g.calls p.disk) b.parts in let l = d.later in omega (arith, e, l);
   honest = honest;
+  remote = d.remote ∙ b.remote;
   fault = is;
   shows = shows;
   collecting = ap (λ c. open_in (collector_by n k c)) d.collector ∙ shown;

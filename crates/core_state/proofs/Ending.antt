@@ -56,7 +56,7 @@ module _ {D E C : Type 0} (d : Ghosts D) (clock : clocks.Ghosts C) where
 
   closed_at : {reply : Option Reply} (old mid acted : Core D E C) (at : Place) → IsNext clock.readings old mid at.lane at → SameRest mid acted at.moment End reply → d.calls (mid.parts).disk ≤ d.calls (acted.parts).disk
       → IsClosed d clock.readings old mid acted at.lane at.moment
-  closed_at old mid acted at next rest up = record { begun = next_begun clock.readings old mid at.lane at next; journal = rest.journal; clock = rest.clock; fault = rest.fault; collector = rest.collector; later = up }
+  closed_at old mid acted at next rest up = record { begun = next_begun clock.readings old mid at.lane at next; journal = rest.journal; clock = rest.clock; fault = rest.fault; remote = rest.remote; collector = rest.collector; later = up }
 
   acted_clock : {reply : Option Reply} (old mid acted : Core D E C) (at : Place) → IsNext clock.readings old mid at.lane at → SameRest mid acted at.moment End reply → ReadsClock clock.readings old.clock acted.clock old.last at.moment
   acted_clock old mid acted at next rest = subst (λ c. ReadsClock clock.readings old.clock c old.last at.moment) (sym rest.clock) next.clock

@@ -183,6 +183,9 @@ module _ (q : List ℕ) (none : IsNoFile q) where
   missed_change : (act : Act) (session : Session) (catalogue : List Listed) → MissesChunk q act → MissesFiles q session → MissesAll q (change_of act session catalogue)
   missed_change (acts.Blob name checked) session catalogue chunk has = missed_writer q session _ has (λ w all. missed_blob name checked w)
   missed_change (acts.Chunk digest checked) session catalogue chunk has = missed_writer q session _ has (λ w all. missed_stored q digest checked w chunk)
+  missed_change (acts.ReadFile name offset) session catalogue chunk has = tt
+  missed_change (acts.ReadChunk name entry) session catalogue chunk has = tt
+  missed_change (acts.RemoteList command) session catalogue chunk has = tt
   missed_change acts.Start session catalogue chunk has = tt
   missed_change acts.Step session catalogue chunk has = tt
   missed_change acts.Short session catalogue chunk has = tt
@@ -234,6 +237,9 @@ not_told (acts.Plain c) = not_command c
 not_told (acts.JobGroup c) = not_job c
 not_told (acts.Blob name checked) = refl
 not_told (acts.Chunk digest checked) = refl
+not_told (acts.ReadFile name offset) = refl
+not_told (acts.ReadChunk name entry) = refl
+not_told (acts.RemoteList command) = refl
 not_told acts.Start = refl
 not_told acts.Step = refl
 not_told acts.Short = refl
@@ -277,7 +283,7 @@ no_fault_ends : (reply : Reply) → IsTrue (may_end reply) → reply ≡ replies
 no_fault_ends reply may is = true_false (may_end reply) may (ap may_end is)
 
 not_started : {D E C : Type 0} (d : Ghosts D) (old new : Core D E C) (act : Act) (answer : Answer) → StartHasCause d old new act answer → new.fault ≡ None → answer.reply ≡ Some (replies.Refused refusals.DiskFault) → ⊥
-not_started d old new act answer (start_opens before kind told) none is = none_fault (sym told ∙ is)
+not_started d old new act answer (start_opens opens before kind told) none is = none_fault (sym told ∙ is)
 not_started d old new act answer (start_as_any cause) none is = not_caused d old new act answer cause none is
 
 not_stepped : {D E C : Type 0} (d : Ghosts D) (old new : Core D E C) (act : Act) (answer : Answer) → StepHasCause d old new act answer → new.fault ≡ None → answer.reply ≡ Some (replies.Refused refusals.DiskFault) → ⊥
@@ -290,6 +296,9 @@ not_faulted d old new (acts.Plain c) answer cause = not_caused d old new (acts.P
 not_faulted d old new (acts.JobGroup c) answer cause = not_caused d old new (acts.JobGroup c) answer cause
 not_faulted d old new (acts.Blob name checked) answer cause = not_caused d old new (acts.Blob name checked) answer cause
 not_faulted d old new (acts.Chunk digest checked) answer cause = not_caused d old new (acts.Chunk digest checked) answer cause
+not_faulted d old new (acts.ReadFile name offset) answer cause = not_caused d old new (acts.ReadFile name offset) answer cause
+not_faulted d old new (acts.ReadChunk name entry) answer cause = not_caused d old new (acts.ReadChunk name entry) answer cause
+not_faulted d old new (acts.RemoteList command) answer cause = not_started d old new (acts.RemoteList command) answer cause
 not_faulted d old new acts.Start answer cause = not_started d old new acts.Start answer cause
 not_faulted d old new acts.Step answer cause = not_stepped d old new acts.Step answer cause
 not_faulted d old new acts.Short answer cause = λ none is. short_fault (sym cause.1 ∙ is)

@@ -16,6 +16,7 @@ pub mod Texts
 pub mod Answering
 pub mod Unchanging
 pub mod Caused
+pub mod Beginning
 pub mod Numbering
 pub mod Recorded
 pub mod Finding

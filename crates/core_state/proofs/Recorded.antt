@@ -143,9 +143,20 @@ end_kind d old new act answer ends cause = subst (λ c. FitsKind c old.fault (an
     by_cause (ended is told) = inl is
     by_cause (end_failed before is told first rose) = inr (is, before)
 
+-- of a start that is answered as any act is
+pub asked_fits : {D E C : Type 0} (d : Ghosts D) (old new : Core D E C) (act : Act) (answer : Answer)
+    → class_of act ≡ starting → HasCause d old new act answer → FitsKind (class_of act) old.fault (answer.entry).kind
+asked_fits d old new act answer starts cause = subst (λ c. FitsKind c old.fault (answer.entry).kind) (sym starts) (by_cause cause)
+  where
+    by_cause : HasCause d old new act answer → FitsKind starting old.fault (answer.entry).kind
+    by_cause (done before is reply told may) = inl (inl is, before)
+    by_cause (was_short is told) = inr (inl is)
+    by_cause (failed before is told first rose) = inr (inr is)
+    by_cause (was_halted place before is told) = inr (inr is)
+
 -- the start of a collector
 pub start_fits : {D E C : Type 0} (d : Ghosts D) (old new : Core D E C) (answer : Answer) → StartHasCause d old new Start answer → FitsKind starting old.fault (answer.entry).kind
-start_fits d old new answer (start_opens before is told) = inl (inr is, before)
+start_fits d old new answer (start_opens opens before is told) = inl (inr is, before)
 start_fits d old new answer (start_as_any (done before is reply told may)) = inl (inl is, before)
 start_fits d old new answer (start_as_any (was_short is told)) = inr (inl is)
 start_fits d old new answer (start_as_any (failed before is told first rose)) = inr (inr is)
@@ -177,7 +188,7 @@ tells_reply d old new act answer (was_halted place before is told) text = fault_
 
 pub start_tells : {D E C : Type 0} (d : Ghosts D) (old new : Core D E C) (answer : Answer)
     → StartHasCause d old new Start answer → IfSome answer.reply ReplyHasText → FitsReply old.fault Start (kind_of (answer.entry).kind) answer.reply
-start_tells d old new answer (start_opens before is told) text = subst (λ k. FitsReply old.fault Start (kind_of k) answer.reply) (sym is) told
+start_tells d old new answer (start_opens opens before is told) text = subst (λ k. FitsReply old.fault Start (kind_of k) answer.reply) (sym is) told
 start_tells d old new answer (start_as_any cause) text = tells_reply d old new Start answer cause text
 
 pub sweep_tells : {D E C : Type 0} (d : Ghosts D) (old new : Core D E C) (answer : Answer)

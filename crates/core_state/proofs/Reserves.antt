@@ -106,6 +106,9 @@ closing_two None (acts.Plain commands.Bye) x h = absurd (true_false (sym h))
 closing_two None (acts.JobGroup command) x h = absurd (true_false (sym h))
 closing_two None (acts.Blob name checked) x h = absurd (true_false (sym h))
 closing_two None (acts.Chunk digest checked) x h = absurd (true_false (sym h))
+closing_two None (acts.ReadFile name offset) x h = absurd (true_false (sym h))
+closing_two None (acts.ReadChunk name entry) x h = absurd (true_false (sym h))
+closing_two None (acts.RemoteList command) x h = absurd (true_false (sym h))
 closing_two None acts.Start x h = absurd (true_false (sym h))
 closing_two None acts.Step x h = absurd (true_false (sym h))
 closing_two None acts.Short x h = absurd (true_false (sym h))
@@ -149,6 +152,7 @@ by_spare old new mid lane closing false c answer more others whole spare keeps i
   left = λ _. omega (arith, same, whole, two);
   spent = (λ yes. absurd (true_false (sym yes ∙ is)), λ both. absurd (let less = both.1 in omega (arith, more, same, less)));
   filled = λ _ _. omega (arith, same, whole);
+  closed = λ _ _. omega (arith, same, whole, two);
   spare = keeps;
   others = others_by old.journal mid new.journal lane false others e;
 }
@@ -156,14 +160,15 @@ by_spare old new mid lane closing false c answer more others whole spare keeps i
 -- want of memory: an entry of the reserve, of which nothing was put there before, is the last
 by_want : {D E C : Type 0} (old new : Core D E C) (mid : Journal) (lane : ℕ) (closing b : Bool) (answer : Answer)
     → held_by old.journal lane ≤ held_by mid lane → FillsFirst old.journal mid lane → OthersHold old.journal mid lane
-    → ends_by new lane ≡ ends_by old lane → KeepsSpare old.journal new.journal lane → (answer.entry).kind ≡ 2 → answer.last ≡ b → Enters mid new.journal lane b
+    → ends_by new lane ≡ ends_by old lane → KeepsSpare old.journal new.journal lane → (closing ≡ true → (answer.entry).kind ≡ 2 → ⊥) → (answer.entry).kind ≡ 2 → answer.last ≡ b → Enters mid new.journal lane b
     → KeepsReserve old new lane closing answer
-by_want old new mid lane closing true answer more filled others ends keeps two is e = record {
+by_want old new mid lane closing true answer more filled others ends keeps unless two is e = record {
   one = one_by old.journal mid new.journal lane true more e;
   kept = λ no reserved. absurd (true_false (sym is ∙ no));
   left = λ reserved. let less = spends filled in omega (arith, ends, reserved, less);
   spent = (λ _. (two, spends filled), λ _. is);
   filled = λ _ other. absurd (other two);
+  closed = λ closes _. absurd (unless closes two);
   spare = keeps;
   others = others_by old.journal mid new.journal lane true others e;
 }
@@ -171,12 +176,13 @@ by_want old new mid lane closing true answer more filled others ends keeps two i
     spends : FillsFirst old.journal mid lane → held_by new.journal lane + 1 ≡ held_by old.journal lane
     spends (inl held) = (e.uses).1 ∙ held
     spends (inr spare) = absurd (let z = (e.uses).0 in omega (arith, z, spare))
-by_want old new mid lane closing false answer more filled others ends keeps two is e = let same = (e.uses).1 in record {
+by_want old new mid lane closing false answer more filled others ends keeps unless two is e = let same = (e.uses).1 in record {
   one = one_by old.journal mid new.journal lane false more e;
   kept = λ _ reserved. omega (arith, more, same, ends, reserved);
   left = λ reserved. omega (arith, more, same, ends, reserved);
   spent = (λ yes. absurd (true_false (sym yes ∙ is)), λ both. absurd (let less = both.1 in omega (arith, more, same, less)));
   filled = λ _ other. absurd (other two);
+  closed = λ closes _. absurd (unless closes two);
   spare = keeps;
   others = others_by old.journal mid new.journal lane false others e;
 }
@@ -186,15 +192,15 @@ and_two true = refl
 and_two false = refl
 
 pub short_keeps : {D E C : Type 0} (d : Ghosts D) (readings : C → Option Readings) (old new : Core D E C) (lane : ℕ) (closing : Bool) (answer : Answer)
-    → IsShort d readings old new lane answer → KeepsReserve old new lane closing answer
-short_keeps d readings old new lane closing answer is = let b = is.begun in let e = is.entered in
+    → IsShort d readings old new lane answer → (closing ≡ true → (answer.entry).kind ≡ 2 → ⊥) → KeepsReserve old new lane closing answer
+short_keeps d readings old new lane closing answer is unless = let b = is.begun in let e = is.entered in
     by_want old new (is.between).journal lane closing e.is_held answer b.more b.filled b.others
-    (ends_same old new lane (e.parts ∙ b.parts) (e.fault ∙ b.fault)) (spare_by old.journal (is.between).journal new.journal lane e.is_held b.none_lost b.whole e.room) (ap (λ x. x.kind) e.entry) (e.last_held ∙ and_two e.is_held) e.room
+    (ends_same old new lane (e.parts ∙ b.parts) (e.fault ∙ b.fault)) (spare_by old.journal (is.between).journal new.journal lane e.is_held b.none_lost b.whole e.room) unless (ap (λ x. x.kind) e.entry) (e.last_held ∙ and_two e.is_held) e.room
 
 pub refused_keeps : {D E C : Type 0} (d : Ghosts D) (readings : C → Option Readings) (old new : Core D E C) (lane : ℕ) (closing : Bool) (answer : Answer)
-    → Refuses d readings old new lane answer → KeepsReserve old new lane closing answer
-refused_keeps d readings old new lane closing answer (short is) = short_keeps d readings old new lane closing answer is
-refused_keeps d readings old new lane closing answer (halted is) = let b = is.begun in let e = is.entered in
+    → Refuses d readings old new lane answer → (closing ≡ true → (answer.entry).kind ≡ 2 → ⊥) → KeepsReserve old new lane closing answer
+refused_keeps d readings old new lane closing answer (short is) unless = short_keeps d readings old new lane closing answer is unless
+refused_keeps d readings old new lane closing answer (halted is) unless = let b = is.begun in let e = is.entered in
     by_spare old new (is.between).journal lane closing e.is_held (5 == 2) answer b.more b.others is.whole is.spare
     (spare_by old.journal (is.between).journal new.journal lane e.is_held b.none_lost b.whole e.room) e.last_held e.room
 
@@ -236,6 +242,7 @@ by_closing old new mid lane n b answer more others before after keeps other kind
   left = λ reserved. omega (arith, one, before, after, reserved);
   spent = (λ yes. absurd (other (kind ∙ and_second b n (sym is ∙ yes))), λ both. absurd (other both.0));
   filled = λ not _. absurd (true_false not);
+  closed = λ _ can. omega (arith, one, before, after, can);
   spare = keeps;
   others = others_by old.journal mid new.journal lane b others e;
 }
@@ -315,7 +322,7 @@ step_keeps_filled d readings old mid acted new lane moment n reply answer b same
 -- memory was wanting before it was begun
 pub step_keeps_short : {D E C : Type 0} (d : Ghosts D) (readings : C → Option Readings) (old new : Core D E C) (lane : ℕ) (answer : Answer)
     → is_cut lane old.collector ≡ false → IsShort d readings old new lane answer → StepKeeps old new lane answer
-step_keeps_short d readings old new lane answer uncut is = uncut_keeps old new lane answer uncut (short_keeps d readings old new lane false answer is)
+step_keeps_short d readings old new lane answer uncut is = uncut_keeps old new lane answer uncut (short_keeps d readings old new lane false answer is (λ closes _. true_false (sym closes)))
 
 -- nothing was filled up: the end of a collector that was ended early
 pub step_keeps_cut : {D E C : Type 0} (d : Ghosts D) (old acted new : Core D E C) (lane moment n : ℕ) (reply : Option Reply) (answer : Answer)
@@ -338,6 +345,9 @@ no_end_keeps old new lane (acts.Plain command) answer other no_step h = h
 no_end_keeps old new lane (acts.JobGroup command) answer other no_step h = h
 no_end_keeps old new lane (acts.Blob name checked) answer other no_step h = h
 no_end_keeps old new lane (acts.Chunk digest checked) answer other no_step h = h
+no_end_keeps old new lane (acts.ReadFile name offset) answer other no_step h = h
+no_end_keeps old new lane (acts.ReadChunk name entry) answer other no_step h = h
+no_end_keeps old new lane (acts.RemoteList command) answer other no_step h = h
 no_end_keeps old new lane acts.Start answer other no_step h = h
 no_end_keeps old new lane acts.Step answer other no_step h = absurd (no_step refl)
 no_end_keeps old new lane acts.Short answer other no_step h = h

@@ -1,11 +1,11 @@
 -- Every act but a FINISH and a FORGET leaves the plain store's finished snapshots as they are.
-use Rattle.std.proofs.Common.{◌≡◌, ℕ, Bool, true, false, List, Option, Result, Ok, Err, refl, if◌then◌else◌, ◌==◌, nat_le, nat_lt, length, map}
+use Rattle.std.proofs.Common.{◌≡◌, ℕ, Bool, true, false, List, Option, Result, Ok, Err, refl, if◌then◌else◌, ◌==◌, nat_le, nat_lt, length, map, slice_get}
 use Rattle.store_types.specs.declared.refusal.Refusal.{Refusal}
 use Rattle.store_types.specs.declared.refusal.Refusal.TheVariants.{BadName, GroupBusy, TooMany, NoFile, NoSnapshot, BadRange, NotAllowed}
 use Rattle.store_types.specs.Chain.Refusing.{◌>>=◌, unless, or_else, if_none}
 use Rattle.store_types.specs.FileNames.{is_blob_name, is_file_name, is_index_name}
 use Rattle.store_types.specs.Names.{group_of, group_of_key, key_of}
-use Rattle.store_files.specs.Archive.{Snapshot, file_text, file_named, piece_with}
+use Rattle.store_files.specs.Archive.{Snapshot, file_text, file_named, pieces_of, piece_with}
 use Rattle.wire_commands.specs.declared.command.Command.{Command}
 use Rattle.wire_commands.specs.declared.command.Command.TheVariants as commands
 use Rattle.store_model.specs.Store.{Store, Outcome, session, want_writer, want_reader, want_idle, group_holder, in_group, latest_in, snapshot_named}
@@ -13,7 +13,7 @@ use Rattle.store_model.specs.Uploads.{want_room}
 use Rattle.store_model.specs.WriterSteps.{goes_on, open_writer, want_newer, base_of, previous, want_data, checked_blob, put_blob, abort}
 use Rattle.store_model.specs.WriterCalls as calls
 use Rattle.store_model.specs.ArchiveSteps.{new_fixed, new_dynamic, check_chunk, checked_chunk, put_chunk, named, append, close_index}
-use Rattle.store_model.specs.ReaderSteps.{open_reader, reader_files, download, noted_pieces, get_chunk, range_of, range, close_reader}
+use Rattle.store_model.specs.ReaderSteps.{open_reader, reader_files, download, noted_pieces, get_chunk, range_of, range, read_file, read_chunk, close_reader}
 use Rattle.store_model.specs.Jobs.{IsPrune}
 use Rattle.store_model.specs.AdminSteps.{want_after, list, files, group, counts_fit, prune_group}
 use Rattle.store_model.specs.Steps.{outcome, answered}
@@ -97,12 +97,26 @@ job_keeps : (s : Store) (k m : ℕ) (c : Command) → IsPrune c → Keeps s (out
 job_keeps s k m (commands.Prune name keep dry) is = command_keeps s k m (commands.Prune name keep dry) refl
 job_keeps s k m c is = absurd is
 
+-- a VERIFY's own reads
+part_keeps : (s : Store) (k : ℕ) (name : List ℕ) (offset : ℕ) → Keeps s (read_file s k name offset)
+unfolding Keeps read_file
+part_keeps s k name offset = bound s (download s k name offset) _ (λ given. refl)
+
+entry_keeps : (s : Store) (k : ℕ) (name : List ℕ) (entry : ℕ) → Keeps s (read_chunk s k name entry)
+unfolding Keeps read_chunk
+entry_keeps s k name entry =
+    bound s (want_reader (session s k)) _ (λ r. bound s (unless NoFile (is_index_name name)) _ (λ a. bound s (or_else NoFile (file_named name (reader_files s r))) _
+    (λ f. bound s (or_else (BadRange (length (pieces_of f.content))) (slice_get (pieces_of f.content) entry)) _ (λ p. refl))))
+
 act_keeps : (R : Option (List Snapshot)) (w : World) (k m : ℕ) (a : Act) → IsWellFormed a → moves_manifest a ≡ false → Keeps w.store (act_outcome R w k m a)
 unfolding Keeps act_outcome
 act_keeps R w k m (acts.Plain c) formed off = command_keeps w.store k m c off
 act_keeps R w k m (acts.JobGroup c) formed off = job_keeps w.store k m c formed
 act_keeps R w k m (acts.Blob name checked) formed off = blob_keeps w.store k name (data_in checked)
 act_keeps R w k m (acts.Chunk digest checked) formed off = chunk_keeps w.store k (data_in checked)
+act_keeps R w k m (acts.ReadFile name offset) formed off = part_keeps w.store k name offset
+act_keeps R w k m (acts.ReadChunk name entry) formed off = entry_keeps w.store k name entry
+act_keeps R w k m (acts.RemoteList c) formed off = tt
 act_keeps R w k m acts.Start formed off = tt
 act_keeps R w k m acts.Step formed off = tt
 act_keeps R w k m acts.Short formed off = tt

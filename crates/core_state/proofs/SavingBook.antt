@@ -1,5 +1,5 @@
 -- The core stands for what it stood for once its book is saved, and what a crash leaves for what it did.
-use Rattle.std.proofs.Common.{◌≡◌, ◌<◌, ◌≤◌, ◌⊎◌, ◌↔◌, ⊎_elim, ℕ, Bool, true, false, not, ◌&&◌, ◌==◌, nat_le, is_none, length, map, List, [], ◌∷◌, Option, Some, None, Result, Ok, Err, refl, sym, ap, subst, ◌∙◌, arith}
+use Rattle.std.proofs.Common.{◌≡◌, ◌<◌, ◌≤◌, ◌⊎◌, ◌↔◌, ⊎_elim, ℕ, Bool, true, false, not, ◌&&◌, ◌==◌, nat_le, is_none, is_some, length, map, List, [], ◌∷◌, Option, Some, None, Result, Ok, Err, refl, sym, ap, subst, ◌∙◌, arith}
 use Rattle.std.specs.Prelude.{IsErrOf, OnOk}
 use Rattle.std.specs.FinMap.{get}
 use Rattle.std.specs.Option.{IsSome}
@@ -69,6 +69,7 @@ pub record KeepsFields {D E C : Type 0} (old new : Core D E C) : Type 0 where
   pub collector : new.collector ≡ old.collector
   pub last : new.last ≡ old.last
   pub fault : new.fault ≡ old.fault
+  pub remote : new.remote ≡ old.remote
   pub catalogue : (new.parts).catalogue ≡ (old.parts).catalogue
   pub sessions : (new.parts).sessions ≡ (old.parts).sessions
   pub locks : (new.parts).locks ≡ (old.parts).locks
@@ -108,6 +109,7 @@ module _ {D E C : Type 0} (d : Ghosts D) (old new : Core D E C) (result : Result
       time = subst (λ (c : C). KeepsTime readings c h) (sym rest.clock) s.time;
       reached = let reached = s.reached in let risen = up in omega (arith, reached, risen);
       honest = serves.kept.0 s.honest;
+      remote = ap is_some rest.remote ∙ s.remote;
       shows = record {
         catalogue = ap (λ xs. map (λ (x : Listed). x.kept) xs.items) rest.catalogue ∙ (s.shows).catalogue;
         sessions = ap (λ xs. xs.items) rest.sessions ∙ (s.shows).sessions;

@@ -132,6 +132,9 @@ module _ (s : Store) (lane : ℕ) (sound : IsSound s) where
   spares_change (acts.JobGroup c) catalogue is = tt
   spares_change (acts.Blob name checked) catalogue is = by_session (blob_put name checked) (λ w h. spares_blob s.snapshots w sound.each h name checked)
   spares_change (acts.Chunk digest checked) catalogue is = cc
+  spares_change (acts.ReadFile name offset) catalogue is = tt
+  spares_change (acts.ReadChunk name entry) catalogue is = tt
+  spares_change (acts.RemoteList c) catalogue is = tt
   spares_change acts.Start catalogue is = tt
   spares_change acts.Step catalogue is = tt
   spares_change acts.Short catalogue is = tt

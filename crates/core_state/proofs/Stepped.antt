@@ -154,6 +154,7 @@ module _ {D E C : Type 0} (d : Ghosts D) (readings : C → Option Readings) (old
         calls = is.calls;
         later = is.later;
         honest = honest;
+        remote = is.remote;
         fault = fault;
         shows = subst (Shows acted.parts) (sym store) (shows_same old.parts acted.parts (world h).store (is.kept).catalogue (is.kept).sessions (is.kept).locks s.shows);
         collecting = shown;

@@ -8,7 +8,9 @@ use Rattle.wire_commands.specs.declared.reply.Reply.TheVariants.{Refused}
 use Rattle.wire_commands.specs.HasText.{ReplyHasText}
 use Rattle.store_model.specs.Weave.{first_fault}
 use Rattle.store_history.specs.declared.act.Act.{Act}
+use Rattle.store_history.specs.declared.act.Act.TheVariants.{RemoteList}
 use Rattle.store_history.specs.declared.act.Answer.{Answer}
+use Rattle.store_history.specs.Legal.{OpensCollector}
 use Rattle.store_history.specs.Acts.{Class, starting, sweeping, wanting, ending, class_of}
 use Rattle.core_state.specs.declared.state.Core.{Core}
 use Rattle.core_state.specs.Replies.{may_answer, may_end}
@@ -48,9 +50,9 @@ pub data EndHasCause {D E C : Type 0} (d : Ghosts D) (old new : Core D E C) (ans
   end_failed : old.fault ≡ None → (answer.entry).kind ≡ 5 → answer.reply ≡ Some (Refused DiskFault)
       → new.fault ≡ Some answer.place → Rose (d.faults (old.parts).disk) (d.faults (new.parts).disk) → EndHasCause d old new answer
 
--- The start of a collector opens it without a reply, or is answered as any act is.
+-- The start of a collector opens it without a reply, or is answered as any act is, and so is that of a SYNC.
 pub data StartHasCause {D E C : Type 0} (d : Ghosts D) (old new : Core D E C) (act : Act) (answer : Answer) : Type 0 where
-  start_opens : old.fault ≡ None → (answer.entry).kind ≡ 3 → answer.reply ≡ None → StartHasCause d old new act answer
+  start_opens : OpensCollector act → old.fault ≡ None → (answer.entry).kind ≡ 3 → answer.reply ≡ None → StartHasCause d old new act answer
   start_as_any : HasCause d old new act answer → StartHasCause d old new act answer
 
 -- A mark or a visit has no reply. The end of a collector replies its report, or what ended it early. Any other answer comes as any act's.
@@ -86,4 +88,5 @@ ClassIsTold _ answer = IsSome answer.reply
 
 -- every act has a reply but a collector's start, a mark, a visit, and a lane's end
 abbrev pub IsTold : Act → Answer → Type 0
+IsTold (RemoteList command) answer = IsSome answer.reply
 IsTold act answer = ClassIsTold (class_of act) answer

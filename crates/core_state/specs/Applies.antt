@@ -16,7 +16,7 @@ use Rattle.core_state.specs.Catalogue.{Lists}
 use Rattle.core_state.specs.Changes.{IsFirm, LeavesChange, after, by_reply}
 use Rattle.core_state.specs.Closing.{is_closing}
 use Rattle.core_state.specs.Collectors.{collector_by}
-use Rattle.core_state.specs.Commands.{IsNoRefusal, change_at, ends_session, is_admins, is_collectors, is_quiet, is_step, reads_only}
+use Rattle.core_state.specs.Commands.{IsNoRefusal, change_at, ends_session, is_collectors, is_quiet, is_step, is_still, reads_only}
 use Rattle.core_state.specs.Due.{DueAt}
 use Rattle.core_state.specs.History.{History, IsClear, StandsFor, then_event, event_of}
 use Rattle.core_state.specs.KeepsTouches.{KeepsTouches}
@@ -76,8 +76,8 @@ pub record ActKeeps {D E C : Type 0} (d : Ghosts D) (old new : Core D E C) (lane
   pub due : DueAt d old lane act answer
   pub firm : old.fault ≡ None → IsDone answer → IsFirm d (old.parts).disk (new.parts).disk (change_at old.parts lane act)
   pub listed : Lists old new lane act answer
-  -- the acts on the store as a whole, and the collector's, leave sessions and locks as they are
-  pub admin : (is_admins act || is_collectors act) ≡ true → ((new.parts).sessions.items ≡ (old.parts).sessions.items) × ((new.parts).locks ≡ (old.parts).locks)
+  -- the acts on the store as a whole, the reads of a VERIFY, and the collector's acts leave sessions and locks as they are
+  pub admin : (is_still act || is_collectors act) ≡ true → ((new.parts).sessions.items ≡ (old.parts).sessions.items) × ((new.parts).locks ≡ (old.parts).locks)
   -- the lane has no session any more
   pub ended : ends_session act ≡ true → IsDone answer → session_at new.parts lane ≡ Idle
   -- after the disk failed no call of it is made

@@ -12,7 +12,7 @@ use Rattle.wire_commands.specs.declared.command.Command.{Command}
 use Rattle.wire_commands.specs.declared.command.Command.TheVariants.{OpenWriter, NewFixed, NewDynamic, Append, CloseIndex, OpenReader, CloseReader, List as ListAll, Files as FilesOf, Forget, Group, Finish, Abort}
 use Rattle.store_model.specs.Store.{Store}
 use Rattle.store_history.specs.declared.act.Act.{Act}
-use Rattle.store_history.specs.declared.act.Act.TheVariants.{Plain, Blob, Chunk, JobGroup, Start, Step, Short, End}
+use Rattle.store_history.specs.declared.act.Act.TheVariants.{Plain, Blob, Chunk, JobGroup, ReadFile, ReadChunk, RemoteList, Start, Step, Short, End}
 use Rattle.store_history.specs.History.{World, act_outcome}
 use Rattle.core_state.specs.declared.entering.Place.{Place}
 use Rattle.core_state.specs.declared.kept.Session.TheVariants.{Idle}
@@ -42,6 +42,7 @@ is_quiet (Plain CloseReader) = true
 is_quiet (Plain (ListAll rest)) = true
 is_quiet (Plain (Group group)) = true
 is_quiet (JobGroup command) = true
+is_quiet (RemoteList command) = true
 is_quiet Start = true
 is_quiet Short = true
 is_quiet _ = false
@@ -66,6 +67,13 @@ is_admins (Plain (Forget snapshot)) = true
 is_admins (Plain (Group group)) = true
 is_admins (JobGroup command) = true
 is_admins _ = false
+
+-- and the reads of a VERIFY do too, and those of the remote
+abbrev pub is_still : Act → Bool
+is_still (ReadFile name offset) = true
+is_still (ReadChunk name entry) = true
+is_still (RemoteList command) = true
+is_still act = is_admins act
 
 -- a mark, a visit, or the end of a collector
 abbrev pub is_step : Act → Bool
@@ -117,7 +125,7 @@ pub record ActLeaves {D : Type 0} (d : Ghosts D) (old new : Parts D) (at : Place
   pub crash : LeavesChange d old.disk new.disk (by_stop (change_at old at.lane act) result)
   pub firm : IfOk result (λ _. IsFirm d old.disk new.disk (change_at old at.lane act))
   pub listed : new.catalogue.items ≡ listed_by act (Some (reply_by (told result))) at.number (session_at old at.lane) old.catalogue.items
-  pub admin : is_admins act ≡ true → (new.sessions.items ≡ old.sessions.items) × (new.locks ≡ old.locks)
+  pub admin : is_still act ≡ true → (new.sessions.items ≡ old.sessions.items) × (new.locks ≡ old.locks)
   -- Which chunk files there are more. It follows from `content`; that the core stands for the longer history is shown by it.
   pub adds : Adds d old new act (told result)
   -- Where the disk failed, a FINISH or a FORGET had passed its tests, and a CHUNK was to put a piece's blob.

@@ -1,6 +1,6 @@
 -- When the core stands for a history.
 use Rattle.disk_trait.specs.declared.disk.Disk.{Ghosts}
-use Rattle.std.specs.Prelude.{◌≡◌, ◌≤◌, ℕ, List, [], ◌∷◌, ◌++◌, map, Option, Some, None, IfSome}
+use Rattle.std.specs.Prelude.{◌≡◌, ◌≤◌, ℕ, List, [], ◌∷◌, ◌++◌, map, Option, Some, None, IfSome, is_some}
 use Rattle.port_traits.specs.Readings.{Readings}
 use Rattle.store_files.specs.Archive.{Snapshot}
 use Rattle.store_history.specs.declared.act.Act.{Act}
@@ -62,6 +62,8 @@ pub record StandsFor {D E C : Type 0} (d : Ghosts D) (readings : C → Option Re
   pub time : KeepsTime readings core.clock h
   pub reached : (world h).calls ≤ d.calls (core.parts).disk
   pub honest : d.honest (core.parts).disk
+  -- there is a remote where the history has its list
+  pub remote : is_some core.remote ≡ is_some h.remote
   pub shows : Shows core.parts (world h).store
   pub collecting : open_in core.collector ≡ shown_collecting (world h).collecting
   pub files : (world h).fault ≡ None → IsOnDisk (d.content (core.parts).disk) (world h).store

@@ -1,7 +1,7 @@
 -- What a command's own tests may answer: what it was asked for, or one of its refusals.
-use Rattle.std.specs.Prelude.{Bool, true, false, Result, Ok, Err, length, nat_le}
+use Rattle.std.specs.Prelude.{ℕ, Bool, true, false, ◌||◌, Result, Ok, Err, length, nat_le, nat_lt}
 use Rattle.store_types.specs.declared.refusal.Refusal.{Refusal}
-use Rattle.store_types.specs.declared.refusal.Refusal.TheVariants.{WrongState, BadName, GroupBusy, SnapshotBusy, NotNewer, NoSnapshot, NoFile, Exists, BadBlob, WrongDigest, WrongSize, UnknownChunk, BadOffset, BadClose, OpenIndexes, TooMany, BadRange, Unreadable, BadManifest, ManifestMismatch, NotAllowed, Damaged, CollectorBusy, NoMemory}
+use Rattle.store_types.specs.declared.refusal.Refusal.TheVariants.{WrongState, BadName, GroupBusy, SnapshotBusy, NotNewer, NoSnapshot, NoFile, Exists, BadBlob, WrongDigest, WrongSize, UnknownChunk, BadOffset, BadClose, OpenIndexes, TooMany, BadRange, Unreadable, BadManifest, ManifestMismatch, NotAllowed, Damaged, CollectorBusy, NoMemory, NoRemote}
 use Rattle.wire_commands.specs.declared.command.Command.{Command}
 use Rattle.wire_commands.specs.declared.command.Command.TheVariants as commands
 use Rattle.wire_commands.specs.declared.reply.Reply.{Reply}
@@ -100,6 +100,23 @@ refuses_download (BadRange size) = true
 refuses_download (Unreadable name) = true
 refuses_download _ = false
 
+-- a VERIFY's read of a part of a file
+abbrev pub refuses_part : Refusal → Bool
+refuses_part (WrongState state) = true
+refuses_part NoFile = true
+refuses_part (BadRange size) = true
+refuses_part (Unreadable name) = true
+refuses_part _ = false
+
+-- and of a chunk
+abbrev pub refuses_entry : Refusal → Bool
+refuses_entry (WrongState state) = true
+refuses_entry NoFile = true
+refuses_entry (BadRange count) = true
+refuses_entry (Damaged digest fault) = true
+refuses_entry (Unreadable name) = true
+refuses_entry _ = false
+
 -- a GET_CHUNK
 abbrev pub refuses_get : Refusal → Bool
 refuses_get (WrongState state) = true
@@ -146,6 +163,13 @@ refuses_prune (WrongState state) = true
 refuses_prune BadName = true
 refuses_prune (TooMany limit) = true
 refuses_prune _ = false
+
+-- the first step of a SYNC
+abbrev pub refuses_sync : Refusal → Bool
+refuses_sync (WrongState state) = true
+refuses_sync BadName = true
+refuses_sync NoRemote = true
+refuses_sync _ = false
 
 -- the start of a collector
 abbrev pub refuses_start : Refusal → Bool
@@ -222,6 +246,17 @@ answers_download (Part total bytes) = true
 answers_download (Refused refusal) = refuses_download refusal
 answers_download _ = false
 
+-- a part is not empty before the file's end
+abbrev pub answers_part : ℕ → Reply → Bool
+answers_part offset (Part total bytes) = nat_le total offset || nat_lt 0 (length bytes)
+answers_part offset (Refused refusal) = refuses_part refusal
+answers_part offset _ = false
+
+abbrev pub answers_entry : Reply → Bool
+answers_entry (Data bytes) = true
+answers_entry (Refused refusal) = refuses_entry refusal
+answers_entry _ = false
+
 abbrev pub answers_get : Reply → Bool
 answers_get (Data bytes) = true
 answers_get (Refused refusal) = refuses_get refusal
@@ -267,6 +302,11 @@ answers_prune _ = false
 abbrev pub answers_end : Reply → Bool
 answers_end Done = true
 answers_end _ = false
+
+-- the first step of a SYNC, which is only refused so far
+abbrev pub answers_sync : Reply → Bool
+answers_sync (Refused refusal) = refuses_sync refusal
+answers_sync _ = false
 
 -- a collector that starts has no reply
 abbrev pub answers_start : Reply → Bool
@@ -314,6 +354,9 @@ may_answer (acts.Plain command) reply = command_answers command reply
 may_answer (acts.JobGroup command) reply = job_answers command reply
 may_answer (acts.Blob name checked) reply = answers_blob reply
 may_answer (acts.Chunk digest checked) reply = answers_chunk reply
+may_answer (acts.ReadFile name offset) reply = answers_part offset reply
+may_answer (acts.ReadChunk name entry) reply = answers_entry reply
+may_answer (acts.RemoteList command) reply = answers_sync reply
 may_answer acts.Start reply = answers_start reply
 may_answer acts.Step reply = answers_step reply
 may_answer acts.End reply = answers_end reply

@@ -31,13 +31,14 @@ KeepsSpare old new lane = 3 ≤ held_by old lane → 0 < old.spare → (3 ≤ he
 -- An act that is no lane's end uses one entry of the lane's reserve at most, and none of another lane's. It leaves what the lane
 -- must have in reserve, and where its answer is the last, what the lane's end must have. Its answer is the last exactly where it is
 -- want of memory by an entry of the lane's reserve, which then has one less. Unless it ends a session it fills the reserve up, or is
--- want of memory.
+-- want of memory. One that ends a session leaves what the lane's end must have also where there was no more than that.
 pub record KeepsReserve {D E C : Type 0} (old new : Core D E C) (lane : ℕ) (closing : Bool) (answer : Answer) : Type 0 where
   pub one : held_by old.journal lane ≤ held_by new.journal lane + 1
   pub kept : answer.last ≡ false → Reserved old lane → Reserved new lane
   pub left : Reserved old lane → CanEnd new lane
   pub spent : (answer.last ≡ true) ↔ (((answer.entry).kind ≡ 2) × (held_by new.journal lane + 1 ≡ held_by old.journal lane))
   pub filled : closing ≡ false → ((answer.entry).kind ≡ 2 → ⊥) → 3 ≤ held_by new.journal lane
+  pub closed : closing ≡ true → CanEnd old lane → CanEnd new lane
   pub spare : KeepsSpare old.journal new.journal lane
   pub others : OthersHold old.journal new.journal lane
 

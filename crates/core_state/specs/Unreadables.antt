@@ -12,6 +12,7 @@ use Rattle.wire_commands.specs.declared.reply.Reply.TheVariants.{Done, Refused}
 use Rattle.store_history.specs.declared.act.Answer.{Answer}
 use Rattle.snapshot_files.specs.Parts.{part_from}
 use Rattle.snapshot_files.specs.Indexes.{index_at}
+use Rattle.snapshot_files.specs.Entry.{entry_at}
 use Rattle.core_state.specs.declared.entering.Place.{Place}
 use Rattle.core_state.specs.declared.kept.Listed.{Listed}
 use Rattle.core_state.specs.declared.kept.Session.{Session}
@@ -27,6 +28,8 @@ use Rattle.core_state.specs.Wanted.{session_at}
 pub data Way : Type 0 where
   -- a part of it from an offset; of an index that is read whole, and then whether as a fixed one
   from_offset : Option Bool → ℕ → Way
+  -- an entry of an index, of a fixed one or a dynamic one
+  at_entry : Bool → ℕ → Way
   -- whole, as a manifest
   as_listing : Way
   -- not at all: it makes its snapshot damaged, which was found at opening
@@ -47,6 +50,7 @@ read_by (Some is_fixed) m path offset = index_at m path is_fixed offset >>= λ x
 
 abbrev pub read_so : Way → Files → List ℕ → Result Reply Refusal
 read_so (from_offset whole offset) m path = read_by whole m path offset
+read_so (at_entry is_fixed place) m path = entry_at m path is_fixed place >>= λ digest. Ok Done
 read_so as_listing m path = or_else (Unreadable path) (listing_at m path) >>= λ read. Ok Done
 read_so known m path = Err (Unreadable path)
 

@@ -7,7 +7,7 @@ ghost use Rattle.wire_commands.specs.HasText.{ReplyHasText};
 use crate::asserts::same_at;
 use crate::fixtures::{NOTHING, at, opened_parts, told, upload, upload_manifest};
 use core_admin::{files, forget, group, list, prune_group};
-use core_reader::{close_reader, download, get_chunk, open_reader, range};
+use core_reader::{close_reader, download, get_chunk, open_reader, range, read_chunk, read_file};
 use core_state::Parts;
 use core_uploads::{close_index, new_dynamic};
 use core_writer::{abort, end, finish, open_writer};
@@ -16,7 +16,7 @@ use port_traits::MemSink;
 use std::alloc::Global;
 use std::process::Abort;
 use std::test::Fail;
-use store_types::{Digest32, Keep, Refusal};
+use store_types::{Digest32, FileName, Keep, Refusal};
 use wire_commands::Reply;
 
 /// A call of a command, or of the disk beside it.
@@ -38,6 +38,9 @@ pub(crate) enum Call {
     GetChunk(Digest32),
     Range(&'static [u8], u64, u32),
     CloseReader,
+    /// A VERIFY's read of a part of a file, and of the chunk at an entry of an index.
+    ReadFile(&'static [u8], u64),
+    ReadChunk(&'static [u8], u32),
     List(&'static [u8]),
     Files(&'static [u8]),
     Forget(&'static [u8]),
@@ -122,6 +125,13 @@ fn put(disk: &mut MemoryDisk, alloc: Global, path: &str, bytes: &[u8]) -> Result
     Ok(done_or_absent(true))
 }
 
+fn named(alloc: Global, name: &[u8]) -> Result<FileName, Fail> {
+    match FileName::check(alloc, name)? {
+        Ok(name) => Ok(name),
+        Err(_) => Err("no file's name".into()),
+    }
+}
+
 /// Makes the call of a command.
 pub(crate) fn make(
     parts: &mut Parts<MemoryDisk>,
@@ -150,6 +160,14 @@ pub(crate) fn make(
         Call::GetChunk(digest) => told(get_chunk(parts, alloc, at, &digest)),
         Call::Range(name, offset, len) => told(range(parts, alloc, at, name, offset, len)),
         Call::CloseReader => told(close_reader(parts, at)),
+        Call::ReadFile(name, offset) => {
+            let name = named(alloc, name)?;
+            told(read_file(parts, alloc, at, &name, offset))
+        }
+        Call::ReadChunk(name, entry) => {
+            let name = named(alloc, name)?;
+            told(read_chunk(parts, alloc, at, &name, entry))
+        }
         Call::List(after) => told(list(parts, alloc, at, after)),
         Call::Files(snapshot) => told(files(parts, alloc, at, snapshot)),
         Call::Forget(snapshot) => told(forget(parts, alloc, at, snapshot)),

@@ -1,6 +1,6 @@
 //! Chunks on a disk in memory, as a reader's answers need them.
 
-use crate::calls::{Call, Calls, DONE, NO_BASE, NOT_ALLOWED, after, try_calls};
+use crate::calls::{Call, Calls, DONE, IN_NONE, NO_BASE, NO_FILE, NOT_ALLOWED, after, try_calls};
 use crate::fixtures::{ABC, DE, FIRST, NOTHING};
 use core_state::Parts;
 use disk_trait::{Disk, MemoryDisk};
@@ -124,12 +124,82 @@ static CHUNKS: Calls = &[
     (5, Call::GetChunk(ABC), NOTHING_THERE),
 ];
 
-#[test]
-fn damaged_chunks_are_told(rt: HostRuntime) -> Result<(), Fail> {
-    let alloc = rt.alloc();
-    for calls in [RANGES, IN_ORDER, CHUNKS] {
-        let mut parts = opened(&rt, alloc)?;
-        try_calls(&rt, &mut parts, alloc, calls)?;
+/// `abc`'s and `de`'s chunks as they stand on the disk.
+const ABC_DATA: &[u8] = b"\x10\0\0\0\0B\xab8\x07\xbe\x83p\xa1\xc2A$5abc";
+
+const TORN_DATA: &[u8] = b"\x10\0\0\0\0B\xab8\x07\xbe\x83p\xa1\xc2A$5abd";
+
+const DE_DATA: &[u8] = b"\x0f\0\0\0\0B\xab8\x07\xbe\x83p\xa1\x8b)\x90}de";
+
+/// The index has two entries; it is unreadable.
+const TWO_ENTRIES: &[u8] = b"\x09\0\0\0\x16\x02\0\0\0\0\0\0\0";
+
+const NO_INDEX: &[u8] = b"'\0\0\0\x18%host/a/2020-01-15T06:30:03Z/root.didx";
+
+/// A VERIFY reads the chunks of an index, which is not downloaded before.
+static ENTRIES: Calls = &[
+    (4, Call::ReadChunk(NAME, 0), IN_NONE),
+    (5, Call::ReadChunk(b"index.json.blob", 0), NO_FILE),
+    (5, Call::ReadChunk(b"other.didx", 0), NO_FILE),
+    (5, Call::ReadChunk(NAME, 2), TWO_ENTRIES),
+    (5, Call::ReadChunk(NAME, u32::MAX), TWO_ENTRIES),
+    (5, Call::ReadChunk(NAME, 0), NOTHING_THERE),
+    (5, Call::ReadChunk(NAME, 1), NO_DE),
+    (5, Call::Remove(ROOT_PATH), DONE),
+    (5, Call::ReadChunk(NAME, 0), NO_INDEX),
+    (5, Call::Put(ROOT_PATH, ABC_BLOB), DONE),
+    (5, Call::ReadChunk(NAME, 0), NO_INDEX),
+];
+
+/// They are given as they stand there, without a test, and allow no other read.
+static AS_THEY_STAND: Calls = &[
+    (5, Call::Put(ABC_CHUNK, ABC_BLOB), DONE),
+    (5, Call::Put(DE_CHUNK, DE_BLOB), DONE),
+    (5, Call::ReadChunk(NAME, 0), ABC_DATA),
+    (5, Call::ReadChunk(NAME, 1), DE_DATA),
+    (5, Call::Put(ABC_CHUNK, TORN_BLOB), DONE),
+    (5, Call::ReadChunk(NAME, 0), TORN_DATA),
+    (5, Call::Put(ABC_CHUNK, DE_BLOB), DONE),
+    (5, Call::ReadChunk(NAME, 0), DE_DATA),
+    (5, Call::GetChunk(ABC), NOT_ALLOWED),
+];
+
+/// And parts of files, the index among them, whether it is one or not.
+static PARTS: Calls = &[
+    (4, Call::ReadFile(NAME, 0), IN_NONE),
+    (5, Call::ReadFile(b"other.didx", 0), NO_FILE),
+    (5, Call::ReadFile(NAME, 4176), AT_END),
+    (
+        5,
+        Call::ReadFile(NAME, 4177),
+        b"\x09\0\0\0\x16P\x10\0\0\0\0\0\0",
+    ),
+    (5, Call::Put(ROOT_PATH, ABC_BLOB), DONE),
+    (
+        5,
+        Call::ReadFile(NAME, 12),
+        b"\x0c\0\0\0\0\x0f\0\0\0\0\0\0\0abc",
+    ),
+    (5, Call::GetChunk(ABC), NOT_ALLOWED),
+    (5, Call::Remove(ROOT_PATH), DONE),
+    (5, Call::ReadFile(NAME, 0), NO_INDEX),
+];
+
+/// Each is asked of a reader of its own.
+fn try_asked(rt: &impl Abort, alloc: Global, asked: [Calls; 3]) -> Result<(), Fail> {
+    for calls in asked {
+        let mut parts = opened(rt, alloc)?;
+        try_calls(rt, &mut parts, alloc, calls)?;
     }
     Ok(())
+}
+
+#[test]
+fn damaged_chunks_are_told(rt: HostRuntime) -> Result<(), Fail> {
+    try_asked(&rt, rt.alloc(), [RANGES, IN_ORDER, CHUNKS])
+}
+
+#[test]
+fn a_verify_reads(rt: HostRuntime) -> Result<(), Fail> {
+    try_asked(&rt, rt.alloc(), [ENTRIES, AS_THEY_STAND, PARTS])
 }

@@ -29,7 +29,7 @@ use Rattle.core_state.specs.declared.stop.Stop.TheVariants.{Refused, NoMemory, D
 use Rattle.core_state.specs.Catalogue.{listed_by}
 use Rattle.core_state.specs.Changes.{Change, IsFirm, LeavesChange, after, by_writer, file_put, stays, installs}
 use Rattle.core_state.specs.Closing.{closes}
-use Rattle.core_state.specs.Commands.{ActDoes, ActLeaves, change_at, ends_session, is_admins, is_quiet, reads_only}
+use Rattle.core_state.specs.Commands.{ActDoes, ActLeaves, change_at, ends_session, is_still, is_quiet, reads_only}
 use Rattle.core_state.specs.Due.{IsDue}
 use Rattle.core_state.specs.Holds.{Holds, IsOnDisk, Shows}
 use Rattle.core_state.specs.Named.{is_named}
@@ -199,7 +199,7 @@ module _ {D : Type 0} (d : Ghosts D) (old new : Parts D) (at : Place) (act : Act
       put_does answers = writes_does d old new at act Done _ puts.serves done_has_text answers tt (λ safe s h. reached s h)
 
       pub put_leaves : change_at old at.lane act ≡ by_writer (session_at old at.lane) changes → is_quiet act ≡ false → listed_by act (Some Done) at.number (session_at old at.lane) old.catalogue.items ≡ old.catalogue.items
-          → is_admins act ≡ false → ends_session act ≡ false → ActLeaves d old new at act (Ok Done)
+          → is_still act ≡ false → ends_session act ≡ false → ActLeaves d old new at act (Ok Done)
       put_leaves is called listed other goes_on =
           writes_leaves d old new at act Done tt called
           (λ h. put h ∙ after_is n.file n.text (d.content old.disk) ∙ ap (λ x. after x (d.content old.disk)) (sym (puts_change is)))

@@ -11,7 +11,7 @@ use Rattle.core_state.specs.declared.stop.Stop.TheVariants.{Refused, NoMemory, D
 use Rattle.core_state.specs.Catalogue.{listed_by}
 use Rattle.core_state.specs.Changes.{stays}
 use Rattle.core_state.specs.Closing.{closes}
-use Rattle.core_state.specs.Commands.{ActDoes, ActLeaves, change_at, ends_session, is_admins}
+use Rattle.core_state.specs.Commands.{ActDoes, ActLeaves, change_at, ends_session, is_still}
 use Rattle.core_state.specs.Replies.{may_answer}
 use Rattle.core_state.specs.Unchanged.{SameKept}
 use Rattle.core_state.specs.Wanted.{session_at}
@@ -45,7 +45,7 @@ module _ {D : Type 0} (d : Ghosts D) (old new : Parts D) (at : Place) (act : Act
       by_result (Err DiskFailed) x = absurd x.step
 
   pub stepped_leaves : change_at old at.lane act ≡ stays → ((reply : Reply) → listed_by act (Some reply) at.number (session_at old at.lane) old.catalogue.items ≡ old.catalogue.items)
-      → is_admins act ≡ false → ends_session act ≡ false → closes act (session_at old at.lane) ≡ false → Quietly result → ActLeaves d old new at act result
+      → is_still act ≡ false → ends_session act ≡ false → closes act (session_at old at.lane) ≡ false → Quietly result → ActLeaves d old new at act result
   stepped_leaves change listed other on closing_not steps = by_result result steps
     where
       by_result : (x : Result Reply Stop) → Quietly x → ActLeaves d old new at act x

@@ -42,7 +42,7 @@ use Rattle.core_state.specs.Commands.{ActDoes, ActLeaves}
 use Rattle.core_state.specs.Holds.{Does, Holds, Shows}
 use Rattle.core_state.specs.Unchanged.{SameKept}
 use Rattle.core_state.specs.Wanted.{session_at}
-use Rattle.core_state.proofs.Commanding.{failed_does, failed_leaves, writes_does, writes_leaves, no_admins}
+use Rattle.core_state.proofs.Commanding.{failed_does, failed_leaves, writes_does, writes_leaves, not_still}
 use Rattle.core_state.proofs.Texts.{done_has_text}
 use Rattle.core_writer.specs.Ended.{files_in}
 use Rattle.core_writer.proofs.EndingLemmas.{has_ended, without_less}
@@ -123,7 +123,7 @@ module _ {D : Type 0} (d : Ghosts D) where
       writes_leaves d old new at acts.End Done tt refl
       (λ h. after_end (session_at old at.lane) (d.content old.disk) (d.content new.disk) (reads h))
       (subst (λ x. LeavesChange d old.disk x (ends_by (session_at old at.lane))) (sym same) (leaves_end (session_at old at.lane) old.disk removed crash))
-      (firm_end (session_at old at.lane) old.disk new.disk) c (no_admins acts.End refl)
+      (firm_end (session_at old at.lane) old.disk new.disk) c (not_still acts.End refl)
       (λ s h. adds_less (d.content old.disk) (d.content new.disk) (put_paths (files_in (session_at old at.lane))) acts.End (reads h.honest)) (λ _. idle)
 
   pub end_fails : (old new : Parts D) (at : Place) (removed result : Result (Unit {0}) Failed) (e f : Failed) → removed ≡ Err e → IsErrAnd result (λ x. x ≡ f) → Serves d.honest d.faults old.disk new.disk (IsErr removed) → SameKept old new

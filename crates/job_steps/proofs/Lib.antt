@@ -2,3 +2,8 @@ pub mod RowLemmas
 pub mod ItemLemmas
 pub mod ReplyLemmas
 pub mod Texts
+pub mod EndingLemmas
+pub mod JudgingLemmas
+pub mod BatchLemmas
+pub mod VerifyLemmas
+pub mod StateLemmas

@@ -5,11 +5,11 @@ use Rattle.std.proofs.Math.Seq.{drop-cons}
 use Rattle.std.proofs.lemmas.Bool.{false≢true}
 use Rattle.std.proofs.lemmas.List.{drop_all}
 use Rattle.wire_commands.specs.declared.command.Command.{Command}
-use Rattle.wire_commands.specs.declared.command.Command.TheVariants.{Prune}
+use Rattle.wire_commands.specs.declared.command.Command.TheVariants.{Prune, Verify}
 use Rattle.wire_commands.specs.declared.reply.Reply.{Reply}
 use Rattle.wire_commands.specs.HasText.{ReplyHasText}
 use Rattle.store_model.specs.Job.{Job, Asking, asking, next}
-use Rattle.store_model.specs.Jobs.{job_of, IsPrune, take_more, job_after}
+use Rattle.store_model.specs.Jobs.{job_of, IsJob, take_more, job_after}
 use Rattle.store_model.specs.JobReplies.{IsReplyTo}
 use Rattle.job_steps.specs.Replies.{AreReplies}
 
@@ -30,9 +30,10 @@ folded_all job first rs n le same = sym (ap (fold take_more job) (drop_all n rs 
 
 -- ---- from the command on
 
-pub prune_some : (c : Command) → IsPrune c → IsSome (job_of c)
-prune_some (Prune group keep dry) prune = refl
-prune_some c prune = absurd prune
+pub job_some : (c : Command) → IsJob c → IsSome (job_of c)
+job_some (Prune group keep dry) job = refl
+job_some (Verify snapshot) job = refl
+job_some c job = absurd job
 
 pub replies_from : (begun : Option Asking) (job : Job) (rs : List Reply) → IsSome begun → IfSome begun (λ a. job ≡ asking a)
     → IfSome begun (λ a. AreReplies (asking a) rs) → AreReplies job rs

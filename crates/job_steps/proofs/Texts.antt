@@ -1,6 +1,6 @@
 -- Where the replies have texts, so has the report.
 use Rattle.std.proofs.Common.{ℕ, ◌+◌, ◌*◌, ◌≤◌, Bool, true, false, List, [], ◌∷◌, ◌++◌, length, map, reverse, arith, length-append}
-use Rattle.std.specs.Prelude.{All, IfSome, if◌then◌else◌}
+use Rattle.std.specs.Prelude.{All, if◌then◌else◌}
 use Rattle.std.specs.List.{flat_map, zip}
 use Rattle.std.proofs.lemmas.List.{length-reverse}
 use Rattle.std.proofs.lemmas.List.Elements.{All-nil, All-cons, All-head, All-tail, All-push}
@@ -16,10 +16,9 @@ use Rattle.wire_commands.specs.declared.reply.Reply.{Reply}
 use Rattle.wire_commands.specs.declared.reply.Reply.TheVariants.{Done, Keys, Marks, Refused}
 use Rattle.wire_commands.specs.ReplyText.{prune_row_text, reply_text}
 use Rattle.wire_commands.specs.HasText.{FitsPruneRow, IsText, ReplyHasText}
-use Rattle.store_model.specs.Job.{Job, over, asking, Asking, grouping, forgetting, next, step_of}
-use Rattle.store_model.specs.Jobs.{take, take_more}
+use Rattle.store_model.specs.Job.{asking, forgetting}
 use Rattle.store_model.specs.PruneJob.{row, item_of, rows_meant, is_to_go, go_on, grouped, forgot}
-use Rattle.store_model.specs.JobReplies.{IsReplyTo, IsWithinGroup}
+use Rattle.store_model.specs.JobReplies.{IsWithinGroup}
 use Rattle.job_steps.specs.Rows.{row_of}
 use Rattle.job_steps.specs.Replies.{EndsInText}
 
@@ -76,7 +75,7 @@ rows_fit keep snapshots fit =
 
 -- ---- after a reply
 
-grouped_in_text : (keep : Keep) (dry : Bool) (reply : Reply) → IsWithinGroup reply → ReplyHasText reply → EndsInText (grouped keep dry reply)
+pub grouped_in_text : (keep : Keep) (dry : Bool) (reply : Reply) → IsWithinGroup reply → ReplyHasText reply → EndsInText (grouped keep dry reply)
 unfolding grouped
 grouped_in_text keep true (Keys snapshots) few spelled =
     marks_have_text (rows_meant keep snapshots) (rows_few keep snapshots few) (rows_fit keep snapshots (spelled.0).1)
@@ -90,20 +89,10 @@ one_done before mark snapshot later ends =
     goes_in_text (before ++ row mark snapshot ∷ []) later (simp length-append (omega (arith, ends.0)))
     (All-push FitsPruneRow before (row mark snapshot) ends.1 ends.2) ends.3
 
-forgot_in_text : (before : List PruneRow) (snapshot : List ℕ) (later : List PruneRow) (reply : Reply)
+pub forgot_in_text : (before : List PruneRow) (snapshot : List ℕ) (later : List PruneRow) (reply : Reply)
     → EndsInText (asking (forgetting before snapshot later)) → ReplyHasText reply → EndsInText (forgot before snapshot later reply)
 unfolding forgot
 forgot_in_text before snapshot later Done ends spelled = one_done before Removed snapshot later ends
 forgot_in_text before snapshot later (Refused (SnapshotBusy lane)) ends spelled = one_done before Held snapshot later ends
 forgot_in_text before snapshot later (Refused NoSnapshot) ends spelled = one_done before Gone snapshot later ends
 forgot_in_text before snapshot later reply ends spelled = spelled
-
-asked_in_text : (a : Asking) (reply : Reply) → IsReplyTo (step_of a) reply → EndsInText (asking a) → ReplyHasText reply → EndsInText (take a reply)
-unfolding take
-asked_in_text (grouping c keep dry) reply form ends spelled = grouped_in_text keep dry reply form.1 spelled
-asked_in_text (forgetting before snapshot later) reply form ends spelled = forgot_in_text before snapshot later reply ends spelled
-asked_in_text a reply form ends spelled = absurd ends
-
-pub taken_in_text : (job : Job) (reply : Reply) → IfSome (next job) (λ step. IsReplyTo step reply) → EndsInText job → ReplyHasText reply → EndsInText (take_more job reply)
-taken_in_text (over report) reply form ends spelled = ends
-taken_in_text (asking a) reply form ends spelled = asked_in_text a reply form ends spelled

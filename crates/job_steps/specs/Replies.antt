@@ -2,7 +2,7 @@
 use Rattle.std.specs.Prelude.{◌<◌, ◌+◌, List, [], ◌∷◌, length, All, ⊤, IsSome, IfSome}
 use Rattle.wire_commands.specs.declared.reply.Reply.{Reply}
 use Rattle.wire_commands.specs.HasText.{FitsPruneRow, IsText, ReplyHasText}
-use Rattle.store_model.specs.Job.{Job, over, asking, grouping, forgetting, next}
+use Rattle.store_model.specs.Job.{Job, over, asking, grouping, forgetting, opening, listing, reading, checking, closing, next}
 use Rattle.store_model.specs.Jobs.{take_more}
 use Rattle.store_model.specs.JobReplies.{IsReplyTo}
 
@@ -18,5 +18,10 @@ EndsInText (over report) = ReplyHasText report
 EndsInText (asking (grouping c keep dry)) = ⊤
 EndsInText (asking (forgetting before snapshot later)) =
     (length before + length later < 4096) × All FitsPruneRow before × IsText snapshot × All FitsPruneRow later
+EndsInText (asking (opening snapshot)) = ⊤
+EndsInText (asking (listing snapshot)) = ⊤
+EndsInText (asking (reading v row bytes)) = ⊤
+EndsInText (asking (checking v row fault place digest later)) = ⊤
+EndsInText (asking (closing report)) = ReplyHasText report
 -- there are no other jobs here
 EndsInText _ = ⊥

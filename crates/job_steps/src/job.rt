@@ -1,19 +1,25 @@
 //! A job from its command to its report.
 
-ghost use Rattle.std.specs.Prelude.{◌≡◌, ◌≤◌, drop, fold, take, vec_len, IsSome, IsNone, IfSome, IfOk, OnErr};
+ghost use Rattle.std.specs.Prelude.{◌≡◌, ◌≤◌, drop, false, fold, take, vec_len, IsSome, IsNone, IfErr, IfSome, IfOk, MatchResult, OnErr, OnOk};
 ghost use Rattle.wire_commands.specs.HasText.{ReplyHasText};
 ghost use Rattle.store_model.specs.Job.{asking, next as next_of, report as report_of};
-ghost use Rattle.store_model.specs.Jobs.{job_of, IsPrune, take_more, job_after};
+ghost use Rattle.store_model.specs.Jobs.{job_of, IsJob, take_more, job_after};
 ghost use Rattle.store_model.specs.PruneJob.{grouped as grouped_by, go_on};
 ghost use Rattle.store_model.specs.JobReplies.{IsJobStep, IsReplyTo, IsWithinGroup};
-ghost use Rattle.job_steps.specs.Replies.{AreReplies};
+ghost use Rattle.job_steps.specs.Checks.{stops};
+ghost use Rattle.job_steps.specs.Replies.{AreReplies, EndsInText};
 ghost use Rattle.job_steps.specs.Rows.{asked_at};
 ghost use Rattle.job_steps.specs.States.{job_in};
+ghost use Rattle.job_steps.specs.Visits.{IsPartRead};
 
+use crate::ending::closed;
 use crate::prune::{Forgetting, Grouping, Room, first_to_go, mark_by};
+use crate::stages::{Checking, Reading};
+use crate::visit::Opening;
 use std::alloc::{AllocError, Global};
 use std::marker::Model;
 use std::mem;
+use std::thread::Threads;
 use store_model::Step;
 use store_types::{Bytes, Rows};
 use wire_commands::{Command, PruneRow, Reply};
@@ -25,13 +31,23 @@ pub struct Job {
 }
 
 #[derive(Drop)]
-enum State {
+pub enum State {
     /// Nothing more is asked, and this is the report.
     Over(Reply),
     /// A PRUNE asks for its group's snapshots.
     Grouping(Grouping),
     /// A PRUNE asks to forget a snapshot.
     Forgetting(Forgetting),
+    /// A VERIFY asks for a reader of its snapshot.
+    Opening(Opening),
+    /// A VERIFY asks for the snapshot's files.
+    Listing(Opening),
+    /// A VERIFY reads a file.
+    Reading(Reading),
+    /// A VERIFY reads the chunks of an index.
+    Checking(Checking),
+    /// A VERIFY closes its reader, and then this is the report.
+    Closing(Reply),
 }
 
 impl Model for Job {
@@ -47,48 +63,79 @@ impl Model for Job {
 }
 
 impl Job {
-    /// The job of a PRUNE, with nothing done. It makes the room for all that its last reply may need.
+    /// The job of a PRUNE or a VERIFY, with nothing done. It makes the room for all that its last reply may need.
     pub fn start(alloc: Global, command: &Command) -> Result<Job, AllocError>
-        requires { IsPrune command.now }
+        requires { IsJob command.now }
         ensures { IfOk result (λ job. IfSome (job_of command.now) (λ a. job ≡ asking a)) }
     {
-        let Command::Prune { group, keep, dry } = command else {
-            unreachable!()
-        };
-        let grouping = Grouping {
-            group: Bytes::from_slice(alloc, group.as_slice())?,
-            keep: *keep,
-            dry: *dry,
-            room: Room::new(alloc)?,
-        };
-        Ok(Job {
-            state: State::Grouping(grouping),
-        })
+        match command {
+            Command::Prune { group, keep, dry } => {
+                let grouping = Grouping {
+                    group: Bytes::from_slice(alloc, group.as_slice())?,
+                    keep: *keep,
+                    dry: *dry,
+                    room: Room::new(alloc)?,
+                };
+                Ok(Job {
+                    state: State::Grouping(grouping),
+                })
+            }
+            Command::Verify { snapshot } => {
+                let opening = Opening::new(alloc, snapshot.as_slice())?;
+                Ok(Job {
+                    state: State::Opening(opening),
+                })
+            }
+            _ => unreachable!(),
+        }
     }
 
-    /// What the job asks next, or nothing where it is over. Where it is over this takes no memory.
+    /// What the job asks next, or nothing where it is over. Where it is over, or closes its session behind a refusal,
+    /// this takes no memory.
     pub fn next(&self, alloc: Global) -> Result<Option<Step>, AllocError>
         ensures step { IfOk result (λ step. step ≡ next_of self.now) }
         ensures asked { IfOk result (λ step. IfSome step IsJobStep) }
-        ensures memory { OnErr result (IsSome (next_of self.now)) }
+        ensures memory { OnErr result (IsSome (next_of self.now) × (stops self.now ≡ false)) }
     {
-        let command = match &self.state {
-            State::Over(_) => return Ok(None),
-            State::Grouping(grouping) => grouping.command(alloc)?,
-            State::Forgetting(forgetting) => forgetting.command(alloc)?,
-        };
-        Ok(Some(Step::Command(command)))
+        match &self.state {
+            State::Over(_) => Ok(None),
+            State::Grouping(grouping) => Ok(Some(Step::Command(grouping.command(alloc)?))),
+            State::Forgetting(forgetting) => Ok(Some(Step::Command(forgetting.command(alloc)?))),
+            State::Opening(opening) => Ok(Some(opening.open(alloc)?)),
+            State::Listing(opening) => Ok(Some(opening.files(alloc)?)),
+            State::Reading(reading) => Ok(Some(reading.step(alloc)?)),
+            State::Checking(checking) => Ok(Some(checking.step(alloc)?)),
+            State::Closing(_) => Ok(Some(Step::Command(Command::CloseReader))),
+        }
     }
 
-    /// Takes the reply to the step that was asked. It takes no memory, and moves the texts of snapshots out of the reply.
-    pub fn take(&mut self, reply: Reply)
+    /// Takes the reply to the step that was asked, and moves what it needs out of it. Chunks that were read are tested in
+    /// batches, by as many threads as there are processors: what the job then is doesn't tell how.
+    ///
+    /// Memory may be wanting for a part of a file alone. Then the job is as before, and the reply is dropped.
+    pub fn take<R: Threads + Sync>(
+        &mut self,
+        rt: &R,
+        alloc: Global,
+        reply: Reply,
+    ) -> Result<(), AllocError>
         requires asked { IsSome (next_of self.old) }
         requires form { IfSome (next_of self.old) (λ step. IsReplyTo step reply) }
         requires text { ReplyHasText reply }
-        ensures { self.new ≡ take_more self.old reply }
+        ensures ok { OnOk result (self.new ≡ take_more self.old reply) }
+        ensures err { OnErr result ((self.new ≡ self.old) × IsPartRead (next_of self.old) reply) }
     {
         let state = mem::replace(&mut self.state, State::Over(Reply::Done));
-        self.state = state.after(reply);
+        match state.take(rt, alloc, reply) {
+            Ok(state) => {
+                self.state = state;
+                Ok(())
+            }
+            Err(state) => {
+                self.state = state;
+                Err(AllocError)
+            }
+        }
     }
 
     /// What the job reports. It takes no memory.
@@ -106,17 +153,26 @@ impl Job {
 }
 
 impl State {
-    /// The state after the reply to the step that was asked.
+    /// The state after the reply to the step that was asked. Where memory is wanting for a part of a file, the state before.
     #[tactic(auto, unfolding(store_model::specs::Jobs::take))]
-    fn after(self, reply: Reply) -> State
+    fn take<R: Threads + Sync>(self, rt: &R, alloc: Global, reply: Reply) -> Result<State, State>
         requires asked { IsSome (next_of (job_in self)) }
         requires form { IfSome (next_of (job_in self)) (λ step. IsReplyTo step reply) }
-        ensures { job_in result ≡ take_more (job_in self) reply }
+        requires text { ReplyHasText reply }
+        requires ends { EndsInText (job_in self) }
+        ensures ok { IfOk result (λ state. job_in state ≡ take_more (job_in self) reply) }
+        ensures err { IfErr result (λ state. (job_in state ≡ job_in self) × IsPartRead (next_of (job_in self)) reply) }
+        ensures ends { MatchResult result (λ state. EndsInText (job_in state)) (λ state. EndsInText (job_in state)) }
     {
         match self {
             State::Over(_) => unreachable!(),
-            State::Grouping(grouping) => State::grouped(grouping, reply),
-            State::Forgetting(forgetting) => State::forgot(forgetting, reply),
+            State::Grouping(grouping) => Ok(State::grouped(grouping, reply)),
+            State::Forgetting(forgetting) => Ok(State::forgot(forgetting, reply)),
+            State::Opening(opening) => Ok(opening.opened(reply)),
+            State::Listing(opening) => Ok(opening.listed(alloc, reply)),
+            State::Reading(reading) => reading.take(alloc, reply),
+            State::Checking(checking) => Ok(checking.checked(rt, alloc, reply)),
+            State::Closing(report) => Ok(closed(report, reply)),
         }
     }
 
@@ -161,22 +217,33 @@ impl State {
 }
 
 /// Takes replies, one after another.
-fn take_all(job: &mut Job, replies: Vec<Reply>)
+fn take_all<R: Threads + Sync>(
+    rt: &R,
+    alloc: Global,
+    job: &mut Job,
+    replies: Vec<Reply>,
+) -> Result<(), AllocError>
     requires { AreReplies job.old replies.items }
-    ensures { job.new ≡ fold take_more job.old replies.items }
+    ensures { OnOk result (job.new ≡ fold take_more job.old replies.items) }
 {
     for reply in replies {
-        job.take(reply);
+        job.take(rt, alloc, reply)?;
     }
+    Ok(())
 }
 
-/// The job of a PRUNE after these replies to its steps.
-pub fn replay(alloc: Global, command: &Command, replies: Rows<Reply>) -> Result<Job, AllocError>
-    requires job { IsPrune command.now }
+/// The job of a PRUNE or a VERIFY after these replies to its steps.
+pub fn replay<R: Threads + Sync>(
+    rt: &R,
+    alloc: Global,
+    command: &Command,
+    replies: Rows<Reply>,
+) -> Result<Job, AllocError>
+    requires job { IsJob command.now }
     requires replies { IfSome (job_of command.now) (λ a. AreReplies (asking a) replies) }
     ensures { IfOk result (λ job. IfSome (job_of command.now) (λ a. job ≡ job_after a replies)) }
 {
     let mut job = Job::start(alloc, command)?;
-    take_all(&mut job, replies.into_vec());
+    take_all(rt, alloc, &mut job, replies.into_vec())?;
     Ok(job)
 }

@@ -3,9 +3,21 @@
 //! A PRUNE asks for its group's snapshots, by its own command, and then to forget each that no option keeps, the newest
 //! first. In a dry run it asks no more than the group. A snapshot that a lane holds stays, and one may be gone before;
 //! any other refusal of a step is the job's report.
+//!
+//! A VERIFY opens a reader of its snapshot, asks for its files, reads each of them in parts and each chunk that an index names,
+//! and closes the reader. What a file says is compared with what is listed of it; chunks are tested in batches, by as many
+//! threads as there are processors. What is damaged or can't be read is its file's fault; any other refusal of a step is the
+//! job's report, behind the step that closes the reader.
 #![tactic(auto)]
 
+mod batch;
+mod chunks;
+mod ending;
 mod job;
+mod judging;
 mod prune;
+mod stages;
+mod verify;
+mod visit;
 
 pub use job::{Job, replay};

@@ -20,12 +20,13 @@ use Rattle.store_model.specs.Weave.{first_fault}
 use Rattle.store_model.specs.declared.ending.Ending.{Ending}
 use Rattle.store_model.specs.declared.ending.Ending.TheVariants as endings
 use Rattle.core_state.specs.declared.state.Core.{Core}
-use Rattle.core_state.specs.Answers.{IsTold, IsCaused, HasCause, done, short, failed, halted, fault_after}
+use Rattle.core_state.specs.Answers.{IsTold, IsCaused, HasCause, StartHasCause, start_opens, start_as_any, done, short, failed, halted, fault_after}
 use Rattle.core_state.specs.Replies.{may_answer}
 use Rattle.core_state.specs.Records.{FitsKind, AreKept}
 use Rattle.core_state.specs.Closing.{is_closing}
 use Rattle.core_state.specs.Reserved.{Keeps, KeepsReserve}
 use Rattle.lane.specs.declared.acts.Told.{Told}
+use Rattle.lane.specs.Fronts.{act_ahead}
 use Rattle.lane.specs.Acting.{HasReply, IsWant, IsRefused, MayTell, LeavesReserve, short_ending}
 
 -- ---- acts that have a reply
@@ -35,6 +36,10 @@ replied (commands.Chunk digest blob) = tt
 replied (commands.Blob file blob) = tt
 replied (commands.Prune group keep dry) = tt
 replied c = tt
+
+pub ahead_replied : (c : Command) → HasReply (act_ahead c)
+ahead_replied (commands.Sync group) = tt
+ahead_replied c = replied c
 
 pub step_replied : (s : Step) → HasReply (act_of_step s)
 step_replied (steps.Command c) = replied c
@@ -46,6 +51,9 @@ is_told (acts.Plain c) x h told = told
 is_told (acts.JobGroup c) x h told = told
 is_told (acts.Blob name checked) x h told = told
 is_told (acts.Chunk digest checked) x h told = told
+is_told (acts.ReadFile name offset) x h told = told
+is_told (acts.ReadChunk name entry) x h told = told
+is_told (acts.RemoteList c) x h told = told
 is_told acts.Start x h told = absurd h
 is_told acts.Step x h told = absurd h
 is_told acts.Short x h told = told
@@ -56,6 +64,9 @@ keeps (acts.Plain c) old new k x h kept = kept
 keeps (acts.JobGroup c) old new k x h kept = kept
 keeps (acts.Blob name checked) old new k x h kept = kept
 keeps (acts.Chunk digest checked) old new k x h kept = kept
+keeps (acts.ReadFile name offset) old new k x h kept = kept
+keeps (acts.ReadChunk name entry) old new k x h kept = kept
+keeps (acts.RemoteList c) old new k x h kept = kept
 keeps acts.Start old new k x h kept = absurd h
 keeps acts.Step old new k x h kept = absurd h
 keeps acts.Short old new k x h kept = kept
@@ -70,17 +81,25 @@ none_some (Some r) is some = cc
 
 -- ---- what is told
 
-caused : {D E C : Type 0} (d : Ghosts D) (a : Act) (old new : Core D E C) (x : Answer) → HasReply a → IsCaused d old new a x → HasCause d old new a x
+-- a SYNC's first step opens no collector
+as_any : {D E C : Type 0} {d : Ghosts D} {old new : Core D E C} {c : Command} {x : Answer} → StartHasCause d old new (acts.RemoteList c) x → HasCause d old new (acts.RemoteList c) x
+as_any (start_opens opens fault kind none) = absurd opens
+as_any (start_as_any cause) = cause
+
+pub caused : {D E C : Type 0} (d : Ghosts D) (a : Act) (old new : Core D E C) (x : Answer) → HasReply a → IsCaused d old new a x → HasCause d old new a x
 caused d (acts.Plain c) old new x h cause = cause
 caused d (acts.JobGroup c) old new x h cause = cause
 caused d (acts.Blob name checked) old new x h cause = cause
 caused d (acts.Chunk digest checked) old new x h cause = cause
+caused d (acts.ReadFile name offset) old new x h cause = cause
+caused d (acts.ReadChunk name entry) old new x h cause = cause
+caused d (acts.RemoteList c) old new x h cause = as_any cause
 caused d acts.Start old new x h cause = absurd h
 caused d acts.Step old new x h cause = absurd h
 caused d acts.Short old new x h cause = short cause.0 cause.1
 caused d acts.End old new x h cause = absurd h
 
-same_reply : (o : Option Reply) (r s : Reply) → o ≡ Some r → o ≡ Some s → r ≡ s
+pub same_reply : (o : Option Reply) (r s : Reply) → o ≡ Some r → o ≡ Some s → r ≡ s
 same_reply o r s is also = inner (sym is ∙ also)
   where
     inner : Some r ≡ Some s → r ≡ s

@@ -1,17 +1,18 @@
--- GC on a lane: its collector's acts, and where they lead. And commands that no lane serves.
+-- GC on a lane: its collector's acts, and where they lead. And a SYNC's first step.
 use Rattle.std.proofs.Common.{◌≡◌, inl, inr, ℕ, Bool, true, false, ◌||◌, ◌==◌, List, [], ◌∷◌, ◌++◌, Option, Some, None, IsSome, refl, sym, ap, subst, ◌∙◌, arith, append-nil, append_assoc}
-use Rattle.std.proofs.lemmas.Bool.{eq-eqb, eqb-true}
+use Rattle.std.proofs.lemmas.Bool.{eqb-true}
 use Rattle.wire_commands.specs.declared.command.Command.{Command}
 use Rattle.wire_commands.specs.declared.command.Command.TheVariants as commands
 use Rattle.wire_commands.specs.declared.reply.Reply.{Reply}
 use Rattle.store_model.specs.Lanes.{sync, collect, collecting, command_next}
+use Rattle.store_history.specs.declared.act.Act.{Act}
 use Rattle.store_history.specs.declared.act.Act.TheVariants as acts
 use Rattle.store_history.specs.declared.act.Answer.{Answer}
 use Rattle.store_history.specs.declared.act.Event.{Event}
 use Rattle.store_history.specs.Acts.{class_of}
 use Rattle.store_history.specs.History.{kind, lane, reply}
-use Rattle.store_history.specs.LaneRun.{Position, next_at, tells, wants, heard_at, heard, may_want_at}
-use Rattle.store_history.specs.SoFar.{goes_further, Follows, Leads}
+use Rattle.store_history.specs.LaneRun.{Position, next_at, wants, heard_at, heard, Asks}
+use Rattle.store_history.specs.SoFar.{Follows, Leads}
 use Rattle.store_history.proofs.Collecting.{flag, follows_step, leads_start, leads_gc, leads_close}
 use Rattle.store_history.proofs.Ending.{next_shut, next_collecting}
 use Rattle.store_history.proofs.Growing.{leads_more}
@@ -19,15 +20,14 @@ use Rattle.store_history.proofs.Longer.{of_more}
 use Rattle.core_state.specs.Answers.{IsToldBut}
 use Rattle.core_state.specs.History.{History, then_event}
 use Rattle.lane.specs.declared.acts.Told.{Told}
-use Rattle.lane.specs.Acting.{Did, MayTell}
+use Rattle.lane.specs.Acting.{Did}
 use Rattle.lane.specs.Collecting.{TellsEnd, HasPassed, sweeping_at, HasSwept, Sweeps}
 use Rattle.lane.specs.Doing.{answered, Does}
-use Rattle.lane.specs.Fronts.{is_unserved}
+use Rattle.lane.specs.Fronts.{act_ahead}
 use Rattle.lane.specs.Ran.{with_events}
-use Rattle.lane.proofs.Doing.{leads_then}
-use Rattle.lane.proofs.Stepping.{job_short}
+use Rattle.lane.proofs.Doing.{leads_then, or_false, read_on, IsAlone, ahead_plain, does_plain}
 
--- ---- a SYNC for which memory was wanting
+-- ---- a SYNC's first step
 
 pub heard_sync : (p : Position) (group left : List ℕ) (a : Answer) (r : Reply) → next_at p ≡ sync group left → a.reply ≡ Some r
     → heard p a ≡ record p { left = left; job = None; is_short = (a.entry).kind == 2; is_spent = a.last || p.is_spent; told = p.told ++ r ∷ [] }
@@ -37,17 +37,10 @@ heard_sync p group left a r is says =
     ∙ ap (λ (x : Option Reply). flag a p.collecting (a.entry).kind (heard_at p (a.entry).kind x (sync group left))) says
     ∙ ap (λ (o : Option Bool). flag a o (a.entry).kind (heard_at p (a.entry).kind (Some r) (sync group left))) (next_shut p (sync group left) is refl)
 
-follows_sync : (p : Position) (group left : List ℕ) (v : Event) → p.is_spent ≡ false → next_at p ≡ sync group left → may_want_at p ≡ true → v.act ≡ acts.Short → Follows (class_of v.act) p v
-follows_sync p group left v on is may asks = subst (λ c. Follows c p v) (sym (ap class_of asks)) (on, may, ap goes_further is)
+follows_sync : (p : Position) (group left : List ℕ) (v : Event) → p.is_spent ≡ false → next_at p ≡ sync group left → v.act ≡ acts.RemoteList (commands.Sync group) → Follows (class_of v.act) p v
+follows_sync p group left v on is asks = subst (λ c. Follows c p v) (sym (ap class_of asks)) (on, subst (λ x. Asks x v.act) (sym is) asks)
 
-or_false : (p : Position) (b : Bool) → p.is_spent ≡ false → (b || p.is_spent) ≡ b
-or_false p b is = ap (λ x. b || x) is ∙ last b
-  where
-    last : (b : Bool) → (b || false) ≡ b
-    last true = refl
-    last false = refl
-
-does_sync : (before after : History → Type 0) (k : ℕ) (group : List ℕ) (told : Told) → Did before after k acts.Short told → Does before after k (command_next (commands.Sync group)) told
+does_sync : (before after : History → Type 0) (k : ℕ) (group : List ℕ) (told : Told) → Did before after k (acts.RemoteList (commands.Sync group)) told → Does before after k (command_next (commands.Sync group)) told
 unfolding command_next
 does_sync before after k group told d = let v = d.event in record {
   events = v ∷ [];
@@ -55,19 +48,19 @@ does_sync before after k group told d = let v = d.event in record {
   history = d.history;
   lanes = (d.lane_is, tt);
   leads = λ p left is.
-      subst (λ b. Leads p (v ∷ []) (answered p left told.reply (kind v == 2) b)) (or_false p (v.answer).last is.on ∙ d.last)
+      let on = read_on p (sync group left) is.next refl is.on in
+      subst (λ b. Leads p (v ∷ []) (answered p left told.reply (kind v == 2) b)) (or_false p (v.answer).last on ∙ d.last)
       (subst (λ x. Leads p (v ∷ []) x) (heard_sync p group left v.answer told.reply is.next d.tells)
-      (leads_more [] p p v refl (follows_sync p group left v is.on is.next (is.wants tt) d.asks)));
-  short = λ last. eq-eqb (kind v) 2 (d.kind_is (inr last));
+      (leads_more [] p p v refl (follows_sync p group left v on is.next d.asks)));
 }
 
--- a command that no lane serves is told want of memory
-pub does_unserved : (before after : History → Type 0) (k : ℕ) (c : Command) (told : Told) → is_unserved c ≡ true → Did before after k acts.Short told → MayTell acts.Short told
+-- a command of one act
+pub does_alone : (before after : History → Type 0) (k : ℕ) (c : Command) (act : Act) (told : Told) → Did before after k act told → act ≡ act_ahead c → IsAlone c
     → Does before after k (command_next c) told
-unfolding command_next
-does_unserved before after k (commands.Verify snapshot) told is d tells = job_short before after k (commands.Verify snapshot) told refl d tells
-does_unserved before after k (commands.Sync group) told is d tells = does_sync before after k group told d
-does_unserved before after k c told is d tells = cc
+does_alone before after k c act told d is (inl other) = does_plain before after k c act told d (is ∙ ahead_plain c other) other
+does_alone before after k c act told d is (inr (group, same)) =
+    subst (λ x. Does before after k (command_next x) told) (sym same)
+    (does_sync before after k group told (subst (λ a. Did before after k a told) (is ∙ ap act_ahead same) d))
 
 -- ---- what an answer leaves of an open collector
 
@@ -103,29 +96,21 @@ swept_none before k = record {
   history = λ h at. subst (λ es. before (with_events h es)) (sym (append-nil h.events)) at;
   lanes = tt;
   leads = λ p left. refl;
-  cut = λ last. absurd (false_true last);
 }
-
--- where this act's entry was not the reserve's, one before it was
-last_before : (a b now : Bool) → (a ≡ true → ⊥) → now ≡ (a || b) → now ≡ true → b ≡ true
-last_before true b now none is last = absurd (none refl)
-last_before false b now none is last = sym is ∙ last
 
 some_reply : (o : Option Reply) → IsSome o → (r : Reply) × (o ≡ Some r)
 some_reply None some = cc
 some_reply (Some r) some = (r, refl)
 
 swept_by : (before between after : History → Type 0) (k : ℕ) (is_last now_last cut short : Bool) → (s : HasSwept before between k is_last) → (x : HasPassed between after k is_last now_last None)
-    → ((p : Position) (left : List ℕ) → Leads (sweeping_at p left false false false) (s.events ++ x.event ∷ []) (sweeping_at p left cut short (((x.event).answer).last || is_last)))
-    → (now_last ≡ true → cut ≡ true) → HasSwept before after k now_last
-swept_by before between after k is_last now_last cut short s x led is_cut = record {
+    → ((p : Position) (left : List ℕ) → Leads (sweeping_at p left false false false) (s.events ++ x.event ∷ []) (sweeping_at p left cut short (((x.event).answer).last || is_last))) → HasSwept before after k now_last
+swept_by before between after k is_last now_last cut short s x led = record {
   events = s.events ++ x.event ∷ [];
   is_cut = cut;
   is_short = short;
   history = λ h at. subst (λ es. after (with_events h es)) (append_assoc h.events s.events (x.event ∷ [])) (x.history (with_events h (h.events ++ s.events)) (s.history h at));
   lanes = of_more k s.events x.event s.lanes x.lane_is;
   leads = λ p left. subst (λ b. Leads (sweeping_at p left false false false) (s.events ++ x.event ∷ []) (sweeping_at p left cut short b)) (sym x.last) (led p left);
-  cut = is_cut;
 }
 
 -- one more, behind which the collector is still open
@@ -142,11 +127,9 @@ swept_more before between after k is_last now_last s x = by_reply x.tells
     by_reply : TellsEnd x.event None → HasSwept before after k now_last
     by_reply (inl pass) = swept_by before between after k is_last now_last s.is_cut (wants (kind x.event) (Some s.is_cut)) s x
         (λ p left. subst (λ q. Leads (sweeping_at p left false false false) (s.events ++ x.event ∷ []) q) (heard_pass (at p left) s.is_cut ((x.event).answer) refl pass.1) (heard_led p left))
-        (λ last. s.cut (last_before ((x.event).answer).last is_last now_last (λ is. pass.0 (x.want is)) x.last last))
     by_reply (inr want) = let r = some_reply (reply x.event) want.1 in
         swept_by before between after k is_last now_last true (wants 2 (Some s.is_cut)) s x
         (λ p left. subst (λ q. Leads (sweeping_at p left false false false) (s.events ++ x.event ∷ []) q) (heard_want (at p left) s.is_cut ((x.event).answer) r.0 refl r.1 want.0) (heard_led p left))
-        (λ last. refl)
 
 -- its end
 pub swept_ends : (before between after : History → Type 0) (k : ℕ) (is_last : Bool) (told : Told) → HasSwept before between k is_last → HasPassed between after k is_last told.last (Some told.reply)
@@ -161,11 +144,7 @@ swept_ends before between after k is_last told s x = record {
       subst (λ o. Leads start (s.events ++ x.event ∷ []) (record p { left = left; job = None; collecting = o; is_short = s.is_cut; is_spent = told.last; told = p.told ++ told.reply ∷ [] })) (sym shut)
       (subst (λ b. Leads start (s.events ++ x.event ∷ []) (record p { left = left; job = None; collecting = None; is_short = s.is_cut; is_spent = b; told = p.told ++ told.reply ∷ [] })) (sym x.last)
       (leads_close s.events start q s.is_cut x.event told.reply (s.leads p left) refl x.asks (x.tells).1 (x.tells).0));
-  short = λ last. s.cut (last_before ((x.event).answer).last is_last told.last (λ is. no_want (eq-eqb (kind x.event) 2 (x.want is))) x.last last);
 }
-  where
-    no_want : ((kind x.event) == 2) ≡ true → ⊥
-    no_want is = false_true (sym (x.tells).0 ∙ is)
 
 -- ---- by what was told
 
@@ -206,11 +185,11 @@ does_opened before between after k told o s = let v = o.event in record {
   history = λ h at. subst (λ es. after (with_events h es)) (append_assoc h.events (v ∷ []) s.events) (s.history (then_event h v) (o.history h at));
   lanes = (o.lane_is, s.lanes);
   leads = λ p left is.
+      let on = read_on p (collect left) is.next refl is.on in
       leads_then (v ∷ []) s.events p (sweeping_at p left false false false) (answered p left told.reply s.is_short told.last)
-      (subst (λ b. Leads p (v ∷ []) (sweeping_at p left false false b)) (or_false p (v.answer).last is.on ∙ o.last)
-      (leads_start [] p p left v refl is.on is.next o.asks o.none o.kind_is))
+      (subst (λ b. Leads p (v ∷ []) (sweeping_at p left false false b)) (or_false p (v.answer).last on ∙ o.last)
+      (leads_start [] p p left v refl on is.next o.asks o.none o.kind_is))
       (s.leads p left (next_shut p (collect left) is.next refl));
-  short = s.short;
 }
 
 -- or its start was told something
@@ -222,7 +201,7 @@ does_told before after k told d = let v = d.event in record {
   history = d.history;
   lanes = (d.lane_is, tt);
   leads = λ p left is.
-      subst (λ b. Leads p (v ∷ []) (answered p left told.reply (kind v == 2) b)) (or_false p (v.answer).last is.on ∙ d.last)
-      (leads_gc [] p p left v told.reply refl is.on is.next d.asks d.tells);
-  short = λ last. eq-eqb (kind v) 2 (d.kind_is (inr last));
+      let on = read_on p (collect left) is.next refl is.on in
+      subst (λ b. Leads p (v ∷ []) (answered p left told.reply (kind v == 2) b)) (or_false p (v.answer).last on ∙ d.last)
+      (leads_gc [] p p left v told.reply refl on is.next d.asks d.tells);
 }

@@ -1,24 +1,24 @@
 -- What a command does, or a job: its acts, and where they lead.
-use Rattle.std.proofs.Common.{◌≡◌, ◌≢◌, inr, ℕ, Bool, true, false, ◌||◌, ◌==◌, List, [], ◌∷◌, ◌++◌, Some, refl, sym, ap, subst, ◌∙◌}
-use Rattle.std.proofs.lemmas.Bool.{eq-eqb}
+use Rattle.std.proofs.Common.{◌≡◌, ◌≢◌, ◌⊎◌, inl, inr, ℕ, ◌-◌, length, Bool, true, false, not, ◌||◌, ◌==◌, List, [], ◌∷◌, ◌++◌, Option, None, Some, refl, sym, ap, subst, ◌∙◌}
 use Rattle.wire_commands.specs.declared.command.Command.{Command}
 use Rattle.wire_commands.specs.declared.command.Command.TheVariants as commands
 use Rattle.store_model.specs.Job.{Asking}
-use Rattle.store_model.specs.Jobs.{job_of, IsPrune}
-use Rattle.store_model.specs.Lanes.{job_step, command_next}
+use Rattle.store_model.specs.Jobs.{job_of, IsJob}
+use Rattle.wire_commands.specs.Inputs.{front}
+use Rattle.store_model.specs.Lanes.{Next, job_step, plain, collecting, command_next, front_next, lane_next}
 use Rattle.store_history.specs.declared.act.Act.{Act}
 use Rattle.store_history.specs.declared.act.Event.{Event}
-use Rattle.store_history.specs.Acts.{act_of_command}
+use Rattle.store_history.specs.Acts.{IsWellFormed, act_of_command}
 use Rattle.store_history.specs.History.{kind}
-use Rattle.store_history.specs.LaneRun.{Position, heard}
+use Rattle.store_history.specs.LaneRun.{Position, next_at, heard, job_stops, may_step}
 use Rattle.store_history.specs.Seats.{AreOf}
 use Rattle.store_history.specs.SoFar.{Leads}
-use Rattle.store_history.proofs.Ending.{IsCommand, command_is, leads_command}
+use Rattle.store_history.proofs.Ending.{IsCommand, command_is, leads_command, is_formed}
 use Rattle.core_state.specs.History.{History}
 use Rattle.lane.specs.declared.acts.Told.{Told}
 use Rattle.lane.specs.Acting.{Did}
 use Rattle.lane.specs.Doing.{IsStep, IsNext, answered, Does}
-use Rattle.lane.specs.Fronts.{is_prune, is_gc, is_unserved, IsJobs}
+use Rattle.lane.specs.Fronts.{act_ahead, is_job, is_gc, IsJobs}
 
 -- ---- events behind others
 
@@ -54,12 +54,48 @@ step_is_job c left h = absurd h
 
 -- ---- by one act, or by a job's
 
-or_false : (p : Position) (b : Bool) → p.is_spent ≡ false → (b || p.is_spent) ≡ b
+pub or_false : (p : Position) (b : Bool) → p.is_spent ≡ false → (b || p.is_spent) ≡ b
 or_false p b is = ap (λ x. b || x) is ∙ last b
   where
     last : (b : Bool) → (b || false) ≡ b
     last true = refl
     last false = refl
+
+-- what is next is read of the input
+abbrev pub is_read : Next → Bool
+is_read (job_step j left) = false
+is_read (collecting is_short) = false
+is_read n = true
+
+false_true : false ≡ true → ⊥
+false_true e = cc
+
+no_stop : (p : Position) (n : Next) → next_at p ≡ n → is_read n ≡ true → job_stops p.job ≡ false
+unfolding next_at lane_next
+no_stop p n is read = by_collecting p.collecting is
+  where
+    other : (x : Next) → x ≡ n → is_read x ≡ true
+    other x same = subst (λ y. is_read y ≡ true) (sym same) read
+
+    by_job : (o : Option Asking) → elim o [ None ↦ front_next (p.size - length p.left) (front p.left) | Some j ↦ job_step j p.left ] ≡ n → job_stops o ≡ false
+    by_job None is = refl
+    by_job (Some j) is = absurd (false_true (other (job_step j p.left) is))
+
+    by_collecting : (o : Option Bool)
+        → elim o [
+          | None ↦ elim p.job [ None ↦ front_next (p.size - length p.left) (front p.left) | Some j ↦ job_step j p.left ]
+          | Some is_short ↦ collecting is_short
+        ] ≡ n → job_stops p.job ≡ false
+    by_collecting None is = by_job p.job is
+    by_collecting (Some is_short) is = absurd (false_true (other (collecting is_short) is))
+
+-- where that is next, no answer so far was the last
+pub read_on : (p : Position) (n : Next) → next_at p ≡ n → is_read n ≡ true → may_step p ≡ true → p.is_spent ≡ false
+read_on p n is read on = by_spent p.is_spent (ap (λ b. not p.is_spent || b) (sym (no_stop p n is read)) ∙ on)
+  where
+    by_spent : (b : Bool) → (not b || false) ≡ true → b ≡ false
+    by_spent true h = cc
+    by_spent false h = refl
 
 pub does_plain : (before after : History → Type 0) (k : ℕ) (c : Command) (act : Act) (told : Told) → Did before after k act told → act ≡ act_of_command c → IsCommand c
     → Does before after k (command_next c) told
@@ -69,9 +105,9 @@ does_plain before after k c act told d is_act alone = let v = d.event in record 
   history = d.history;
   lanes = (d.lane_is, tt);
   leads = λ p left is.
-      subst (λ b. Leads p (v ∷ []) (answered p left told.reply (kind v == 2) b)) (or_false p (v.answer).last is.on ∙ d.last)
-      (leads_command [] p p c left v told.reply refl is.on (is.next ∙ command_is c left alone) (d.asks ∙ is_act) d.tells);
-  short = λ last. eq-eqb (kind v) 2 (d.kind_is (inr last));
+      let on = read_on p (plain c left) (is.next ∙ command_is c left alone) refl is.on in
+      subst (λ b. Leads p (v ∷ []) (answered p left told.reply (kind v == 2) b)) (or_false p (v.answer).last on ∙ d.last)
+      (leads_command [] p p c left v told.reply refl on (is.next ∙ command_is c left alone) (d.asks ∙ is_act) d.tells);
 }
 
 pub does_job : (before after : History → Type 0) (k : ℕ) (c : Command) (j : Asking) (told : Told) → job_of c ≡ Some j → Does before after k (job_step j) told → Does before after k (command_next c) told
@@ -81,22 +117,38 @@ does_job before after k c j told some d = record {
   history = d.history;
   lanes = d.lanes;
   leads = λ p left is. d.leads p left (subst (λ n. IsNext n p) (next_job c j left some) is);
-  short = d.short;
 }
 
 -- ---- the commands of one act
 
-pub command_alone : (c : Command) → c ≢ commands.Bye → is_prune c ≡ false → is_gc c ≡ false → is_unserved c ≡ false → IsCommand c
-command_alone commands.Bye ne prune gc unserved = absurd (ne refl)
-command_alone (commands.Prune group keep dry) ne prune gc unserved = cc
-command_alone commands.Gc ne prune gc unserved = cc
-command_alone (commands.Verify snapshot) ne prune gc unserved = cc
-command_alone (commands.Sync group) ne prune gc unserved = cc
-command_alone c ne prune gc unserved = tt
+-- the command is plain, or a SYNC
+abbrev pub IsAlone : Command → Type 0
+IsAlone c = IsCommand c ⊎ ((group : List ℕ) × (c ≡ commands.Sync group))
 
-pub prune_by : (c : Command) → is_prune c ≡ true → IsPrune c
-prune_by (commands.Prune group keep dry) is = tt
-prune_by c is = cc
+pub command_alone : (c : Command) → c ≢ commands.Bye → is_job c ≡ false → is_gc c ≡ false → IsAlone c
+command_alone commands.Bye ne job gc = absurd (ne refl)
+command_alone (commands.Prune group keep dry) ne job gc = cc
+command_alone commands.Gc ne job gc = cc
+command_alone (commands.Verify snapshot) ne job gc = cc
+command_alone (commands.Sync group) ne job gc = inr (group, refl)
+command_alone c ne job gc = inl tt
+
+pub ahead_other : (c : Command) → ((group : List ℕ) → c ≡ commands.Sync group → ⊥) → act_ahead c ≡ act_of_command c
+ahead_other (commands.Sync group) other = absurd (other group refl)
+ahead_other c other = refl
+
+pub ahead_plain : (c : Command) → IsCommand c → act_ahead c ≡ act_of_command c
+ahead_plain (commands.Sync group) other = absurd other
+ahead_plain c other = refl
+
+pub formed_alone : (c : Command) → IsAlone c → IsWellFormed (act_ahead c)
+formed_alone c (inl other) = subst IsWellFormed (sym (ahead_plain c other)) (is_formed c other)
+formed_alone c (inr (group, is)) = subst (λ x. IsWellFormed (act_ahead x)) (sym is) tt
+
+pub job_by : (c : Command) → is_job c ≡ true → IsJob c
+job_by (commands.Prune group keep dry) is = tt
+job_by (commands.Verify snapshot) is = tt
+job_by c is = cc
 
 pub gc_by : (c : Command) → is_gc c ≡ true → c ≡ commands.Gc
 gc_by commands.Gc is = refl

@@ -23,10 +23,10 @@ either_true : (a b : Bool) → a || b ≡ true → (a ≡ true) ⊎ (b ≡ true)
 either_true true b e = inl refl
 either_true false b e = inr e
 
-first_true : (a b : Bool) → a ≡ true → a || b ≡ true
+pub first_true : (a b : Bool) → a ≡ true → a || b ≡ true
 first_true a b e = ap (λ x. x || b) e
 
-second_true : (a b : Bool) → b ≡ true → a || b ≡ true
+pub second_true : (a b : Bool) → b ≡ true → a || b ≡ true
 second_true true b e = refl
 second_true false b e = e
 
@@ -100,6 +100,21 @@ none_entered d core k wanting no_want = record {
     false_true x = cc
 
 -- ---- some, and more
+
+-- the same, where less is said of want of memory
+pub entered_as : {D E C : Type 0} (d : Ghosts D) (a b : Core D E C) (k : ℕ) (first both : Type 0) → HasEntered d a b k first → (both → first) → HasEntered d a b k both
+entered_as d a b k first both x of = record {
+  added = x.added;
+  counts = x.counts;
+  entries = x.entries;
+  calls = x.calls;
+  beside = x.beside;
+  lanes = x.lanes;
+  count = x.count;
+  fault = x.fault;
+  cause = x.cause;
+  memory = λ wants. x.memory (of wants);
+}
 
 pub more_entered : {D E C : Type 0} (d : Ghosts D) (a b c : Core D E C) (k : ℕ) (first second both : Type 0)
     → HasEntered d a b k first → HasEntered d b c k second → (both → first ⊎ second) → HasEntered d a c k both

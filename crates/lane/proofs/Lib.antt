@@ -3,6 +3,8 @@ pub mod Chunks
 pub mod Acting
 pub mod Replies
 pub mod Doing
+pub mod Ranks
+pub mod Readers
 pub mod Stepping
 pub mod Collections
 pub mod Sweeping

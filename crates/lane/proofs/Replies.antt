@@ -8,13 +8,13 @@ use Rattle.wire_commands.specs.declared.reply.Reply.TheVariants as replies
 use Rattle.store_model.specs.declared.step.Step.{Step}
 use Rattle.store_model.specs.declared.step.Step.TheVariants as steps
 use Rattle.store_model.specs.Stands.{group_limit}
-use Rattle.store_model.specs.Job.{Asking, grouping, forgetting, step_of, asking}
+use Rattle.store_model.specs.Job.{Asking, grouping, forgetting, opening, listing, reading, checking, closing, step_of, asking}
 use Rattle.store_model.specs.JobReplies.{IsReplyTo}
 use Rattle.store_history.specs.declared.act.Act.{Act}
 use Rattle.store_history.specs.declared.act.Act.TheVariants as acts
 use Rattle.store_history.specs.Acts.{act_of_step}
-use Rattle.store_history.proofs.Jobs.{IsBegun}
-use Rattle.core_state.specs.Replies.{may_answer, answers_prune, answers_forget}
+use Rattle.store_history.specs.Begun.{IsBegun}
+use Rattle.core_state.specs.Replies.{may_answer, answers_prune, answers_forget, answers_reader, answers_files, answers_part, answers_entry, answers_close}
 use Rattle.lane.specs.declared.acts.Told.{Told}
 use Rattle.lane.specs.Acting.{IsRefused, MayTell}
 use Rattle.lane.specs.Stepping.{IsActOf}
@@ -39,13 +39,45 @@ forget_replies snapshot replies.Done may = (refl, tt)
 forget_replies snapshot (replies.Refused refusal) may = (tt, tt)
 forget_replies snapshot r may = cc
 
+-- a VERIFY's
+
+files_replies : (snapshot : List ℕ) (r : Reply) → IsTrue (answers_files r) → IsReplyTo (steps.Command (commands.Files snapshot)) r
+files_replies snapshot (replies.Files rows) may = (refl, tt)
+files_replies snapshot (replies.Refused refusal) may = (tt, tt)
+files_replies snapshot r may = cc
+
+part_replies : (name : List ℕ) (offset : ℕ) (r : Reply) → IsTrue (answers_part offset r) → IsReplyTo (steps.ReadFile name offset) r
+part_replies name offset (replies.Part total bytes) may = refl
+part_replies name offset (replies.Refused refusal) may = tt
+part_replies name offset r may = cc
+
+entry_replies : (name : List ℕ) (entry : ℕ) (r : Reply) → IsTrue (answers_entry r) → IsReplyTo (steps.ReadChunk name entry) r
+entry_replies name entry (replies.Data bytes) may = refl
+entry_replies name entry (replies.Refused refusal) may = tt
+entry_replies name entry r may = cc
+
+reader_replies : (snapshot : List ℕ) (r : Reply) → IsTrue (answers_reader r) → IsReplyTo (steps.Command (commands.OpenReader snapshot)) r
+reader_replies snapshot replies.Done may = (refl, tt)
+reader_replies snapshot (replies.Refused refusal) may = (tt, tt)
+reader_replies snapshot r may = cc
+
+close_replies : (r : Reply) → IsTrue (answers_close r) → IsReplyTo (steps.Command commands.CloseReader) r
+close_replies replies.Done may = (refl, tt)
+close_replies (replies.Refused refusal) may = (tt, tt)
+close_replies r may = cc
+
 step_replies : (j : Asking) (r : Reply) → IsBegun (asking j) → IsTrue (may_answer (act_of_step (step_of j)) r) → IsReplyTo (step_of j) r
 step_replies (grouping (commands.Prune group keep dry) k d) r begun may = prune_replies group keep dry r may
 step_replies (grouping c keep dry) r begun may = absurd begun
 step_replies (forgetting before snapshot later) r begun may = forget_replies snapshot r may
+step_replies (opening snapshot) r begun may = reader_replies snapshot r may
+step_replies (listing snapshot) r begun may = files_replies snapshot r may
+step_replies (reading v row bytes) r begun may = part_replies row.file (length bytes) r may
+step_replies (checking v row fault place d later) r begun may = entry_replies row.file place r may
+step_replies (closing report) r begun may = close_replies r may
 step_replies j r begun may = absurd begun
 
-short_no_answer : (r : Reply) → IsTrue (may_answer acts.Short r) → ⊥
+pub short_no_answer : (r : Reply) → IsTrue (may_answer acts.Short r) → ⊥
 short_no_answer r may = cc
 
 pub replies_to : (j : Asking) (act : Act) (told : Told) → IsBegun (asking j) → IsActOf (asking j) act → MayTell act told → IsReplyTo (step_of j) told.reply
@@ -54,4 +86,4 @@ replies_to j act told begun of tells = by_reply of tells.reply_is
     by_reply : IsActOf (asking j) act → IsTrue (may_answer act told.reply) ⊎ IsRefused told.reply → IsReplyTo (step_of j) told.reply
     by_reply h (inr refused) = refused_replies (step_of j) told.reply refused
     by_reply (inl is) (inl may) = step_replies j told.reply begun (subst (λ a. IsTrue (may_answer a told.reply)) is may)
-    by_reply (inr is) (inl may) = absurd (short_no_answer told.reply (subst (λ a. IsTrue (may_answer a told.reply)) is may))
+    by_reply (inr is) (inl may) = absurd (short_no_answer told.reply (subst (λ a. IsTrue (may_answer a told.reply)) is.0 may))

@@ -40,6 +40,7 @@ use Rattle.lane.specs.Taking.{TakesInVain}
 use Rattle.lane.specs.Turns.{HasDone}
 use Rattle.lane.proofs.Doing.{of_both, leads_then, step_is_job}
 use Rattle.lane.proofs.Collections.{heard_sync}
+use Rattle.lane.proofs.Entries.{first_true, second_true}
 use Rattle.lane.proofs.Fronts.{part_wants}
 use Rattle.lane.proofs.Stepping.{EndsByWant, want_first}
 use Rattle.lane.proofs.Turning.{nothing_taken, at_next, gave_more, taken_on, leads_further, no_words}
@@ -53,7 +54,7 @@ at_command : (stands : History → Type 0) (start : Start) (k : ℕ) (left taken
 at_command stands start k left taken tail size given c s ahead = let p = position s.input tail.bytes s.is_short s.told in record {
   on = refl;
   next = at_next stands start k left taken tail size given s ∙ ahead.next;
-  wants = λ step. wants_frame p refl (ahead.wants (step_is_job c (advanced tail).bytes step));
+  wants = λ step on. wants_frame p refl refl (ahead.wants (step_is_job c (advanced tail).bytes step));
 }
 
 -- the position behind it
@@ -95,13 +96,13 @@ command_served before after start k left taken taken' tail tail' size size' give
 }
 
 -- or it is the lane's last
-ends_so : (e : Ending) (p : Position) (told : Told) → (told.last ≡ true → p.is_short ≡ true) → IsEndedBy told.last (Some e) → EndsSo e p (next_at p)
-ends_so endings.NoMemory p told want by = want by
-ends_so endings.SinkFault p told want by = tt
-ends_so endings.Clean p told want by = absurd by
-ends_so (endings.Broken place) p told want by = absurd by
-ends_so endings.SourceFault p told want by = absurd by
-ends_so endings.SourceTooLong p told want by = absurd by
+ends_so : (e : Ending) (p : Position) → IsEndedBy p.is_spent (Some e) → EndsSo e p (next_at p)
+ends_so endings.NoMemory p by = second_true p.is_short p.is_spent by
+ends_so endings.SinkFault p by = tt
+ends_so endings.Clean p by = absurd by
+ends_so (endings.Broken place) p by = absurd by
+ends_so endings.SourceFault p by = absurd by
+ends_so endings.SourceTooLong p by = absurd by
 
 -- one of the two endings of want of memory and of a sink
 IsShortEnding : Ending → Type 0
@@ -153,7 +154,7 @@ command_stops before after start k left taken taken' tail size size' given given
       size_is = s.size_is ∙ sym same;
       took = calm.took;
       gave = gave_more start.taken taken taken' given given' s.told told.reply (gave_all e) s.gave g.gave;
-      so = ends_so e p told d.short g.ended;
+      so = ends_so e p g.ended;
       says = calm.says;
       read_out = calm.out;
     }
@@ -231,8 +232,8 @@ heard_short p a r shut off goes says want two =
     by_next end is g first = absurd g
 
 short_so : (e : Ending) (o : Option Ending) (q : Position) (is_last : Bool) → e ≡ short_ending o → IsEndedBy is_last o → q.is_short ≡ true → EndsSo e q (next_at q)
-short_so e None q is_last is by short_is = subst (λ x. EndsSo x q (next_at q)) (sym is) short_is
-short_so e (Some endings.NoMemory) q is_last is by short_is = subst (λ x. EndsSo x q (next_at q)) (sym is) short_is
+short_so e None q is_last is by short_is = subst (λ x. EndsSo x q (next_at q)) (sym is) (first_true q.is_short q.is_spent short_is)
+short_so e (Some endings.NoMemory) q is_last is by short_is = subst (λ x. EndsSo x q (next_at q)) (sym is) (first_true q.is_short q.is_spent short_is)
 short_so e (Some endings.SinkFault) q is_last is by short_is = subst (λ x. EndsSo x q (next_at q)) (sym is) tt
 short_so e (Some endings.Clean) q is_last is by short_is = absurd by
 short_so e (Some (endings.Broken place)) q is_last is by short_is = absurd by
@@ -258,7 +259,7 @@ short_stops before after start k left left' taken taken' tail size size' given g
     let v = d.event in
     let q = heard p v.answer in
     let all = taken_on start.left left left' s.input piece s.took took in
-    let h = heard_short p v.answer r refl refl (want_goes p (wants_frame p refl wants)) d.tells ((answers.tells).want (inl refl)) (d.kind_is (inl refl)) in
+    let h = heard_short p v.answer r refl refl (want_goes p (wants_frame p refl refl wants)) d.tells ((answers.tells).want (inl refl)) (d.kind_is (inl refl)) in
     let one = short_one e answers.stop (answers.told).last answers.ending_is g.ended in
     let calm = quiet e q start.left left' input (s.events ++ v ∷ []) one.0 all in
     record {
@@ -269,7 +270,7 @@ short_stops before after start k left left' taken taken' tail size size' given g
       lanes = of_more k s.events v s.lanes d.lane_is;
       runs = λ f vs told runs. subst (λ es. Runs f (begin input) es told) (sym (append_assoc s.events (v ∷ []) vs))
           (leads_runs f s.events (v ∷ vs) (begin input) p told refl (leads_further s.input tail.bytes piece s.is_short s.told s.events s.leads)
-          (short_runs f p v vs told refl refl refl wants d.asks runs));
+          (short_runs f p v vs told refl refl refl refl wants d.asks runs));
       on = h.on;
       off = h.off;
       shut = h.shut;

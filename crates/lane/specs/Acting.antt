@@ -5,10 +5,12 @@ use Rattle.port_traits.specs.declared.clock.Clock as clocks
 use Rattle.port_traits.specs.declared.sink.Sink as sinks
 use Rattle.port_traits.specs.Bytes.{WritesCounted}
 use Rattle.wire_frames.specs.Frames.{frame}
-use Rattle.store_types.specs.declared.refusal.Refusal.TheVariants.{NoMemory}
+use Rattle.store_types.specs.declared.refusal.Refusal.TheVariants.{NoMemory, DiskFault, Halted}
 use Rattle.wire_commands.specs.declared.reply.Reply.{Reply}
-use Rattle.wire_commands.specs.declared.reply.Reply.TheVariants.{Refused}
+use Rattle.wire_commands.specs.declared.command.Command.TheVariants.{OpenReader}
+use Rattle.wire_commands.specs.declared.reply.Reply.TheVariants.{Done, Refused}
 use Rattle.wire_commands.specs.ReplyText.{reply_text}
+use Rattle.job_steps.specs.Closes.{leaves_open}
 use Rattle.store_model.specs.declared.ending.Ending.{Ending}
 use Rattle.store_model.specs.declared.ending.Ending.TheVariants as endings
 use Rattle.store_history.specs.declared.act.Act.{Act}
@@ -16,7 +18,10 @@ use Rattle.store_history.specs.declared.act.Act.TheVariants as acts
 use Rattle.store_history.specs.declared.act.Event.{Event}
 use Rattle.store_history.specs.History.{reply, lane, kind}
 use Rattle.core_state.specs.declared.state.Core.{Core}
+use Rattle.core_state.specs.Closing.{is_closing, is_reader}
+use Rattle.core_state.specs.Commands.{is_still}
 use Rattle.core_state.specs.Replies.{may_answer}
+use Rattle.core_state.specs.Wanted.{session_at}
 use Rattle.core_state.specs.Reserved.{CanEnd, Reserved}
 use Rattle.core_state.specs.Records.{Reaches}
 use Rattle.core_state.specs.History.{History, then_event}
@@ -58,6 +63,26 @@ pub record MayTell (act : Act) (told : Told) : Type 0 where
 pub record LeavesReserve {D E C : Type 0} (old new : Core D E C) (k : ℕ) (is_last : Bool) : Type 0 where
   pub left : Reserved old k → CanEnd new k
   pub kept : is_last ≡ false → Reserved old k → Reserved new k
+
+-- ---- the session of a job
+
+-- the lane has a reader, and the disk has not failed
+abbrev pub IsReading : {D E C : Type 0} → Core D E C → ℕ → Type 0
+IsReading core k = (core.fault ≡ None) × (is_reader (session_at core.parts k) ≡ true)
+
+-- the disk failed, in this act or before
+abbrev pub tells_fault : Reply → Bool
+tells_fault (Refused DiskFault) = true
+tells_fault (Refused (Halted place)) = true
+tells_fault r = false
+
+-- What an act leaves of the lane's reader: OPEN_READER that is done makes it, FILES, a VERIFY's reads and want of memory keep it, and
+-- CLOSE_READER ends it, or meets a fault of the disk. Its entry is in the lane's reserve, and behind it the lane's end has its own.
+pub record KeepsReader {D E C : Type 0} (old new : Core D E C) (k : ℕ) (act : Act) (told : Told) : Type 0 where
+  pub opens : (snapshot : List ℕ) → act ≡ acts.Plain (OpenReader snapshot) → told.reply ≡ Done → IsReading new k
+  pub still : is_still act ≡ true → tells_fault told.reply ≡ false → IsReading old k → IsReading new k
+  pub short : told.reply ≡ Refused NoMemory → IsReading old k → IsReading new k
+  pub closing : is_closing old k act ≡ true → (leaves_open told.reply ≡ false) × (CanEnd old k → CanEnd new k)
 
 -- ---- its reply
 

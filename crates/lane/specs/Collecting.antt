@@ -64,7 +64,6 @@ pub record HasPassed (before after : History → Type 0) (k : ℕ) (is_last now_
   pub lane_is : lane event ≡ k
   pub tells : TellsEnd event outcome
   pub last : now_last ≡ ((event.answer).last || is_last)
-  pub want : (event.answer).last ≡ true → kind event ≡ 2
   pub history : (h : History) → before h → after (then_event h event)
 
 -- ---- its acts so far
@@ -81,7 +80,6 @@ pub record HasSwept (before now : History → Type 0) (k : ℕ) (is_last : Bool)
   pub history : (h : History) → before h → now (with_events h (h.events ++ events))
   pub lanes : AreOf k events
   pub leads : (p : Position) (left : List ℕ) → Leads (sweeping_at p left false false false) events (sweeping_at p left is_cut is_short is_last)
-  pub cut : is_last ≡ true → is_cut ≡ true
 
 -- Acts of the lane's open collector were entered, and its end was told. From where it opened they lead to behind its GC.
 pub record Sweeps (before after : History → Type 0) (k : ℕ) (told : Told) : Type 0 where
@@ -90,7 +88,6 @@ pub record Sweeps (before after : History → Type 0) (k : ℕ) (told : Told) : 
   pub history : (h : History) → before h → after (with_events h (h.events ++ events))
   pub lanes : AreOf k events
   pub leads : (p : Position) (left : List ℕ) → p.collecting ≡ None → Leads (sweeping_at p left false false false) events (answered p left told.reply is_short told.last)
-  pub short : told.last ≡ true → is_short ≡ true
 
 -- ---- of cores, from each first one and its history
 

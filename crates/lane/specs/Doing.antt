@@ -6,7 +6,7 @@ use Rattle.wire_commands.specs.declared.command.Command.{Command}
 use Rattle.wire_commands.specs.declared.reply.Reply.{Reply}
 use Rattle.store_model.specs.Lanes.{Next, command_next, job_step, sync}
 use Rattle.store_history.specs.declared.act.Event.{Event}
-use Rattle.store_history.specs.LaneRun.{Position, next_at, may_want_at}
+use Rattle.store_history.specs.LaneRun.{Position, next_at, is_stopping, may_want_at, may_step}
 use Rattle.store_history.specs.Seats.{AreOf}
 use Rattle.store_history.specs.SoFar.{Leads}
 use Rattle.core_state.specs.History.{History}
@@ -21,11 +21,17 @@ IsStep (job_step j left) = Unit {0}
 IsStep (sync group left) = Unit {0}
 IsStep n = ⊥
 
--- This is next on a lane whose answers so far weren't the last. Where it is such a step, memory may be wanting.
+-- a step that closes the session of a job that was refused, for which no memory is wanting
+abbrev pub is_last_step : Next → Bool
+is_last_step (job_step j left) = is_stopping j
+is_last_step n = false
+
+-- This is next on a lane, and may come: no answer so far was the last, or it closes a job's session. Where it is another step of a job, memory
+-- may be wanting.
 pub record IsNext (n : Next) (p : Position) : Type 0 where
-  pub on : p.is_spent ≡ false
+  pub on : may_step p ≡ true
   pub next : next_at p ≡ n
-  pub wants : IsStep n → may_want_at p ≡ true
+  pub wants : IsStep n → is_last_step n ≡ false → may_want_at p ≡ true
 
 -- behind a command, or a whole job, that was told this
 abbrev pub answered : Position → List ℕ → Reply → Bool → Bool → Position
@@ -40,7 +46,6 @@ pub record Does (before after : History → Type 0) (k : ℕ) (n : List ℕ → 
   pub history : (h : History) → before h → after (with_events h (h.events ++ events))
   pub lanes : AreOf k events
   pub leads : (p : Position) (left : List ℕ) → IsNext (n left) p → Leads p events (answered p left told.reply is_short told.last)
-  pub short : told.last ≡ true → is_short ≡ true
 
 -- so a command did between two cores, from each first one and its history
 abbrev pub CoreDoes : {D E C : Type 0} → Ghosts D → clocks.Ghosts C → Core D E C → Core D E C → ℕ → Command → Told → Type 0

@@ -10,27 +10,30 @@ use Rattle.wire_commands.specs.declared.command.Command.TheVariants as commands
 use Rattle.wire_commands.specs.declared.reply.Reply.TheVariants.{Refused}
 use Rattle.store_model.specs.ArchiveSteps.{check_chunk}
 use Rattle.store_model.specs.Lanes.{Next, bye, broken, front_next, command_next}
+use Rattle.store_history.specs.declared.act.Act.{Act}
+use Rattle.store_history.specs.declared.act.Act.TheVariants as acts
+use Rattle.store_history.specs.Acts.{act_of_command}
 use Rattle.store_history.specs.LaneRun.{may_want}
 use Rattle.lane.specs.declared.commands.Ahead.{Ahead}
 use Rattle.lane.specs.declared.commands.Ahead.TheVariants as aheads
 
 -- ---- which commands a lane serves by more than one act
 
--- a PRUNE
-abbrev pub is_prune : Command → Bool
-is_prune (commands.Prune group keep dry) = true
-is_prune c = false
+-- a PRUNE or a VERIFY, whose job has steps
+abbrev pub is_job : Command → Bool
+is_job (commands.Prune group keep dry) = true
+is_job (commands.Verify snapshot) = true
+is_job c = false
 
 -- a GC
 abbrev pub is_gc : Command → Bool
 is_gc commands.Gc = true
 is_gc c = false
 
--- a VERIFY or a SYNC: memory is wanting for it
-abbrev pub is_unserved : Command → Bool
-is_unserved (commands.Verify snapshot) = true
-is_unserved (commands.Sync group) = true
-is_unserved c = false
+-- the act for a command that is next: that of a SYNC asks the remote
+abbrev pub act_ahead : Command → Act
+act_ahead (commands.Sync group) = acts.RemoteList (commands.Sync group)
+act_ahead c = act_of_command c
 
 -- a job's command
 abbrev pub IsJobs : Command → Type 0

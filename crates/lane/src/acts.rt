@@ -3,8 +3,8 @@
 ghost use Rattle.std.specs.Prelude.{◌≡◌, ◌<◌};
 ghost use Rattle.wire_commands.specs.HasText.{ReplyHasText};
 ghost use Rattle.store_history.specs.Acts.{IsWellFormed};
-ghost use Rattle.core_state.specs.Reserved.{Reserved};
-ghost use Rattle.lane.specs.Acting.{HasReply, IsWant, CoreDid, GivesTo, LeavesReserve, MayTell};
+ghost use Rattle.core_state.specs.Reserved.{HasRoom};
+ghost use Rattle.lane.specs.Acting.{HasReply, IsWant, CoreDid, GivesTo, KeepsReader, LeavesReserve, MayTell};
 ghost use Rattle.lane.specs.Causes.{SinkHasCauses};
 ghost use Rattle.lane.specs.Entries.{HasEntered};
 
@@ -32,13 +32,14 @@ pub fn ask<D: Disk, E, C: Clock>(
     act: Act,
 ) -> Told
     requires lane { lane < 64 }
-    requires room { Reserved core.old lane }
+    requires room { HasRoom core.old lane }
     requires formed { IsWellFormed act }
     requires replied { HasReply act }
     ensures did { CoreDid D.Disk C.Clock core.old core.new lane act result }
     ensures tells { MayTell act result }
     ensures text { ReplyHasText result.reply }
     ensures room { LeavesReserve core.old core.new lane result.last }
+    ensures reader { KeepsReader core.old core.new lane act result }
     ensures remote { core.new.remote ≡ core.old.remote }
     ensures entered { HasEntered D.Disk core.old core.new lane (IsWant act result) }
 {

@@ -4,7 +4,7 @@ ghost use Rattle.std.specs.Prelude.{◌≡◌, Err};
 ghost use Rattle.wire_frames.specs.Frames.{Tail, cut, too_long};
 ghost use Rattle.store_model.specs.ArchiveSteps.{check_chunk as piece_of};
 ghost use Rattle.store_history.specs.Acts.{check_blob, checked_by, act_of_command};
-ghost use Rattle.lane.specs.Fronts.{IsAhead, IsAheadAs, TestsChunk, ahead_of, is_gc, is_prune, is_unserved};
+ghost use Rattle.lane.specs.Fronts.{IsAhead, IsAheadAs, TestsChunk, act_ahead, ahead_of, is_gc, is_job};
 
 use blob_codec::decode;
 use core_state::Act;
@@ -105,11 +105,11 @@ fn check_chunk(digest: Digest32, blob: Bytes) -> Result<Bytes, Refusal>
     }
 }
 
-/// The command is a PRUNE, whose job has steps.
-pub fn is_prune(command: &Command) -> bool
-    ensures { result ≡ is_prune command.now }
+/// The command is a PRUNE or a VERIFY, whose job has steps.
+pub fn is_job(command: &Command) -> bool
+    ensures { result ≡ is_job command.now }
 {
-    matches!(command, Command::Prune { .. })
+    matches!(command, Command::Prune { .. } | Command::Verify { .. })
 }
 
 /// The command is a GC.
@@ -117,13 +117,6 @@ pub fn is_gc(command: &Command) -> bool
     ensures { result ≡ is_gc command.now }
 {
     matches!(command, Command::Gc)
-}
-
-/// The command is one of those that no lane serves: memory is wanting for it.
-pub fn is_unserved(command: &Command) -> bool
-    ensures { result ≡ is_unserved command.now }
-{
-    matches!(command, Command::Verify { .. } | Command::Sync { .. })
 }
 
 /// The act for a command, or for the first step of a job's. An upload is checked here, and not in the act. Its bytes are
@@ -142,5 +135,15 @@ pub fn act_of(command: Command) -> Act
         },
         Command::Prune { group, keep, dry } => Act::JobGroup(Command::Prune { group, keep, dry }),
         command => Act::Plain(command),
+    }
+}
+
+/// The act for a command that is next on a lane, other than BYE and a GC: that of a SYNC asks the remote.
+pub fn act_ahead(command: Command) -> Act
+    ensures { result ≡ act_ahead command }
+{
+    match command {
+        Command::Sync { group } => Act::RemoteList(Command::Sync { group }),
+        command => act_of(command),
     }
 }

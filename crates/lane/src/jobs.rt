@@ -1,13 +1,16 @@
 //! The jobs of a lane: all steps of one, from its command to its report.
 
-ghost use Rattle.std.specs.Prelude.{◌≡◌, ◌<◌, true};
+ghost use Rattle.std.specs.Prelude.{◌≡◌, ◌<◌, Some, true};
 ghost use Rattle.wire_commands.specs.HasText.{ReplyHasText};
-ghost use Rattle.store_model.specs.Jobs.{IsPrune};
+ghost use Rattle.store_history.specs.Acts.{act_of_step};
+ghost use Rattle.store_history.specs.Begun.{IsBegun};
+ghost use Rattle.store_model.specs.Jobs.{IsJob};
 ghost use Rattle.core_state.specs.Reserved.{Reserved};
 ghost use Rattle.lane.specs.Acting.{LeavesReserve};
+ghost use Rattle.lane.specs.Collecting.{IsSet};
 ghost use Rattle.lane.specs.Doing.{CoreDoes};
 ghost use Rattle.lane.specs.Entries.{HasEntered};
-ghost use Rattle.lane.specs.Stepping.{IsNextAct};
+ghost use Rattle.lane.specs.Stepping.{CoreHasStepped, IsNearer, IsNextAct, MayGoOn};
 
 use crate::acts::{Told, ask};
 use crate::commands::act_of;
@@ -16,33 +19,80 @@ use disk_trait::Disk;
 use job_steps::Job;
 use port_traits::Clock;
 use std::alloc::Global;
+use std::thread::Threads;
 use store_model::Step;
 use wire_commands::Command;
 
-/// The act for what a job asks next, or want of memory for it. A read that is no command is no act: memory is wanting for it.
-/// None is where the job is over.
+/// The act for a step of a job.
+fn act_of_step(step: Step) -> Act
+    ensures { result ≡ act_of_step step }
+{
+    match step {
+        Step::Command(command) => act_of(command),
+        Step::ReadFile { name, offset } => Act::ReadFile { name, offset },
+        Step::ReadChunk { name, entry } => Act::ReadChunk { name, entry },
+    }
+}
+
+/// The act for what a job asks next, or want of memory for it. None is where the job is over.
 fn next_act(alloc: Global, job: &Job) -> Option<Act>
+    requires { IsBegun job.now }
     ensures { IsNextAct job.now result }
 {
     match job.next(alloc) {
-        Ok(Some(Step::Command(command))) => Some(act_of(command)),
-        Ok(Some(_)) => Some(Act::Short),
-        Ok(None) => None,
+        Ok(step) => Some(act_of_step(step?)),
         Err(_) => Some(Act::Short),
     }
 }
 
-/// Does the job of a PRUNE, from its command to its report. Its steps are not told. Want of memory for one of them is entered, and the
-/// job takes it for that step's reply.
-pub fn do_job<D: Disk, E, C: Clock>(
+/// Does the act for the job's next step, and gives the job the reply. Where memory is wanting for this, it is entered as an act
+/// of its own, whose reply the job takes.
+///
+/// `is_last` is set where an entry of the lane's reserve held a want of memory.
+fn step<R: Threads + Sync, D: Disk, E, C: Clock>(
     core: &mut Core<D, E, C>,
+    rt: &R,
+    alloc: Global,
+    lane: u32,
+    job: &mut Job,
+    is_last: &mut bool,
+    act: Act,
+)
+    requires lane { lane < 64 }
+    requires next { IsNextAct job.old (Some act) }
+    requires on { MayGoOn core.old lane job.old is_last.old }
+    ensures stepped { CoreHasStepped D.Disk C.Clock core.old core.new lane
+        job.old job.new is_last.old is_last.new }
+    ensures goes { MayGoOn core.new lane job.new is_last.new }
+    // the next step is nearer to the end
+    ensures nearer { IsNearer job.old job.new }
+    ensures remote { core.new.remote ≡ core.old.remote }
+    ensures entered { HasEntered D.Disk core.old core.new lane (IsSet is_last.old is_last.new) }
+{
+    let told = ask(core, alloc, lane, act);
+    *is_last = told.last | *is_last;
+    let Err(_) = job.take(rt, alloc, told.reply) else {
+        return;
+    };
+    let short = ask(core, alloc, lane, Act::Short);
+    *is_last = short.last | *is_last;
+    // a refusal is taken without memory
+    let _ = job.take(rt, alloc, short.reply);
+}
+
+/// Does the job of a PRUNE or a VERIFY, from its command to its report. Its steps are not told. Want of memory for one of them is
+/// entered, and the job takes it for that step's reply. Where the lane's reserve held it, the job's session is closed still,
+/// and the lane ends after its report.
+pub fn do_job<R: Threads + Sync, D: Disk, E, C: Clock>(
+    core: &mut Core<D, E, C>,
+    rt: &R,
     alloc: Global,
     lane: u32,
     command: &Command,
 ) -> Told
     requires lane { lane < 64 }
     requires room { Reserved core.old lane }
-    requires job { IsPrune command.now }
+    requires job { IsJob command.now }
     ensures does { CoreDoes D.Disk C.Clock core.old core.new lane command.now result }
     ensures text { ReplyHasText result.reply }
     ensures room { LeavesReserve core.old core.new lane result.last }
@@ -54,9 +104,7 @@ pub fn do_job<D: Disk, E, C: Clock>(
     };
     let mut last = false;
     while let Some(act) = next_act(alloc, &job) {
-        let told = ask(core, alloc, lane, act);
-        last = told.last;
-        job.take(told.reply);
+        step(core, rt, alloc, lane, &mut job, &mut last, act);
     }
     Told {
         reply: job.report(),

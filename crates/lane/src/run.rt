@@ -15,7 +15,7 @@ ghost use Rattle.wire_frames.specs.Frames.{short, cut};
 
 use crate::acts::{Told, ask};
 use crate::collecting::collect;
-use crate::commands::{Ahead, act_of, is_gc, is_prune, is_unserved, read_front};
+use crate::commands::{Ahead, act_ahead, is_gc, is_job, read_front};
 use crate::ending::{Last, close};
 use crate::input::{Input, Taken};
 use crate::jobs::do_job;
@@ -24,6 +24,7 @@ use core_state::{Act, Core};
 use disk_trait::Disk;
 use port_traits::{Clock, Gate, Sink, Source};
 use std::alloc::Global;
+use std::thread::Threads;
 use store_model::Ending;
 use store_types::Refusal;
 use wire_commands::{Command, Reply};
@@ -39,8 +40,9 @@ struct Progress {
 }
 
 /// Serves one command session, from its first byte to its end.
-pub fn run_alone<D: Disk, E, C: Clock, S: Source, K: Sink, G: Gate>(
+pub fn run_alone<R: Threads + Sync, D: Disk, E, C: Clock, S: Source, K: Sink, G: Gate>(
     core: &mut Core<D, E, C>,
+    rt: &R,
     alloc: Global,
     lane: u32,
     port: &mut Port<S, K>,
@@ -61,7 +63,7 @@ pub fn run_alone<D: Disk, E, C: Clock, S: Source, K: Sink, G: Gate>(
         number: 0,
     };
     loop {
-        if let Some(last) = turn(core, alloc, lane, port, gate, &mut progress) {
+        if let Some(last) = turn(core, rt, alloc, lane, port, gate, &mut progress) {
             let ending = close(core, alloc, lane, &mut port.sink, &mut progress.given, last);
             return LaneReport {
                 taken: progress.input.taken,
@@ -73,8 +75,9 @@ pub fn run_alone<D: Disk, E, C: Clock, S: Source, K: Sink, G: Gate>(
 }
 
 /// Answers what stands next, or takes more of the input. Some is how the commands came to an end.
-fn turn<D: Disk, E, C: Clock, S: Source, K: Sink, G: Gate>(
+fn turn<R: Threads + Sync, D: Disk, E, C: Clock, S: Source, K: Sink, G: Gate>(
     core: &mut Core<D, E, C>,
+    rt: &R,
     alloc: Global,
     lane: u32,
     port: &mut Port<S, K>,
@@ -94,7 +97,7 @@ fn turn<D: Disk, E, C: Clock, S: Source, K: Sink, G: Gate>(
 {
     match read_front(alloc, &progress.input.cutter) {
         Ahead::Part => more(core, alloc, lane, port, progress),
-        Ahead::Command(command) => serve(core, alloc, lane, port, gate, progress, command),
+        Ahead::Command(command) => serve(core, rt, alloc, lane, port, gate, progress, command),
         Ahead::Bye => Some(Last {
             ending: Ending::Clean,
             words: Some(Reply::Done),
@@ -171,8 +174,9 @@ fn more<D: Disk, E, C: Clock, S: Source, K: Sink>(
 }
 
 /// Does a command, gives its reply to the sink, and moves past it. Some is how the commands come to an end.
-fn serve<D: Disk, E, C: Clock, S: Source, K: Sink, G: Gate>(
+fn serve<R: Threads + Sync, D: Disk, E, C: Clock, S: Source, K: Sink, G: Gate>(
     core: &mut Core<D, E, C>,
+    rt: &R,
     alloc: Global,
     lane: u32,
     port: &mut Port<S, K>,
@@ -193,7 +197,7 @@ fn serve<D: Disk, E, C: Clock, S: Source, K: Sink, G: Gate>(
     ensures entered { HasEntered D.Disk core.old core.new lane (IsEndedByMemory result) }
 {
     gate.before(lane, progress.number);
-    let told = do_command(core, alloc, lane, command);
+    let told = do_command(core, rt, alloc, lane, command);
     let ending = told.give(&mut port.sink, &mut progress.given);
     gate.after(lane, progress.number);
     progress.number = progress.number.saturating_add(1);
@@ -202,8 +206,9 @@ fn serve<D: Disk, E, C: Clock, S: Source, K: Sink, G: Gate>(
 }
 
 /// Does a command, or the whole job or collection of one.
-fn do_command<D: Disk, E, C: Clock>(
+fn do_command<R: Threads + Sync, D: Disk, E, C: Clock>(
     core: &mut Core<D, E, C>,
+    rt: &R,
     alloc: Global,
     lane: u32,
     command: Command,
@@ -217,16 +222,13 @@ fn do_command<D: Disk, E, C: Clock>(
     ensures remote { core.new.remote ≡ core.old.remote }
     ensures entered { HasEntered D.Disk core.old core.new lane (result.last ≡ true) }
 {
-    if is_prune(&command) {
-        return do_job(core, alloc, lane, &command);
+    if is_job(&command) {
+        return do_job(core, rt, alloc, lane, &command);
     }
     if is_gc(&command) {
         return collect(core, alloc, lane);
     }
-    if is_unserved(&command) {
-        return ask(core, alloc, lane, Act::Short);
-    }
-    ask(core, alloc, lane, act_of(command))
+    ask(core, alloc, lane, act_ahead(command))
 }
 
 /// Answers want of memory, which ends the commands.

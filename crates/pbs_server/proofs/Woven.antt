@@ -1,7 +1,7 @@
 -- A session that was served is answered as by the plain store.
 use Rattle.disk_trait.specs.declared.disk.Disk.{Ghosts}
 use Rattle.disk_trait.specs.declared.disk.DiskError.{DiskError}
-use Rattle.std.proofs.Common.{◌≡◌, ◌≤◌, ◌↔◌, ℕ, zero, suc, Bool, true, false, ◌||◌, ◌==◌, ◌⊎◌, inl, inr, List, [], ◌∷◌, ◌++◌, Option, Some, None, IfSome, IsSome, IsTrue, Ok, OnOk, refl, sym, ap, subst, ◌∙◌, arith}
+use Rattle.std.proofs.Common.{◌≡◌, ◌≤◌, ◌↔◌, ℕ, zero, suc, Bool, true, false, ◌||◌, ◌==◌, ◌⊎◌, inl, inr, List, [], ◌∷◌, ◌++◌, Option, Some, None, is_some, IfSome, IsSome, IsTrue, Ok, OnOk, refl, sym, ap, subst, ◌∙◌, arith}
 use Rattle.std.specs.FinMap.{get}
 use Rattle.port_traits.specs.Readings.{Readings}
 use Rattle.disk_trait.specs.Files.{Files}
@@ -136,27 +136,27 @@ le_more : (a b c : ℕ) → a ≤ b → b ≤ c → a ≤ c
 le_more a b c first then = omega (arith, first, then)
 
 -- what a session did on any disk, and on an honest one, which was opened at a moment
-pub record HasBoth {D : Type 0} (d : Ghosts D) (clock : Option Readings) (start : ℕ) (disk opened last : D) (left left' taken taken' : Option (List ℕ)) (order : List Entry) (calls : List ℕ)
+pub record HasBoth {D E : Type 0} (d : Ghosts D) (clock : Option Readings) (remote : Option E) (start : ℕ) (disk opened last : D) (left left' taken taken' : Option (List ℕ)) (order : List Entry) (calls : List ℕ)
     (not_saved : Option DiskError) (report : LaneReport) : Type 0 where
   pub told : HasTold clock left left' taken taken' order calls report
   pub since_is : d.honest disk → told.since ≡ (saved_book (d.content opened)).moment
   pub halted : has_kind 5 order ≡ true → not_saved ≡ None
-  pub plain : (L : List Snapshot) (R : Option (List Snapshot)) → d.honest disk → Stands (d.content disk) L → NoClash (chunk_pieces (d.content disk) ++ sent told.events)
+  pub plain : (L : List Snapshot) (R : Option (List Snapshot)) → is_some remote ≡ is_some R → d.honest disk → Stands (d.content disk) L → NoClash (chunk_pieces (d.content disk) ++ sent told.events)
       → IsPlain (opening_of d disk opened L) R told.since (d.calls last) (d.honest last) told.input told.events told.told order not_saved report (d.content disk) (d.content last)
-  pub stops : (L : List Snapshot) (R : Option (List Snapshot)) → d.honest disk → Stands (d.content disk) L → NoClash (chunk_pieces (d.content disk) ++ sent told.events)
+  pub stops : (L : List Snapshot) (R : Option (List Snapshot)) → is_some remote ≡ is_some R → d.honest disk → Stands (d.content disk) L → NoClash (chunk_pieces (d.content disk) ++ sent told.events)
       → StopsLeave d start last R (opening_of d disk opened L) told.events
 
-pub has_both : {D E C : Type 0} (d : Ghosts D) (readings : C → Option Readings) (clock : C) (disk : D) (first core saved : Core D E C)
+pub has_both : {D E C : Type 0} (d : Ghosts D) (readings : C → Option Readings) (clock : C) (disk : D) (remote : Option E) (first core saved : Core D E C)
     (left left' taken taken' : Option (List ℕ)) (order : List Entry) (calls : List ℕ) (not_saved : Option DiskError) (report : LaneReport) (last : D)
-    → TellsMoments d → StandsOpened d readings disk clock first → TouchesOpened d readings disk clock first → (recovers : RecoversOpened d readings disk clock first)
+    → TellsMoments d → first.remote ≡ remote → StandsOpened d readings disk clock first → TouchesOpened d readings disk clock first → (recovers : RecoversOpened d readings disk clock first)
     → first.last ≡ (first.upkeep).book.moment → (d.honest disk → HasBook d first)
     → (d.honest disk → Cleans (d.content disk) (d.content (first.parts).disk))
     → RanAlone (Reaches d readings first (began (opening_at d disk first []) None (readings clock)) core)
     (began (opening_at d disk first []) None (readings clock)) 0 left left' taken taken' report
     → EndsSaved d core saved not_saved
     → order ≡ (saved.journal).entries.items → calls ≡ (saved.journal).calls.items → last ≡ (saved.parts).disk
-    → HasBoth d (readings clock) (recovers.opens).start disk (first.parts).disk last left left' taken taken' order calls not_saved report
-has_both d readings clock disk first core saved left left' taken taken' order calls not_saved report last moments opens touches recovers last_is booked cleaned ran ends order_as calls_as disk_as = record {
+    → HasBoth d (readings clock) remote (recovers.opens).start disk (first.parts).disk last left left' taken taken' order calls not_saved report
+has_both d readings clock disk remote first core saved left left' taken taken' order calls not_saved report last moments handed opens touches recovers last_is booked cleaned ran ends order_as calls_as disk_as = record {
   told = record {
     input = ran.input;
     events = ran.events;
@@ -180,16 +180,18 @@ has_both d readings clock disk first core saved left left' taken taken' order ca
       let failed : IsSome core.fault = subst (λ (o : Option ℕ). IsSome o) (sym r.fault) (five_fails 0 None ran.events (sym (ap (has_kind 5) order_is) ∙ five)) in
       let both : (saved ≡ core) × (not_saved ≡ None) = halted_by core.fault failed ends.halted in
       both.1;
-  plain = λ L R honest stands clear.
-      let at = last_at L R honest stands in
-      let stood = subst (λ o. StandsFor d readings first (began o R (readings clock))) (is_opening L at) (opens L R honest stands) in
+  plain = λ L R there honest stands clear.
+      let beside = ap is_some handed ∙ there in
+      let at = last_at L R beside honest stands in
+      let stood = subst (λ o. StandsFor d readings first (began o R (readings clock))) (is_opening L at) (opens L R beside honest stands) in
       let minded = subst (λ o. KeepsTouches d first (began o R (readings clock))) (is_opening L at) (touches L R honest stands) in
       subst (λ o. IsPlain o R first.last (d.calls last) (d.honest last) ran.input ran.events ran.told order not_saved report (d.content disk) (d.content last)) (sym (is_opening L at))
       (plain L R at (loaded (d.content disk) L stands) ((ran.stands_for).stands L R stood minded clear) ((ran.stands_for).touches L R stood minded clear)
       (λ none q own. (ran.stands_for).foreign L R stood minded clear none q own ∙ foreign_cleaned _ _ (cleaned honest) q own));
-  stops = λ L R honest stands clear.
-      let at = last_at L R honest stands in
-      let stood = subst (λ o. StandsFor d readings first (began o R (readings clock))) (is_opening L at) (opens L R honest stands) in
+  stops = λ L R there honest stands clear.
+      let beside = ap is_some handed ∙ there in
+      let at = last_at L R beside honest stands in
+      let stood = subst (λ o. StandsFor d readings first (began o R (readings clock))) (is_opening L at) (opens L R beside honest stands) in
       let minded = subst (λ o. KeepsTouches d first (began o R (readings clock))) (is_opening L at) (touches L R honest stands) in
       let before = subst (λ o. Recovers d (recovers.opens).start first (began o R (readings clock))) (is_opening L at) (recovers.recovers L R stands) in
       let after = (ends.history).recovers readings (recovers.opens).start (history L R) ((ran.stands_for).stands L R stood minded clear) ((ran.stands_for).recovers moments (recovers.opens).start L R stood minded before clear) in
@@ -203,8 +205,8 @@ has_both d readings clock disk first core saved left left' taken taken' order ca
     history : List Snapshot → Option (List Snapshot) → History
     history L R = with_events (began (opening L) R (readings clock)) ran.events
 
-    last_at : (L : List Snapshot) (R : Option (List Snapshot)) → d.honest disk → Stands (d.content disk) L → first.last ≡ (saved_book (d.content disk)).moment
-    last_at L R honest stands = began_at d readings first (opening_of d disk (first.parts).disk L) R (readings clock) (opens L R honest stands)
+    last_at : (L : List Snapshot) (R : Option (List Snapshot)) → is_some first.remote ≡ is_some R → d.honest disk → Stands (d.content disk) L → first.last ≡ (saved_book (d.content disk)).moment
+    last_at L R beside honest stands = began_at d readings first (opening_of d disk (first.parts).disk L) R (readings clock) (opens L R beside honest stands)
 
     is_opening : (L : List Snapshot) → first.last ≡ (saved_book (d.content disk)).moment → opening_of d disk (first.parts).disk L ≡ opening L
     is_opening L at = ap (λ m. record (opening_of d disk (first.parts).disk L) { moment = m }) (sym at)

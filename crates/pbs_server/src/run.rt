@@ -13,6 +13,7 @@ use disk_trait::{Disk, DiskError};
 use lane::{Ending, LaneReport, Port, run_alone};
 use port_traits::{Clock, Gate, Sink, Source};
 use std::alloc::Global;
+use std::thread::Threads;
 
 /// No lane was served.
 pub fn not_served<D, E>(
@@ -89,7 +90,8 @@ fn handed_back<D, E, C: Drop>(
 }
 
 /// Opens the datastore, serves one session on it, and saves the book of touches.
-pub fn serve_alone<D: Disk, E, C: Clock + Drop, S: Source, K: Sink, G: Gate>(
+pub fn serve_alone<R: Threads + Sync, D: Disk, E, C: Clock + Drop, S: Source, K: Sink, G: Gate>(
+    rt: &R,
     alloc: Global,
     port: &mut Port<S, K>,
     disk: D,
@@ -107,7 +109,7 @@ pub fn serve_alone<D: Disk, E, C: Clock + Drop, S: Source, K: Sink, G: Gate>(
     };
     match open_on(alloc, disk, remote, clock) {
         Ok(mut core) => {
-            let report = run_alone(&mut core, alloc, 0, port, gate);
+            let report = run_alone(&mut core, rt, alloc, 0, port, gate);
             reports.push_reserved(report);
             let not_saved = save(&mut core, alloc);
             handed_back(core, reports, report.ending, not_saved)

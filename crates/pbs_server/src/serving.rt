@@ -11,11 +11,23 @@ use disk_trait::Disk;
 use lane::Port;
 use port_traits::{Clock, Gate, Sink, Source};
 use std::alloc::Global;
+use std::thread::Threads;
 
 /// Does what the words ask for: `run ROOT SESSION` serves one session on the disk. A port is a session's source, and the
 /// sink of its replies. As a session that was served has ended, the book of touches is saved, unless the disk failed. The
-/// disk and the remote are handed back in every case. Nothing is written to the journal.
-pub fn serve<D: Disk, E: Disk, C: Clock + Drop, S: Source, K: Sink, J: Sink, G: Gate>(
+/// disk and the remote are handed back in every case. Nothing is written to the journal. `rt` has the threads that hash a
+/// VERIFY's chunks.
+pub fn serve<
+    R: Threads + Sync,
+    D: Disk,
+    E: Disk,
+    C: Clock + Drop,
+    S: Source,
+    K: Sink,
+    J: Sink,
+    G: Gate,
+>(
+    rt: &R,
     alloc: Global,
     words: &[String],
     lanes: &mut [Port<S, K>],
@@ -33,7 +45,7 @@ pub fn serve<D: Disk, E: Disk, C: Clock + Drop, S: Source, K: Sink, J: Sink, G: 
 {
     match lanes {
         [port] if read_run(words).is_some() => {
-            serve_alone(alloc, port, disk, remote, clock, gate)
+            serve_alone(rt, alloc, port, disk, remote, clock, gate)
         }
         _ => not_served(alloc, Status::Usage, None, disk, remote),
     }

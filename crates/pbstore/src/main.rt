@@ -10,6 +10,7 @@ use std::alloc::{AllocError, Global};
 use std::fs::File;
 use std::io::ErrorKind;
 use std::process::ExitCode;
+use std::thread::Threads;
 use std::{env, io};
 
 /// A session's file, and the file of its replies.
@@ -56,7 +57,12 @@ fn ports_of(
 }
 
 /// Makes the real objects that the words name, and serves.
-fn serve_words(rt: HostRuntime, alloc: Global, words: &[String]) -> Result<Status, AllocError> {
+fn serve_words<R: Threads + Sync>(
+    rt: HostRuntime,
+    threads: &R,
+    alloc: Global,
+    words: &[String],
+) -> Result<Status, AllocError> {
     let plan = plan_words(alloc, words);
     let (root, sessions): (&str, &[String]) = match &plan {
         Ok(Plan::Run { root, sessions, .. }) => (root.as_str(), sessions.as_slice()),
@@ -69,6 +75,7 @@ fn serve_words(rt: HostRuntime, alloc: Global, words: &[String]) -> Result<Statu
     let clock = WallClock::new(rt);
     let mut journal = FileSink::over(io::writer(&rt));
     let served = serve(
+        threads,
         alloc,
         words,
         &mut ports,
@@ -81,19 +88,19 @@ fn serve_words(rt: HostRuntime, alloc: Global, words: &[String]) -> Result<Statu
     Ok(served.status)
 }
 
-fn run(rt: HostRuntime) -> Status {
+fn run<R: Threads + Sync>(rt: HostRuntime, threads: &R) -> Status {
     let words = match words_of(rt) {
         Ok(words) => words,
         Err(status) => return status,
     };
-    match serve_words(rt, rt.alloc(), &words) {
+    match serve_words(rt, threads, rt.alloc(), &words) {
         Ok(status) => status,
         Err(_) => Status::NoMemory,
     }
 }
 
 fn main(rt: HostRuntime) -> ExitCode {
-    let status = run(rt);
+    let status = run(rt, &rt);
     if status != Status::Ok {
         let _ = eprintln!(rt; "pbstore: {}", status.name());
     }

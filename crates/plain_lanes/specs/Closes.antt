@@ -1,6 +1,6 @@
 -- How a job that has a session ends.
 use Rattle.std.specs.Prelude.{Bool, true, false}
-use Rattle.store_types.specs.declared.refusal.Refusal.TheVariants.{DiskFault, Halted, NoMemory}
+use Rattle.store_types.specs.declared.refusal.Refusal.TheVariants.{RemoteFault, DiskFault, Halted, NoMemory}
 use Rattle.wire_commands.specs.declared.reply.Reply.{Reply}
 use Rattle.wire_commands.specs.declared.reply.Reply.TheVariants.{Refused}
 use Rattle.store_model.specs.Job as model
@@ -28,6 +28,8 @@ abbrev pub is_refused : Reply → Bool
 is_refused (Refused refusal) = true
 is_refused _ = false
 
-abbrev pub is_short : Reply → Bool
-is_short (Refused NoMemory) = true
-is_short _ = false
+-- the step was refused and has done nothing: its session is open still
+abbrev pub leaves_open : Reply → Bool
+leaves_open (Refused NoMemory) = true
+leaves_open (Refused RemoteFault) = true
+leaves_open _ = false

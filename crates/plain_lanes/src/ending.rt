@@ -1,10 +1,10 @@
 //! The end of a job that has a session.
 
-ghost use Rattle.std.specs.Prelude.{◌≡◌};
+ghost use Rattle.std.specs.Prelude.{◌≡◌, true};
 ghost use Rattle.wire_commands.specs.HasText.{ReplyHasText};
 ghost use Rattle.store_model.specs.Job.{asking, closed as closed_by};
 ghost use Rattle.plain_lanes.specs.Jobs.{shown_job, IsSpelledJob};
-ghost use Rattle.plain_lanes.specs.Closes.{asked_by, ended_by, closes_first as has_close, is_refused as has_refusal, is_short as wants_memory};
+ghost use Rattle.plain_lanes.specs.Closes.{asked_by, ended_by, closes_first as has_close, is_refused as has_refusal, leaves_open as stays_open};
 
 use crate::job::{Asking, Job, Stage};
 use store_types::Refusal;
@@ -51,10 +51,14 @@ pub fn is_refused(reply: &Reply) -> bool
     matches!(reply, Reply::Refused(_))
 }
 
-fn is_short(reply: &Reply) -> bool
-    ensures { result ≡ wants_memory reply.now }
+/// The step that was to close the session has done nothing: the session is open still.
+fn leaves_open(reply: &Reply) -> bool
+    ensures { result ≡ stays_open reply.now }
 {
-    matches!(reply, Reply::Refused(Refusal::NoMemory))
+    matches!(
+        reply,
+        Reply::Refused(Refusal::NoMemory | Refusal::RemoteFault)
+    )
 }
 
 /// The job ends by the reply to one of its steps: where this is a refusal, behind the step that closes the session. After
@@ -70,21 +74,36 @@ pub fn ended(close: Close, reply: Reply) -> Job
     Job::Over(reply)
 }
 
-/// The session is closed. What was refused first is the report. Where memory was wanting the session is still to be closed.
+/// The step that was to close the session has done nothing, so it comes again. What was refused first is the report.
+fn asked_again(close: Close, report: Reply, reply: Reply) -> Job
+    requires report { ReplyHasText report }
+    requires reply { ReplyHasText reply }
+    requires again { stays_open reply ≡ true }
+    ensures job { shown_job result ≡ closed_by (asked_by close) report reply }
+    ensures spelled { IsSpelledJob result }
+{
+    if is_refused(&report) {
+        return asked(close, report);
+    }
+    asked(close, reply)
+}
+
+/// The session is closed. What was refused first is the report. Where memory was wanting, or the remote failed, the
+/// session is still to be closed.
 pub fn closed(close: Close, report: Reply, reply: Reply) -> Job
     requires report { ReplyHasText report }
     requires reply { ReplyHasText reply }
     ensures job { shown_job result ≡ closed_by (asked_by close) report reply }
     ensures spelled { IsSpelledJob result }
 {
+    if leaves_open(&reply) {
+        return asked_again(close, report, reply);
+    }
     if is_refused(&report) {
         return Job::Over(report);
     }
     if !is_refused(&reply) {
         return Job::Over(report);
-    }
-    if is_short(&reply) {
-        return asked(close, reply);
     }
     Job::Over(reply)
 }

@@ -176,7 +176,7 @@ pub fn judge(
     Ok(without_entries(alloc, fault))
 }
 
-/// The bytes are the blob of a piece with this digest, or the chunk is damaged.
+/// The bytes are the blob of a piece with this digest, or the chunk is damaged. A piece is not empty.
 pub fn chunk_fault(digest: Digest32, bytes: &[u8]) -> Option<FileFault>
     ensures fault { result ≡ model.chunk_fault digest bytes.now }
     ensures fits { IfSome result FitsFileFault }
@@ -184,7 +184,7 @@ pub fn chunk_fault(digest: Digest32, bytes: &[u8]) -> Option<FileFault>
     let Ok(piece) = decode(bytes) else {
         return Some(FileFault::Damaged(digest));
     };
-    if Sha256::digest(piece) == digest.0 {
+    if !piece.is_empty() && Sha256::digest(piece) == digest.0 {
         None
     } else {
         Some(FileFault::Damaged(digest))

@@ -1,5 +1,5 @@
 //! The tests of the plain store and of jobs: snapshots that are read, also beside an opening of the core; lanes that are woven,
-//! and prunes step by step.
+//! and prunes and verifies step by step.
 #![tactic(auto)]
 
 #[cfg(test)]
@@ -12,5 +12,7 @@ mod loading;
 mod prunes;
 #[cfg(test)]
 mod reading;
+#[cfg(test)]
+mod verifies;
 #[cfg(test)]
 mod weaving;

@@ -3,13 +3,14 @@
 ghost use Rattle.std.specs.Prelude.{◌≡◌, codes, IsTrue, IfOk};
 ghost use Rattle.wire_commands.specs.HasText.{ReplyHasText};
 ghost use Rattle.store_model.specs.JobReplies.{IsReplyTo};
-ghost use Rattle.store_model.specs.Jobs.{IsPrune};
+ghost use Rattle.store_model.specs.Jobs.{IsJob};
 
 use crate::asserts::same;
 use job_steps::{Job, replay};
 use std::alloc::Global;
 use std::process::Abort;
 use std::test::Fail;
+use std::thread::Threads;
 use store_model::Step;
 use store_types::{Bytes, Keep, Rows};
 use wire_commands::{Command, PruneMark, PruneRow, Reply};
@@ -121,7 +122,13 @@ fn note_step(log: &mut Vec<u8>, step: &Step) -> Result<(), Fail> {
 }
 
 /// Notes the step that the job asks, and answers it.
-fn answer(alloc: Global, log: &mut Vec<u8>, job: &mut Job, reply: Reply) -> Result<(), Fail>
+fn answer(
+    rt: &(impl Threads + Sync),
+    alloc: Global,
+    log: &mut Vec<u8>,
+    job: &mut Job,
+    reply: Reply,
+) -> Result<(), Fail>
     requires { ReplyHasText reply }
 {
     let Some(step) = job.next(alloc)? else {
@@ -131,7 +138,7 @@ fn answer(alloc: Global, log: &mut Vec<u8>, job: &mut Job, reply: Reply) -> Resu
         return Err("another reply is asked".into());
     }
     note_step(log, &step)?;
-    job.take(reply);
+    job.take(rt, alloc, reply)?;
     Ok(())
 }
 
@@ -169,33 +176,36 @@ fn note_report(alloc: Global, log: &mut Vec<u8>, job: Job) -> Result<(), Fail> {
     }
 }
 
-/// Notes what is asked, and answers it with these replies to FORGET.
+/// Notes what is asked, and answers it with the group's snapshots and these replies to FORGET.
 fn answer_all(
+    rt: &(impl Threads + Sync),
     alloc: Global,
     log: &mut Vec<u8>,
     job: &mut Job,
+    snapshots: &[&[u8]],
     replies: &[&[u8]],
 ) -> Result<(), Fail> {
+    let group = group_of(alloc, snapshots)?;
+    answer(rt, alloc, log, job, reply_of(alloc, 40, &group)?)?;
     for reply in replies {
-        answer(alloc, log, job, reply_of(alloc, 32, reply)?)?;
+        answer(rt, alloc, log, job, reply_of(alloc, 32, reply)?)?;
     }
     Ok(())
 }
 
 /// What a prune of a group's snapshots asks, each step behind `?`, and reports, by the replies to its FORGETs.
 fn log_of(
+    rt: &(impl Threads + Sync),
     alloc: Global,
     command: &Command,
     snapshots: &[&[u8]],
     replies: &[&[u8]],
 ) -> Result<Vec<u8>, Fail>
-    requires { IsPrune command.now }
+    requires { IsJob command.now }
 {
     let mut log = Vec::new(alloc);
     let mut job = Job::start(alloc, command)?;
-    let group = group_of(alloc, snapshots)?;
-    answer(alloc, &mut log, &mut job, reply_of(alloc, 40, &group)?)?;
-    answer_all(alloc, &mut log, &mut job, replies)?;
+    answer_all(rt, alloc, &mut log, &mut job, snapshots, replies)?;
     note_report(alloc, &mut log, job)?;
     Ok(log)
 }
@@ -283,15 +293,15 @@ static ENDED: [Row; 3] = [
     ),
 ];
 
-fn try_prune(rt: &impl Abort, alloc: Global, row: &Row) -> Result<(), Fail> {
+fn try_prune(rt: &(impl Abort + Threads + Sync), alloc: Global, row: &Row) -> Result<(), Fail> {
     let (keep, dry, snapshots, replies, wanted) = row;
     let command = prune_of(alloc, *keep, *dry)?;
-    let log = log_of(alloc, &command, snapshots, replies)?;
+    let log = log_of(rt, alloc, &command, snapshots, replies)?;
     same(rt, log.as_slice(), *wanted);
     Ok(())
 }
 
-fn try_prunes(rt: &impl Abort, alloc: Global, rows: &[Row]) -> Result<(), Fail> {
+fn try_prunes(rt: &(impl Abort + Threads + Sync), alloc: Global, rows: &[Row]) -> Result<(), Fail> {
     for row in rows {
         try_prune(rt, alloc, row)?;
     }
@@ -306,7 +316,7 @@ fn prunes_ask_and_report(rt: HostRuntime) -> Result<(), Fail> {
 }
 
 /// What a prune reports whose own command is refused.
-fn log_of_refused(alloc: Global, body: &[u8]) -> Result<Vec<u8>, Fail> {
+fn log_of_refused(rt: &(impl Threads + Sync), alloc: Global, body: &[u8]) -> Result<Vec<u8>, Fail> {
     let mut log = Vec::new(alloc);
     let command = prune_of(alloc, ONE, false)?;
     let reply = reply_of(alloc, 33, body)?;
@@ -314,7 +324,7 @@ fn log_of_refused(alloc: Global, body: &[u8]) -> Result<Vec<u8>, Fail> {
         return Err("the body is no refusal".into());
     };
     let replies = vec![in alloc; Reply::Refused(refusal)]?;
-    let job = replay(alloc, &command, Rows::from_vec(replies))?;
+    let job = replay(rt, alloc, &command, Rows::from_vec(replies))?;
     note_report(alloc, &mut log, job)?;
     Ok(log)
 }
@@ -328,7 +338,7 @@ static REFUSED: [(&[u8], &[u8]); 3] = [
 #[test]
 fn a_refused_group_is_the_report(rt: HostRuntime) -> Result<(), Fail> {
     for (body, refusal) in &REFUSED {
-        let log = log_of_refused(rt.alloc(), body)?;
+        let log = log_of_refused(&rt, rt.alloc(), body)?;
         same(&rt, log.as_slice(), *refusal);
     }
     Ok(())

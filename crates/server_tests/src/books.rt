@@ -12,6 +12,7 @@ use port_traits::{FreeGate, MemSink, MemSource, SetClock};
 use std::alloc::{AllocError, Global};
 use std::process::Abort;
 use std::test::Fail;
+use std::thread::Threads;
 use store_types::{Digest32, Entry};
 
 /// What is sent, and what is replied to it.
@@ -348,6 +349,7 @@ fn clock_of(alloc: Global, readings: &[u64]) -> Result<SetClock, AllocError> {
 
 /// Serves the session of a port by a clock with these readings.
 pub fn serve_on<D: Disk + Drop>(
+    rt: &(impl Threads + Sync),
     alloc: Global,
     ports: &mut [Port<MemSource, MemSink>],
     disk: D,
@@ -360,6 +362,7 @@ pub fn serve_on<D: Disk + Drop>(
     let clock = clock_of(alloc, readings)?;
     let mut journal = MemSink::new(alloc, Vec::new(alloc));
     Ok(serve(
+        rt,
         alloc,
         &words,
         ports,
@@ -373,13 +376,13 @@ pub fn serve_on<D: Disk + Drop>(
 
 /// Serves a run's session, whose replies are those of its steps.
 pub fn told_on<D: Disk + Drop>(
-    rt: &impl Abort,
+    rt: &(impl Abort + Threads + Sync),
     alloc: Global,
     disk: D,
     run: &Run,
 ) -> Result<Served<D, MemoryDisk>, Fail> {
     let mut ports = [port_of(alloc, run.steps)?];
-    let served = serve_on(alloc, &mut ports, disk, run.clock)?;
+    let served = serve_on(rt, alloc, &mut ports, disk, run.clock)?;
     let told = told_of(alloc, run.steps)?;
     same(rt, ports[0].sink.as_bytes(), told.as_slice());
     Ok(served)
@@ -397,7 +400,7 @@ pub fn assert_book(
 }
 
 fn try_run(
-    rt: &impl Abort,
+    rt: &(impl Abort + Threads + Sync),
     alloc: Global,
     disk: MemoryDisk,
     run: &Run,
@@ -409,7 +412,11 @@ fn try_run(
     Ok(served.disk)
 }
 
-fn try_runs(rt: &impl Abort, alloc: Global, folder: &Folder) -> Result<(), Fail> {
+fn try_runs(
+    rt: &(impl Abort + Threads + Sync),
+    alloc: Global,
+    folder: &Folder,
+) -> Result<(), Fail> {
     let mut disk = disk_of(alloc, folder.before)?;
     for run in folder.runs {
         disk = try_run(rt, alloc, disk, run)?;
@@ -464,7 +471,11 @@ static SAVES: [(u64, Option<DiskError>, [&[u8]; 3]); 4] = [
 ];
 
 /// A third run finds the backup of the first, whichever book is there.
-fn try_restored(rt: &impl Abort, alloc: Global, disk: MemoryDisk) -> Result<(), Fail> {
+fn try_restored(
+    rt: &(impl Abort + Threads + Sync),
+    alloc: Global,
+    disk: MemoryDisk,
+) -> Result<(), Fail> {
     let run = Run {
         clock: &[],
         steps: RESTORED,
@@ -478,7 +489,7 @@ fn try_restored(rt: &impl Abort, alloc: Global, disk: MemoryDisk) -> Result<(), 
 
 /// The second run's disk fails in the save, and then crashes.
 fn try_save(
-    rt: &impl Abort,
+    rt: &(impl Abort + Threads + Sync),
     alloc: Global,
     disk: FailingDisk<MemoryDisk>,
     row: &(u64, Option<DiskError>, [&[u8]; 3]),
@@ -553,19 +564,23 @@ fn touches<D>(core: &Core<D, MemoryDisk, SetClock>) -> (Option<u64>, Option<u64>
 }
 
 /// What the core has of them, once the session was served on it.
-fn touched_on(alloc: Global, call: u64) -> Result<(Option<u64>, Option<u64>), Fail> {
+fn touched_on(
+    rt: &(impl Threads + Sync),
+    alloc: Global,
+    call: u64,
+) -> Result<(Option<u64>, Option<u64>), Fail> {
     let clock = clock_of(alloc, MOMENTS)?;
     let opened = open_on(alloc, failing_at(alloc, call)?, None::<MemoryDisk>, clock);
     let mut core = opened.ok().ok_or("not opened")?;
     let mut port = port_of(alloc, SENT_BOTH)?;
-    let _ = run_alone(&mut core, alloc, 0, &mut port, &FreeGate);
+    let _ = run_alone(&mut core, rt, alloc, 0, &mut port, &FreeGate);
     Ok(touches(&core))
 }
 
 /// Where the disk fails in a session, what stood in the folder is its book still.
-fn try_fault(rt: &impl Abort, alloc: Global, call: u64) -> Result<(), Fail> {
+fn try_fault(rt: &(impl Abort + Threads + Sync), alloc: Global, call: u64) -> Result<(), Fail> {
     let mut ports = [port_of(alloc, SENT_BOTH)?];
-    let served = serve_on(alloc, &mut ports, failing_at(alloc, call)?, MOMENTS)?;
+    let served = serve_on(rt, alloc, &mut ports, failing_at(alloc, call)?, MOMENTS)?;
     let ended = (served.status, served.report.not_saved);
     same(rt, ended, (Status::DiskFault, None));
     assert_book(rt, alloc, &mut served.disk.into_inner(), KEPT)
@@ -575,7 +590,7 @@ fn try_fault(rt: &impl Abort, alloc: Global, call: u64) -> Result<(), Fail> {
 fn a_chunk_fails(rt: HostRuntime) -> Result<(), Fail> {
     let alloc = rt.alloc();
     for (call, abc, de) in &TOUCHES {
-        same(&rt, touched_on(alloc, *call)?, (*abc, *de));
+        same(&rt, touched_on(&rt, alloc, *call)?, (*abc, *de));
         if *call < 8 {
             try_fault(&rt, alloc, *call)?;
         }
@@ -609,7 +624,7 @@ fn a_touch_lacks_memory(rt: HostRuntime) -> Result<(), Fail> {
     let Ok(mut core) = open_on(alloc, disk, None::<MemoryDisk>, clock) else {
         return Ok(());
     };
-    let _ = run_alone(&mut core, alloc, 0, &mut port, &FreeGate);
+    let _ = run_alone(&mut core, &rt, alloc, 0, &mut port, &FreeGate);
     let order = core.journal.entries.as_slice();
     let expected = (moment_of(order, 1).or(Some(5)), moment_of(order, 2));
     same(&rt, touches(&core), expected);

@@ -12,6 +12,7 @@ use std::alloc::Global;
 use std::cell::Cell;
 use std::process::Abort;
 use std::test::Fail;
+use std::thread::Threads;
 use store_types::Bytes;
 use wire_commands::Command;
 
@@ -123,6 +124,7 @@ fn joined(alloc: Global, parts: &[&[u8]]) -> Result<Vec<u8>, Fail> {
 
 /// Serves a session of these parts over an empty datastore, on lane 3.
 fn session(
+    rt: &(impl Threads + Sync),
     alloc: Global,
     parts: &[&[u8]],
     failing: Failing,
@@ -135,7 +137,7 @@ fn session(
     let source = MemSource::new(input, list_of(alloc, failing.source)?);
     let sink = MemSink::new(alloc, list_of(alloc, failing.sink)?);
     let mut port = Port { source, sink };
-    let report = run_alone(&mut core, alloc, 3, &mut port, gate);
+    let report = run_alone(&mut core, rt, alloc, 3, &mut port, gate);
     Ok(Served {
         told: Vec::from_slice(alloc, port.sink.as_bytes())?,
         report,
@@ -147,10 +149,10 @@ type Parts = &'static [&'static [u8]];
 /// A session of these parts on ports that may fail, what it is told, after how many bytes it ends, and how.
 type Row = (Parts, Failing, Parts, u64, Ending);
 
-fn try_row(rt: &impl Abort, alloc: Global, row: &Row) -> Result<(), Fail> {
+fn try_row(rt: &(impl Abort + Threads + Sync), alloc: Global, row: &Row) -> Result<(), Fail> {
     let (parts, failing, told, taken, ending) = row;
     let wanted = joined(alloc, told)?;
-    let served = session(alloc, parts, *failing, &FreeGate)?;
+    let served = session(rt, alloc, parts, *failing, &FreeGate)?;
     same(rt, served.told.as_slice(), wanted.as_slice());
     let report = LaneReport {
         taken: *taken,
@@ -161,7 +163,7 @@ fn try_row(rt: &impl Abort, alloc: Global, row: &Row) -> Result<(), Fail> {
     Ok(())
 }
 
-fn try_rows(rt: &impl Abort, alloc: Global, rows: &[Row]) -> Result<(), Fail> {
+fn try_rows(rt: &(impl Abort + Threads + Sync), alloc: Global, rows: &[Row]) -> Result<(), Fail> {
     for row in rows {
         try_row(rt, alloc, row)?;
     }
@@ -289,9 +291,13 @@ impl Gate for CountingGate {
 }
 
 /// How often a gate is called before the commands of a session of these parts, after them, and out of turn.
-fn gate_calls(alloc: Global, parts: &[&[u8]]) -> Result<(u64, u64, u64), Fail> {
+fn gate_calls(
+    rt: &(impl Threads + Sync),
+    alloc: Global,
+    parts: &[&[u8]],
+) -> Result<(u64, u64, u64), Fail> {
     let gate = CountingGate::new();
-    let _ = session(alloc, parts, NONE, &gate)?;
+    let _ = session(rt, alloc, parts, NONE, &gate)?;
     Ok((gate.before.get(), gate.after.get(), gate.out_of_turn.get()))
 }
 
@@ -323,13 +329,14 @@ fn gates_stand_round_each_command(rt: HostRuntime) -> Result<(), Fail> {
     let alloc = rt.alloc();
     for row in &GATED {
         let (parts, count) = row;
-        same(&rt, gate_calls(alloc, parts)?, (*count, *count, 0));
+        same(&rt, gate_calls(&rt, alloc, parts)?, (*count, *count, 0));
     }
     Ok(())
 }
 
 /// What a lane is told of a session of these parts, on a datastore that other lanes have used.
 fn told_on(
+    rt: &(impl Threads + Sync),
     core: &mut Core<MemoryDisk, MemoryDisk, SetClock>,
     alloc: Global,
     lane: u32,
@@ -344,7 +351,7 @@ fn told_on(
     let source = MemSource::new(input, Vec::new(alloc));
     let sink = MemSink::new(alloc, Vec::new(alloc));
     let mut port = Port { source, sink };
-    let _ = run_alone(core, alloc, lane, &mut port, &FreeGate);
+    let _ = run_alone(core, rt, alloc, lane, &mut port, &FreeGate);
     Ok(Vec::from_slice(alloc, port.sink.as_bytes())?)
 }
 
@@ -364,7 +371,7 @@ fn act_on_5(
 }
 
 fn try_told(
-    rt: &impl Abort,
+    rt: &(impl Abort + Threads + Sync),
     core: &mut Core<MemoryDisk, MemoryDisk, SetClock>,
     alloc: Global,
     lane: u32,
@@ -373,7 +380,7 @@ fn try_told(
 ) -> Result<(), Fail>
     requires { lane < 64 }
 {
-    let found = told_on(core, alloc, lane, parts)?;
+    let found = told_on(rt, core, alloc, lane, parts)?;
     same(rt, found.as_slice(), joined(alloc, told)?.as_slice());
     Ok(())
 }

@@ -18,7 +18,9 @@ mod restore_faults;
 mod reuse;
 mod stopped_acts;
 mod stops;
+mod syncs;
 mod talks;
+mod verifies;
 
 use crate::asserts::same;
 use archives::{
@@ -34,6 +36,7 @@ use prunes::{PRUNED, PRUNED_REPLIES};
 use std::alloc::{AllocError, Global};
 use std::process::Abort;
 use std::test::Fail;
+use std::thread::Threads;
 use store_types::Entry;
 
 /// The one port of a session, with a sink of this kind.
@@ -182,6 +185,7 @@ fn empty_sink(alloc: Global) -> MemSink {
 
 /// Serves a session on a disk by a clock that stands at 1,600,000,000.
 fn run_on<K: Sink, D: Disk + Drop>(
+    rt: &(impl Threads + Sync),
     alloc: Global,
     ports: &mut [Port<MemSource, K>],
     disk: D,
@@ -190,6 +194,7 @@ fn run_on<K: Sink, D: Disk + Drop>(
     let mut journal = empty_sink(alloc);
     let words = words(alloc)?;
     Ok(serve(
+        rt,
         alloc,
         &words,
         ports,
@@ -203,6 +208,7 @@ fn run_on<K: Sink, D: Disk + Drop>(
 
 /// Serves a session of these bytes at once: what it is told, and how it was served.
 fn run_session<D: Disk + Drop>(
+    rt: &(impl Threads + Sync),
     alloc: Global,
     input: &[u8],
     disk: D,
@@ -211,7 +217,7 @@ fn run_session<D: Disk + Drop>(
         source: source_of(alloc, input)?,
         sink: empty_sink(alloc),
     }];
-    let served = run_on(alloc, &mut ports, disk)?;
+    let served = run_on(rt, alloc, &mut ports, disk)?;
     Ok((told_to(&ports)?.to_vec(alloc)?, served))
 }
 
@@ -374,7 +380,7 @@ static BROKEN: [(&[u8], &[u8], &[u8], u64, u64); 12] = [
 
 /// Serves a session on an empty disk.
 fn try_source(
-    rt: &impl Abort,
+    rt: &(impl Abort + Threads + Sync),
     alloc: Global,
     source: MemSource,
     left: &Left<'_>,
@@ -383,12 +389,17 @@ fn try_source(
         source,
         sink: empty_sink(alloc),
     }];
-    let served = run_on(alloc, &mut ports, MemoryDisk::new(alloc))?;
+    let served = run_on(rt, alloc, &mut ports, MemoryDisk::new(alloc))?;
     assert_run(rt, told_to(&ports)?, &served, left)
 }
 
 /// Serves a session, whole and one byte a read.
-fn try_session(rt: &impl Abort, alloc: Global, input: &[u8], left: &Left<'_>) -> Result<(), Fail> {
+fn try_session(
+    rt: &(impl Abort + Threads + Sync),
+    alloc: Global,
+    input: &[u8],
+    left: &Left<'_>,
+) -> Result<(), Fail> {
     try_source(rt, alloc, source_of(alloc, input)?, left)?;
     try_source(rt, alloc, source_of(alloc, input)?.at_most(1), left)
 }
@@ -407,7 +418,7 @@ static COUNTED: [(&[u8], &[u64]); 2] = [
 fn calls_are_counted(rt: HostRuntime) -> Result<(), Fail> {
     let alloc = rt.alloc();
     for (input, calls) in &COUNTED {
-        let (_output, served) = run_session(alloc, input, MemoryDisk::new(alloc))?;
+        let (_output, served) = run_session(&rt, alloc, input, MemoryDisk::new(alloc))?;
         same(&rt, served.report.calls.as_slice(), *calls);
     }
     Ok(())
@@ -453,7 +464,7 @@ fn what_is_no_command_ends_a_session(rt: HostRuntime) -> Result<(), Fail> {
 
 /// Serves a session that ends with an upload of so many zeros, behind these bytes.
 fn try_zeros(
-    rt: &impl Abort,
+    rt: &(impl Abort + Threads + Sync),
     alloc: Global,
     front: &[u8],
     zeros: usize,
@@ -491,7 +502,11 @@ static LARGE: [(&[u8], usize, &[u8]); 2] = [
     ),
 ];
 
-fn try_large(rt: &impl Abort, alloc: Global, row: &(&[u8], usize, &[u8])) -> Result<(), Fail> {
+fn try_large(
+    rt: &(impl Abort + Threads + Sync),
+    alloc: Global,
+    row: &(&[u8], usize, &[u8]),
+) -> Result<(), Fail> {
     let (front, zeros, replies) = row;
     try_zeros(rt, alloc, front, *zeros, replies)
 }
@@ -560,6 +575,7 @@ fn ports_are_counted(rt: HostRuntime) -> Result<(), Fail> {
         },
     ];
     let served = serve(
+        &rt,
         alloc,
         &words(alloc)?,
         &mut ports,

@@ -1,25 +1,20 @@
 -- Which acts are readers', writers', and on the store as a whole, and what they ask for.
-use Rattle.std.proofs.Common.{◌≡◌, ℕ, true, false, List, [], Option, refl}
-use Rattle.store_types.specs.declared.names.Digest32.{Digest32}
-use Rattle.store_types.specs.declared.refusal.ChunkFault.{ChunkFault}
-use Rattle.store_types.specs.declared.refusal.Refusal.TheVariants.{Damaged}
+use Rattle.std.proofs.Common.{◌≡◌, ℕ, true, false, List, Option, None, refl}
 use Rattle.wire_commands.specs.declared.command.Command.TheVariants.{OpenWriter, Previous, NewFixed, NewDynamic, Chunk as ChunkCommand, Append, CloseIndex, Blob as BlobCommand, Finish, Abort, OpenReader, Download, GetChunk, Range, CloseReader, List as ListAll, Files as FilesOf, Forget, Prune, Verify, Sync, Gc, Group, Bye}
-use Rattle.wire_commands.specs.declared.reply.Reply.TheVariants.{Refused}
 use Rattle.store_history.specs.declared.act.Act.{Act}
-use Rattle.store_history.specs.declared.act.Act.TheVariants.{Plain, JobGroup, Blob, Chunk, Start, Step, Short, End}
+use Rattle.store_history.specs.declared.act.Act.TheVariants.{Plain, JobGroup, Blob, Chunk, ReadFile, ReadChunk, RemoteList, Start, Step, Short, End}
 use Rattle.store_history.specs.Acts.{IsWellFormed, class_of, stepping}
 use Rattle.core_state.specs.declared.kept.Listed.{Listed}
 use Rattle.core_state.specs.declared.kept.Session.{Session}
 use Rattle.core_state.specs.declared.collector.Collector.{Collector}
 use Rattle.core_state.specs.Commands.{is_admins, is_collectors}
-use Rattle.core_state.specs.Replies.{may_answer}
 use Rattle.core_writer.specs.WriterActs.{IsWriters, asked_of_writer}
 use Rattle.core_reader.specs.ReaderActs.{IsReaders}
 use Rattle.core_reader.specs.Asked.{asked_file}
-use Rattle.core_reader.specs.Damages.{needed}
 use Rattle.core_admin.specs.AdminActs.{IsAdmins, asked_of_admin}
+use Rattle.core_remote.specs.RemoteActs.{IsRemotes}
 use Rattle.core_collect.specs.Acts.{IsCollectors, asked_of_collector}
-use Rattle.shared_store.specs.Asked.{asked, is_readers}
+use Rattle.shared_store.specs.Asked.{asked, is_readers, is_remotes}
 
 -- ---- whose act it is
 
@@ -29,6 +24,8 @@ are_readers (Plain (Download file offset)) h = tt
 are_readers (Plain (GetChunk digest)) h = tt
 are_readers (Plain (Range file offset len)) h = tt
 are_readers (Plain CloseReader) h = tt
+are_readers (ReadFile name offset) h = tt
+are_readers (ReadChunk name entry) h = tt
 are_readers act h = cc
 
 pub are_admins : (act : Act) → IsWellFormed act → is_admins act ≡ true → IsAdmins act
@@ -65,13 +62,19 @@ are_collectors Start h = tt
 are_collectors Step h = tt
 are_collectors act h = cc
 
--- neither an act of a collector, nor want of memory, nor a lane's end
-pub is_step : (act : Act) → is_collectors act ≡ false → (act ≡ Short → ⊥) → (act ≡ End → ⊥) → class_of act ≡ stepping
-is_step Start no_collector no_short no_end = cc
-is_step Step no_collector no_short no_end = cc
-is_step Short no_collector no_short no_end = absurd (no_short refl)
-is_step End no_collector no_short no_end = absurd (no_end refl)
-is_step act no_collector no_short no_end = refl
+pub are_remotes : (act : Act) → IsWellFormed act → is_remotes act ≡ true → IsRemotes act
+are_remotes (RemoteList (Sync group)) formed h = tt
+are_remotes (RemoteList _) formed h = absurd formed
+are_remotes act formed h = cc
+
+-- neither an act of a collector, nor one that asks the remote, nor want of memory, nor a lane's end
+pub is_step : (act : Act) → is_collectors act ≡ false → is_remotes act ≡ false → (act ≡ Short → ⊥) → (act ≡ End → ⊥) → class_of act ≡ stepping
+is_step Start no_collector no_remote no_short no_end = cc
+is_step Step no_collector no_remote no_short no_end = cc
+is_step (RemoteList command) no_collector no_remote no_short no_end = cc
+is_step Short no_collector no_remote no_short no_end = absurd (no_short refl)
+is_step End no_collector no_remote no_short no_end = absurd (no_end refl)
+is_step act no_collector no_remote no_short no_end = refl
 
 -- ---- what it asks for
 
@@ -80,6 +83,8 @@ pub writers_ask : (act : Act) (lane : ℕ) (collector : Option Collector) (sessi
 writers_ask (Plain (Download file offset)) lane collector session catalogue h = absurd h
 writers_ask (Plain (OpenReader snapshot)) lane collector session catalogue h = absurd h
 writers_ask (Plain (FilesOf snapshot)) lane collector session catalogue h = absurd h
+writers_ask (ReadFile name offset) lane collector session catalogue h = absurd h
+writers_ask (ReadChunk name entry) lane collector session catalogue h = absurd h
 writers_ask Start lane collector session catalogue h = absurd h
 writers_ask Step lane collector session catalogue h = absurd h
 writers_ask act lane collector session catalogue h = refl
@@ -107,35 +112,7 @@ admins_ask (Plain (Group group)) lane collector session catalogue h = refl
 admins_ask (JobGroup (Prune group keep dry)) lane collector session catalogue h = refl
 admins_ask act lane collector session catalogue h = absurd h
 
-abbrev pub NeedsNothing : Act → Session → List Listed → Type 0
-NeedsNothing act session catalogue =
-    (needed act session catalogue ≡ []) × ((digest : Digest32) (found : ChunkFault) → may_answer act (Refused (Damaged digest found)) ≡ false)
-
--- a writer's act needs no chunk
-pub writers_need : (act : Act) (session : Session) (catalogue : List Listed) → IsWriters act → NeedsNothing act session catalogue
-writers_need (Plain (OpenWriter snapshot)) session catalogue h = (refl, λ digest found. refl)
-writers_need (Plain (Previous file offset)) session catalogue h = (refl, λ digest found. refl)
-writers_need (Plain (NewFixed file size chunk_size)) session catalogue h = (refl, λ digest found. refl)
-writers_need (Plain (NewDynamic file)) session catalogue h = (refl, λ digest found. refl)
-writers_need (Plain (Append number entries)) session catalogue h = (refl, λ digest found. refl)
-writers_need (Plain (CloseIndex number count size csum)) session catalogue h = (refl, λ digest found. refl)
-writers_need (Plain Finish) session catalogue h = (refl, λ digest found. refl)
-writers_need (Plain Abort) session catalogue h = (refl, λ digest found. refl)
-writers_need (Blob name checked) session catalogue h = (refl, λ digest found. refl)
-writers_need (Chunk digest checked) session catalogue h = (refl, λ digest found. refl)
-writers_need act session catalogue h = absurd h
-
--- nor does an act on the store as a whole
-pub admins_need : (act : Act) (session : Session) (catalogue : List Listed) → IsAdmins act → NeedsNothing act session catalogue
-admins_need (Plain (ListAll rest)) session catalogue h = (refl, λ digest found. refl)
-admins_need (Plain (FilesOf snapshot)) session catalogue h = (refl, λ digest found. refl)
-admins_need (Plain (Forget snapshot)) session catalogue h = (refl, λ digest found. refl)
-admins_need (Plain (Group group)) session catalogue h = (refl, λ digest found. refl)
-admins_need (JobGroup (Prune group keep dry)) session catalogue h = (refl, λ digest found. refl)
-admins_need act session catalogue h = absurd h
-
--- nor do the acts of a collector
-pub collectors_need : (act : Act) (session : Session) (catalogue : List Listed) → IsCollectors act → NeedsNothing act session catalogue
-collectors_need Start session catalogue h = (refl, λ digest found. refl)
-collectors_need Step session catalogue h = (refl, λ digest found. refl)
-collectors_need act session catalogue h = absurd h
+-- one that asks the remote asks for none
+pub remotes_ask : (act : Act) (lane : ℕ) (collector : Option Collector) (session : Session) (catalogue : List Listed) → IsRemotes act → asked act lane collector session catalogue ≡ None
+remotes_ask (RemoteList command) lane collector session catalogue h = refl
+remotes_ask act lane collector session catalogue h = absurd h

@@ -1,107 +1,134 @@
--- Acts that need no chunk tell of none that is damaged.
+-- An act that is no reader's needs no chunk, and tells of none that is damaged. And which acts ask for no file.
 use Rattle.disk_trait.specs.declared.disk.Disk.{Ghosts}
-use Rattle.std.proofs.Common.{◌≡◌, ℕ, true, false, List, [], Option, None, Some, refl, sym, ap, subst, ◌∙◌}
+use Rattle.std.proofs.Common.{◌≡◌, ℕ, true, false, List, Option, None, Some, refl, sym, ap, subst, ◌∙◌}
 use Rattle.disk_trait.specs.Files.{Files}
 use Rattle.store_types.specs.declared.names.Digest32.{Digest32}
 use Rattle.store_types.specs.declared.refusal.ChunkFault.{ChunkFault}
+use Rattle.store_types.specs.declared.refusal.Refusal.{Refusal}
 use Rattle.store_types.specs.declared.refusal.Refusal.TheVariants.{Damaged, Unreadable, NoMemory, DiskFault, Halted}
+use Rattle.wire_commands.specs.declared.command.Command.TheVariants.{GetChunk, Range, Prune}
 use Rattle.wire_commands.specs.declared.reply.Reply.{Reply}
 use Rattle.wire_commands.specs.declared.reply.Reply.TheVariants.{Refused}
 use Rattle.store_history.specs.declared.act.Act.{Act}
-use Rattle.store_history.specs.declared.act.Act.TheVariants.{Start, Step}
+use Rattle.store_history.specs.declared.act.Act.TheVariants.{Plain, JobGroup, ReadChunk, RemoteList, Start, Step, Short, End}
 use Rattle.store_history.specs.declared.act.Answer.{Answer}
+use Rattle.core_state.specs.declared.kept.Listed.{Listed}
+use Rattle.core_state.specs.declared.kept.Session.{Session}
 use Rattle.core_state.specs.declared.state.Core.{Core}
 use Rattle.core_state.specs.Answers.{HasCause, done, short, failed, halted, EndHasCause, ended, end_failed, StartHasCause, start_opens, start_as_any, StepHasCause, step_passes, step_ends, step_as_any, IsCaused}
 use Rattle.core_state.specs.Replies.{may_answer, may_end}
 use Rattle.core_state.specs.Unreadables.{TellsUnreadable}
+use Rattle.core_state.specs.Wanted.{session_at}
 use Rattle.core_state.proofs.Unreadables.{tells_other as none_asked}
-use Rattle.core_reader.specs.Damages.{TellsDamaged, first_damage}
-use Rattle.core_collect.specs.Acts.{IsCollectors}
+use Rattle.core_reader.specs.Damages.{CoreDamaged, damage_by}
+use Rattle.core_remote.specs.RemoteActs.{IsRemotes}
+use Rattle.shared_store.specs.Asked.{is_readers}
 
-apart_memory : (digest : Digest32) (found : ChunkFault) → Some (Refused NoMemory) ≡ Some (Refused (Damaged digest found)) → ⊥
-apart_memory digest found e = cc
-
-apart_fault : (digest : Digest32) (found : ChunkFault) → Some (Refused DiskFault) ≡ Some (Refused (Damaged digest found)) → ⊥
-apart_fault digest found e = cc
-
-apart_halted : (place : ℕ) (digest : Digest32) (found : ChunkFault) → Some (Refused (Halted place)) ≡ Some (Refused (Damaged digest found)) → ⊥
-apart_halted place digest found e = cc
-
-apart_none : (digest : Digest32) (found : ChunkFault) → None ≡ Some (Refused (Damaged digest found)) → ⊥
-apart_none digest found e = cc
+false_true : false ≡ true → ⊥
+false_true e = cc
 
 same_reply : (r s : Reply) → Some r ≡ Some s → r ≡ s
 same_reply r s e = cc
 
-true_false : true ≡ false → ⊥
-true_false e = cc
+none_reply : (r : Reply) → None ≡ Some r → ⊥
+none_reply r e = cc
 
-no_damage : (files : Files) (digest : Digest32) (found : ChunkFault) → first_damage files [] ≡ Some (digest, found) → ⊥
-no_damage files digest found e = cc
+-- ---- a refusal that an act is not told
 
-module _ {D : Type 0} (d : Ghosts D) (disk : D) where
-  -- no chunk is needed, and none is told of
-  tells_other : (chunks : List Digest32) (kind : ℕ) (reply : Option Reply)
-      → ((digest : Digest32) (found : ChunkFault) → reply ≡ Some (Refused (Damaged digest found)) → ⊥) → chunks ≡ [] → TellsDamaged d disk chunks kind reply
-  tells_other chunks kind reply other is = record {
-    named = λ digest found e. absurd (other digest found e);
-    cause = λ digest found e h. absurd (other digest found e);
-    damaged = λ digest found k h at. absurd (no_damage (d.content disk) digest found (subst (λ ds. first_damage (d.content disk) ds ≡ Some (digest, found)) is at));
-  }
+-- no act is refused so but by its command's own tests
+abbrev IsTested : Refusal → Type 0
+IsTested (Damaged digest found) = Unit {0}
+IsTested (Unreadable name) = Unit {0}
+IsTested refusal = ⊥
 
--- an act that needs no chunk
-pub tells_whole : {D E C : Type 0} (d : Ghosts D) (old new : Core D E C) (disk : D) (chunks : List Digest32) (act : Act) (answer : Answer)
-    → HasCause d old new act answer → chunks ≡ [] → ((digest : Digest32) (found : ChunkFault) → may_answer act (Refused (Damaged digest found)) ≡ false)
-    → TellsDamaged d disk chunks (answer.entry).kind answer.reply
-tells_whole d old new disk chunks act answer (done before kind reply is may) none never =
-    tells_other d disk chunks _ answer.reply
-    (λ digest found e. true_false (sym may ∙ ap (may_answer act) (same_reply reply (Refused (Damaged digest found)) (sym is ∙ e)) ∙ never digest found)) none
-tells_whole d old new disk chunks act answer (short kind is) none never =
-    tells_other d disk chunks _ answer.reply (λ digest found e. apart_memory digest found (sym is ∙ e)) none
-tells_whole d old new disk chunks act answer (failed before kind is fault risen) none never =
-    tells_other d disk chunks _ answer.reply (λ digest found e. apart_fault digest found (sym is ∙ e)) none
-tells_whole d old new disk chunks act answer (halted place fault kind is) none never =
-    tells_other d disk chunks _ answer.reply (λ digest found e. apart_halted place digest found (sym is ∙ e)) none
+apart : (refusal other : Refusal) → IsTested refusal → (IsTested other → ⊥) → Refused other ≡ Refused refusal → ⊥
+apart refusal other is unlike e = unlike (subst IsTested (sym (inner e)) is)
+  where
+    inner : Refused other ≡ Refused refusal → other ≡ refusal
+    inner h = cc
 
-pub end_tells_whole : {D E C : Type 0} (d : Ghosts D) (old new : Core D E C) (disk : D) (chunks : List Digest32) (answer : Answer)
-    → EndHasCause d old new answer → chunks ≡ [] → TellsDamaged d disk chunks (answer.entry).kind answer.reply
-end_tells_whole d old new disk chunks answer (ended kind is) none =
-    tells_other d disk chunks _ answer.reply (λ digest found e. apart_none digest found (sym is ∙ e)) none
-end_tells_whole d old new disk chunks answer (end_failed before kind is fault risen) none =
-    tells_other d disk chunks _ answer.reply (λ digest found e. apart_fault digest found (sym is ∙ e)) none
+module _ {D E C : Type 0} (d : Ghosts D) (old new : Core D E C) (refusal : Refusal) (tested : IsTested refusal) where
+  untold : (act : Act) (answer : Answer) → HasCause d old new act answer → may_answer act (Refused refusal) ≡ false → answer.reply ≡ Some (Refused refusal) → ⊥
+  untold act answer (done before kind reply is may) never e =
+      false_true (sym never ∙ ap (may_answer act) (sym (same_reply reply (Refused refusal) (sym is ∙ e))) ∙ may)
+  untold act answer (short kind is) never e = apart refusal NoMemory tested (λ h. h) (same_reply (Refused NoMemory) (Refused refusal) (sym is ∙ e))
+  untold act answer (failed before kind is fault risen) never e = apart refusal DiskFault tested (λ h. h) (same_reply (Refused DiskFault) (Refused refusal) (sym is ∙ e))
+  untold act answer (halted place fault kind is) never e = apart refusal (Halted place) tested (λ h. h) (same_reply (Refused (Halted place)) (Refused refusal) (sym is ∙ e))
 
--- a lane's end asks for no file
-unreadable_none : (name : List ℕ) → None ≡ Some (Refused (Unreadable name)) → ⊥
-unreadable_none name e = cc
+  end_untold : (answer : Answer) → EndHasCause d old new answer → answer.reply ≡ Some (Refused refusal) → ⊥
+  end_untold answer (ended kind is) e = none_reply (Refused refusal) (sym is ∙ e)
+  end_untold answer (end_failed before kind is fault risen) e = apart refusal DiskFault tested (λ h. h) (same_reply (Refused DiskFault) (Refused refusal) (sym is ∙ e))
 
-unreadable_fault : (name : List ℕ) → Some (Refused DiskFault) ≡ Some (Refused (Unreadable name)) → ⊥
-unreadable_fault name e = cc
+  start_untold : (act : Act) (answer : Answer) → StartHasCause d old new act answer → may_answer act (Refused refusal) ≡ false → answer.reply ≡ Some (Refused refusal) → ⊥
+  start_untold act answer (start_opens opens before kind is) never e = none_reply (Refused refusal) (sym is ∙ e)
+  start_untold act answer (start_as_any cause) never e = untold act answer cause never e
 
+  step_untold : (act : Act) (answer : Answer) → StepHasCause d old new act answer → may_answer act (Refused refusal) ≡ false → may_end (Refused refusal) ≡ false
+      → answer.reply ≡ Some (Refused refusal) → ⊥
+  step_untold act answer (step_passes before kind is) never none e = none_reply (Refused refusal) (sym is ∙ e)
+  step_untold act answer (step_ends before kind reply is may) never none e =
+      false_true (sym none ∙ ap may_end (sym (same_reply reply (Refused refusal) (sym is ∙ e))) ∙ may)
+  step_untold act answer (step_as_any cause) never none e = untold act answer cause never e
+
+  short_untold : (answer : Answer) → answer.reply ≡ Some (Refused NoMemory) → answer.reply ≡ Some (Refused refusal) → ⊥
+  short_untold answer is e = apart refusal NoMemory tested (λ h. h) (same_reply (Refused NoMemory) (Refused refusal) (sym is ∙ e))
+
+  untold_by : (act : Act) (answer : Answer) → IsCaused d old new act answer → may_answer act (Refused refusal) ≡ false → may_end (Refused refusal) ≡ false
+      → answer.reply ≡ Some (Refused refusal) → ⊥
+  untold_by End answer cause never none e = end_untold answer cause e
+  untold_by Start answer cause never none e = start_untold Start answer cause never e
+  untold_by (RemoteList command) answer cause never none e = start_untold (RemoteList command) answer cause never e
+  untold_by Step answer cause never none e = step_untold Step answer cause never none e
+  untold_by Short answer cause never none e = short_untold answer cause.1 e
+  untold_by act answer cause never none e = untold act answer cause never e
+
+-- ---- damaged chunks
+
+-- they are told by reads alone
+never_damaged : (act : Act) (digest : Digest32) (found : ChunkFault) → is_readers act ≡ false → may_answer act (Refused (Damaged digest found)) ≡ false
+never_damaged (Plain (GetChunk id)) digest found other = cc
+never_damaged (Plain (Range file offset len)) digest found other = cc
+never_damaged (ReadChunk name entry) digest found other = cc
+never_damaged (JobGroup (Prune group keep dry)) digest found other = refl
+never_damaged (JobGroup command) digest found other = refl
+never_damaged act digest found other = refl
+
+no_damage : (act : Act) (session : Session) (catalogue : List Listed) (files : Files) → is_readers act ≡ false → damage_by act session catalogue files ≡ None
+no_damage (Plain (GetChunk id)) session catalogue files other = cc
+no_damage (Plain (Range file offset len)) session catalogue files other = cc
+no_damage (ReadChunk name entry) session catalogue files other = cc
+no_damage act session catalogue files other = refl
+
+some_damage : (digest : Digest32) (found : ChunkFault) → ◌≡◌ {A = Option (Digest32 × ChunkFault)} None (Some (digest, found)) → ⊥
+some_damage digest found e = cc
+
+pub tells_whole : {D E C : Type 0} (d : Ghosts D) (old new : Core D E C) (lane : ℕ) (act : Act) (answer : Answer) → is_readers act ≡ false → IsCaused d old new act answer
+    → CoreDamaged d old lane act answer
+tells_whole d old new lane act answer other cause = record {
+  named = λ digest found e. absurd (never digest found e);
+  cause = λ digest found e h. absurd (never digest found e);
+  damaged = λ digest found k h at.
+      absurd (some_damage digest found (sym (no_damage act (session_at old.parts lane) (old.parts).catalogue.items (d.content (old.parts).disk) other) ∙ at));
+}
+  where
+    never : (digest : Digest32) (found : ChunkFault) → answer.reply ≡ Some (Refused (Damaged digest found)) → ⊥
+    never digest found e = untold_by d old new (Damaged digest found) tt act answer cause (never_damaged act digest found other) refl e
+
+-- ---- files
+
+-- a lane's end asks for none
 pub end_asks_none : {D E C : Type 0} (d : Ghosts D) (old new : Core D E C) (disk : D) (answer : Answer) → EndHasCause d old new answer
     → TellsUnreadable d disk None (answer.entry).kind answer.reply
-end_asks_none d old new disk answer (ended kind is) = none_asked d disk None _ answer.reply (λ name e. unreadable_none name (sym is ∙ e)) refl
-end_asks_none d old new disk answer (end_failed before kind is fault risen) = none_asked d disk None _ answer.reply (λ name e. unreadable_fault name (sym is ∙ e)) refl
+end_asks_none d old new disk answer cause = none_asked d disk None _ answer.reply (λ name e. end_untold d old new (Unreadable name) tt answer cause e) refl
 
--- nor does an act of a collector tell of one
-pub start_tells_whole : {D E C : Type 0} (d : Ghosts D) (old new : Core D E C) (disk : D) (chunks : List Digest32) (answer : Answer)
-    → StartHasCause d old new Start answer → chunks ≡ [] → TellsDamaged d disk chunks (answer.entry).kind answer.reply
-start_tells_whole d old new disk chunks answer (start_opens before kind is) none =
-    tells_other d disk chunks _ answer.reply (λ digest found e. apart_none digest found (sym is ∙ e)) none
-start_tells_whole d old new disk chunks answer (start_as_any cause) none =
-    tells_whole d old new disk chunks Start answer cause none (λ digest found. refl)
+-- nor does want of memory
+pub short_asks_none : {D E C : Type 0} (d : Ghosts D) (old new : Core D E C) (disk : D) (answer : Answer) → answer.reply ≡ Some (Refused NoMemory)
+    → TellsUnreadable d disk None (answer.entry).kind answer.reply
+short_asks_none d old new disk answer is = none_asked d disk None _ answer.reply (λ name e. short_untold d old new (Unreadable name) tt answer is e) refl
 
-pub step_tells_whole : {D E C : Type 0} (d : Ghosts D) (old new : Core D E C) (disk : D) (chunks : List Digest32) (answer : Answer)
-    → StepHasCause d old new Step answer → chunks ≡ [] → TellsDamaged d disk chunks (answer.entry).kind answer.reply
-step_tells_whole d old new disk chunks answer (step_passes before kind is) none =
-    tells_other d disk chunks _ answer.reply (λ digest found e. apart_none digest found (sym is ∙ e)) none
-step_tells_whole d old new disk chunks answer (step_ends before kind reply is may) none =
-    tells_other d disk chunks _ answer.reply
-    (λ digest found e. true_false (sym may ∙ ap may_end (same_reply reply (Refused (Damaged digest found)) (sym is ∙ e)))) none
-step_tells_whole d old new disk chunks answer (step_as_any cause) none =
-    tells_whole d old new disk chunks Step answer cause none (λ digest found. refl)
-
-pub collectors_tell_whole : {D E C : Type 0} (d : Ghosts D) (old new : Core D E C) (disk : D) (chunks : List Digest32) (act : Act) (answer : Answer) → IsCollectors act
-    → IsCaused d old new act answer → chunks ≡ [] → TellsDamaged d disk chunks (answer.entry).kind answer.reply
-collectors_tell_whole d old new disk chunks Start answer is cause none = start_tells_whole d old new disk chunks answer cause none
-collectors_tell_whole d old new disk chunks Step answer is cause none = step_tells_whole d old new disk chunks answer cause none
-collectors_tell_whole d old new disk chunks act answer is cause none = absurd is
+-- nor an act that asks the remote
+pub remotes_ask_none : {D E C : Type 0} (d : Ghosts D) (old new : Core D E C) (disk : D) (act : Act) (answer : Answer) → IsRemotes act → IsCaused d old new act answer
+    → TellsUnreadable d disk None (answer.entry).kind answer.reply
+remotes_ask_none d old new disk (RemoteList command) answer is cause =
+    none_asked d disk None _ answer.reply (λ name e. start_untold d old new (Unreadable name) tt (RemoteList command) answer cause refl e) refl
+remotes_ask_none d old new disk act answer is cause = absurd is

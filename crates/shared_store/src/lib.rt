@@ -8,12 +8,14 @@ ghost use Rattle.core_state.specs.Commands.{is_admins, is_collectors};
 ghost use Rattle.core_state.specs.Reserved.{HasRoom};
 ghost use Rattle.core_state.specs.Unreadables.{CoreUnreadable};
 ghost use Rattle.core_reader.specs.Damages.{CoreDamaged};
+ghost use Rattle.core_reader.specs.ReaderActs.{CoreOpens};
 ghost use Rattle.shared_store.specs.AnsweredBy.{CoreAnswersBy};
-ghost use Rattle.shared_store.specs.Asked.{asked, is_readers};
+ghost use Rattle.shared_store.specs.Asked.{asked, is_readers, is_remotes};
 
 use core_admin::admin_act;
 use core_collect::collect_act;
 use core_reader::reader_act;
+use core_remote::remote_act;
 use core_state::{Act, Answer, Core, short};
 use core_writer::{end_act, writer_act};
 use disk_trait::Disk;
@@ -21,21 +23,22 @@ use port_traits::Clock;
 use std::alloc::Global;
 use wire_commands::Command;
 
-/// The act is one of a reader's commands.
+/// The act is one of a reader's commands, or a read of a VERIFY.
 fn is_readers(act: &Act) -> bool
     ensures { result ≡ is_readers act.now }
 {
-    let Act::Plain(command) = act else {
-        return false;
-    };
-    matches!(
-        command,
-        Command::OpenReader { .. }
-            | Command::Download { .. }
-            | Command::GetChunk { .. }
-            | Command::Range { .. }
-            | Command::CloseReader
-    )
+    match act {
+        Act::Plain(command) => matches!(
+            command,
+            Command::OpenReader { .. }
+                | Command::Download { .. }
+                | Command::GetChunk { .. }
+                | Command::Range { .. }
+                | Command::CloseReader
+        ),
+        Act::ReadFile { .. } | Act::ReadChunk { .. } => true,
+        _ => false,
+    }
 }
 
 /// The act is a command on the store as a whole, or the first step of a job.
@@ -62,6 +65,16 @@ fn is_collectors(act: &Act) -> bool
     matches!(act, Act::Start | Act::Step)
 }
 
+/// The act asks the remote.
+fn is_remotes(act: &Act) -> bool
+    ensures { result ≡ is_remotes act.now }
+{
+    matches!(act, Act::RemoteList(_))
+}
+
+/// Lets go of an act that is answered without it.
+fn let_go(_act: Act) {}
+
 /// Does one act on a lane, and enters it in the order. It is one atomic step of the store.
 pub fn apply<D: Disk, E, C: Clock>(
     core: &mut Core<D, E, C>,
@@ -79,8 +92,10 @@ pub fn apply<D: Disk, E, C: Clock>(
     ensures unreadable { CoreUnreadable D.Disk (asked act lane core.old.collector) core.old lane result }
     ensures damaged { CoreDamaged D.Disk core.old lane act result }
     // on any disk OPEN_WRITER, OPEN_READER, the tests of a command on the store as a whole, and a collector's acts answer what
-    // the core keeps; of FILES, whether there is such a snapshot
+    // the core keeps; of FILES, whether there is such a snapshot. On an honest disk, whatever it holds, FILES and a
+    // VERIFY's reads answer what stands there
     ensures by_kept { CoreAnswersBy D.Disk core.old core.new lane act result }
+    ensures opened { CoreOpens core.new lane act result }
     ensures short { act ≡ Act.Short → result.entry.kind ≡ 2 }
 {
     if is_readers(&act) {
@@ -92,9 +107,18 @@ pub fn apply<D: Disk, E, C: Clock>(
     if is_collectors(&act) {
         return collect_act(core, alloc, lane, act);
     }
+    if is_remotes(&act) {
+        return remote_act(core, alloc, lane, act);
+    }
     match act {
-        Act::Short => short(core, alloc, lane),
-        Act::End => end_act(core, lane),
+        Act::Short => {
+            let_go(act);
+            short(core, alloc, lane)
+        }
+        Act::End => {
+            let_go(act);
+            end_act(core, lane)
+        }
         act => writer_act(core, alloc, lane, act),
     }
 }

@@ -3,6 +3,7 @@ mod PartLemmas
 mod Entries
 pub mod Indexed
 pub mod Archives
+pub mod EntryLemmas
 pub mod PathLengths
 pub mod Placing
 pub mod Losing

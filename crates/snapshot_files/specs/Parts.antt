@@ -1,5 +1,5 @@
 -- What is read of a file.
-use Rattle.std.specs.Prelude.{◌≡◌, ℕ, List, Result, Ok, Err, length, nat_le}
+use Rattle.std.specs.Prelude.{◌≡◌, ◌<◌, ℕ, List, Result, Ok, Err, length, nat_le}
 use Rattle.std.specs.FinMap.{get}
 use Rattle.disk_trait.specs.declared.disk.Disk.{Ghosts}
 use Rattle.disk_trait.specs.Files.{Files}
@@ -20,6 +20,11 @@ part_from text offset = unless (BadRange (length text)) (nat_le offset (length t
 -- of the file that stands at the path
 abbrev pub part_at : Files → List ℕ → ℕ → Result Reply Refusal
 part_at content path offset = or_else (Unreadable path) (get content path) >>= λ text. part_from text offset
+
+-- it is not empty before the file's end
+abbrev pub FillsPart : ℕ → Reply → Type 0
+FillsPart offset (Part total bytes) = offset < total → 0 < length bytes
+FillsPart offset reply = Unit {0}
 
 abbrev pub IsPart : Reply → Type 0
 IsPart (Part total bytes) = Unit {0}

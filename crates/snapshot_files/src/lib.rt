@@ -3,6 +3,7 @@
 //! A snapshot is finished where its manifest stands: the manifest is put last, and goes first.
 #![tactic(auto)]
 
+mod entry;
 mod forgetting;
 mod found;
 mod index;
@@ -13,6 +14,7 @@ mod putting;
 mod read_error;
 mod scanning;
 
+pub use entry::read_entry;
 pub use forgetting::{forget, remove_files};
 pub use found::{Found, read_manifest};
 pub use index::{IndexPart, lengths_of, read_index};

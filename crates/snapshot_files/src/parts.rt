@@ -5,7 +5,7 @@ ghost use Rattle.disk_trait.specs.Effects.{OnlyReads};
 ghost use Rattle.store_types.specs.declared.refusal.Refusal.TheVariants.{Unreadable as UnreadableAt};
 ghost use Rattle.wire_commands.specs.HasText.{ReplyHasText};
 ghost use Rattle.wire_commands.specs.declared.reply.Reply.TheVariants.{Refused};
-ghost use Rattle.snapshot_files.specs.Parts.{IsPart, ReadsPart, RefusesPart};
+ghost use Rattle.snapshot_files.specs.Parts.{FillsPart, IsPart, ReadsPart, RefusesPart};
 ghost use Rattle.snapshot_files.specs.Reads.{ErrorHasText, IfRefused};
 
 use crate::read_error::ReadError;
@@ -47,6 +47,7 @@ pub fn read_part<D: Disk>(
     ensures reads { OnlyReads D.Disk disk.old disk.new (IsErrOf result ReadError.Failed) }
     ensures exact { ReadsPart D.Disk disk.old path.now offset result }
     ensures kind { MatchResult result IsPart (IfRefused (RefusesPart path.now)) }
+    ensures filled { IfOk result (FillsPart offset) }
     ensures text { MatchResult result ReplyHasText ErrorHasText }
 {
     let Some(total) = disk.size(path)? else {

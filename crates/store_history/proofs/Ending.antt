@@ -29,7 +29,7 @@ use Rattle.store_history.proofs.Events.{command_class}
 use Rattle.store_history.proofs.Growing.{leads_more, heard_at_over}
 use Rattle.store_history.proofs.Keeping.{fault_shut}
 use Rattle.store_history.proofs.Placed.{open_at, open_is}
-use Rattle.store_history.proofs.Wanting.{wants_frame}
+use Rattle.store_history.proofs.Wanting.{steps_on, wants_frame}
 
 -- ---- what is next
 
@@ -209,11 +209,12 @@ heard_broken p refusal a r is says two =
 pub follows_command : (p : Position) (c : Command) (left : List ℕ) (v : Event) → p.is_spent ≡ false → next_at p ≡ plain c left → v.act ≡ act_of_command c
     → Follows (class_of v.act) p v
 follows_command p c left v on is asks =
-    subst (λ x. Follows x p v) (sym (ap class_of asks ∙ command_class c)) (on, subst (λ x. Asks x v.act) (sym is) asks)
+    subst (λ x. Follows x p v) (sym (ap class_of asks ∙ command_class c)) (steps_on p on, subst (λ x. Asks x v.act) (sym is) asks)
 
-pub follows_short : (p : Position) (c : Command) (left : List ℕ) (v : Event) → p.is_spent ≡ false → next_at p ≡ plain c left → may_want p.left ≡ true → v.act ≡ acts.Short
+pub follows_short : (p : Position) (c : Command) (left : List ℕ) (v : Event) → p.is_spent ≡ false → p.job ≡ None → next_at p ≡ plain c left → may_want p.left ≡ true → v.act ≡ acts.Short
     → Follows (class_of v.act) p v
-follows_short p c left v on is may asks = subst (λ x. Follows x p v) (sym (ap class_of asks)) (on, wants_frame p (next_shut p (plain c left) is refl) may, ap goes_further is)
+follows_short p c left v on off is may asks =
+    subst (λ x. Follows x p v) (sym (ap class_of asks)) (on, wants_frame p (next_shut p (plain c left) is refl) off may, ap goes_further is)
 
 -- the lane went on by a command, which was answered
 pub leads_command : (vs : List Event) (p q : Position) (c : Command) (left : List ℕ) (v : Event) (r : Reply) → Leads p vs q → q.is_spent ≡ false
@@ -223,20 +224,20 @@ leads_command vs p q c left v r led on is asks says =
     subst (λ x. Leads p (vs ++ v ∷ []) x) (heard_plain q c left v.answer r is says) (leads_more vs p q v led (follows_command q c left v on is asks))
 
 -- or memory was wanting for it
-pub leads_short : (vs : List Event) (p q : Position) (c : Command) (left : List ℕ) (v : Event) (r : Reply) → Leads p vs q → q.is_spent ≡ false
+pub leads_short : (vs : List Event) (p q : Position) (c : Command) (left : List ℕ) (v : Event) (r : Reply) → Leads p vs q → q.is_spent ≡ false → q.job ≡ None
     → next_at q ≡ plain c left → may_want q.left ≡ true → v.act ≡ acts.Short → reply v ≡ Some r
     → Leads p (vs ++ v ∷ []) (record q { left = left; job = None; is_short = kind v == 2; is_spent = (v.answer).last || q.is_spent; told = q.told ++ r ∷ [] })
-leads_short vs p q c left v r led on is may asks says =
-    subst (λ x. Leads p (vs ++ v ∷ []) x) (heard_plain q c left v.answer r is says) (leads_more vs p q v led (follows_short q c left v on is may asks))
+leads_short vs p q c left v r led on off is may asks says =
+    subst (λ x. Leads p (vs ++ v ∷ []) x) (heard_plain q c left v.answer r is says) (leads_more vs p q v led (follows_short q c left v on off is may asks))
 
 -- ---- the last of a lane
 
 -- memory was wanting, for a frame that is no command or not yet known
-pub short_runs : (e : Ending) (q : Position) (v : Event) (vs : List Event) (told : List Reply) → q.is_over ≡ false → q.is_spent ≡ false → q.collecting ≡ None → may_want q.left ≡ true
+pub short_runs : (e : Ending) (q : Position) (v : Event) (vs : List Event) (told : List Reply) → q.is_over ≡ false → q.is_spent ≡ false → q.collecting ≡ None → q.job ≡ None → may_want q.left ≡ true
     → v.act ≡ acts.Short → Runs e (heard q v.answer) vs told → Runs e q (v ∷ vs) told
 unfolding position_after
-short_runs e q v vs told off on shut may asks runs =
-    subst (λ c. (q.is_over ≡ false) × Does c e q v vs × Runs e (heard_as c e q v.answer) vs told) (sym (ap class_of asks)) (off, (on, wants_frame q shut may), runs)
+short_runs e q v vs told off on shut idle may asks runs =
+    subst (λ c. (q.is_over ≡ false) × Does c e q v vs × Runs e (heard_as c e q v.answer) vs told) (sym (ap class_of asks)) (off, (on, wants_frame q shut idle may), runs)
 
 -- the lane's end
 pub end_runs : (e : Ending) (q : Position) (v : Event) → q.is_over ≡ false → q.collecting ≡ None → v.act ≡ acts.End → kind v ≡ 6 → EndsSo e q (next_at q)

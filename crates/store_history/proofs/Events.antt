@@ -15,13 +15,15 @@ use Rattle.store_model.specs.WriterSteps.{put_blob, checked_blob, want_data}
 use Rattle.store_model.specs.ArchiveSteps.{put_chunk, checked_chunk}
 use Rattle.store_model.specs.Store.{ended}
 use Rattle.store_model.specs.Steps.{outcome, answered, step}
+use Rattle.store_model.specs.SyncJob.{to_pull, next_snapshot}
+use Rattle.store_types.specs.Chain.Refusing.{◌>>=◌}
 use Rattle.store_model.specs.declared.step.Step.{Step}
 use Rattle.store_model.specs.declared.step.Step.TheVariants as steps
 use Rattle.store_model.specs.Job.{Asking, step_of, Job}
 use Rattle.store_model.specs.Jobs.{job_of, take as job_take}
 use Rattle.store_model.specs.JobSteps.{step_outcome}
 use Rattle.store_model.specs.Lanes.{Collecting, Lane, Run, Next, job_step, plain, sync, collect, collecting, bye, broken, end, with_lane, lane_next, front_next, command_next, next_of}
-use Rattle.store_model.specs.Weave.{with_store, tell, go_on, answer_job, answer, want_collector, open_collector, close_collector, collected, stepped, passed, short, opens, closes, told_fault, fault_refusal, first_fault, faulted, is_cut_off, ends, ended_with, end_session, unread, is_replied, may_leave_unread, entered, known}
+use Rattle.store_model.specs.Weave.{with_store, tell, go_on, answer_job, answer, begin_sync, want_collector, open_collector, close_collector, collected, stepped, passed, short, opens, closes, told_fault, fault_refusal, first_fault, faulted, is_cut_off, ends, ended_with, end_session, unread, is_replied, may_leave_unread, entered, known}
 use Rattle.store_history.specs.declared.act.Act.{Act}
 use Rattle.store_history.specs.declared.act.Act.TheVariants as acts
 use Rattle.store_history.specs.declared.act.Answer.{Answer}
@@ -30,7 +32,7 @@ use Rattle.blob_codec.specs.Blob.{data_of}
 use Rattle.store_types.specs.declared.refusal.Refusal.TheVariants.{BadBlob}
 use Rattle.store_history.specs.Acts.{act_of_command, act_of_step, check_blob, Class, stepping, starting, sweeping, wanting, ending, class_of}
 use Rattle.store_history.specs.History.{World, open_on, new_collecting, cut_on, halted_on, data_in, act_outcome, moved, EntryKind, kind_of, step_kind, pass_kind, short_kind, start_kind, close_kind, fault_kind, end_kind, remote_kind, no_kind, lane, moment, kind, reply}
-use Rattle.store_history.specs.Legal.{Right, Says, Refuses, Reports, may_open, collecting_on}
+use Rattle.store_history.specs.Legal.{Right, Says, Refuses, OpensCollector, Reports, may_open, collecting_on}
 use Rattle.store_history.specs.LaneRun.{blank, Position, lane_of, next_at, tells, goes_on, used_up, heard_at, heard, heard_as, last_words, end_faulted, end_heard, position_after, Asks, may_want_at, EndsSo, Does}
 use Rattle.store_history.proofs.Checking.{chunk_checked}
 use Rattle.store_history.proofs.Collectors.{some_none, cut_none, cut_some, closed_none, closed_some}
@@ -61,13 +63,12 @@ command_outcome R w k m c = refl
 -- and of a step
 abbrev pub IsStepping : Class → Type 0
 IsStepping stepping = Unit {0}
-IsStepping wanting = Unit {0}
 IsStepping _ = ⊥
 
-pub step_class : (s : Step) → IsStepping (class_of (act_of_step s))
-step_class (steps.Command c) = subst IsStepping (sym (command_class c)) tt
-step_class (steps.ReadFile name offset) = tt
-step_class (steps.ReadChunk name entry) = tt
+pub step_class : (s : Step) → class_of (act_of_step s) ≡ stepping
+step_class (steps.Command c) = command_class c
+step_class (steps.ReadFile name offset) = refl
+step_class (steps.ReadChunk name entry) = refl
 
 abbrev pub IsStarting : Class → Type 0
 IsStarting starting = Unit {0}
@@ -89,16 +90,17 @@ ending_is c h = absurd h
 abbrev pub FitsNext : Next → Class → Type 0
 FitsNext (job_step j left) c = IsStepping c
 FitsNext (plain d left) c = IsStepping c
+FitsNext (sync group left) c = IsStarting c
 FitsNext (collect left) c = IsStarting c
 FitsNext (collecting is_short) c = IsSweeping c
 FitsNext _ c = ⊥
 
 pub asks_class : (n : Next) (a : Act) → Asks n a → FitsNext n (class_of a)
-asks_class (job_step j left) a asks = subst (λ x. IsStepping (class_of x)) (sym asks) (step_class (step_of j))
+asks_class (job_step j left) a asks = subst (λ x. IsStepping (class_of x)) (sym asks) (subst IsStepping (sym (step_class (step_of j))) tt)
 asks_class (plain c left) a asks = subst (λ x. IsStepping (class_of x)) (sym asks) (subst IsStepping (sym (command_class c)) tt)
+asks_class (sync group left) a asks = subst (λ x. IsStarting (class_of x)) (sym asks) tt
 asks_class (collect left) a asks = subst (λ x. IsStarting (class_of x)) (sym asks) tt
 asks_class (collecting is_short) a asks = subst (λ x. IsSweeping (class_of x)) (sym asks) tt
-asks_class (sync group left) a asks = absurd asks
 asks_class bye a asks = absurd asks
 asks_class (broken refusal) a asks = absurd asks
 asks_class end a asks = absurd asks
@@ -202,9 +204,9 @@ module _ (R : Option (List Snapshot)) (w : World) (ps : List Position) (k m : �
   right_pass a r wanting h = absurd h
   right_pass a r ending h = absurd h
 
-  pub right_start : (a : Act) (r : Option Reply) (c : Class) → Right R w k m a r c start_kind → (c ≡ starting) × (may_open w k ≡ Ok tt) × (r ≡ None)
+  pub right_start : (a : Act) (r : Option Reply) (c : Class) → Right R w k m a r c start_kind → (c ≡ starting) × (may_open w k ≡ Ok tt) × (r ≡ None) × OpensCollector a
   right_start a r stepping h = absurd h
-  right_start a r starting h = (refl, h.1, h.2)
+  right_start a r starting h = (refl, h.1, h.2, h.3)
   right_start a r sweeping h = absurd h
   right_start a r wanting h = absurd h
   right_start a r ending h = absurd h
@@ -257,10 +259,11 @@ module _ (R : Option (List Snapshot)) (w : World) (ps : List Position) (k m : �
 
   step_says : (s : Step) (r : Option Reply) → Right R w k m (act_of_step s) r (class_of (act_of_step s)) step_kind
       → Says R w k m (act_of_step s) r × (act_outcome R w k m (act_of_step s) ≡ step_outcome w.store k m s)
+  unfolding act_outcome
   step_says (steps.Command c) r right =
       ((subst (λ x. Right R w k m (act_of_command c) r x step_kind) (command_class c) right).1, command_outcome R w k m c)
-  step_says (steps.ReadFile name offset) r right = absurd right
-  step_says (steps.ReadChunk name entry) r right = absurd right
+  step_says (steps.ReadFile name offset) r right = (right.1, refl)
+  step_says (steps.ReadChunk name entry) r right = (right.1, refl)
 
   step_stepped : (j : Asking) (left : List ℕ) (r : Option Reply) → KeepsPlain j → Says R w k m (act_of_step (step_of j)) r
       → act_outcome R w k m (act_of_step (step_of j)) ≡ step_outcome w.store k m (step_of j)
@@ -290,6 +293,14 @@ module _ (R : Option (List Snapshot)) (w : World) (ps : List Position) (k m : �
       ap (λ (o : Result (Unit {0}) Refusal). elim o [ Ok may ↦ None | Err x ↦ Some (tell run k left (Refused x)) ]) is
       ∙ ap Some (told_as w left (Refused refusal) (heard_at p 0 r (collect left)) refl (ap (λ x. heard_at p 0 x (collect left)) h))
 
+  sync_refused : (group left : List ℕ) (r : Option Reply) (o : Result (List Snapshot) Refusal) → to_pull R w.store k group ≡ o → Refuses (o >>= λ snapshots. Ok tt) r
+      → Becomes (acts.RemoteList (commands.Sync group)) step_kind 0 r (sync group left) (stepped run k m (sync group left))
+  unfolding stepped begin_sync moved act_outcome heard_at
+  sync_refused group left r (Ok snapshots) is h = absurd h
+  sync_refused group left r (Err refusal) is h =
+      ap (λ (o : Result (List Snapshot) Refusal). Some (elim o [ Err x ↦ tell run k left (Refused x) | Ok snapshots ↦ go_on run k left (next_snapshot [] snapshots) ])) is
+      ∙ ap Some (told_as w left (Refused refusal) (heard_at p 0 r (sync group left)) refl (ap (λ x. heard_at p 0 x (sync group left)) h))
+
   all_stepped : (a : Act) (n : Next) (r : Option Reply) → Asks n a → open_at n ≡ collecting_on w k → IsPlainNext n
       → Right R w k m a r (class_of a) step_kind → Becomes a step_kind 0 r n (stepped run k m n)
   all_stepped a (job_step j left) r asks knows kept =
@@ -304,7 +315,9 @@ module _ (R : Option (List Snapshot)) (w : World) (ps : List Position) (k m : �
   all_stepped a (collecting is_short) r asks knows kept =
       subst (λ x. Right R w k m x r (class_of x) step_kind → Becomes x step_kind 0 r (collecting is_short) (stepped run k m (collecting is_short))) (sym asks)
       (λ right. absurd (some_none is_short (knows ∙ right.1)))
-  all_stepped a (sync group left) r asks knows kept = absurd asks
+  all_stepped a (sync group left) r asks knows kept =
+      subst (λ x. Right R w k m x r (class_of x) step_kind → Becomes x step_kind 0 r (sync group left) (stepped run k m (sync group left))) (sym asks)
+      (λ right. sync_refused group left r (to_pull R w.store k group) refl right.1)
   all_stepped a bye r asks knows kept = absurd asks
   all_stepped a (broken refusal) r asks knows kept = absurd asks
   all_stepped a end r asks knows kept = absurd asks
@@ -372,15 +385,18 @@ module _ (R : Option (List Snapshot)) (w : World) (ps : List Position) (k m : �
       ∙ ap Some (put_is R w' ps k q)
       ∙ ap (λ (x : Option Reply). Some (run_of R w' (slice_set ps k (heard_at p 3 x (collect left))))) (sym h)
 
-  all_started : (a : Act) (n : Next) (r : Option Reply) → FitsNext n starting → may_open w k ≡ Ok tt → r ≡ None → Becomes a start_kind 3 r n (opens run k n)
-  all_started a (collect left) r fits can h = start_opens a left r can h
-  all_started a (job_step j left) r fits can h = absurd fits
-  all_started a (plain c left) r fits can h = absurd fits
-  all_started a (collecting is_short) r fits can h = absurd fits
-  all_started a (sync group left) r fits can h = absurd fits
-  all_started a bye r fits can h = absurd fits
-  all_started a (broken refusal) r fits can h = absurd fits
-  all_started a end r fits can h = absurd fits
+  no_sync : (a : Act) (group left : List ℕ) → Asks (sync group left) a → OpensCollector a → ⊥
+  no_sync a group left asks opens = subst OpensCollector asks opens
+
+  all_started : (a : Act) (n : Next) (r : Option Reply) → Asks n a → OpensCollector a → FitsNext n starting → may_open w k ≡ Ok tt → r ≡ None → Becomes a start_kind 3 r n (opens run k n)
+  all_started a (collect left) r asks opens fits can h = start_opens a left r can h
+  all_started a (job_step j left) r asks opens fits can h = absurd fits
+  all_started a (plain c left) r asks opens fits can h = absurd fits
+  all_started a (collecting is_short) r asks opens fits can h = absurd fits
+  all_started a (sync group left) r asks opens fits can h = absurd (no_sync a group left asks opens)
+  all_started a bye r asks opens fits can h = absurd fits
+  all_started a (broken refusal) r asks opens fits can h = absurd fits
+  all_started a end r asks opens fits can h = absurd fits
 
   -- ---- kind 4
 
@@ -430,6 +446,7 @@ module _ (R : Option (List Snapshot)) (w : World) (ps : List Position) (k m : �
   asks_halted (collect left) c fits knows = absurd fits
   asks_halted (collecting is_short) sweeping fits knows = closed_some k w.collecting is_short (sym knows)
   asks_halted (collecting is_short) c fits knows = absurd fits
+  asks_halted (sync group left) starting fits knows = refl
   asks_halted (sync group left) c fits knows = absurd fits
   asks_halted bye c fits knows = absurd fits
   asks_halted (broken refusal) c fits knows = absurd fits
@@ -580,7 +597,7 @@ module _ (R : Option (List Snapshot)) (w : World) (ps : List Position) (k m : �
         ap (λ x. short run k x) nx ∙ all_short a (next_at p) r (asks_goes (next_at p) a asks) at_next plainly (right_short a r (class_of a) right)
     asked (suc (suc (suc zero))) a r asks cut right =
         let h = right_start a r (class_of a) right in
-        ap (λ x. opens run k x) nx ∙ all_started a (next_at p) r (subst (FitsNext (next_at p)) h.0 (asks_class (next_at p) a asks)) h.1 h.2
+        ap (λ x. opens run k x) nx ∙ all_started a (next_at p) r asks h.3 (subst (FitsNext (next_at p)) h.0 (asks_class (next_at p) a asks)) h.1 h.2
     asked (suc (suc (suc (suc zero)))) a r asks cut right =
         let h = right_close a r (class_of a) right in
         ap (λ x. closes run k x) nx ∙ all_closed a (next_at p) r (subst (FitsNext (next_at p)) h.0 (asks_class (next_at p) a asks)) at_next h.1
@@ -651,6 +668,9 @@ module _ (R : Option (List Snapshot)) (w : World) (ps : List Position) (k m : �
     acted acts.Start x v vs is does cut right =
         asked (x.entry).kind acts.Start x.reply (subst (λ y. Asks (next_at p) y) is does.1) cut right
         ∙ ap Some (heard_is (moved R w k m acts.Start (kind_of (x.entry).kind)) x)
+    acted (acts.RemoteList c) x v vs is does cut right =
+        asked (x.entry).kind (acts.RemoteList c) x.reply (subst (λ y. Asks (next_at p) y) is does.1) cut right
+        ∙ ap Some (heard_is (moved R w k m (acts.RemoteList c) (kind_of (x.entry).kind)) x)
     acted acts.Step x v vs is does cut right =
         asked (x.entry).kind acts.Step x.reply (subst (λ y. Asks (next_at p) y) is does) cut right
         ∙ ap Some (heard_is (moved R w k m acts.Step (kind_of (x.entry).kind)) x)
@@ -663,6 +683,12 @@ module _ (R : Option (List Snapshot)) (w : World) (ps : List Position) (k m : �
     acted (acts.Blob name checked) x v vs is does cut right =
         asked (x.entry).kind (acts.Blob name checked) x.reply (subst (λ y. Asks (next_at p) y) is does.1) cut right
         ∙ ap Some (heard_is (moved R w k m (acts.Blob name checked) (kind_of (x.entry).kind)) x)
+    acted (acts.ReadFile name offset) x v vs is does cut right =
+        asked (x.entry).kind (acts.ReadFile name offset) x.reply (subst (λ y. Asks (next_at p) y) is does.1) cut right
+        ∙ ap Some (heard_is (moved R w k m (acts.ReadFile name offset) (kind_of (x.entry).kind)) x)
+    acted (acts.ReadChunk name entry) x v vs is does cut right =
+        asked (x.entry).kind (acts.ReadChunk name entry) x.reply (subst (λ y. Asks (next_at p) y) is does.1) cut right
+        ∙ ap Some (heard_is (moved R w k m (acts.ReadChunk name entry) (kind_of (x.entry).kind)) x)
     acted (acts.Chunk digest checked) x v vs is does cut right =
         asked (x.entry).kind (acts.Chunk digest checked) x.reply (subst (λ y. Asks (next_at p) y) is does.1) cut right
         ∙ ap Some (heard_is (moved R w k m (acts.Chunk digest checked) (kind_of (x.entry).kind)) x)

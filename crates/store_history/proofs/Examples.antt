@@ -3,11 +3,11 @@ use Rattle.std.specs.Prelude.{◌≡◌, ℕ, Bool, List, [], ◌∷◌, ◌++�
 use Rattle.std.specs.List.{flat_map}
 use Rattle.std.proofs.Common.{arith, ap}
 use Rattle.store_types.specs.declared.refusal.Refusal.{Refusal}
-use Rattle.store_types.specs.declared.refusal.Refusal.TheVariants.{BadFrame, CollectorBusy, DiskFault, Halted, NoMemory, SnapshotBusy, WrongState}
+use Rattle.store_types.specs.declared.refusal.Refusal.TheVariants.{BadFrame, CollectorBusy, DiskFault, Halted, NoMemory, NoSnapshot, SnapshotBusy, WrongState}
 use Rattle.store_types.specs.declared.refusal.SessionState.TheVariants.{Idle}
 use Rattle.wire_frames.specs.Frames.{frame}
 use Rattle.wire_commands.specs.declared.command.Command.{Command}
-use Rattle.wire_commands.specs.declared.command.Command.TheVariants.{Abort, CloseReader, Finish, Forget, Prune, Gc, Bye}
+use Rattle.wire_commands.specs.declared.command.Command.TheVariants.{Abort, OpenReader, CloseReader, Files as FilesOf, Finish, Forget, Prune, Verify, Gc, Bye}
 use Rattle.wire_commands.specs.declared.reply.Reply.{Reply}
 use Rattle.wire_commands.specs.declared.reply.Reply.TheVariants.{Done, Keys, Marks, Collected, Refused}
 use Rattle.wire_commands.specs.declared.rows.PruneMark.TheVariants.{Kept, Held}
@@ -189,7 +189,7 @@ collected = (refl, (refl, refl), (refl, refl, (refl, refl, (refl, refl, (refl, (
 legal_collected : IsLegal None (opened start) (opens ∷ acted 1 None 1 false ∷ acted 4 (Some report) 2 false ∷ end 3 ∷ [])
 unfolding on_histories
 legal_collected = (
-  record { says = (refl, refl, refl); formed = tt; inside = omega arith; place = refl; last = λ is. cc; risen = omega arith; in_time = omega arith; counted = omega arith },
+  record { says = (refl, refl, refl, tt); formed = tt; inside = omega arith; place = refl; last = λ is. cc; risen = omega arith; in_time = omega arith; counted = omega arith },
   (
     record { says = (refl, refl, refl); formed = tt; inside = omega arith; place = refl; last = λ is. cc; risen = omega arith; in_time = omega arith; counted = omega arith },
     (
@@ -207,7 +207,7 @@ cut_short = (refl, (refl, refl), (refl, refl, (refl, refl, (refl, (refl, (λ fiv
 legal_cut : IsLegal None (opened start) (opens ∷ acted 2 short 1 true ∷ acted 4 short 2 false ∷ end 3 ∷ [])
 unfolding on_histories
 legal_cut = (
-  record { says = (refl, refl, refl); formed = tt; inside = omega arith; place = refl; last = λ is. cc; risen = omega arith; in_time = omega arith; counted = omega arith },
+  record { says = (refl, refl, refl, tt); formed = tt; inside = omega arith; place = refl; last = λ is. cc; risen = omega arith; in_time = omega arith; counted = omega arith },
   (
     record { says = (refl, λ is. (let e : Some false ≡ Some true = is in cc)); formed = tt; inside = omega arith; place = refl; last = λ is. refl; risen = omega arith; in_time = omega arith; counted = omega arith },
     (
@@ -239,3 +239,28 @@ not_opened right = no_two (right.says).1
   where
     no_two : ◌≡◌ {A = Result (Unit {0}) Refusal} (Err (CollectorBusy 1)) (Ok tt) → ⊥
     no_two is = cc
+
+-- ---- a VERIFY that is refused
+
+abbrev opens_reader : Event
+opens_reader = event (acts.Plain (OpenReader [])) 0 (Some Done) 0 false
+
+abbrev closes_reader : ℕ → Event
+closes_reader place = event (acts.Plain CloseReader) 0 (Some Done) place false
+
+-- Memory was wanting for its files, and the entry was the reserve's: its reader is closed by one act more, then this is told, and the lane ends.
+verify_cut : LaneRan (sent (Verify [] ∷ Finish ∷ [])) endings.NoMemory
+    (opens_reader ∷ event (acts.Plain (FilesOf [])) 2 short 1 true ∷ closes_reader 2 ∷ end 3 ∷ []) (Refused NoMemory ∷ [])
+unfolding on_histories
+verify_cut = (refl, (refl, refl), (refl, (refl, refl), (refl, (refl, refl), (refl, (refl, (λ five. cc), refl), (refl, refl)))))
+
+-- no memory is wanting for the step that closes its reader
+not_short_closing : LaneRan (sent (Verify [] ∷ Finish ∷ [])) endings.NoMemory
+    (opens_reader ∷ event (acts.Plain (FilesOf [])) 0 (Some (Refused NoSnapshot)) 1 false ∷ event acts.Short 2 short 2 true ∷ end 3 ∷ []) (Refused NoMemory ∷ []) → ⊥
+unfolding on_histories
+not_short_closing ran = let is : false ≡ true = (((ran.2).2).1).1 in cc
+
+-- nor does another command come behind want of memory that ended the lane
+not_stepped_on : LaneRan (sent (Finish ∷ Finish ∷ [])) endings.NoMemory (event (acts.Plain Finish) 2 short 0 true ∷ event (acts.Plain Finish) 0 (Some no_session) 1 false ∷ end 2 ∷ []) [] → ⊥
+unfolding on_histories
+not_stepped_on ran = let is : false ≡ true = ((ran.2).1).0 in cc

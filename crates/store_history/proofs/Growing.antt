@@ -1,7 +1,8 @@
 -- What a lane did stays as it is while more of its input comes, and goes on to a run of its program.
-use Rattle.std.proofs.Common.{◌≡◌, ℕ, ◌+◌, ◌-◌, ◌≤◌, Bool, true, false, ◌&&◌, ◌||◌, List, [], ◌∷◌, ◌++◌, length, take, Option, Some, None, is_some, is_none, refl, sym, ap, subst, ◌∙◌, arith, if◌then◌else◌, ◌==◌, nat_le}
+use Rattle.std.proofs.Common.{◌≡◌, ℕ, ◌+◌, ◌-◌, ◌≤◌, Bool, true, false, ◌&&◌, ◌||◌, List, [], ◌∷◌, ◌++◌, length, take, Option, Some, None, is_none, refl, sym, ap, subst, ◌∙◌, arith, if◌then◌else◌, ◌==◌, nat_le}
 use Rattle.std.specs.Int.{w32, from_le_bytes}
 use Rattle.std.proofs.lemmas.List.{take-append-le, length-append}
+use Rattle.std.proofs.lemmas.Bool.{eqb-true}
 use Rattle.std.proofs.lemmas.Bool.Decides.{nat_tests}
 use Rattle.wire_frames.specs.Frames.{Front, short, too_long, whole, cut}
 use Rattle.wire_frames.proofs.FramesLemmas.{cut-append_whole}
@@ -17,7 +18,7 @@ use Rattle.store_model.specs.Lanes.{Next, job_step, plain, sync, collect, collec
 use Rattle.store_history.specs.declared.act.Answer.{Answer}
 use Rattle.store_history.specs.declared.act.Event.{Event}
 use Rattle.store_history.specs.Acts.{Class, stepping, starting, sweeping, wanting, ending, class_of}
-use Rattle.store_history.specs.LaneRun.{Position, next_at, tells, wants, heard_at, heard, heard_as, goes_on, used_up, position_after, Asks, may_want, may_want_at, Does, Runs}
+use Rattle.store_history.specs.LaneRun.{Position, next_at, tells, wants, heard_at, heard, heard_as, goes_on, used_up, position_after, Asks, may_want, job_may_want, may_want_at, Does, Runs}
 use Rattle.store_history.specs.SoFar.{goes_further, Follows, Leads, grown}
 
 -- ---- a command stays at the front
@@ -185,11 +186,11 @@ want_at_grown : (more : List ℕ) (p : Position) → may_want_at p ≡ true → 
 unfolding may_want_at
 want_at_grown more p h = by_collecting p.collecting h
   where
-    by_job : (o : Option Asking) → (is_some o || may_want p.left) ≡ true → (is_some o || may_want (p.left ++ more)) ≡ true
+    by_job : (o : Option Asking) → job_may_want o p.left ≡ true → job_may_want o (p.left ++ more) ≡ true
     by_job None h = want_grown more p.left h
-    by_job (Some j) h = refl
+    by_job (Some j) h = h
 
-    by_collecting : (o : Option Bool) → (is_none o && (is_some p.job || may_want p.left)) ≡ true → (is_none o && (is_some p.job || may_want (p.left ++ more))) ≡ true
+    by_collecting : (o : Option Bool) → (is_none o && job_may_want p.job p.left) ≡ true → (is_none o && job_may_want p.job (p.left ++ more)) ≡ true
     by_collecting None h = by_job p.job h
     by_collecting (Some is_short) h = cc
 
@@ -224,6 +225,11 @@ unfolding goes_on
 goes_on_over p left (over report) = refl
 goes_on_over p left (asking j) = refl
 
+pub goes_on_spent : (p : Position) (left : List ℕ) (j : Job) → (goes_on p left j).is_spent ≡ p.is_spent
+unfolding goes_on
+goes_on_spent p left (over report) = refl
+goes_on_spent p left (asking j) = refl
+
 -- no answer but that of an end makes it over
 pub heard_at_over : (p : Position) (n : ℕ) (r : Option Reply) (x : Next) → (heard_at p n r x).is_over ≡ p.is_over
 unfolding heard_at
@@ -255,6 +261,38 @@ heard_at_over p n None (collecting is_short) = refl
 heard_at_over p n None (broken refusal) = refl
 heard_at_over p n None bye = refl
 heard_at_over p n None end = refl
+
+-- none but want of memory for a frame is the last by what it tells
+pub heard_at_spent : (p : Position) (n : ℕ) (r : Option Reply) (x : Next) → (n ≡ 2 → ⊥) → (heard_at p n r x).is_spent ≡ p.is_spent
+unfolding heard_at
+heard_at_spent p n (Some r) (job_step j left) ne = goes_on_spent p left (job_take j r)
+heard_at_spent p n (Some r) (plain c left) ne = refl
+heard_at_spent p n (Some r) (sync group left) ne = refl
+heard_at_spent p n (Some r) (collect left) ne = refl
+heard_at_spent p n (Some r) (collecting is_short) ne = by_kind (n == 2)
+  where
+    by_kind : (b : Bool) → (if b then record p { collecting = Some true } else tells (record p { collecting = None }) p.left r).is_spent ≡ p.is_spent
+    by_kind true = refl
+    by_kind false = refl
+heard_at_spent p n (Some r) (broken refusal) ne = by_kind (n == 2) refl
+  where
+    by_kind : (b : Bool) → (n == 2) ≡ b → (if b then used_up p r else p).is_spent ≡ p.is_spent
+    by_kind true is = absurd (ne (eqb-true n 2 is))
+    by_kind false is = refl
+heard_at_spent p n (Some r) bye ne = refl
+heard_at_spent p n (Some r) end ne = refl
+heard_at_spent p n None (job_step j left) ne = refl
+heard_at_spent p n None (plain c left) ne = refl
+heard_at_spent p n None (sync group left) ne = refl
+heard_at_spent p n None (collect left) ne = by_kind (n == 3)
+  where
+    by_kind : (b : Bool) → (if b then record p { left = left; collecting = Some false } else p).is_spent ≡ p.is_spent
+    by_kind true = refl
+    by_kind false = refl
+heard_at_spent p n None (collecting is_short) ne = refl
+heard_at_spent p n None (broken refusal) ne = refl
+heard_at_spent p n None bye ne = refl
+heard_at_spent p n None end ne = refl
 
 pub heard_over : (p : Position) (a : Answer) → (heard p a).is_over ≡ p.is_over
 unfolding heard

@@ -1,6 +1,7 @@
 -- What a lane's loop needs of a job: the acts that it makes, and where each step of it leads.
 -- `leads_step` and `leads_step_short` wait for several lanes: nothing names them yet.
-use Rattle.std.proofs.Common.{◌≡◌, ℕ, Bool, true, false, ◌||◌, List, [], ◌∷◌, ◌++◌, Option, Some, None, refl, sym, ap, subst, ◌∙◌, ◌==◌, if◌then◌else◌}
+use Rattle.std.proofs.Common.{◌≡◌, ℕ, ◌+◌, Bool, true, false, not, ◌||◌, List, [], ◌∷◌, ◌++◌, length, nat_lt, Option, Some, None, refl, sym, ap, subst, ◌∙◌, ◌==◌, if◌then◌else◌}
+use Rattle.std.specs.Option.{option_or}
 use Rattle.wire_commands.specs.declared.command.Command.{Command}
 use Rattle.wire_commands.specs.declared.command.Command.TheVariants as commands
 use Rattle.wire_commands.specs.declared.reply.Reply.{Reply}
@@ -8,39 +9,40 @@ use Rattle.wire_commands.specs.declared.reply.Reply.TheVariants as replies
 use Rattle.wire_commands.specs.declared.rows.PruneMark.TheVariants.{Removed, Held, Gone}
 use Rattle.wire_commands.specs.declared.rows.PruneRow.{PruneRow}
 use Rattle.store_types.specs.declared.names.Keep.{Keep}
-use Rattle.store_types.specs.declared.refusal.Refusal.TheVariants.{SnapshotBusy, NoSnapshot}
-use Rattle.store_model.specs.Job.{Asking, grouping, forgetting, step_of, Job, over, asking}
-use Rattle.store_model.specs.Jobs.{job_of, IsPrune, take as job_take}
+use Rattle.store_types.specs.declared.names.Digest32.{Digest32}
+use Rattle.store_types.specs.declared.refusal.Refusal.{Refusal}
+use Rattle.store_types.specs.declared.refusal.Refusal.TheVariants.{SnapshotBusy, NoSnapshot, Damaged, Unreadable, NoMemory, RemoteFault, DiskFault, Halted}
+use Rattle.wire_commands.specs.declared.rows.FileRow.{FileRow}
+use Rattle.wire_commands.specs.declared.rows.FileFault.{FileFault}
+use Rattle.wire_commands.specs.declared.rows.FileFault.TheVariants as faults
+use Rattle.store_model.specs.Job.{Visit, Asking, grouping, forgetting, opening, listing, reading, checking, closing, step_of, Job, over, asking, stopped, closed}
+use Rattle.store_model.specs.Jobs.{job_of, IsJob, IsPrune, take as job_take}
 use Rattle.store_model.specs.PruneJob as prune
+use Rattle.store_model.specs.VerifyJob as verify
 use Rattle.store_model.specs.Lanes.{job_step}
 use Rattle.store_history.specs.declared.act.Act.TheVariants as acts
 use Rattle.store_history.specs.declared.act.Answer.{Answer}
 use Rattle.store_history.specs.declared.act.Event.{Event}
-use Rattle.store_history.specs.Acts.{IsWellFormed, act_of_step, Class, stepping, wanting, class_of}
+use Rattle.store_history.specs.Acts.{IsWellFormed, act_of_step, class_of}
+use Rattle.store_history.specs.Begun.{IsBegun}
 use Rattle.store_history.specs.History.{kind, reply}
-use Rattle.store_history.specs.LaneRun.{Position, next_at, goes_on, wants, heard_at, heard, Asks, may_want_at}
+use Rattle.store_history.specs.LaneRun.{Position, next_at, goes_on, wants, heard_at, heard, Asks, is_stopping, may_want_at, may_step}
 use Rattle.store_history.specs.SoFar.{goes_further, Follows, Leads}
 use Rattle.store_history.proofs.Ending.{next_shut, next_open}
-use Rattle.store_history.proofs.Events.{IsStepping, step_class}
-use Rattle.store_history.proofs.Growing.{leads_more}
+use Rattle.store_history.proofs.Events.{step_class}
+use Rattle.store_history.proofs.Growing.{goes_on_spent, leads_more}
 use Rattle.store_history.proofs.Wanting.{wants_open}
 
 -- ---- the acts of its steps
-
--- a PRUNE that its command began, or what replies made of it
-abbrev pub IsBegun : Job → Type 0
-IsBegun (over report) = Unit {0}
-IsBegun (asking (grouping c keep dry)) = IsPrune c
-IsBegun (asking (forgetting before snapshot later)) = Unit {0}
-IsBegun j = ⊥
 
 AreBegun : Option Asking → Type 0
 AreBegun None = Unit {0}
 AreBegun (Some j) = IsBegun (asking j)
 
-pub job_begun : (c : Command) (j : Asking) → IsPrune c → job_of c ≡ Some j → IsBegun (asking j)
+pub job_begun : (c : Command) (j : Asking) → IsJob c → job_of c ≡ Some j → IsBegun (asking j)
 unfolding AreBegun
 job_begun (commands.Prune group keep dry) j h is = subst AreBegun is tt
+job_begun (commands.Verify snapshot) j h is = subst AreBegun is tt
 job_begun c j h is = absurd h
 
 on_begun : (before later : List PruneRow) → IsBegun (prune.go_on before later)
@@ -67,16 +69,97 @@ forgot_begun before snapshot later (replies.Refused NoSnapshot) = on_begun (befo
 forgot_begun before snapshot later (replies.Refused refusal) = tt
 forgot_begun before snapshot later r = tt
 
+-- a VERIFY's
+
+stopped_begun : (refusal : Refusal) → IsBegun (stopped closing refusal)
+stopped_begun DiskFault = tt
+stopped_begun (Halted place) = tt
+stopped_begun refusal = tt
+
+closed_begun : (report r : Reply) → IsBegun (closed closing report r)
+closed_begun (replies.Refused first) (replies.Refused NoMemory) = tt
+closed_begun (replies.Refused first) (replies.Refused RemoteFault) = tt
+closed_begun (replies.Refused first) (replies.Refused refusal) = tt
+closed_begun (replies.Refused first) r = tt
+closed_begun report (replies.Refused NoMemory) = tt
+closed_begun report (replies.Refused RemoteFault) = tt
+closed_begun report (replies.Refused refusal) = tt
+closed_begun report r = tt
+
+file_begun : (v : Visit) (rows : List FileRow) → IsBegun (verify.next_file v rows)
+unfolding verify.next_file
+file_begun v [] = tt
+file_begun v (row ∷ later) = tt
+
+done_begun : (v : Visit) (row : FileRow) (fault : Option FileFault) → IsBegun (verify.file_done v row fault)
+unfolding verify.file_done
+done_begun v row fault = file_begun (verify.with_fault row fault (record v { files = v.files + 1 })) v.later
+
+chunk_begun : (v : Visit) (row : FileRow) (fault : Option FileFault) (place : ℕ) (ds : List Digest32) → IsBegun (verify.next_chunk v row fault place ds)
+unfolding verify.next_chunk
+chunk_begun v row fault place [] = done_begun v row fault
+chunk_begun v row fault place (d ∷ ds) = tt
+
+judged_begun : (v : Visit) (row : FileRow) (j : verify.Judged) → IsBegun (verify.file_read v row j)
+unfolding verify.file_read
+judged_begun v row j =
+    chunk_begun (record v { entries = v.entries + length j.digests; bytes = v.bytes + j.bytes }) row j.fault 0 j.digests
+
+part_begun : (v : Visit) (row : FileRow) (bytes : List ℕ) (total : ℕ) → IsBegun (verify.part_read v row bytes total)
+unfolding verify.part_read
+part_begun v row bytes total = by_test (nat_lt (length bytes) total)
+  where
+    by_test : (b : Bool) → IsBegun (if b then asking (reading v row bytes) else verify.file_read v row (verify.judged v.snapshot row bytes))
+    by_test true = tt
+    by_test false = judged_begun v row (verify.judged v.snapshot row bytes)
+
+opened_begun : (snapshot : List ℕ) (r : Reply) → IsBegun (verify.opened snapshot r)
+unfolding verify.opened
+opened_begun snapshot replies.Done = tt
+opened_begun snapshot r = tt
+
+listed_begun : (snapshot : List ℕ) (r : Reply) → IsBegun (verify.listed snapshot r)
+unfolding verify.listed
+listed_begun snapshot (replies.Files rows) = file_begun (verify.begun snapshot) rows
+listed_begun snapshot (replies.Refused refusal) = stopped_begun refusal
+listed_begun snapshot r = tt
+
+read_begun : (v : Visit) (row : FileRow) (bytes : List ℕ) (r : Reply) → IsBegun (verify.read_part v row bytes r)
+unfolding verify.read_part
+read_begun v row bytes (replies.Part total more) = part_begun v row (bytes ++ more) total
+read_begun v row bytes (replies.Refused (Damaged asked found)) = done_begun v row (Some (faults.Damaged asked))
+read_begun v row bytes (replies.Refused (Unreadable name)) = done_begun v row (Some faults.Unreadable)
+read_begun v row bytes (replies.Refused refusal) = stopped_begun refusal
+read_begun v row bytes r = tt
+
+checked_begun : (v : Visit) (row : FileRow) (fault : Option FileFault) (place : ℕ) (d : Digest32) (later : List Digest32) (r : Reply) → IsBegun (verify.checked v row fault place d later r)
+unfolding verify.checked
+checked_begun v row fault place d later (replies.Data bytes) = chunk_begun v row (option_or fault (verify.chunk_fault d bytes)) (place + 1) later
+checked_begun v row fault place d later (replies.Refused (Damaged asked found)) = chunk_begun v row (option_or fault (Some (faults.Damaged d))) (place + 1) later
+checked_begun v row fault place d later (replies.Refused (Unreadable name)) = done_begun v row (option_or fault (Some faults.Unreadable))
+checked_begun v row fault place d later (replies.Refused refusal) = stopped_begun refusal
+checked_begun v row fault place d later r = tt
+
 pub take_begun : (j : Asking) (r : Reply) → IsBegun (asking j) → IsBegun (job_take j r)
 unfolding job_take
 take_begun (grouping c keep dry) r h = grouped_begun keep dry r
 take_begun (forgetting before snapshot later) r h = forgot_begun before snapshot later r
+take_begun (opening snapshot) r h = opened_begun snapshot r
+take_begun (listing snapshot) r h = listed_begun snapshot r
+take_begun (reading v row bytes) r h = read_begun v row bytes r
+take_begun (checking v row fault place d later) r h = checked_begun v row fault place d later r
+take_begun (closing report) r h = closed_begun report r
 take_begun j r h = absurd h
 
 pub step_formed : (j : Asking) → IsBegun (asking j) → IsWellFormed (act_of_step (step_of j))
 step_formed (grouping (commands.Prune group keep dry) k d) h = tt
 step_formed (grouping c keep dry) h = absurd h
 step_formed (forgetting before snapshot later) h = tt
+step_formed (opening snapshot) h = tt
+step_formed (listing snapshot) h = tt
+step_formed (reading v row bytes) h = tt
+step_formed (checking v row fault place d later) h = tt
+step_formed (closing report) h = tt
 step_formed j h = absurd h
 
 -- ---- one more step of a job
@@ -84,11 +167,6 @@ step_formed j h = absurd h
 -- the lane where its job has come to this, and so much of its input is left
 abbrev pub at_job : Position → List ℕ → Job → Bool → Bool → Position
 at_job p left j is_short is_spent = record (goes_on p left j) { is_short = is_short; is_spent = is_spent }
-
-goes_on_spent : (p : Position) (left : List ℕ) (j : Job) → (goes_on p left j).is_spent ≡ p.is_spent
-unfolding goes_on
-goes_on_spent p left (over report) = refl
-goes_on_spent p left (asking j) = refl
 
 pub heard_job : (p : Position) (j : Asking) (left : List ℕ) (a : Answer) (r : Reply) → next_at p ≡ job_step j left → a.reply ≡ Some r
     → heard p a ≡ at_job p left (job_take j r) ((a.entry).kind == 2) (a.last || p.is_spent)
@@ -100,14 +178,23 @@ heard_job p j left a r is says =
     ∙ ap (λ (o : Option Bool). flag o (goes_on p left (job_take j r))) (next_shut p (job_step j left) is refl)
     ∙ ap (λ b. at_job p left (job_take j r) ((a.entry).kind == 2) (a.last || b)) (goes_on_spent p left (job_take j r))
 
--- where it goes on, its next step is next, and memory may be wanting
+-- where it goes on, its next step is next, and memory may be wanting, unless it is stopping
 pub at_job_next : (p : Position) (left : List ℕ) (j : Asking) (s b : Bool) → p.collecting ≡ None → next_at (at_job p left (asking j) s b) ≡ job_step j left
 unfolding goes_on
 at_job_next p left j s b shut = next_open (at_job p left (asking j) s b) j shut refl
 
-pub at_job_wants : (p : Position) (left : List ℕ) (j : Asking) (s b : Bool) → p.collecting ≡ None → may_want_at (at_job p left (asking j) s b) ≡ true
+pub at_job_wants : (p : Position) (left : List ℕ) (j : Asking) (s b : Bool) → p.collecting ≡ None → is_stopping j ≡ false → may_want_at (at_job p left (asking j) s b) ≡ true
 unfolding goes_on
-at_job_wants p left j s b shut = wants_open (at_job p left (asking j) s b) j shut refl
+at_job_wants p left j s b shut on = wants_open (at_job p left (asking j) s b) j shut refl on
+
+-- its next step may come where no answer was the last, or where it is stopping
+pub at_job_steps : (p : Position) (left : List ℕ) (j : Asking) (s b : Bool) → (b ≡ true → is_stopping j ≡ true) → may_step (at_job p left (asking j) s b) ≡ true
+unfolding goes_on
+at_job_steps p left j s b stops = by_last b stops
+  where
+    by_last : (b : Bool) → (b ≡ true → is_stopping j ≡ true) → (not b || is_stopping j) ≡ true
+    by_last true stops = stops refl
+    by_last false stops = refl
 
 -- and where it comes from there is as from the lane before
 pub at_job_again : (p : Position) (left : List ℕ) (j : Asking) (s b : Bool) (k : Job) (t c : Bool) → at_job (at_job p left (asking j) s b) left k t c ≡ at_job p left k t c
@@ -121,25 +208,21 @@ pub at_job_over : (p : Position) (left : List ℕ) (r : Reply) (s b : Bool)
 unfolding goes_on
 at_job_over p left r s b = refl
 
-pub follows_job : (p : Position) (j : Asking) (left : List ℕ) (v : Event) → p.is_spent ≡ false → next_at p ≡ job_step j left → may_want_at p ≡ true
+pub follows_job : (p : Position) (j : Asking) (left : List ℕ) (v : Event) → may_step p ≡ true → next_at p ≡ job_step j left
     → v.act ≡ act_of_step (step_of j) → Follows (class_of v.act) p v
-follows_job p j left v on is may asks = by_class (class_of v.act) (subst (λ x. IsStepping (class_of x)) (sym asks) (step_class (step_of j)))
-  where
-    by_class : (c : Class) → IsStepping c → Follows c p v
-    by_class stepping h = (on, subst (λ x. Asks x v.act) (sym is) asks)
-    by_class wanting h = (on, may, ap goes_further is)
-    by_class c h = absurd h
+follows_job p j left v on is asks =
+    subst (λ x. Follows x p v) (sym (ap class_of asks ∙ step_class (step_of j))) (on, subst (λ x. Asks x v.act) (sym is) asks)
 
 pub follows_job_short : (p : Position) (j : Asking) (left : List ℕ) (v : Event) → p.is_spent ≡ false → next_at p ≡ job_step j left → may_want_at p ≡ true → v.act ≡ acts.Short
     → Follows (class_of v.act) p v
 follows_job_short p j left v on is may asks = subst (λ x. Follows x p v) (sym (ap class_of asks)) (on, may, ap goes_further is)
 
 -- the lane went on by a step of its job, which was answered
-pub leads_job : (vs : List Event) (p q : Position) (j : Asking) (left : List ℕ) (v : Event) (r : Reply) → Leads p vs q → q.is_spent ≡ false
-    → next_at q ≡ job_step j left → may_want_at q ≡ true → v.act ≡ act_of_step (step_of j) → reply v ≡ Some r
+pub leads_job : (vs : List Event) (p q : Position) (j : Asking) (left : List ℕ) (v : Event) (r : Reply) → Leads p vs q → may_step q ≡ true
+    → next_at q ≡ job_step j left → v.act ≡ act_of_step (step_of j) → reply v ≡ Some r
     → Leads p (vs ++ v ∷ []) (at_job q left (job_take j r) (kind v == 2) ((v.answer).last || q.is_spent))
-leads_job vs p q j left v r led on is may asks says =
-    subst (λ x. Leads p (vs ++ v ∷ []) x) (heard_job q j left v.answer r is says) (leads_more vs p q v led (follows_job q j left v on is may asks))
+leads_job vs p q j left v r led on is asks says =
+    subst (λ x. Leads p (vs ++ v ∷ []) x) (heard_job q j left v.answer r is says) (leads_more vs p q v led (follows_job q j left v on is asks))
 
 -- or memory was wanting for it
 pub leads_job_short : (vs : List Event) (p q : Position) (j : Asking) (left : List ℕ) (v : Event) (r : Reply) → Leads p vs q → q.is_spent ≡ false
@@ -149,16 +232,16 @@ leads_job_short vs p q j left v r led on is may asks says =
     subst (λ x. Leads p (vs ++ v ∷ []) x) (heard_job q j left v.answer r is says) (leads_more vs p q v led (follows_job_short q j left v on is may asks))
 
 -- so from one step of the job to the next
-pub leads_step : (vs : List Event) (p q : Position) (j : Asking) (left : List ℕ) (s : Bool) (v : Event) (r : Reply) → Leads p vs (at_job q left (asking j) s false)
-    → q.collecting ≡ None → v.act ≡ act_of_step (step_of j) → reply v ≡ Some r
-    → Leads p (vs ++ v ∷ []) (at_job q left (job_take j r) (kind v == 2) ((v.answer).last || false))
-leads_step vs p q j left s v r led shut asks says =
-    subst (λ x. Leads p (vs ++ v ∷ []) x) (at_job_again q left j s false (job_take j r) (kind v == 2) ((v.answer).last || false))
-    (leads_job vs p (at_job q left (asking j) s false) j left v r led refl (at_job_next q left j s false shut) (at_job_wants q left j s false shut) asks says)
+pub leads_step : (vs : List Event) (p q : Position) (j : Asking) (left : List ℕ) (s b : Bool) (v : Event) (r : Reply) → Leads p vs (at_job q left (asking j) s b)
+    → q.collecting ≡ None → (b ≡ true → is_stopping j ≡ true) → v.act ≡ act_of_step (step_of j) → reply v ≡ Some r
+    → Leads p (vs ++ v ∷ []) (at_job q left (job_take j r) (kind v == 2) ((v.answer).last || b))
+leads_step vs p q j left s b v r led shut stops asks says =
+    subst (λ x. Leads p (vs ++ v ∷ []) x) (at_job_again q left j s b (job_take j r) (kind v == 2) ((v.answer).last || b))
+    (leads_job vs p (at_job q left (asking j) s b) j left v r led (at_job_steps q left j s b stops) (at_job_next q left j s b shut) asks says)
 
 pub leads_step_short : (vs : List Event) (p q : Position) (j : Asking) (left : List ℕ) (s : Bool) (v : Event) (r : Reply) → Leads p vs (at_job q left (asking j) s false)
-    → q.collecting ≡ None → v.act ≡ acts.Short → reply v ≡ Some r
+    → q.collecting ≡ None → is_stopping j ≡ false → v.act ≡ acts.Short → reply v ≡ Some r
     → Leads p (vs ++ v ∷ []) (at_job q left (job_take j r) (kind v == 2) ((v.answer).last || false))
-leads_step_short vs p q j left s v r led shut asks says =
+leads_step_short vs p q j left s v r led shut on asks says =
     subst (λ x. Leads p (vs ++ v ∷ []) x) (at_job_again q left j s false (job_take j r) (kind v == 2) ((v.answer).last || false))
-    (leads_job_short vs p (at_job q left (asking j) s false) j left v r led refl (at_job_next q left j s false shut) (at_job_wants q left j s false shut) asks says)
+    (leads_job_short vs p (at_job q left (asking j) s false) j left v r led refl (at_job_next q left j s false shut) (at_job_wants q left j s false shut on) asks says)

@@ -19,7 +19,7 @@ use Rattle.store_history.specs.declared.act.Answer.{Answer}
 use Rattle.store_history.specs.declared.act.Event.{Event}
 use Rattle.store_history.specs.Acts.{Class, stepping, starting, sweeping, wanting, ending, class_of}
 use Rattle.store_history.specs.History.{World, open_on, act_outcome, moved, EntryKind, kind_of, step_kind, pass_kind, short_kind, start_kind, close_kind, fault_kind, end_kind, remote_kind, no_kind}
-use Rattle.store_history.specs.Legal.{Right, Reports, collecting_on}
+use Rattle.store_history.specs.Legal.{Right, OpensCollector, Reports, collecting_on}
 use Rattle.store_history.specs.LaneRun.{Position, next_at, tells, goes_on, used_up, heard_at, heard, heard_as, last_words, end_faulted, end_heard, Asks, Does}
 use Rattle.store_history.proofs.Collectors.{some_none, open_new, cut_none, cut_some, closed_none, closed_some, halted_none, other_none, new_other, cut_other, closed_other, halted_other, may_open_none}
 use Rattle.store_history.proofs.Events.{IsStepping, FitsNext, asks_class, IsPlainNext, next_plain, right_start, right_close, report_is}
@@ -178,8 +178,15 @@ job_no_collect j left l e = cc
 plain_no_collect : (c : Command) (left l : List ℕ) → plain c left ≡ collect l → ⊥
 plain_no_collect c left l e = cc
 
-no_start : (c : Class) → IsStepping c → c ≡ starting → ⊥
-no_start c h is = subst IsStepping is h
+sync_no_collect : (group left l : List ℕ) → sync group left ≡ collect l → ⊥
+sync_no_collect group left l e = cc
+
+no_start : (a : Act) → IsStepping (class_of a) → OpensCollector a → ⊥
+no_start acts.Start h opens = h
+no_start a h opens = opens
+
+sync_no_start : (a : Act) (group left : List ℕ) → Asks (sync group left) a → OpensCollector a → ⊥
+sync_no_start a group left asks opens = subst OpensCollector asks opens
 
 heard_opens : (p : Position) (left : List ℕ) (r : Option Reply) → r ≡ None → (heard_at p 3 r (collect left)).collecting ≡ Some false
 unfolding heard_at
@@ -209,14 +216,14 @@ module _ (R : Option (List Snapshot)) (w : World) (k m : ℕ) where
   others_keep j a r remote_kind ne right = refl
   others_keep j a r no_kind ne right = refl
 
-  -- where the lane's is not open, it is not after all acts but a start
-  stays_shut : (a : Act) (r : Option Reply) (kind : EntryKind) → Right R w k m a r (class_of a) kind → (class_of a ≡ starting → ⊥)
+  -- where the lane's is not open, it is not after all acts but a start of one
+  stays_shut : (a : Act) (r : Option Reply) (kind : EntryKind) → Right R w k m a r (class_of a) kind → (OpensCollector a → ⊥)
       → open_on k w.collecting ≡ None → open_on k (moved R w k m a kind).collecting ≡ None
   unfolding moved
   stays_shut a r step_kind right starts shut = shut
   stays_shut a r pass_kind right starts shut = shut
   stays_shut a r short_kind right starts shut = ap (λ c. open_on k c) (cut_none k w.collecting shut) ∙ shut
-  stays_shut a r start_kind right starts shut = absurd (starts (right_start R w [] k m a r (class_of a) right).0)
+  stays_shut a r start_kind right starts shut = absurd (starts (right_start R w [] k m a r (class_of a) right).3)
   stays_shut a r close_kind right starts shut = refl
   stays_shut a r fault_kind right starts shut = ap (λ c. open_on k c) (halted_none k (class_of a) w.collecting shut) ∙ shut
   stays_shut a r end_kind right starts shut = ap (λ c. open_on k c) (closed_none k w.collecting shut) ∙ shut
@@ -265,17 +272,19 @@ module _ (R : Option (List Snapshot)) (w : World) (k m : ℕ) where
       → Right R w k m a r (class_of a) (kind_of n) → (heard_at p n r x).collecting ≡ open_on k (moved R w k m a (kind_of n)).collecting
   asked_keeps p n a r (job_step j left) at agrees asks right =
       heard_shut p n r (job_step j left) refl (λ l e. absurd (job_no_collect j left l e)) ∙ sym at
-      ∙ sym (stays_shut a r (kind_of n) right (λ h. no_start (class_of a) (asks_class (job_step j left) a asks) h) (sym agrees ∙ sym at))
+      ∙ sym (stays_shut a r (kind_of n) right (λ h. no_start a (asks_class (job_step j left) a asks) h) (sym agrees ∙ sym at))
   asked_keeps p n a r (plain c left) at agrees asks right =
       heard_shut p n r (plain c left) refl (λ l e. absurd (plain_no_collect c left l e)) ∙ sym at
-      ∙ sym (stays_shut a r (kind_of n) right (λ h. no_start (class_of a) (asks_class (plain c left) a asks) h) (sym agrees ∙ sym at))
+      ∙ sym (stays_shut a r (kind_of n) right (λ h. no_start a (asks_class (plain c left) a asks) h) (sym agrees ∙ sym at))
   asked_keeps p n a r (collect left) at agrees asks right =
       start_keeps p left n r (sym at) (sym agrees ∙ sym at) (subst (λ y. Right R w k m y r (class_of y) (kind_of n)) asks right)
       ∙ ap (λ y. open_on k (moved R w k m y (kind_of n)).collecting) (sym asks)
   asked_keeps p n a r (collecting b) at agrees asks right =
       sweep_keeps p n r b (sym at) (sym agrees ∙ sym at) (subst (λ y. Right R w k m y r (class_of y) (kind_of n)) asks right)
       ∙ ap (λ y. open_on k (moved R w k m y (kind_of n)).collecting) (sym asks)
-  asked_keeps p n a r (sync group left) at agrees asks right = absurd asks
+  asked_keeps p n a r (sync group left) at agrees asks right =
+      heard_shut p n r (sync group left) refl (λ l e. absurd (sync_no_collect group left l e)) ∙ sym at
+      ∙ sym (stays_shut a r (kind_of n) right (λ h. sync_no_start a group left asks h) (sym agrees ∙ sym at))
   asked_keeps p n a r bye at agrees asks right = absurd asks
   asked_keeps p n a r (broken refusal) at agrees asks right = absurd asks
   asked_keeps p n a r end at agrees asks right = absurd asks
@@ -321,6 +330,8 @@ module _ (R : Option (List Snapshot)) (w : World) (k m : ℕ) where
       let off = want_shut p does.1 in heard_same p x ∙ wanted_keeps p (x.entry).kind x.reply off (sym agrees ∙ off) right
   own_keeps e p acts.Start x v vs is does agrees right =
       heard_same p x ∙ asked_keeps p (x.entry).kind acts.Start x.reply (next_at p) (open_is p) agrees (subst (λ y. Asks (next_at p) y) is does.1) right
+  own_keeps e p (acts.RemoteList c) x v vs is does agrees right =
+      heard_same p x ∙ asked_keeps p (x.entry).kind (acts.RemoteList c) x.reply (next_at p) (open_is p) agrees (subst (λ y. Asks (next_at p) y) is does.1) right
   own_keeps e p acts.Step x v vs is does agrees right =
       heard_same p x ∙ asked_keeps p (x.entry).kind acts.Step x.reply (next_at p) (open_is p) agrees (subst (λ y. Asks (next_at p) y) is does) right
   own_keeps e p (acts.Plain c) x v vs is does agrees right =
@@ -329,6 +340,10 @@ module _ (R : Option (List Snapshot)) (w : World) (k m : ℕ) where
       heard_same p x ∙ asked_keeps p (x.entry).kind (acts.JobGroup c) x.reply (next_at p) (open_is p) agrees (subst (λ y. Asks (next_at p) y) is does.1) right
   own_keeps e p (acts.Blob name checked) x v vs is does agrees right =
       heard_same p x ∙ asked_keeps p (x.entry).kind (acts.Blob name checked) x.reply (next_at p) (open_is p) agrees (subst (λ y. Asks (next_at p) y) is does.1) right
+  own_keeps e p (acts.ReadFile name offset) x v vs is does agrees right =
+      heard_same p x ∙ asked_keeps p (x.entry).kind (acts.ReadFile name offset) x.reply (next_at p) (open_is p) agrees (subst (λ y. Asks (next_at p) y) is does.1) right
+  own_keeps e p (acts.ReadChunk name entry) x v vs is does agrees right =
+      heard_same p x ∙ asked_keeps p (x.entry).kind (acts.ReadChunk name entry) x.reply (next_at p) (open_is p) agrees (subst (λ y. Asks (next_at p) y) is does.1) right
   own_keeps e p (acts.Chunk digest checked) x v vs is does agrees right =
       heard_same p x ∙ asked_keeps p (x.entry).kind (acts.Chunk digest checked) x.reply (next_at p) (open_is p) agrees (subst (λ y. Asks (next_at p) y) is does.1) right
 
@@ -340,8 +355,6 @@ module _ (R : Option (List Snapshot)) (w : World) (k m : ℕ) where
   step_answers j left a r stepping short_kind fits h = plain_by j left r (Refused NoMemory) h.0 refl
   step_answers j left a r stepping fault_kind fits h = plain_by j left r (Refused (fault_refusal w.fault)) h refl
   step_answers j left a r stepping n fits h = absurd h
-  step_answers j left a r wanting short_kind fits h = plain_by j left r (Refused NoMemory) h refl
-  step_answers j left a r wanting n fits h = absurd h
   step_answers j left a r c n fits h = absurd fits
 
   answers : (x : Next) (a : Act) (r : Option Reply) (n : EntryKind) → FitsNext x (class_of a) → Right R w k m a r (class_of a) n → AnswersPlainly x r
@@ -383,9 +396,15 @@ module _ (R : Option (List Snapshot)) (w : World) (k m : ℕ) where
   own_plain e p acts.End x v vs is does kept right = end_plain e p (x.entry).kind x.reply kept right
   own_plain e p acts.Short x v vs is does kept right = wanted_plain p x (kind_of (x.entry).kind) kept right
   own_plain e p acts.Start x v vs is does kept right = asked_plain p acts.Start x kept (subst (λ y. Asks (next_at p) y) is does.1) right
+  own_plain e p (acts.RemoteList c) x v vs is does kept right =
+      asked_plain p (acts.RemoteList c) x kept (subst (λ y. Asks (next_at p) y) is does.1) right
   own_plain e p acts.Step x v vs is does kept right = asked_plain p acts.Step x kept (subst (λ y. Asks (next_at p) y) is does) right
   own_plain e p (acts.Plain c) x v vs is does kept right = asked_plain p (acts.Plain c) x kept (subst (λ y. Asks (next_at p) y) is does.1) right
   own_plain e p (acts.JobGroup c) x v vs is does kept right = asked_plain p (acts.JobGroup c) x kept (subst (λ y. Asks (next_at p) y) is does.1) right
   own_plain e p (acts.Blob name checked) x v vs is does kept right = asked_plain p (acts.Blob name checked) x kept (subst (λ y. Asks (next_at p) y) is does.1) right
+  own_plain e p (acts.ReadFile name offset) x v vs is does kept right =
+      asked_plain p (acts.ReadFile name offset) x kept (subst (λ y. Asks (next_at p) y) is does.1) right
+  own_plain e p (acts.ReadChunk name entry) x v vs is does kept right =
+      asked_plain p (acts.ReadChunk name entry) x kept (subst (λ y. Asks (next_at p) y) is does.1) right
   own_plain e p (acts.Chunk digest checked) x v vs is does kept right =
       asked_plain p (acts.Chunk digest checked) x kept (subst (λ y. Asks (next_at p) y) is does.1) right

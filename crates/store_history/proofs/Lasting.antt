@@ -1,12 +1,12 @@
 -- A snapshot is there once its FINISH was answered 0, and stays unless a FORGET of it is entered.
-use Rattle.std.proofs.Common.{◌≡◌, ℕ, zero, suc, Bool, true, false, List, [], ◌∷◌, cond, Option, Some, None, Result, Ok, Err, refl, sym, subst, ap, ◌∙◌, is_some, if◌then◌else◌, nat_le, nat_lt, length, map, not}
+use Rattle.std.proofs.Common.{◌≡◌, ℕ, zero, suc, Bool, true, false, List, [], ◌∷◌, cond, Option, Some, None, Result, Ok, Err, refl, sym, subst, ap, ◌∙◌, is_some, if◌then◌else◌, nat_le, nat_lt, length, map, not, slice_get}
 use Rattle.store_types.specs.declared.names.SnapshotKey.{SnapshotKey}
 use Rattle.store_types.specs.declared.refusal.Refusal.{Refusal}
 use Rattle.store_types.specs.declared.refusal.Refusal.TheVariants.{BadName, GroupBusy, TooMany, NoFile, NoSnapshot, BadRange, NotAllowed, NoMemory}
 use Rattle.store_types.specs.Chain.Refusing.{◌>>=◌, unless, or_else, if_none}
 use Rattle.store_types.specs.FileNames.{is_blob_name, is_file_name, is_index_name}
 use Rattle.store_types.specs.Names.{same_key, key_lt, key_of, group_of_key}
-use Rattle.store_files.specs.Archive.{Snapshot, file_text, file_named, piece_with}
+use Rattle.store_files.specs.Archive.{Snapshot, file_text, file_named, pieces_of, piece_with}
 use Rattle.store_files.specs.Manifest.{Manifest}
 use Rattle.wire_commands.specs.declared.command.Command.{Command}
 use Rattle.wire_commands.specs.declared.command.Command.TheVariants as commands
@@ -17,7 +17,7 @@ use Rattle.store_model.specs.Uploads.{want_room}
 use Rattle.store_model.specs.WriterSteps.{goes_on, open_writer, want_newer, base_of, previous, want_data, checked_blob, put_blob, snapshot_of, finish, abort}
 use Rattle.store_model.specs.WriterCalls as calls
 use Rattle.store_model.specs.ArchiveSteps.{new_fixed, new_dynamic, check_chunk, checked_chunk, put_chunk, named, append, close_index}
-use Rattle.store_model.specs.ReaderSteps.{open_reader, reader_files, download, noted_pieces, get_chunk, range_of, range, close_reader}
+use Rattle.store_model.specs.ReaderSteps.{open_reader, reader_files, download, noted_pieces, get_chunk, range_of, range, read_file, read_chunk, close_reader}
 use Rattle.store_types.proofs.OrderLaws.{same_keys}
 use Rattle.store_types.specs.Names.{group_of}
 use Rattle.store_model.specs.AdminSteps.{want_after, list, files, want_free, forget, group, counts_fit, prune_group}
@@ -163,12 +163,26 @@ command_keeps key s k m commands.Gc off = λ h. h
 command_keeps key s k m (commands.Group name) off = bound key s (or_else BadName (group_of name)) _ (λ g. λ h. h)
 command_keeps key s k m commands.Bye off = λ h. h
 
+-- a VERIFY's own reads leave the store
+part_keeps : (key : SnapshotKey) (s : Store) (k : ℕ) (name : List ℕ) (offset : ℕ) → Keeps key s (read_file s k name offset)
+unfolding Keeps read_file
+part_keeps key s k name offset = bound key s (download s k name offset) _ (λ given. λ h. h)
+
+entry_keeps : (key : SnapshotKey) (s : Store) (k : ℕ) (name : List ℕ) (entry : ℕ) → Keeps key s (read_chunk s k name entry)
+unfolding Keeps read_chunk
+entry_keeps key s k name entry =
+    bound key s (want_reader (session s k)) _ (λ r. bound key s (unless NoFile (is_index_name name)) _ (λ a. bound key s (or_else NoFile (file_named name (reader_files s r))) _
+    (λ f. bound key s (or_else (BadRange (length (pieces_of f.content))) (slice_get (pieces_of f.content) entry)) _ (λ p. λ h. h))))
+
 act_keeps : (R : Option (List Snapshot)) (key : SnapshotKey) (w : World) (k m : ℕ) (a : Act) → act_forgets key a ≡ false → Keeps key w.store (act_outcome R w k m a)
 unfolding Keeps act_outcome
 act_keeps R key w k m (acts.Plain c) off = command_keeps key w.store k m c off
 act_keeps R key w k m (acts.JobGroup c) off = command_keeps key w.store k m c off
 act_keeps R key w k m (acts.Blob name checked) off = blob_keeps key w.store k name (data_in checked)
 act_keeps R key w k m (acts.Chunk digest checked) off = chunk_keeps key w.store k (data_in checked)
+act_keeps R key w k m (acts.ReadFile name offset) off = part_keeps key w.store k name offset
+act_keeps R key w k m (acts.ReadChunk name entry) off = entry_keeps key w.store k name entry
+act_keeps R key w k m (acts.RemoteList c) off = tt
 act_keeps R key w k m acts.Start off = tt
 act_keeps R key w k m acts.Step off = tt
 act_keeps R key w k m acts.Short off = tt

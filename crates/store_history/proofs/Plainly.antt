@@ -1,14 +1,14 @@
 -- No command and no job tells a collector's report.
-use Rattle.std.proofs.Common.{◌≡◌, ℕ, ◌+◌, Bool, true, false, List, [], ◌∷◌, ◌++◌, length, map, Option, Some, None, Result, Ok, Err, refl, if◌then◌else◌, nat_le, nat_lt}
+use Rattle.std.proofs.Common.{◌≡◌, ℕ, ◌+◌, Bool, true, false, List, [], ◌∷◌, ◌++◌, length, map, Option, Some, None, Result, Ok, Err, refl, if◌then◌else◌, nat_le, nat_lt, slice_get}
 use Rattle.std.specs.Option.{option_or}
 use Rattle.store_types.specs.declared.names.Digest32.{Digest32}
 use Rattle.store_types.specs.declared.names.Keep.{Keep}
 use Rattle.store_types.specs.declared.refusal.Refusal.{Refusal}
-use Rattle.store_types.specs.declared.refusal.Refusal.TheVariants.{BadName, GroupBusy, SnapshotBusy, TooMany, NoFile, NoSnapshot, BadRange, NotAllowed, Damaged, Unreadable, NoMemory, DiskFault, Halted}
+use Rattle.store_types.specs.declared.refusal.Refusal.TheVariants.{BadName, GroupBusy, SnapshotBusy, TooMany, NoFile, NoSnapshot, BadRange, NotAllowed, Damaged, Unreadable, NoMemory, RemoteFault, DiskFault, Halted}
 use Rattle.store_types.specs.Chain.Refusing.{◌>>=◌, unless, or_else, if_none}
 use Rattle.store_types.specs.FileNames.{is_blob_name, is_file_name, is_index_name}
 use Rattle.store_types.specs.Names.{key_of, key_text, group_of, group_of_key}
-use Rattle.store_files.specs.Archive.{Snapshot, file_text, file_named, piece_with}
+use Rattle.store_files.specs.Archive.{Snapshot, file_text, file_named, pieces_of, piece_with}
 use Rattle.wire_commands.specs.declared.command.Command.{Command}
 use Rattle.wire_commands.specs.declared.command.Command.TheVariants as commands
 use Rattle.wire_commands.specs.declared.reply.Reply.{Reply}
@@ -24,7 +24,7 @@ use Rattle.store_model.specs.Manifests.{finish_check}
 use Rattle.store_model.specs.WriterSteps.{goes_on, open_writer, want_newer, base_of, previous, want_data, checked_blob, put_blob, finish, abort}
 use Rattle.store_model.specs.WriterCalls as calls
 use Rattle.store_model.specs.ArchiveSteps.{new_fixed, new_dynamic, check_chunk, checked_chunk, put_chunk, named, append, close_index}
-use Rattle.store_model.specs.ReaderSteps.{open_reader, reader_files, download, noted_pieces, get_chunk, range_of, range, close_reader}
+use Rattle.store_model.specs.ReaderSteps.{open_reader, reader_files, download, noted_pieces, get_chunk, range_of, range, read_file, read_chunk, close_reader}
 use Rattle.store_model.specs.AdminSteps.{want_after, list, files, want_free, forget, group, counts_fit, prune_group}
 use Rattle.store_model.specs.Steps.{outcome, answered}
 use Rattle.store_model.specs.Job.{Visit, Pull, Asking, grouping, forgetting, opening, listing, reading, checking, closing, beginning, sending, aborting, Job, over, asking, stopped, closed}
@@ -108,6 +108,21 @@ command_plainly s k m commands.Gc = refl
 command_plainly s k m (commands.Group name) = bound (or_else BadName (group_of name)) _ (λ g. refl)
 command_plainly s k m commands.Bye = refl
 
+-- a VERIFY's own reads
+reads_plainly : (s : Store) (k m : ℕ) (name : List ℕ) (offset : ℕ) → TellsPlainly (read_file s k name offset)
+unfolding TellsPlainly read_file outcome
+reads_plainly s k m name offset = by_download (download s k name offset) (command_plainly s k m (commands.Download name offset))
+  where
+    by_download : (o : Outcome) → TellsPlainly o → TellsPlainly (o >>= λ given. Ok (s, given.1))
+    by_download (Ok given) h = h
+    by_download (Err refusal) h = tt
+
+entry_plainly : (s : Store) (k : ℕ) (name : List ℕ) (entry : ℕ) → TellsPlainly (read_chunk s k name entry)
+unfolding TellsPlainly read_chunk
+entry_plainly s k name entry =
+    bound (want_reader (session s k)) _ (λ r. bound (unless NoFile (is_index_name name)) _ (λ a. bound (or_else NoFile (file_named name (reader_files s r))) _
+    (λ f. bound (or_else (BadRange (length (pieces_of f.content))) (slice_get (pieces_of f.content) entry)) _ (λ p. refl))))
+
 -- an act's reply
 act_plainly : (R : Option (List Snapshot)) (w : World) (k m : ℕ) (a : Act) → TellsPlainly (act_outcome R w k m a)
 unfolding TellsPlainly act_outcome
@@ -115,6 +130,9 @@ act_plainly R w k m (acts.Plain c) = command_plainly w.store k m c
 act_plainly R w k m (acts.JobGroup c) = command_plainly w.store k m c
 act_plainly R w k m (acts.Blob name checked) = blob_plainly w.store k name (data_in checked)
 act_plainly R w k m (acts.Chunk digest checked) = chunk_plainly w.store k (data_in checked)
+act_plainly R w k m (acts.ReadFile name offset) = reads_plainly w.store k m name offset
+act_plainly R w k m (acts.ReadChunk name entry) = entry_plainly w.store k name entry
+act_plainly R w k m (acts.RemoteList c) = tt
 act_plainly R w k m acts.Start = tt
 act_plainly R w k m acts.Step = tt
 act_plainly R w k m acts.Short = tt
@@ -158,8 +176,12 @@ stopped_plainly close (Halted place) h = refl
 stopped_plainly close refusal h = h (replies.Refused refusal) refl
 
 closed_plainly : (close : Reply → Asking) (report r : Reply) → IsClose close → IsPlainReply report → IsPlainJob (closed close report r)
+closed_plainly close (replies.Refused first) (replies.Refused NoMemory) h plainly = h (replies.Refused first) refl
+closed_plainly close (replies.Refused first) (replies.Refused RemoteFault) h plainly = h (replies.Refused first) refl
+closed_plainly close (replies.Refused first) (replies.Refused refusal) h plainly = refl
 closed_plainly close (replies.Refused first) r h plainly = refl
 closed_plainly close report (replies.Refused NoMemory) h plainly = h (replies.Refused NoMemory) refl
+closed_plainly close report (replies.Refused RemoteFault) h plainly = h (replies.Refused RemoteFault) refl
 closed_plainly close report (replies.Refused refusal) h plainly = refl
 closed_plainly close report r h plainly = plainly
 

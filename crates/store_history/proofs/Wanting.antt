@@ -1,5 +1,5 @@
 -- Where memory may be wanting, a command or something else is next, but neither BYE nor the end of the input.
-use Rattle.std.proofs.Common.{◌≡◌, ℕ, ◌-◌, ◌≤◌, Bool, true, false, ◌&&◌, List, [], ◌∷◌, length, take, drop, Option, Some, None, ◌||◌, is_some, is_none, refl, sym, ap, subst, ◌∙◌, arith, if◌then◌else◌, ◌==◌, nat_lt, nat_le}
+use Rattle.std.proofs.Common.{◌≡◌, ℕ, ◌-◌, ◌≤◌, Bool, true, false, not, ◌&&◌, List, [], ◌∷◌, length, take, drop, Option, Some, None, ◌||◌, is_none, refl, sym, ap, subst, ◌∙◌, arith, if◌then◌else◌, ◌==◌, nat_lt, nat_le}
 use Rattle.std.specs.Int.{Width, w32, w64, from_le_bytes}
 use Rattle.std.proofs.lemmas.Bool.{ltb-false, eqb-true}
 use Rattle.std.proofs.lemmas.Bool.Decides.{nat_tests}
@@ -14,7 +14,7 @@ use Rattle.wire_commands.specs.CommandText.{nothing_more, one_text, text_and_off
 use Rattle.wire_commands.specs.Inputs.{front, cut_front, body_front}
 use Rattle.store_model.specs.Job.{Asking}
 use Rattle.store_model.specs.Lanes.{Next, job_step, collecting, bye, end, front_next, command_next, lane_next}
-use Rattle.store_history.specs.LaneRun.{Position, next_at, may_want, may_want_at}
+use Rattle.store_history.specs.LaneRun.{Position, next_at, may_want, is_stopping, job_may_want, may_want_at, job_stops, may_step}
 
 -- ---- a body of at least two bytes is no BYE
 
@@ -140,12 +140,12 @@ pub want_goes : (p : Position) → may_want_at p ≡ true → Goes (next_at p)
 unfolding next_at lane_next may_want_at
 want_goes p h = by_collecting p.collecting h
   where
-    by_job : (o : Option Asking) → (is_some o || may_want p.left) ≡ true
+    by_job : (o : Option Asking) → job_may_want o p.left ≡ true
         → Goes (elim o [ None ↦ front_next (p.size - length p.left) (front p.left) | Some j ↦ job_step j p.left ])
     by_job None h = front_goes (p.size - length p.left) p.left h
     by_job (Some j) h = tt
 
-    by_collecting : (c : Option Bool) → (is_none c && (is_some p.job || may_want p.left)) ≡ true
+    by_collecting : (c : Option Bool) → (is_none c && job_may_want p.job p.left) ≡ true
         → Goes (elim c [
           | None ↦ elim p.job [ None ↦ front_next (p.size - length p.left) (front p.left) | Some j ↦ job_step j p.left ]
           | Some is_short ↦ collecting is_short
@@ -158,20 +158,30 @@ pub want_shut : (p : Position) → may_want_at p ≡ true → p.collecting ≡ N
 unfolding may_want_at
 want_shut p h = by_collecting p.collecting h
   where
-    by_collecting : (c : Option Bool) → (is_none c && (is_some p.job || may_want p.left)) ≡ true → c ≡ None
+    by_collecting : (c : Option Bool) → (is_none c && job_may_want p.job p.left) ≡ true → c ≡ None
     by_collecting None h = refl
     by_collecting (Some is_short) h = cc
 
 -- where it may be wanting for a frame
-pub wants_frame : (p : Position) → p.collecting ≡ None → may_want p.left ≡ true → may_want_at p ≡ true
+pub wants_frame : (p : Position) → p.collecting ≡ None → p.job ≡ None → may_want p.left ≡ true → may_want_at p ≡ true
 unfolding may_want_at
-wants_frame p shut h = ap (λ c. is_none c && (is_some p.job || may_want p.left)) shut ∙ by_job p.job
-  where
-    by_job : (o : Option Asking) → (is_some o || may_want p.left) ≡ true
-    by_job None = h
-    by_job (Some j) = refl
+wants_frame p shut off may = ap (λ c. is_none c && job_may_want p.job p.left) shut ∙ ap (λ o. job_may_want o p.left) off ∙ may
 
--- and where a job is open
-pub wants_open : (p : Position) (j : Asking) → p.collecting ≡ None → p.job ≡ Some j → may_want_at p ≡ true
+-- and where a job is open that goes on
+pub wants_open : (p : Position) (j : Asking) → p.collecting ≡ None → p.job ≡ Some j → is_stopping j ≡ false → may_want_at p ≡ true
 unfolding may_want_at
-wants_open p j shut is = ap (λ c. is_none c && (is_some p.job || may_want p.left)) shut ∙ ap (λ o. is_some o || may_want p.left) is
+wants_open p j shut is on = ap (λ c. is_none c && job_may_want p.job p.left) shut ∙ ap (λ o. job_may_want o p.left) is ∙ ap not on
+
+-- ---- a step
+
+-- it may come where no answer was the last
+pub steps_on : (p : Position) → p.is_spent ≡ false → may_step p ≡ true
+steps_on p on = ap (λ b. not b || job_stops p.job) on
+
+-- and where a job closes its session
+pub steps_stopping : (p : Position) (j : Asking) → p.job ≡ Some j → is_stopping j ≡ true → may_step p ≡ true
+steps_stopping p j is stops = ap (λ o. not p.is_spent || job_stops o) is ∙ ap (λ b. not p.is_spent || b) stops ∙ or_true (not p.is_spent)
+  where
+    or_true : (b : Bool) → (b || true) ≡ true
+    or_true true = refl
+    or_true false = refl

@@ -1,5 +1,5 @@
 -- A legal history whose lanes run their programs is what `weave` gives.
-use Rattle.std.proofs.Common.{◌≡◌, ◌≢◌, ℕ, suc, ◌+◌, ◌<◌, Bool, true, false, List, [], ◌∷◌, map, length, cond, Option, Some, None, Ok, Err, Result, refl, sym, ap, subst, ◌∙◌, arith, ◌==◌, ◌&&◌, not, is_none, is_some, slice_index_or, slice_set}
+use Rattle.std.proofs.Common.{◌≡◌, ◌≢◌, ℕ, suc, ◌+◌, ◌<◌, Bool, true, false, List, [], ◌∷◌, map, length, cond, Option, Some, None, Ok, Err, Result, refl, sym, ap, subst, ◌∙◌, arith, ◌==◌, ◌&&◌, ◌||◌, not, is_none, is_some, slice_index_or, slice_set}
 use Rattle.std.specs.List.{find}
 use Rattle.std.proofs.lemmas.Bool.{eq-eqb, eqb-true}
 use Rattle.std.proofs.Math.ListN.{get_or-map}
@@ -9,18 +9,21 @@ use Rattle.store_files.specs.Archive.{Snapshot}
 use Rattle.wire_commands.specs.declared.reply.Reply.{Reply}
 use Rattle.store_model.specs.declared.ending.Ending.{Ending}
 use Rattle.store_model.specs.declared.ending.Ending.TheVariants as endings
-use Rattle.store_model.specs.Lanes.{Run, collects, new_lane, new_run}
+use Rattle.store_model.specs.Lanes.{Run, Next, job_step, plain, sync, collect, collecting, bye, broken, end, collects, lane_next, new_lane, new_run}
+use Rattle.store_model.proofs.LaneLemmas.{is_act, lane_no_act}
 use Rattle.store_model.specs.Weave.{is_cut_off, is_end, run_from, known, misfit, Misfit, entered, weave, woven, woven_of, Woven}
 use Rattle.store_history.specs.declared.act.Event.{Event}
-use Rattle.store_history.specs.Acts.{Class, ending, class_of}
+use Rattle.store_history.specs.Acts.{Class, stepping, starting, sweeping, wanting, ending, class_of}
 use Rattle.store_history.specs.History.{Opening, World, opened, open_on, kind_of, entry, lane, moment, kind, reply, entries, own, after, after_all}
 use Rattle.store_history.specs.Legal.{Right, IsRight, IsLegal}
-use Rattle.store_history.specs.LaneRun.{text, plain_text, Position, begin, lane_of, wants, heard, heard_as, position_after, Does, EndFollows, Runs}
+use Rattle.store_history.specs.LaneRun.{text, plain_text, Position, begin, lane_of, next_at, wants, heard_at, heard, heard_as, position_after, job_stops, Does, EndFollows, Runs}
 use Rattle.store_history.specs.Woven.{AreLanes, ending_at, IsServed, IsWoven}
 use Rattle.store_history.proofs.Collectors.{collects_is}
 use Rattle.store_history.proofs.Placed.{run_of, at, lane_is}
 use Rattle.store_history.proofs.Plainly.{ArePlain}
-use Rattle.store_history.proofs.Events.{IsEnding, ending_is, right_end, cuts, turned}
+use Rattle.store_model.specs.Job.{Asking}
+use Rattle.store_history.proofs.Events.{IsEnding, FitsNext, asks_class, ending_is, right_end, cuts, turned}
+use Rattle.store_history.proofs.Growing.{heard_at_spent}
 use Rattle.store_history.proofs.Keeping.{others_keep, own_keeps, own_plain}
 
 clash : true ≡ false → ⊥
@@ -65,7 +68,7 @@ legal_own R w k (v ∷ vs) legal = by_test (lane v == k) (legal_own R (after R w
 -- ---- which fault is not told
 
 -- where want of memory ended the lane, a command that met a fault is not its last event
-told_first : (q : Position) (vs : List Event) (told : List Reply) → q.is_short ≡ false
+told_first : (q : Position) (vs : List Event) (told : List Reply) → (q.is_short || q.is_spent) ≡ false
     → Runs endings.NoMemory q vs told → EndsRight vs → is_end (head_entry vs) ≡ false
 unfolding EndsRight head_entry
 told_first q [] told off runs right = refl
@@ -84,17 +87,52 @@ end_follows [] h = absurd h
 end_follows (v ∷ []) h = ap (λ n. n == 6) h.1
 end_follows (v ∷ u ∷ vs) h = absurd h
 
-not_short : (p : Position) (v : Event) → p.collecting ≡ None → kind v ≡ 5 → (heard p v.answer).is_short ≡ false
+-- no act of a collector is next where none is open
+shut_sweeps : (p : Position) → FitsNext (next_at p) sweeping → p.collecting ≡ None → ⊥
+unfolding next_at
+shut_sweeps p fits shut = fits_shut (lane_next (lane_of p)) (lane_no_act (lane_of p)) (subst (λ o. FitsNext (elim o [ None ↦ lane_next (lane_of p) | Some is_short ↦ collecting is_short ]) sweeping) shut fits)
+  where
+    fits_shut : (n : Next) → is_act n ≡ false → FitsNext n sweeping → ⊥
+    fits_shut (collecting is_short) unlike h = cc
+    fits_shut (job_step j left) unlike h = h
+    fits_shut (plain c left) unlike h = h
+    fits_shut (sync group left) unlike h = h
+    fits_shut (collect left) unlike h = h
+    fits_shut bye unlike h = h
+    fits_shut (broken refusal) unlike h = h
+    fits_shut end unlike h = h
+
+-- an answer of a fault is no want of memory, and not the last
+not_short : (p : Position) (v : Event) → p.collecting ≡ None → p.is_spent ≡ false → ((v.answer).last ≡ true → kind v ≡ 2) → kind v ≡ 5
+    → ((heard p v.answer).is_short || (heard p v.answer).is_spent) ≡ false
 unfolding heard
-not_short p v shut is = ap (λ (o : Option Bool). wants (kind v) o) shut ∙ ap (λ n. n == 2) is
+not_short p v shut on last is =
+    ap (λ b. b || (heard p v.answer).is_spent) (ap (λ (o : Option Bool). wants (kind v) o) shut ∙ ap (λ n. n == 2) is)
+    ∙ ap (λ b. b || (heard_at p (kind v) (reply v) (next_at p)).is_spent) (not_last (v.answer).last last) ∙ stays_on
+  where
+    not_last : (b : Bool) → (b ≡ true → kind v ≡ 2) → b ≡ false
+    not_last true h = let no : ⊥ = omega (arith, h refl, is) in absurd no
+    not_last false h = refl
+
+    stays_on : (heard_at p (kind v) (reply v) (next_at p)).is_spent ≡ false
+    stays_on = heard_at_spent p (kind v) (reply v) (next_at p) (λ two. let no : ⊥ = omega (arith, two, is) in absurd no) ∙ on
+
+-- where no job is open and no collector, an act that is no lane's end comes only where no answer was the last
+on_here : (c : Class) (e : Ending) (p : Position) (v : Event) (vs : List Event) → Does c e p v vs → c ≡ class_of v.act → (c ≡ ending → ⊥) → p.collecting ≡ None → p.job ≡ None
+    → p.is_spent ≡ false
+on_here stepping e p v vs does is other shut idle = by_spent p.is_spent (ap (λ o. not p.is_spent || job_stops o) (sym idle) ∙ does.0)
+  where
+    by_spent : (b : Bool) → (not b || false) ≡ true → b ≡ false
+    by_spent true h = cc
+    by_spent false h = refl
+on_here starting e p v vs does is other shut idle = does.0
+on_here sweeping e p v vs does is other shut idle = absurd (shut_sweeps p (subst (FitsNext (next_at p)) (sym is) (asks_class (next_at p) v.act does)) shut)
+on_here wanting e p v vs does is other shut idle = does.0
+on_here ending e p v vs does is other shut idle = absurd (other refl)
 
 shut_ends : (a b : Bool) → b ≡ true → (a && not false && b) ≡ a
 shut_ends true b h = h
 shut_ends false b h = refl
-
-shut_goes : (a b : Bool) → b ≡ false → (a && not false && b) ≡ false
-shut_goes true b h = h
-shut_goes false b h = refl
 
 open_goes : (a b : Bool) → (a && not true && b) ≡ false
 open_goes true b = refl
@@ -110,24 +148,36 @@ module _ (R : Option (List Snapshot)) (w : World) (ps : List Position) (k : ℕ)
       ∙ ap (λ o. is_none (at ps k).job && not (is_some (at ps k).collecting) && is_end o) (find_own k vs)
 
   -- where the collector is open it is told
-  told_first_at : (v : Event) (vs : List Event) (told : List Reply) → kind v ≡ 5 → Runs endings.NoMemory (heard (at ps k) v.answer) (own k vs) told → EndsRight (own k vs)
+  told_first_at : (v : Event) (vs : List Event) (told : List Reply) → kind v ≡ 5 → ((v.answer).last ≡ true → kind v ≡ 2)
+      → ((at ps k).collecting ≡ None → (at ps k).job ≡ None → (at ps k).is_spent ≡ false) → Runs endings.NoMemory (heard (at ps k) v.answer) (own k vs) told → EndsRight (own k vs)
       → (is_none (at ps k).job && not (is_some (at ps k).collecting) && is_end (head_entry (own k vs))) ≡ false
-  told_first_at v vs told is runs right = by_collecting (at ps k).collecting refl
+  told_first_at v vs told is last on runs right = by_collecting (at ps k).collecting refl
     where
+      -- a job that is open is told of the fault
+      by_job : (o : Option Asking) → (at ps k).job ≡ o → (at ps k).collecting ≡ None → (is_none o && not false && is_end (head_entry (own k vs))) ≡ false
+      by_job (Some j) busy shut = refl
+      by_job None idle shut =
+          told_first (heard (at ps k) v.answer) (own k vs) told (not_short (at ps k) v shut (on shut idle) last is) runs right
+
       by_collecting : (o : Option Bool) → (at ps k).collecting ≡ o → (is_none (at ps k).job && not (is_some o) && is_end (head_entry (own k vs))) ≡ false
-      by_collecting None shut =
-          shut_goes (is_none (at ps k).job) (is_end (head_entry (own k vs)))
-          (told_first (heard (at ps k) v.answer) (own k vs) told (not_short (at ps k) v shut is) runs right)
+      by_collecting None shut = by_job (at ps k).job refl shut
       by_collecting (Some b) on = open_goes (is_none (at ps k).job) (is_end (head_entry (own k vs)))
 
-  cut_is : (c : Class) (e : Ending) (v : Event) (vs : List Event) (told : List Reply) → Does c e (at ps k) v (own k vs) → kind v ≡ 5
-      → Runs e (heard_as c e (at ps k) v.answer) (own k vs) told → EndsRight (own k vs) → is_cut_off (run_of R w ps) k e (entries vs) ≡ cuts c e (at ps k)
-  cut_is ending endings.NoMemory v vs told does is runs right =
+  cut_is : (c : Class) (e : Ending) (v : Event) (vs : List Event) (told : List Reply) → c ≡ class_of v.act → ((v.answer).last ≡ true → kind v ≡ 2)
+      → Does c e (at ps k) v (own k vs) → kind v ≡ 5 → Runs e (heard_as c e (at ps k) v.answer) (own k vs) told → EndsRight (own k vs) → is_cut_off (run_of R w ps) k e (entries vs) ≡ cuts c e (at ps k)
+  cut_is ending endings.NoMemory v vs told class last does is runs right =
       cut_at vs
       ∙ ap (λ (o : Option Bool). is_none (at ps k).job && not (is_some o) && is_end (head_entry (own k vs))) does.2
       ∙ shut_ends (is_none (at ps k).job) (is_end (head_entry (own k vs))) (end_follows (own k vs) (does.1 is))
-  cut_is c endings.NoMemory v vs told does is runs right = cut_at vs ∙ told_first_at v vs told is runs right
-  cut_is c e v vs told does is runs right = refl
+  cut_is stepping endings.NoMemory v vs told class last does is runs right =
+      cut_at vs ∙ told_first_at v vs told is last (on_here stepping endings.NoMemory (at ps k) v (own k vs) does class (λ h. cc)) runs right
+  cut_is starting endings.NoMemory v vs told class last does is runs right =
+      cut_at vs ∙ told_first_at v vs told is last (on_here starting endings.NoMemory (at ps k) v (own k vs) does class (λ h. cc)) runs right
+  cut_is sweeping endings.NoMemory v vs told class last does is runs right =
+      cut_at vs ∙ told_first_at v vs told is last (on_here sweeping endings.NoMemory (at ps k) v (own k vs) does class (λ h. cc)) runs right
+  cut_is wanting endings.NoMemory v vs told class last does is runs right =
+      cut_at vs ∙ told_first_at v vs told is last (on_here wanting endings.NoMemory (at ps k) v (own k vs) does class (λ h. cc)) runs right
+  cut_is c e v vs told class last does is runs right = refl
 
 -- ---- the induction
 
@@ -208,7 +258,7 @@ module _ (R : Option (List Snapshot)) (es : List Ending) (told : ℕ → List Re
   unfolding after position_after
   entered_is w ps v vs right knows does rest ends =
       turned R w ps (lane v) (moment v) es (entries vs) knows.0 knows.1 v (own (lane v) vs) refl refl does
-      (λ is. cut_is R w ps (lane v) knows.0 (class_of v.act) (ending_at es (lane v)) v vs (told (lane v)) does is rest ends)
+      (λ is. cut_is R w ps (lane v) knows.0 (class_of v.act) (ending_at es (lane v)) v vs (told (lane v)) refl right.last does is rest ends)
       right.says
 
   weaves : (h : List Event) (w : World) (ps : List Position) → IsLegal R w h → AreLanes (length ps) h → AllKnow w ps → AllRun es ps h told → Weaves R es w ps h told

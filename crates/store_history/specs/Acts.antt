@@ -5,7 +5,7 @@ use Rattle.store_types.specs.declared.refusal.Refusal.TheVariants.{BadBlob, Wron
 use Rattle.store_types.specs.declared.names.Digest32.{Digest32}
 use Rattle.blob_codec.specs.Blob.{data_of}
 use Rattle.store_model.specs.ArchiveSteps.{check_chunk}
-use Rattle.store_model.specs.Jobs.{IsPrune}
+use Rattle.store_model.specs.Jobs.{IsPrune, IsSync}
 use Rattle.wire_commands.specs.declared.command.Command.{Command}
 use Rattle.wire_commands.specs.declared.command.Command.TheVariants as commands
 use Rattle.store_model.specs.declared.step.Step.{Step}
@@ -63,6 +63,9 @@ IsWellFormed (acts.Plain c) = IsPlain c
 IsWellFormed (acts.JobGroup c) = IsPrune c
 IsWellFormed (acts.Blob name checked) = IsChecked checked
 IsWellFormed (acts.Chunk digest checked) = IsCheckedChunk digest checked
+IsWellFormed (acts.ReadFile name offset) = Unit {0}
+IsWellFormed (acts.ReadChunk name entry) = Unit {0}
+IsWellFormed (acts.RemoteList c) = IsSync c
 IsWellFormed acts.Start = Unit {0}
 IsWellFormed acts.Step = Unit {0}
 IsWellFormed acts.Short = Unit {0}
@@ -83,18 +86,18 @@ act_of_command (commands.Blob file blob) = acts.Blob file (check_blob blob)
 act_of_command (commands.Prune group keep dry) = acts.JobGroup (commands.Prune group keep dry)
 act_of_command c = acts.Plain c
 
--- And a step of a job. The reads of a VERIFY are no acts: memory is wanting for them.
+-- and a step of a job
 abbrev pub act_of_step : Step → Act
 act_of_step (steps.Command c) = act_of_command c
-act_of_step (steps.ReadFile name offset) = acts.Short
-act_of_step (steps.ReadChunk name entry) = acts.Short
+act_of_step (steps.ReadFile name offset) = acts.ReadFile name offset
+act_of_step (steps.ReadChunk name entry) = acts.ReadChunk name entry
 
 -- ---- what an act is
 
 pub data Class : Type 0 where
   -- a command, or a step of a job
   stepping : Class
-  -- the start of a collector
+  -- the start of a collector, or of a SYNC
   starting : Class
   -- a mark, a visit, or the end of a collector
   sweeping : Class
@@ -104,6 +107,7 @@ pub data Class : Type 0 where
   ending : Class
 
 abbrev pub class_of : Act → Class
+class_of (acts.RemoteList c) = starting
 class_of acts.Start = starting
 class_of acts.Step = sweeping
 class_of acts.Short = wanting

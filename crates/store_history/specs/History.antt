@@ -11,6 +11,7 @@ use Rattle.wire_commands.specs.declared.reply.Reply.TheVariants.{Done}
 use Rattle.store_model.specs.Store.{Store, store_of, Outcome, ended}
 use Rattle.store_model.specs.WriterSteps.{checked_blob, want_data}
 use Rattle.store_model.specs.ArchiveSteps.{checked_chunk}
+use Rattle.store_model.specs.ReaderSteps.{read_file, read_chunk}
 use Rattle.store_model.specs.Steps.{outcome, answered}
 use Rattle.store_model.specs.Lanes.{Collecting, collects}
 use Rattle.store_model.specs.Weave.{first_fault}
@@ -105,12 +106,16 @@ abbrev pub data_in : Result (List ℕ) Refusal → Result (List ℕ) Refusal
 data_in (Ok bytes) = want_data bytes
 data_in (Err refusal) = Err refusal
 
--- What an act of the lane at the moment does to the plain store, where neither disk nor memory fails. A collector does nothing to it.
+-- What an act of the lane at the moment does to the plain store, where neither disk nor memory fails. A collector does nothing to it, nor does
+-- a read of the remote.
 unfoldable pub act_outcome : Option (List Snapshot) → World → ℕ → ℕ → Act → Outcome
 act_outcome remote w k m (acts.Plain c) = outcome w.store k m c
 act_outcome remote w k m (acts.JobGroup c) = outcome w.store k m c
 act_outcome remote w k m (acts.Blob name checked) = checked_blob w.store k name (data_in checked)
 act_outcome remote w k m (acts.Chunk digest checked) = checked_chunk w.store k (data_in checked)
+act_outcome remote w k m (acts.ReadFile name offset) = read_file w.store k name offset
+act_outcome remote w k m (acts.ReadChunk name entry) = read_chunk w.store k name entry
+act_outcome remote w k m (acts.RemoteList c) = Err NoMemory
 act_outcome remote w k m acts.Start = Err NoMemory
 act_outcome remote w k m acts.Step = Err NoMemory
 act_outcome remote w k m acts.Short = Err NoMemory

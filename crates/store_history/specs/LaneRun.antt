@@ -1,14 +1,15 @@
 -- The program of a lane: its acts, one after another, and what it tells its sink.
-use Rattle.std.specs.Prelude.{ℕ, ◌≡◌, ◌-◌, Bool, true, false, ◌&&◌, ◌||◌, List, [], ◌∷◌, ◌++◌, map, length, take, nat_le, ◌==◌, if◌then◌else◌, Option, Some, None, is_none, is_some}
+use Rattle.std.specs.Prelude.{ℕ, ◌≡◌, ◌-◌, Bool, true, false, not, ◌&&◌, ◌||◌, List, [], ◌∷◌, ◌++◌, map, length, take, nat_le, ◌==◌, if◌then◌else◌, Option, Some, None, is_none}
 use Rattle.std.specs.Int.{w32, from_le_bytes}
 use Rattle.std.specs.List.{flat_map}
 use Rattle.wire_frames.specs.Frames.{frame, short, cut}
+use Rattle.wire_commands.specs.declared.command.Command.TheVariants as commands
 use Rattle.wire_commands.specs.declared.reply.Reply.{Reply}
 use Rattle.wire_commands.specs.declared.reply.Reply.TheVariants.{Done, Collected, Refused}
 use Rattle.wire_commands.specs.ReplyText.{reply_text}
 use Rattle.store_model.specs.declared.ending.Ending.{Ending}
 use Rattle.store_model.specs.declared.ending.Ending.TheVariants as endings
-use Rattle.store_model.specs.Job.{Asking, step_of, Job, over, asking}
+use Rattle.store_model.specs.Job.{Asking, closing, aborting, step_of, Job, over, asking}
 use Rattle.store_model.specs.Jobs.{take as job_take}
 use Rattle.store_model.specs.Lanes.{Lane, Next, job_step, plain, sync, collect, collecting, bye, broken, end, lane_next}
 use Rattle.store_model.specs.Weave.{is_replied}
@@ -38,7 +39,7 @@ plain_text told = text (map blank told)
 
 -- The input's size and what is left of it; the job that is open; where the lane's collector is open, whether memory was wanting since it
 -- opened; whether want of memory was the last that was told, or is to be; whether it ended the lane, so that only the lane's end may come,
--- behind that of its collector; what was told; whether the lane is over.
+-- behind that of its collector or of its job's session; what was told; whether the lane is over.
 pub record Position : Type 0 where
   pub size : ℕ
   pub left : List ℕ
@@ -103,7 +104,7 @@ abbrev pub wants : ℕ → Option Bool → Bool
 wants kind (Some true) = true
 wants kind _ = kind == 2
 
--- an answer whose entry was the reserve's is the last but for the end of the collector and that of the lane
+-- an answer whose entry was the reserve's is the last but for the end of the collector or of a job's session, and that of the lane
 unfoldable pub heard : Position → Answer → Position
 heard p a =
     let q = heard_at p (a.entry).kind a.reply (next_at p) in
@@ -137,6 +138,7 @@ position_after e p v = heard_as (class_of v.act) e p v.answer
 abbrev pub Asks : Next → Act → Type 0
 Asks (job_step j left) a = a ≡ act_of_step (step_of j)
 Asks (plain c left) a = a ≡ act_of_command c
+Asks (sync group left) a = a ≡ acts.RemoteList (commands.Sync group)
 Asks (collect left) a = a ≡ acts.Start
 Asks (collecting is_short) a = a ≡ acts.Step
 Asks _ a = ⊥
@@ -146,11 +148,31 @@ Asks _ a = ⊥
 unfoldable pub may_want : List ℕ → Bool
 may_want left = nat_le 4 (length left) && nat_le 2 (from_le_bytes w32 (take 4 left))
 
--- While a job is open memory may be wanting at any time, and while the lane's collector is open only within its acts.
-unfoldable pub may_want_at : Position → Bool
-may_want_at p = is_none p.collecting && (is_some p.job || may_want p.left)
+-- a step of the job was refused: the step that closes its session is left, which takes no memory
+abbrev pub is_stopping : Asking → Bool
+is_stopping (closing (Refused refusal)) = true
+is_stopping (aborting report) = true
+is_stopping j = false
 
--- How a lane may end where this is next. Want of memory ended it where that was the last answer. Where the source
+-- so while a job is open memory may be wanting at any other step
+abbrev pub job_may_want : Option Asking → List ℕ → Bool
+job_may_want None left = may_want left
+job_may_want (Some j) left = not (is_stopping j)
+
+-- While the lane's collector is open memory may be wanting only within its acts.
+unfoldable pub may_want_at : Position → Bool
+may_want_at p = is_none p.collecting && job_may_want p.job p.left
+
+-- A job that is stopping closes its session also where want of memory ended the lane: the entry is in the lane's reserve.
+abbrev pub job_stops : Option Asking → Bool
+job_stops None = false
+job_stops (Some j) = is_stopping j
+
+abbrev pub may_step : Position → Bool
+may_step p = not p.is_spent || job_stops p.job
+
+-- How a lane may end where this is next. Want of memory ended it where that was the last answer, or one behind which no more than its job's
+-- session was closed. Where the source
 -- failed or gave too much, no job is open, and only a part of a frame is left without an answer.
 abbrev pub EndsSo : Ending → Position → Next → Type 0
 EndsSo endings.Clean p bye = p.is_spent ≡ false
@@ -159,7 +181,7 @@ EndsSo (endings.Broken place) p (broken refusal) = (p.is_spent ≡ false) × (pl
 EndsSo endings.SourceFault p n = (p.is_spent ≡ false) × (p.job ≡ None) × (cut p.left ≡ short)
 EndsSo endings.SourceTooLong p n = (p.is_spent ≡ false) × (p.job ≡ None) × (cut p.left ≡ short)
 EndsSo endings.SinkFault p n = Unit {0}
-EndsSo endings.NoMemory p n = p.is_short ≡ true
+EndsSo endings.NoMemory p n = (p.is_short || p.is_spent) ≡ true
 EndsSo _ p n = ⊥
 
 -- the lane's end, and no other event, follows
@@ -167,10 +189,10 @@ abbrev pub EndFollows : List Event → Type 0
 EndFollows (v ∷ []) = (class_of v.act ≡ ending) × (kind v ≡ 6)
 EndFollows _ = ⊥
 
--- The program makes this act here, before these events of its own. A lane ends its collector before it ends, also where want of memory
--- ended the lane. An end that met a fault comes again.
+-- The program makes this act here, before these events of its own. A lane ends its collector before it ends, and closes the session of a
+-- job that was refused, also where want of memory ended the lane. An end that met a fault comes again.
 abbrev pub Does : Class → Ending → Position → Event → List Event → Type 0
-Does stepping e p v vs = (p.is_spent ≡ false) × Asks (next_at p) v.act
+Does stepping e p v vs = (may_step p ≡ true) × Asks (next_at p) v.act
 Does starting e p v vs = (p.is_spent ≡ false) × Asks (next_at p) v.act
 Does sweeping e p v vs = Asks (next_at p) v.act
 Does wanting e p v vs = (p.is_spent ≡ false) × (may_want_at p ≡ true)

@@ -11,6 +11,8 @@ use Rattle.wire_commands.specs.declared.reply.Reply.{Reply}
 use Rattle.wire_commands.specs.declared.reply.Reply.TheVariants.{Collected, Refused}
 use Rattle.wire_commands.specs.declared.command.Command.TheVariants as commands
 use Rattle.store_model.specs.Store.{Session, none, writer, reader, session, lane_count}
+use Rattle.store_types.specs.Chain.Refusing.{◌>>=◌}
+use Rattle.store_model.specs.SyncJob.{to_pull}
 use Rattle.store_model.specs.Steps.{answered}
 use Rattle.store_model.specs.Lanes.{Run}
 use Rattle.store_model.specs.Weave.{want_collector, fault_refusal}
@@ -47,6 +49,16 @@ abbrev pub Refuses : Result (Unit {0}) Refusal → Option Reply → Type 0
 Refuses (Ok may) r = ⊥
 Refuses (Err refusal) r = r ≡ Some (Refused refusal)
 
+-- a collector or a SYNC may start on the lane, or what refuses it
+abbrev pub may_start : Option (List Snapshot) → World → ℕ → Act → Result (Unit {0}) Refusal
+may_start remote w k (acts.RemoteList (commands.Sync group)) = to_pull remote w.store k group >>= λ snapshots. Ok tt
+may_start remote w k a = may_open w k
+
+-- the act opens a collector
+abbrev pub OpensCollector : Act → Type 0
+OpensCollector acts.Start = Unit {0}
+OpensCollector a = ⊥
+
 -- the lane's collector, as far as it has come
 abbrev pub collecting_on : World → ℕ → Option Bool
 collecting_on w k = open_on k w.collecting
@@ -70,10 +82,10 @@ abbrev pub Right : Option (List Snapshot) → World → ℕ → ℕ → Act → 
 Right remote w k m a r stepping step_kind = (w.fault ≡ None) × Says remote w k m a r
 -- a command or a step that memory was wanting for: none that ends a session
 Right remote w k m a r stepping short_kind = (r ≡ Some (Refused NoMemory)) × (IsClosing w k a → ⊥)
--- a GC that is refused, that memory was wanting for, or whose collector opens, without a reply
-Right remote w k m a r starting step_kind = (w.fault ≡ None) × Refuses (may_open w k) r
+-- a GC or a SYNC that is refused, that memory was wanting for, or whose collector opens, without a reply
+Right remote w k m a r starting step_kind = (w.fault ≡ None) × Refuses (may_start remote w k a) r
 Right remote w k m a r starting short_kind = r ≡ Some (Refused NoMemory)
-Right remote w k m a r starting start_kind = (w.fault ≡ None) × (may_open w k ≡ Ok tt) × (r ≡ None)
+Right remote w k m a r starting start_kind = (w.fault ≡ None) × (may_open w k ≡ Ok tt) × (r ≡ None) × OpensCollector a
 -- a collector's act where the lane's is not open
 Right remote w k m a r sweeping step_kind =
     (w.fault ≡ None) × (collecting_on w k ≡ None) × (r ≡ Some (Refused (WrongState (state_of (session w.store k)))))

@@ -2,6 +2,7 @@ pub mod Acts
 pub mod History
 pub mod Legal
 pub mod LaneRun
+pub mod Begun
 pub mod SoFar
 pub mod Woven
 pub mod CrashPoints

@@ -3,7 +3,7 @@ use Rattle.std.specs.Prelude.{ℕ, ◌≡◌, ◌+◌, Bool, true, false, List, 
 use Rattle.store_model.specs.Lanes.{Next, job_step, plain, sync, collect, collecting}
 use Rattle.store_history.specs.declared.act.Event.{Event}
 use Rattle.store_history.specs.Acts.{Class, stepping, starting, sweeping, wanting, ending, class_of}
-use Rattle.store_history.specs.LaneRun.{Position, next_at, heard, Asks, may_want_at}
+use Rattle.store_history.specs.LaneRun.{Position, next_at, heard, Asks, may_want_at, may_step}
 
 -- a command, a job's step or a collector's act is next, and no end
 abbrev pub goes_further : Next → Bool
@@ -16,7 +16,7 @@ goes_further _ = false
 
 -- the program makes this act here, whatever of its input comes later
 abbrev pub Follows : Class → Position → Event → Type 0
-Follows stepping p v = (p.is_spent ≡ false) × Asks (next_at p) v.act
+Follows stepping p v = (may_step p ≡ true) × Asks (next_at p) v.act
 Follows starting p v = (p.is_spent ≡ false) × Asks (next_at p) v.act
 Follows sweeping p v = Asks (next_at p) v.act
 Follows wanting p v = (p.is_spent ≡ false) × (may_want_at p ≡ true) × (goes_further (next_at p) ≡ true)

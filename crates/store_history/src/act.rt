@@ -1,6 +1,6 @@
 //! What a lane asks of the core, and what it is answered.
 
-use store_types::{Bytes, Digest32, Entry, Refusal};
+use store_types::{Bytes, Digest32, Entry, FileName, Refusal};
 use wire_commands::{Command, Reply};
 
 /// One act of a lane.
@@ -21,6 +21,18 @@ pub enum Act {
         digest: Digest32,
         checked: Result<Bytes, Refusal>,
     },
+    /// A part of a file of the lane's reader, from an offset in bytes, for a VERIFY.
+    ReadFile {
+        name: FileName,
+        offset: u64,
+    },
+    /// The chunk at this entry of an index of the lane's reader, for a VERIFY, which checks it.
+    ReadChunk {
+        name: FileName,
+        entry: u32,
+    },
+    /// The first step of a SYNC, which carries the job's command: what the remote has of its group.
+    RemoteList(Command),
     /// The lane's collector opens.
     Start,
     /// The next act of the lane's collector: a mark, a visit, or its end.

@@ -1,5 +1,5 @@
 -- What an entry finds at a lane: a collector's act, or what its job and its input have next; and how jobs take want of memory.
-use Rattle.std.proofs.Common.{◌≡◌, ℕ, ◌-◌, length, Bool, true, false, List, Option, None, Some, Result, Ok, Err, refl, sym, ap, ◌∙◌}
+use Rattle.std.proofs.Common.{◌≡◌, ℕ, ◌+◌, ◌-◌, length, Bool, true, false, List, [], ◌∷◌, ◌++◌, nat_lt, if◌then◌else◌, Option, None, Some, Result, Ok, Err, refl, sym, ap, ◌∙◌}
 use Rattle.std.specs.Prelude.{◌==◌}
 use Rattle.store_types.specs.declared.names.Digest32.{Digest32}
 use Rattle.store_types.specs.declared.order.Entry.{Entry}
@@ -9,13 +9,15 @@ use Rattle.wire_commands.specs.declared.command.Command.{Command}
 use Rattle.wire_commands.specs.declared.command.Command.TheVariants.{OpenWriter, Previous, NewFixed, NewDynamic, Chunk, Append, CloseIndex, Blob, Finish, Abort, OpenReader, Download, GetChunk, Range, CloseReader, List as ListAll, Files, Forget, Prune, Verify, Sync, Gc, Group, Bye}
 use Rattle.wire_commands.specs.declared.rows.FileRow.{FileRow}
 use Rattle.wire_commands.specs.declared.rows.FileFault.{FileFault}
-use Rattle.wire_commands.specs.declared.reply.Reply.TheVariants.{Verified, Refused}
+use Rattle.wire_commands.specs.declared.reply.Reply.{Reply}
+use Rattle.wire_commands.specs.declared.reply.Reply.TheVariants.{Part, Verified, Refused}
 use Rattle.wire_commands.specs.Inputs.{InputFront}
 use Rattle.wire_commands.specs.Inputs as inputs
 use Rattle.wire_commands.specs.Inputs.{front}
-use Rattle.store_model.specs.Job.{Visit, Pull, Asking, listing, reading, checking, closing, sending, aborting, Job, asking}
-use Rattle.store_model.specs.Jobs.{take}
+use Rattle.store_model.specs.Job.{Visit, Pull, Asking, listing, reading, checking, closing, sending, aborting, Job, over, asking}
+use Rattle.store_model.specs.Jobs.{take, take_more}
 use Rattle.store_model.specs.VerifyJob.{listed, read_part, checked}
+use Rattle.store_model.specs.VerifyJob as verify
 use Rattle.store_model.specs.SyncJob.{replied}
 use Rattle.store_model.specs.Lanes.{Lane, Collecting, Run, Next, job_step, plain, sync, collect, collecting, bye, broken, end, lane_at, collects, command_next, front_next, lane_next, next_beside, next_of}
 use Rattle.store_model.specs.Weave.{tell, want_collector, open_collector, stepped, passed, opens, closes, remote_failed, Endings, entered}
@@ -165,3 +167,35 @@ module _ (v : Visit) (row : FileRow) where
 pub sending_short : (p : Pull) (c : Command) (later : List Command) → take (sending p c later) (Refused NoMemory) ≡ asking (aborting (Refused NoMemory))
 unfolding take replied
 sending_short p c later = refl
+
+-- ---- a part of a file for which a VERIFY has no memory
+
+-- a job that is asking, and has no refusal to report
+abbrev pub GoesOn : Job → Type 0
+GoesOn (over report) = ⊥
+GoesOn (asking (closing (Refused refusal))) = ⊥
+GoesOn (asking (aborting report)) = ⊥
+GoesOn (asking j) = Unit {0}
+
+-- Where memory is wanting then, it is all one whether the reply before was taken.
+abbrev pub IsDropped : Job → Type 0
+IsDropped j = GoesOn j × (take_more j (Refused NoMemory) ≡ asking (closing (Refused NoMemory)))
+
+file_dropped : (v : Visit) (rows : List FileRow) → IsDropped (verify.next_file v rows)
+unfolding verify.next_file take read_part
+file_dropped v [] = (tt, refl)
+file_dropped v (row ∷ later) = (tt, refl)
+
+chunk_dropped : (v : Visit) (row : FileRow) (fault : Option FileFault) (place : ℕ) (ds : List Digest32) → IsDropped (verify.next_chunk v row fault place ds)
+unfolding verify.next_chunk verify.file_done take checked
+chunk_dropped v row fault place [] = file_dropped (verify.with_fault row fault (record v { files = v.files + 1 })) v.later
+chunk_dropped v row fault place (d ∷ ds) = (tt, refl)
+
+pub part_dropped : (v : Visit) (row : FileRow) (bytes more : List ℕ) (total : ℕ) → IsDropped (take (reading v row bytes) (Part total more))
+unfolding take read_part verify.part_read verify.file_read
+part_dropped v row bytes more total = by_test (nat_lt (length (bytes ++ more)) total)
+  where
+    by_test : (b : Bool) → IsDropped (if b then asking (reading v row (bytes ++ more)) else verify.file_read v row (verify.judged v.snapshot row (bytes ++ more)))
+    by_test true = (tt, refl)
+    by_test false = let j = verify.judged v.snapshot row (bytes ++ more) in
+        chunk_dropped (record v { entries = v.entries + length j.digests; bytes = v.bytes + j.bytes }) row j.fault 0 j.digests

@@ -101,6 +101,15 @@ first_refusal : taken (aborting (Refused refusals.RemoteFault)) (Refused refusal
 unfolding store_model_on_literals
 first_refusal = refl
 
+-- and stays it where the step that was to end the writer did nothing
+aborted_again : taken (aborting (Refused refusals.RemoteFault)) (Refused refusals.NoMemory) ≡ asking (aborting (Refused refusals.RemoteFault))
+unfolding store_model_on_literals
+aborted_again = refl
+
+failed_again : taken (aborting (Refused refusals.NoMemory)) (Refused refusals.RemoteFault) ≡ asking (aborting (Refused refusals.NoMemory))
+unfolding store_model_on_literals
+failed_again = refl
+
 no_step_behind : taken (sending (record { snapshot = manifest_alone; later = []; pulled = [] }) commands.Finish []) (Refused (refusals.Halted 3)) ≡ over (Refused (refusals.Halted 3))
 unfolding store_model_on_literals
 no_step_behind = refl

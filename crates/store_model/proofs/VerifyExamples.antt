@@ -121,6 +121,11 @@ another_piece : last_chunk None ≡ told (faults.Damaged abc)
 unfolding store_model_on_literals digests_on_literals
 another_piece = refl
 
+-- the blob of nothing is no piece's
+no_piece : take (checking (begun k) index None 0 (record { 0 = sha256 [] }) []) (Data (blobs.blob [])) ≡ told (faults.Damaged (record { 0 = sha256 [] }))
+unfolding store_model_on_literals digests_on_literals
+no_piece = refl
+
 first_fault : last_chunk (Some faults.Differs) ≡ told faults.Differs
 unfolding store_model_on_literals digests_on_literals
 first_fault = refl
@@ -129,6 +134,11 @@ first_fault = refl
 not_closed : take (closing (Verified 0 0 0 [])) (Refused refusals.DiskFault) ≡ over (Refused refusals.DiskFault)
 unfolding store_model_on_literals
 not_closed = refl
+
+-- so it does behind a refusal, which stays the answer
+refused_again : take (closing (Refused refusals.BadName)) (Refused refusals.NoMemory) ≡ asking (closing (Refused refusals.BadName))
+unfolding store_model_on_literals
+refused_again = refl
 
 closed_again : take (closing (Verified 0 0 0 [])) (Refused refusals.NoMemory) ≡ asking (closing (Refused refusals.NoMemory))
 unfolding store_model_on_literals

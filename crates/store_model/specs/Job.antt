@@ -3,7 +3,7 @@ use Rattle.std.specs.Prelude.{Bool, true, false, ℕ, List, length, Option, Some
 use Rattle.store_types.specs.declared.names.Digest32.{Digest32}
 use Rattle.store_types.specs.declared.names.Keep.{Keep}
 use Rattle.store_types.specs.declared.refusal.Refusal.{Refusal}
-use Rattle.store_types.specs.declared.refusal.Refusal.TheVariants.{DiskFault, Halted, NoMemory}
+use Rattle.store_types.specs.declared.refusal.Refusal.TheVariants.{RemoteFault, DiskFault, Halted, NoMemory}
 use Rattle.store_types.specs.Names.{key_text}
 use Rattle.store_files.specs.Archive.{Snapshot}
 use Rattle.wire_commands.specs.declared.command.Command.{Command}
@@ -94,9 +94,13 @@ stopped close DiskFault = over (Refused DiskFault)
 stopped close (Halted place) = over (Refused (Halted place))
 stopped close refusal = asking (close (Refused refusal))
 
--- The session is closed. What was refused first is the answer. Where memory was wanting the session is still to be closed.
+-- The session is closed. What was refused first is the answer. Want of memory and a failed read of the remote have done nothing: the session
+-- is open still, so the step that closes it comes again.
 abbrev pub closed : (Reply → Asking) → Reply → Reply → Job
+closed close (Refused first) (Refused NoMemory) = asking (close (Refused first))
+closed close (Refused first) (Refused RemoteFault) = asking (close (Refused first))
 closed close (Refused first) reply = over (Refused first)
 closed close report (Refused NoMemory) = asking (close (Refused NoMemory))
+closed close report (Refused RemoteFault) = asking (close (Refused RemoteFault))
 closed close report (Refused refusal) = over (Refused refusal)
 closed close report reply = over report

@@ -2,7 +2,7 @@
 use Rattle.std.specs.Prelude.{List, Option, Some, None}
 use Rattle.std.specs.List.{fold}
 use Rattle.wire_commands.specs.declared.command.Command.{Command}
-use Rattle.wire_commands.specs.declared.command.Command.TheVariants.{Prune, Verify}
+use Rattle.wire_commands.specs.declared.command.Command.TheVariants.{Prune, Verify, Sync}
 use Rattle.wire_commands.specs.declared.reply.Reply.{Reply}
 use Rattle.store_model.specs.declared.step.Step.{Step}
 use Rattle.store_model.specs.Job.{Asking, grouping, forgetting, opening, listing, reading, checking, closing, beginning, sending, aborting, Job, over, asking, closed}
@@ -16,6 +16,17 @@ abbrev pub job_of : Command → Option Asking
 job_of (Prune group keep dry) = Some (grouping (Prune group keep dry) keep dry)
 job_of (Verify snapshot) = Some (opening snapshot)
 job_of _ = None
+
+-- a command whose job begins with its first step
+abbrev pub IsJob : Command → Type 0
+IsJob (Prune group keep dry) = Unit {0}
+IsJob (Verify snapshot) = Unit {0}
+IsJob c = ⊥
+
+-- a job's command that the remote is asked for
+abbrev pub IsSync : Command → Type 0
+IsSync (Sync group) = Unit {0}
+IsSync c = ⊥
 
 -- a job's command whose first step gives a group
 abbrev pub IsPrune : Command → Type 0

@@ -1,5 +1,5 @@
 -- VERIFY: reads each file of a snapshot and each chunk that its indexes name, and compares them with what the manifest lists.
-use Rattle.std.specs.Prelude.{ℕ, ◌+◌, ◌&&◌, List, [], ◌∷◌, ◌++◌, map, length, ◌==◌, nat_lt, if◌then◌else◌, Option, Some, None, Ok, Err}
+use Rattle.std.specs.Prelude.{ℕ, ◌+◌, Bool, ◌&&◌, List, [], ◌∷◌, ◌++◌, map, length, ◌==◌, nat_lt, if◌then◌else◌, Option, Some, None, Ok, Err}
 use Rattle.std.specs.Option.{option_or}
 use Rattle.std.specs.Str.{bytes_eq}
 use Rattle.sha2.specs.Sha256.{sha256}
@@ -138,12 +138,16 @@ read_part v row bytes (Refused (Unreadable name)) = file_done v row (Some faults
 read_part v row bytes (Refused refusal) = stopped closing refusal
 read_part v row bytes reply = over reply
 
+-- the data are those of a piece with this digest; a piece is not empty
+abbrev pub is_piece_of : Digest32 → List ℕ → Bool
+is_piece_of d piece = nat_lt 0 (length piece) && bytes_eq (sha256 piece) d.0
+
 -- the bytes are the blob of a piece with this digest, or the chunk is damaged
 abbrev pub chunk_fault : Digest32 → List ℕ → Option FileFault
 chunk_fault d bytes =
     elim (data_of bytes) [
       | Err cause ↦ Some (faults.Damaged d)
-      | Ok piece ↦ if bytes_eq (sha256 piece) d.0 then None else Some (faults.Damaged d)
+      | Ok piece ↦ if is_piece_of d piece then None else Some (faults.Damaged d)
     ]
 
 -- A file has the first fault that it shows. What can't be read ends the file.

@@ -1,5 +1,5 @@
 -- Each act that is done moves the store.
-use Rattle.std.proofs.Common.{◌≡◌, ⊎_elim, ◌⊎◌, inl, inr, ◌<◌, ℕ, Bool, true, false, cond, not, List, [], ◌∷◌, ◌++◌, length, map, get_or, Option, Some, None, Result, Ok, Err, refl, sym, subst, ap, ◌∙◌, arith, true≢false, lt-ltb, nat_le, nat_lt}
+use Rattle.std.proofs.Common.{◌≡◌, ⊎_elim, ◌⊎◌, inl, inr, ◌<◌, ℕ, Bool, true, false, cond, not, List, [], ◌∷◌, ◌++◌, length, map, get_or, slice_get, Option, Some, None, Result, Ok, Err, refl, sym, subst, ap, ◌∙◌, arith, true≢false, lt-ltb, nat_le, nat_lt}
 use Rattle.std.specs.List.{position, position_or_len}
 use Rattle.std.specs.Str.{bytes_eq}
 use Rattle.std.proofs.lemmas.Bool.{cases_lt, false≢true}
@@ -27,7 +27,7 @@ use Rattle.store_model.specs.Manifests.{finish_check}
 use Rattle.store_model.specs.WriterSteps.{with_pool, with_file, goes_on, new_writer, open_writer, want_newer, base_of, previous, checked_blob, snapshot_of, finish, abort}
 use Rattle.store_model.specs.WriterCalls as calls
 use Rattle.store_model.specs.ArchiveSteps.{new_fixed, new_dynamic, checked_chunk, named, append, close_index}
-use Rattle.store_model.specs.ReaderSteps.{open_reader, reader_files, note, is_noted, download, noted_pieces, get_chunk, range_of, range, close_reader}
+use Rattle.store_model.specs.ReaderSteps.{open_reader, reader_files, note, is_noted, download, noted_pieces, get_chunk, range_of, range, read_file, read_chunk, close_reader}
 use Rattle.store_model.specs.Jobs.{IsPrune}
 use Rattle.store_model.specs.AdminSteps.{want_after, list, files, want_free, forget, group, counts_fit, prune_group}
 use Rattle.store_model.specs.Steps.{outcome, answered}
@@ -436,6 +436,20 @@ module _ (s : Store) (k m : ℕ) where
       (λ contents _. on_quietly s k m _ _ _ w (with_file name (blob contents) w) (wanted_writer (session s k) w runs) (puts_blob s _ _ w name contents)
       (quiet_act (acts.Blob name checked) None refl)))))
 
+  -- a VERIFY's own reads
+  reads_part : (name : List ℕ) (offset : ℕ) → Does m (acts.ReadFile name offset) s (read_file s k name offset)
+  unfolding Does read_file
+  reads_part name offset =
+      bound (acts.ReadFile name offset) (download s k name offset) _ (λ given _. still s m _ _ _ (quiet_act (acts.ReadFile name offset) None refl))
+
+  reads_entry : (name : List ℕ) (entry : ℕ) → Does m (acts.ReadChunk name entry) s (read_chunk s k name entry)
+  unfolding Does read_chunk
+  reads_entry name entry =
+      bound (acts.ReadChunk name entry) (want_reader (session s k)) _ (λ r _. bound (acts.ReadChunk name entry) (unless NoFile (is_index_name name)) _
+      (λ a _. bound (acts.ReadChunk name entry) (or_else NoFile (file_named name (reader_files s r))) _
+      (λ f _. bound (acts.ReadChunk name entry) (or_else (BadRange (length (pieces_of f.content))) (slice_get (pieces_of f.content) entry)) _
+      (λ p _. still s m _ _ _ (quiet_act (acts.ReadChunk name entry) None refl)))))
+
   one_digest : (d piece digest : List ℕ) → sha256 piece ≡ digest → In d (map sha256 (piece ∷ [])) → d ≡ digest
   one_digest d piece digest same (inl e) = e ∙ same
   one_digest d piece digest same (inr h) = absurd h
@@ -463,6 +477,9 @@ act_does R w k m (acts.Plain c) formed = command_does w.store k m c formed
 act_does R w k m (acts.JobGroup c) formed = job_does w.store k m c formed
 act_does R w k m (acts.Blob name checked) formed = blob_does w.store k m name checked
 act_does R w k m (acts.Chunk digest checked) formed = chunk_does w.store k m digest checked formed
+act_does R w k m (acts.ReadFile name offset) formed = reads_part w.store k m name offset
+act_does R w k m (acts.ReadChunk name entry) formed = reads_entry w.store k m name entry
+act_does R w k m (acts.RemoteList c) formed = tt
 act_does R w k m acts.Start formed = tt
 act_does R w k m acts.Step formed = tt
 act_does R w k m acts.Short formed = tt
@@ -501,6 +518,11 @@ module _ (R : Option (List Snapshot)) (w : World) (k m : ℕ) (r : Option Reply)
   starting_moves end_kind right = absurd right
   starting_moves n right = still w.store m _ _ _ (quiet_act acts.Start None refl)
 
+  remote_moves : (c : Command) (n : EntryKind) → Right R w k m (acts.RemoteList c) r starting n → MovesBy (acts.RemoteList c) n
+  unfolding moved act_outcome
+  remote_moves c end_kind right = absurd right
+  remote_moves c n right = still w.store m _ _ _ (quiet_act (acts.RemoteList c) None refl)
+
   sweeping_moves : (n : EntryKind) → Right R w k m acts.Step r sweeping n → MovesBy acts.Step n
   unfolding moved act_outcome
   sweeping_moves end_kind right = absurd right
@@ -519,6 +541,7 @@ module _ (R : Option (List Snapshot)) (w : World) (k m : ℕ) (r : Option Reply)
 
   act_moves : (a : Act) → IsWellFormed a → (n : EntryKind) → Right R w k m a r (class_of a) n → MovesBy a n
   act_moves acts.Start formed n right = starting_moves n right
+  act_moves (acts.RemoteList c) formed n right = remote_moves c n right
   act_moves acts.Step formed n right = sweeping_moves n right
   act_moves acts.Short formed n right = wanting_moves n right
   act_moves acts.End formed n right = ending_moves n right

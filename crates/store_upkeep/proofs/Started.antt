@@ -45,9 +45,11 @@ starts R w s v b none is =
     starts_by w s v b (class_of v.act) (kind_of (kind v)) none
     (open_same (after R w v).collecting (swept_by w s v (class_of v.act) (kind_of (kind v))) b is)
 
-start_act : (a : Act) (n : EntryKind) → IsStart (class_of a) n → a ≡ acts.Start
-start_act acts.Start n is = refl
-start_act a n is = absurd is
+-- a SYNC opens no collector
+start_act : (R : Option (List Snapshot)) (w : World) (k m : ℕ) (a : Act) (r : Option Reply) (n : EntryKind) → Right R w k m a r (class_of a) n → IsStart (class_of a) n → a ≡ acts.Start
+start_act R w k m acts.Start r n right is = refl
+start_act R w k m (acts.RemoteList c) r start_kind right is = absurd right.3
+start_act R w k m a r n right is = absurd is
 
 start_three : (n : ℕ) → IsStart starting (kind_of n) → n ≡ 3
 start_three zero is = absurd is
@@ -84,11 +86,11 @@ found_later R w s v es f = record {
   stays = f.stays;
 }
 
-found_here : (R : Option (List Snapshot)) (w : World) (s : Swept) (v : Event) (es : List Event) → IsStart (class_of v.act) (kind_of (kind v))
+found_here : (R : Option (List Snapshot)) (w : World) (s : Swept) (v : Event) (es : List Event) → IsRight R w v → IsStart (class_of v.act) (kind_of (kind v))
     → StaysOpen R (after R w v) (swept_after R w s v) es → Found R w s (v ∷ es)
 unfolding after_all swept_all
-found_here R w s v es is stays =
-    let named = start_act v.act (kind_of (kind v)) is in
+found_here R w s v es right is stays =
+    let named = start_act R w (lane v) (moment v) v.act (reply v) (kind_of (kind v)) right.says is in
     record {
       before = [];
       start = v;
@@ -103,14 +105,14 @@ found_here R w s v es is stays =
 abbrev StartsOr : Option (List Snapshot) → World → Swept → List Event → Type 0
 StartsOr R w s es = (s.sweep ≡ None → Found R w s es) × (IsSome s.sweep → StaysOpen R w s es ⊎ Found R w s es)
 
-find_start : (R : Option (List Snapshot)) (es : List Event) (w : World) (s : Swept) → IsSome (swept_all R w s es).sweep → StartsOr R w s es
+find_start : (R : Option (List Snapshot)) (es : List Event) (w : World) (s : Swept) → IsLegal R w es → IsSome (swept_all R w s es).sweep → StartsOr R w s es
 unfolding swept_all
-find_start R [] w s some = (λ none. absurd (false≢true (sym (ap is_some none) ∙ some)), λ runs. inl runs)
-find_start R (v ∷ es) w s some = by_next (swept_after R w s v).sweep refl (find_start R es (after R w v) (swept_after R w s v) some)
+find_start R [] w s legal some = (λ none. absurd (false≢true (sym (ap is_some none) ∙ some)), λ runs. inl runs)
+find_start R (v ∷ es) w s legal some = by_next (swept_after R w s v).sweep refl (find_start R es (after R w v) (swept_after R w s v) legal.1 some)
   where
     begun : s.sweep ≡ None → (b : Sweep) → (swept_after R w s v).sweep ≡ Some b
         → StaysOpen R (after R w v) (swept_after R w s v) es ⊎ Found R (after R w v) (swept_after R w s v) es → Found R w s (v ∷ es)
-    begun none b is (inl stays) = found_here R w s v es (starts R w s v b none is) stays
+    begun none b is (inl stays) = found_here R w s v es legal.0 (starts R w s v b none is) stays
     begun none b is (inr f) = found_later R w s v es f
 
     kept : IsSome s.sweep → StaysOpen R (after R w v) (swept_after R w s v) es ⊎ Found R (after R w v) (swept_after R w s v) es
@@ -284,5 +286,5 @@ pub reports_right : (R : Option (List Snapshot)) (o : Opening) (es : List Event)
 reports_right R o es e legal fits is off =
     let parts = legal_parts R (opened o) es (e ∷ []) legal in
     let x = over_of (swept R o es) (reply e) (swept R o es).sweep refl (ends_reported R o es e legal fits is off) in
-    let f = (find_start R es (opened o) (swept_at o) (ap is_some x.open_is)).0 refl in
+    let f = (find_start R es (opened o) (swept_at o) parts.0 (ap is_some x.open_is)).0 refl in
     reports_whole R o es e parts.0 (right_of R (after_all R (opened o) es) e parts.1) is f x

@@ -82,7 +82,7 @@ fn archives_come_back(rt: HostRuntime) -> Result<(), Fail> {
         replies: &replies,
         kinds: ARCHIVE_KINDS,
     };
-    let (output, served) = run_session(alloc, ARCHIVE, MemoryDisk::new(alloc))?;
+    let (output, served) = run_session(&rt, alloc, ARCHIVE, MemoryDisk::new(alloc))?;
     assert_run(&rt, output.as_slice(), &served, &left)?;
     assert_holds(&rt, alloc, served.disk, ARCHIVED)?;
     try_source(&rt, alloc, source_of(alloc, ARCHIVE)?.at_most(1), &left)

@@ -7,10 +7,12 @@ use super::manifests::{finished, manifests};
 use super::prunes::{gone, one_each, weeks};
 use super::ranges::restored;
 use super::reuse::{again, reused};
+use super::syncs::synced;
 use super::talks::{
     BOTH, FIVE, LAST_DAY, LAST_WEEK, LATER, ROOTS, Steps, THIRD, Talk, add_step, fixed_talk,
     manifest_talk, talk_of, try_talk,
 };
+use super::verifies::verified;
 use super::*;
 
 /// The earlier run: a snapshot that stands behind all others, of pieces that later sessions send too.
@@ -35,7 +37,7 @@ const STAYING: Files = &[
 ];
 
 /// The disk that the earlier run leaves.
-fn left_earlier(rt: &impl Abort, alloc: Global) -> Result<MemoryDisk, Fail> {
+fn left_earlier(rt: &(impl Abort + Threads + Sync), alloc: Global) -> Result<MemoryDisk, Fail> {
     let talk = talk_of(alloc, &[EARLIER])?;
     try_talk(rt, alloc, MemoryDisk::new(alloc), &talk)
 }
@@ -48,15 +50,24 @@ fn assert_has(rt: &impl Abort, disk: &mut MemoryDisk, files: &[(&str, u64)]) -> 
 }
 
 /// Serves a session there.
-fn try_beside(rt: &impl Abort, alloc: Global, input: &[u8], left: &Left<'_>) -> Result<(), Fail> {
+fn try_beside(
+    rt: &(impl Abort + Threads + Sync),
+    alloc: Global,
+    input: &[u8],
+    left: &Left<'_>,
+) -> Result<(), Fail> {
     let disk = left_earlier(rt, alloc)?;
-    let (output, mut served) = run_session(alloc, input, disk)?;
+    let (output, mut served) = run_session(rt, alloc, input, disk)?;
     assert_run(rt, output.as_slice(), &served, left)?;
     assert_has(rt, &mut served.disk, STAYING)
 }
 
 /// One that ends at BYE or between two frames: what it sends, its replies, and the kinds of its entries.
-fn try_clean(rt: &impl Abort, alloc: Global, row: &(&[u8], &[u8], &[u8])) -> Result<(), Fail> {
+fn try_clean(
+    rt: &(impl Abort + Threads + Sync),
+    alloc: Global,
+    row: &(&[u8], &[u8], &[u8]),
+) -> Result<(), Fail> {
     let (input, replies, kinds) = row;
     let report = LaneReport {
         taken: input.len() as u64,
@@ -74,7 +85,7 @@ fn try_clean(rt: &impl Abort, alloc: Global, row: &(&[u8], &[u8], &[u8])) -> Res
 
 /// One that comes to a place without a command: also how many bytes are taken, and the place.
 fn try_broken(
-    rt: &impl Abort,
+    rt: &(impl Abort + Threads + Sync),
     alloc: Global,
     row: &(&[u8], &[u8], &[u8], u64, u64),
 ) -> Result<(), Fail> {
@@ -176,7 +187,7 @@ fn add_beside(talk: &mut Talk, alloc: Global, steps: Steps) -> Result<(), AllocE
 
 /// Serves a session there, which leaves these files.
 fn try_talk_beside(
-    rt: &impl Abort,
+    rt: &(impl Abort + Threads + Sync),
     alloc: Global,
     talk: &Talk,
     files: &[(&str, u64)],
@@ -188,7 +199,7 @@ fn try_talk_beside(
 
 /// Serves a session of these steps there.
 fn try_parts(
-    rt: &impl Abort,
+    rt: &(impl Abort + Threads + Sync),
     alloc: Global,
     parts: &[Steps],
     files: &[(&str, u64)],
@@ -200,6 +211,8 @@ fn try_parts(
 fn commands_are_answered_beside(rt: HostRuntime) -> Result<(), Fail> {
     let alloc = rt.alloc();
     try_parts(&rt, alloc, &restored(), NOTHING)?;
+    try_parts(&rt, alloc, &verified(), NOTHING)?;
+    try_parts(&rt, alloc, &synced(), NOTHING)?;
     try_parts(&rt, alloc, &reused(), NOTHING)?;
     try_parts(&rt, alloc, &[fixed_refused()], NOTHING)?;
     try_parts(&rt, alloc, &[finished()], NOTHING)?;
@@ -224,7 +237,11 @@ fn snapshots_are_pruned_beside(rt: HostRuntime) -> Result<(), Fail> {
     try_parts(&rt, alloc, &[again()], ROOTS)
 }
 
-fn try_manifests(rt: &impl Abort, alloc: Global, rows: &[(&[u8], &[u8])]) -> Result<(), Fail> {
+fn try_manifests(
+    rt: &(impl Abort + Threads + Sync),
+    alloc: Global,
+    rows: &[(&[u8], &[u8])],
+) -> Result<(), Fail> {
     for row in rows {
         try_talk_beside(rt, alloc, &manifest_talk(alloc, row)?, NOTHING)?;
     }

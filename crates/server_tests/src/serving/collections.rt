@@ -333,7 +333,7 @@ fn assert_chunks(
 }
 
 fn try_collection(
-    rt: &impl Abort,
+    rt: &(impl Abort + Threads + Sync),
     alloc: Global,
     disk: MemoryDisk,
     row: &Collection,
@@ -348,7 +348,7 @@ fn try_collection(
 }
 
 fn try_collections(
-    rt: &impl Abort,
+    rt: &(impl Abort + Threads + Sync),
     alloc: Global,
     before: &[(&str, &[u8])],
     runs: &[&Collection],
@@ -397,7 +397,7 @@ static SWEPT: Run = Run {
 };
 
 /// What stands there before.
-fn two_backups(rt: &impl Abort, alloc: Global) -> Result<MemoryDisk, Fail> {
+fn two_backups(rt: &(impl Abort + Threads + Sync), alloc: Global) -> Result<MemoryDisk, Fail> {
     try_collections(rt, alloc, &[], &[&BOTH_KEPT, &BACKED_UP_OVER])
 }
 
@@ -488,7 +488,7 @@ static FAULTS: [Fault; 6] = [
 
 /// The call with this number fails.
 fn try_fault(
-    rt: &impl Abort,
+    rt: &(impl Abort + Threads + Sync),
     alloc: Global,
     disk: MemoryDisk,
     call: u64,
@@ -496,7 +496,7 @@ fn try_fault(
 ) -> Result<(), Fail> {
     let mut ports = [port_of(alloc, SWEPT.steps)?];
     let failing = FailingDisk::at_calls(disk, [call].to_vec(alloc)?);
-    let served = serve_on(alloc, &mut ports, failing, SWEPT.clock)?;
+    let served = serve_on(rt, alloc, &mut ports, failing, SWEPT.clock)?;
     let mut told = Vec::new(alloc);
     for reply in fault.replies {
         told.extend_from_slice(reply)?;
@@ -587,9 +587,13 @@ fn found(number: usize) -> Steps {
 }
 
 /// The number of what a later run finds.
-fn found_on(alloc: Global, disk: MemoryDisk) -> Result<Option<usize>, Fail> {
+fn found_on(
+    rt: &(impl Threads + Sync),
+    alloc: Global,
+    disk: MemoryDisk,
+) -> Result<Option<usize>, Fail> {
     let mut ports = [port_of(alloc, found(0))?];
-    let _served = serve_on(alloc, &mut ports, disk, &[1_300_000])?;
+    let _served = serve_on(rt, alloc, &mut ports, disk, &[1_300_000])?;
     for number in 0..3 {
         if told_to(&ports)? == told_of(alloc, found(number))?.as_slice() {
             return Ok(Some(number));
@@ -612,14 +616,14 @@ fn may_be_found(kinds: &[u8], number: usize) -> bool {
 
 /// A crash of each kind comes behind a run whose disk failed at the call with this number.
 fn assert_found(
-    rt: &impl Abort,
+    rt: &(impl Abort + Threads + Sync),
     alloc: Global,
     call: u64,
     kinds: &[u8],
     left: MemoryDisk,
 ) -> Result<(), Fail> {
     for choice in 0..3 {
-        let found = found_on(alloc, left.crashed(alloc, choice)?)?;
+        let found = found_on(rt, alloc, left.crashed(alloc, choice)?)?;
         let fits = match found {
             Some(number) => may_be_found(kinds, number),
             None => false,
@@ -630,10 +634,15 @@ fn assert_found(
 }
 
 /// The disk stops before the call with this number.
-fn try_stop(rt: &impl Abort, alloc: Global, disk: MemoryDisk, call: u64) -> Result<(), Fail> {
+fn try_stop(
+    rt: &(impl Abort + Threads + Sync),
+    alloc: Global,
+    disk: MemoryDisk,
+    call: u64,
+) -> Result<(), Fail> {
     let mut ports = [port_of(alloc, SWEPT.steps)?];
     let stopping = FailingDisk::stopping_after(disk, call);
-    let served = serve_on(alloc, &mut ports, stopping, SWEPT.clock)?;
+    let served = serve_on(rt, alloc, &mut ports, stopping, SWEPT.clock)?;
     let kinds = kinds_of(alloc, &served.order)?;
     assert_found(rt, alloc, call, &kinds, served.disk.into_inner())
 }
@@ -717,7 +726,7 @@ fn a_collection_lacks_memory(rt: HostRuntime) -> Result<(), Fail> {
     };
     let mut ports = [port];
     let disk = MemoryDisk::new(alloc);
-    let Ok(served) = serve_on(alloc, &mut ports, disk, run.clock) else {
+    let Ok(served) = serve_on(&rt, alloc, &mut ports, disk, run.clock) else {
         return Ok(());
     };
     assert_cut_short(&rt, &served.order);

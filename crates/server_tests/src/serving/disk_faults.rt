@@ -371,7 +371,7 @@ static STORED_FAULTS: [Fault; 9] = [
 
 /// The disk's call with this number behind opening, from 0, fails.
 fn try_disk(
-    rt: &impl Abort,
+    rt: &(impl Abort + Threads + Sync),
     alloc: Global,
     session: &Session,
     call: u64,
@@ -379,7 +379,7 @@ fn try_disk(
 ) -> Result<(), Fail> {
     let plan = [OPENING.saturating_add(call)].to_vec(alloc)?;
     let disk = FailingDisk::at_calls(MemoryDisk::new(alloc), plan);
-    let (output, served) = run_session(alloc, session.input, disk)?;
+    let (output, served) = run_session(rt, alloc, session.input, disk)?;
     let mut replies = front(session.replies, fault.told).to_vec(alloc)?;
     replies.extend_from_slice(fault.behind)?;
     let report = LaneReport {
@@ -399,7 +399,7 @@ fn try_disk(
 
 /// The calls from this number on fail, each in turn.
 fn try_faults(
-    rt: &impl Abort,
+    rt: &(impl Abort + Threads + Sync),
     alloc: Global,
     session: &Session,
     first: u64,
@@ -502,7 +502,7 @@ fn assert_whole(
 
 /// The disk stops after so many calls behind opening, and a crash of each kind then leaves whole files alone.
 fn try_stop(
-    rt: &impl Abort,
+    rt: &(impl Abort + Threads + Sync),
     alloc: Global,
     session: &Session,
     calls: u64,
@@ -510,7 +510,7 @@ fn try_stop(
 ) -> Result<(), Fail> {
     let count = OPENING.saturating_add(calls);
     let disk = FailingDisk::stopping_after(MemoryDisk::new(alloc), count);
-    let (_output, served) = run_session(alloc, session.input, disk)?;
+    let (_output, served) = run_session(rt, alloc, session.input, disk)?;
     let left = served.disk.into_inner();
     for choice in 0..3 {
         let mut found = left.crashed(alloc, choice)?;
@@ -584,8 +584,13 @@ pub fn letters(
 }
 
 /// Serves a session and compares the writing calls of its acts.
-fn try_writings(rt: &impl Abort, alloc: Global, input: &[u8], acts: &[&str]) -> Result<(), Fail> {
-    let (_output, served) = run_session(alloc, input, MemoryDisk::new(alloc))?;
+fn try_writings(
+    rt: &(impl Abort + Threads + Sync),
+    alloc: Global,
+    input: &[u8],
+    acts: &[&str],
+) -> Result<(), Fail> {
+    let (_output, served) = run_session(rt, alloc, input, MemoryDisk::new(alloc))?;
     same(rt, served.report.calls.len(), acts.len());
     let mut before = OPENING;
     for (now, act) in served.report.calls.iter().zip(acts) {

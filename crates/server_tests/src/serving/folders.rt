@@ -8,7 +8,7 @@ use super::*;
 use disk_trait::DiskError;
 
 /// Behind `ROOT_SENT`: a blob beside the archive.
-const FIRST_RUN: Steps = &[
+pub const FIRST_RUN: Steps = &[
     (PUT_CONF, DONE),
     (
         b"i\x01\0\0\x11\x0findex.json.blobB\xab8\x07\xbe\x83p\xa1\xc8\xff\x9c\xdf{\"backup-id\":\"a\",\"backup-time\":1579069803,\"backup-type\":\"host\",\"files\":[{\"crypt-mode\":\"none\",\"csum\":\"69dcb4830c28203c26a1dade2d893d7f1d13cdba5eb39e348b008f3a5a0fb688\",\"filename\":\"a.conf.blob\",\"size\":21},{\"crypt-mode\":\"none\",\"csum\":\"da464aae3d9f63d06f308710062b5db41996b1e36990b92ecc693440e6660151\",\"filename\":\"root.didx\",\"size\":5}]}",
@@ -100,12 +100,16 @@ const LATER_LEFT: Files = &[
     ("host/a/2020-01-15T06:30:04Z/root.didx", 4176),
 ];
 
-fn try_first(rt: &impl Abort, alloc: Global) -> Result<MemoryDisk, Fail> {
+fn try_first(rt: &(impl Abort + Threads + Sync), alloc: Global) -> Result<MemoryDisk, Fail> {
     let talk = talk_of(alloc, &[ROOT_SENT, FIRST_RUN])?;
     try_talk(rt, alloc, MemoryDisk::new(alloc), &talk)
 }
 
-fn try_second(rt: &impl Abort, alloc: Global, disk: MemoryDisk) -> Result<MemoryDisk, Fail> {
+fn try_second(
+    rt: &(impl Abort + Threads + Sync),
+    alloc: Global,
+    disk: MemoryDisk,
+) -> Result<MemoryDisk, Fail> {
     let talk = talk_of(alloc, &[FOUND, OVER, FORGOTTEN])?;
     try_talk(rt, alloc, disk, &talk)
 }
@@ -160,7 +164,7 @@ const MANIFEST_DAMAGED: Steps = &[
     (READ, NO_SNAPSHOT),
 ];
 
-const CONF_MISSING: &[u8] = b")\0\0\0\x18'host/a/2020-01-15T06:30:03Z/a.conf.blob";
+pub const CONF_MISSING: &[u8] = b")\0\0\0\x18'host/a/2020-01-15T06:30:03Z/a.conf.blob";
 
 const FILE_MISSING: Steps = &[
     (LIST, ONE_DAMAGED),
@@ -301,7 +305,11 @@ pub fn disk_of(alloc: Global, files: &[(&str, &[u8])]) -> Result<MemoryDisk, Dis
     Ok(disk)
 }
 
-fn try_folder(rt: &impl Abort, alloc: Global, folder: &Folder) -> Result<(), Fail> {
+fn try_folder(
+    rt: &(impl Abort + Threads + Sync),
+    alloc: Global,
+    folder: &Folder,
+) -> Result<(), Fail> {
     let disk = disk_of(alloc, folder.before)?;
     let left = try_talk(rt, alloc, disk, &talk_of(alloc, &[folder.run])?)?;
     assert_holds(rt, alloc, left, folder.after)

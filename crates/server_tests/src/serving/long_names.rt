@@ -33,7 +33,11 @@ fn long_name(alloc: Global, front: &str, end: &str) -> Result<String, AllocError
 const FOUND: Steps = &[(LIST, NONE_THERE)];
 
 /// A folder with one file of such a name.
-fn try_long(rt: &impl Abort, alloc: Global, row: &(&str, &str, bool)) -> Result<(), Fail> {
+fn try_long(
+    rt: &(impl Abort + Threads + Sync),
+    alloc: Global,
+    row: &(&str, &str, bool),
+) -> Result<(), Fail> {
     let (front, end, stays) = row;
     let name = long_name(alloc, front, end)?;
     same(rt, name.len(), 255);

@@ -1,5 +1,9 @@
 //! A growth is refused, as `rt try --test --fail-alloc N` does.
 
+use super::frames::{DONE, ROOT_SENT};
+use super::listings::FORGET;
+use super::talks::talk_of;
+use super::verifies::VERIFIED_LAST;
 use super::*;
 
 /// A second backup over a first: an archive of pieces of one size, and a third that takes its piece by PREVIOUS and is aborted;
@@ -38,15 +42,12 @@ fn assert_fits(rt: &impl Abort, order: &[Entry], status: Status) -> Result<(), F
     Ok(())
 }
 
-/// Where no growth is refused, the replies are the session's. Else the status tells whose growth it was: the memory disk's
-/// record, the sink, or the store itself. A snapshot whose FINISH was answered is there in every case.
-fn assert_answered(
+/// The status tells whose growth was refused, if any: the memory disk's record, the sink, or the store itself.
+fn assert_status(
     rt: &impl Abort,
-    session: &Session,
     sink: &MemSink,
-    served: &mut Served<MemoryDisk, MemoryDisk>,
+    served: &Served<MemoryDisk, MemoryDisk>,
 ) -> Result<(), Fail> {
-    let told = sink.as_bytes();
     let faults = (served.disk.faults(), sink.faults());
     let expected = match served.status {
         Status::Ok | Status::NoMemory => (0, 0),
@@ -55,6 +56,18 @@ fn assert_answered(
         _ => return Err("another status".into()),
     };
     same(rt, faults, expected);
+    Ok(())
+}
+
+/// Where no growth is refused, the replies are the session's. A snapshot whose FINISH was answered is there in every case.
+fn assert_answered(
+    rt: &impl Abort,
+    session: &Session,
+    sink: &MemSink,
+    served: &mut Served<MemoryDisk, MemoryDisk>,
+) -> Result<(), Fail> {
+    assert_status(rt, sink, served)?;
+    let told = sink.as_bytes();
     if served.status == Status::Ok {
         same(rt, told, session.replies);
     }
@@ -79,11 +92,59 @@ fn memory_is_refused(rt: HostRuntime) -> Result<(), Fail> {
         };
         let sink = empty_sink(alloc);
         let mut ports: Ports<MemSink> = [Port { source, sink }];
-        let Ok(mut served) = run_on(alloc, &mut ports, MemoryDisk::new(alloc)) else {
+        let Ok(mut served) = run_on(&rt, alloc, &mut ports, MemoryDisk::new(alloc)) else {
             continue;
         };
         assert_answered(&rt, session, &ports[0].sink, &mut served)?;
         println!(rt; "status {}", served.status.number())?;
     }
+    Ok(())
+}
+
+/// Want of memory is told, and then, where the lane has not ended, that a snapshot was forgotten.
+const SHORT: &[u8] = b"\x01\0\0\0\x1c";
+
+const SHORT_AND_DONE: &[u8] = b"\x01\0\0\0\x1c\x01\0\0\0\0";
+
+/// The entries of the VERIFY's steps in its reader are those behind the ninth, up to the fifteenth, which closes it: where memory was
+/// wanting for one, the close is the next.
+fn was_closed(rt: &impl Abort, order: &[Entry]) -> bool {
+    let mut was_short = false;
+    let mut is_short = false;
+    for (place, entry) in order.iter().enumerate() {
+        same(rt, is_short && entry.kind != 0, false);
+        is_short = entry.kind == 2 && 8 < place && place < 14;
+        was_short = was_short || is_short;
+    }
+    was_short
+}
+
+/// A backup, a VERIFY of it, and a FORGET: a VERIFY that lacked memory leaves no reader. The status is printed.
+#[test]
+fn a_verify_lacks_memory(rt: HostRuntime) -> Result<(), Fail> {
+    let alloc = rt.alloc();
+    // what is handed in takes memory too
+    let Ok(talk) = talk_of(alloc, &[ROOT_SENT, VERIFIED_LAST, &[(FORGET, DONE)]]) else {
+        return Ok(());
+    };
+    let Ok(source) = source_of(alloc, &talk.sent) else {
+        return Ok(());
+    };
+    let sink = empty_sink(alloc);
+    let mut ports: Ports<MemSink> = [Port { source, sink }];
+    let Ok(served) = run_on(&rt, alloc, &mut ports, MemoryDisk::new(alloc)) else {
+        return Ok(());
+    };
+    let told = told_to(&ports)?;
+    assert_status(&rt, &ports[0].sink, &served)?;
+    if served.status == Status::Ok {
+        same(&rt, told, talk.told.as_slice());
+    }
+    if was_closed(&rt, &served.order) {
+        // behind the replies of the backup
+        let verified = &told[told.len().min(42)..];
+        same(&rt, verified == SHORT || verified == SHORT_AND_DONE, true);
+    }
+    println!(rt; "status {}", served.status.number())?;
     Ok(())
 }

@@ -46,12 +46,12 @@ fn synced(alloc: Global) -> Result<MemoryDisk, Fail> {
 /// The disk fails at opening: the status tells it, and the report whether it was the sync. No command is read. The snapshot is
 /// there for a later run, whether a crash comes or not.
 fn try_opening(
-    rt: &impl Abort,
+    rt: &(impl Abort + Threads + Sync),
     alloc: Global,
     disk: FailingDisk<MemoryDisk>,
     call: usize,
 ) -> Result<(), Fail> {
-    let (output, served) = run_session(alloc, LIST, disk)?;
+    let (output, served) = run_session(rt, alloc, LIST, disk)?;
     same(rt, (call, served.status), (call, Status::DiskFault));
     let cause = if call == 0 {
         OpenFault::NotSynced
@@ -98,7 +98,7 @@ fn an_opening_syncs_and_removes(rt: HostRuntime) -> Result<(), Fail> {
     let alloc = rt.alloc();
     let disk = disk_of(alloc, &OPENED)?;
     let before = disk.calls();
-    let (_output, served) = run_session(alloc, b"", disk)?;
+    let (_output, served) = run_session(&rt, alloc, b"", disk)?;
     let now = served.disk.calls();
     same(&rt, now, before.saturating_add(CALLS + SAVE));
     let made = letters(alloc, &served.disk, before, now)?;
@@ -120,7 +120,7 @@ fn an_opening_lacks_memory(rt: HostRuntime) -> Result<(), Fail> {
     };
     let sink = empty_sink(alloc);
     let mut ports: Ports<MemSink> = [Port { source, sink }];
-    let Ok(mut served) = run_on(alloc, &mut ports, disk) else {
+    let Ok(mut served) = run_on(&rt, alloc, &mut ports, disk) else {
         return Ok(());
     };
     let told = told_to(&ports)?;

@@ -46,7 +46,7 @@ fn answered_before(session: &Session, told: u64) -> usize {
 
 /// The source's read with this number, from 0, fails, when so many bytes are taken.
 fn try_read(
-    rt: &impl Abort,
+    rt: &(impl Abort + Threads + Sync),
     alloc: Global,
     session: &Session,
     most: usize,
@@ -60,7 +60,7 @@ fn try_read(
         source: MemSource::new(session.input.to_vec(alloc)?, failing).at_most(most),
         sink: empty_sink(alloc),
     }];
-    let served = run_on(alloc, &mut ports, MemoryDisk::new(alloc))?;
+    let served = run_on(rt, alloc, &mut ports, MemoryDisk::new(alloc))?;
     let (commands, told) = answered_by(session, taken);
     let report = LaneReport {
         taken,
@@ -105,12 +105,17 @@ fn assert_sink_failed(
 }
 
 /// The sink takes one byte a write, and the write behind so many bytes fails.
-fn try_write(rt: &impl Abort, alloc: Global, session: &Session, told: u64) -> Result<(), Fail> {
+fn try_write(
+    rt: &(impl Abort + Threads + Sync),
+    alloc: Global,
+    session: &Session,
+    told: u64,
+) -> Result<(), Fail> {
     let mut ports: Ports<MemSink> = [Port {
         source: source_of(alloc, session.input)?,
         sink: MemSink::new(alloc, [told].to_vec(alloc)?).at_most(1),
     }];
-    let served = run_on(alloc, &mut ports, MemoryDisk::new(alloc))?;
+    let served = run_on(rt, alloc, &mut ports, MemoryDisk::new(alloc))?;
     same(rt, told_to(&ports)?, front(session.replies, told));
     assert_sink_failed(rt, alloc, session, served, told)
 }
@@ -151,12 +156,12 @@ impl Sink for StuckSink {
     }
 }
 
-fn try_stuck(rt: &impl Abort, alloc: Global, room: usize) -> Result<(), Fail> {
+fn try_stuck(rt: &(impl Abort + Threads + Sync), alloc: Global, room: usize) -> Result<(), Fail> {
     let mut ports: Ports<StuckSink> = [Port {
         source: source_of(alloc, UNFINISHED)?,
         sink: StuckSink { room, faults: 0 },
     }];
-    let served = run_on(alloc, &mut ports, MemoryDisk::new(alloc))?;
+    let served = run_on(rt, alloc, &mut ports, MemoryDisk::new(alloc))?;
     assert_sink_failed(rt, alloc, &TO_BYE, served, room as u64)
 }
 

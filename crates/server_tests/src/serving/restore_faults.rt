@@ -1,8 +1,11 @@
-//! Each call of the disk behind opening fails in turn: in two backups and a restore, and where snapshots are forgotten and pruned.
+//! Each call of the disk behind opening fails in turn: in two backups and a restore, where snapshots are forgotten and pruned, and
+//! in a backup that is verified.
 
+use super::frames::ROOT_SENT;
 use super::prunes::gone;
 use super::reuse::again;
 use super::talks::{Steps, talk_of};
+use super::verifies::VERIFIED_LAST;
 use super::*;
 use disk_trait::FailingDisk;
 
@@ -29,17 +32,35 @@ fn told_at_fault(
     Ok(told)
 }
 
+/// All steps of these parts.
+fn steps_of(
+    alloc: Global,
+    parts: &[Steps],
+) -> Result<Vec<(&'static [u8], &'static [u8])>, AllocError> {
+    let mut steps = Vec::new(alloc);
+    for part in parts {
+        steps.extend_from_slice(part)?;
+    }
+    Ok(steps)
+}
+
 /// The disk's call with this number, from 0, fails, if it is made: that is told. Of all commands only the last may be more than
 /// one step.
-fn is_made(rt: &impl Abort, alloc: Global, steps: Steps, call: u64) -> Result<bool, Fail> {
+fn is_made(
+    rt: &(impl Abort + Threads + Sync),
+    alloc: Global,
+    parts: &[Steps],
+    call: u64,
+) -> Result<bool, Fail> {
+    let steps = steps_of(alloc, parts)?;
     let disk = FailingDisk::at_calls(MemoryDisk::new(alloc), [call].to_vec(alloc)?);
-    let (output, served) = run_session(alloc, &talk_of(alloc, &[steps])?.sent, disk)?;
+    let (output, served) = run_session(rt, alloc, &talk_of(alloc, parts)?.sent, disk)?;
     let fault = served.order.iter().position(|entry| entry.kind == 5);
     let place = match fault {
         Some(place) => place.min(steps.len().saturating_sub(1)),
         None => steps.len(),
     };
-    let told = told_at_fault(alloc, steps, place)?;
+    let told = told_at_fault(alloc, &steps, place)?;
     same(rt, output.as_slice(), told.as_slice());
     // the save of the book has no entry
     let is_made = served.disk.faults() > 0;
@@ -52,9 +73,13 @@ fn is_made(rt: &impl Abort, alloc: Global, steps: Steps, call: u64) -> Result<bo
     Ok(is_made)
 }
 
-fn try_each_call(rt: &impl Abort, alloc: Global, steps: Steps) -> Result<(), Fail> {
+fn try_each_call(
+    rt: &(impl Abort + Threads + Sync),
+    alloc: Global,
+    parts: &[Steps],
+) -> Result<(), Fail> {
     for call in OPENING..ENOUGH {
-        if !is_made(rt, alloc, steps, call)? {
+        if !is_made(rt, alloc, parts, call)? {
             // it is none of the first
             same(rt, call > OPENING + 21, true);
             return Ok(());
@@ -65,6 +90,11 @@ fn try_each_call(rt: &impl Abort, alloc: Global, steps: Steps) -> Result<(), Fai
 
 #[test]
 fn each_call_of_a_restore_fails(rt: HostRuntime) -> Result<(), Fail> {
-    try_each_call(&rt, rt.alloc(), again())?;
-    try_each_call(&rt, rt.alloc(), gone())
+    try_each_call(&rt, rt.alloc(), &[again()])?;
+    try_each_call(&rt, rt.alloc(), &[gone()])
+}
+
+#[test]
+fn each_call_of_a_verify_fails(rt: HostRuntime) -> Result<(), Fail> {
+    try_each_call(&rt, rt.alloc(), &[ROOT_SENT, VERIFIED_LAST])
 }

@@ -160,8 +160,13 @@ fn has_files(alloc: Global, disk: &mut MemoryDisk, state: &State) -> Result<bool
 }
 
 /// The number of the state that a second run finds.
-fn found_on(alloc: Global, run: &Run, disk: MemoryDisk) -> Result<Option<usize>, Fail> {
-    let (output, mut served) = run_session(alloc, &joined(alloc, run.asked)?, disk)?;
+fn found_on(
+    rt: &(impl Threads + Sync),
+    alloc: Global,
+    run: &Run,
+    disk: MemoryDisk,
+) -> Result<Option<usize>, Fail> {
+    let (output, mut served) = run_session(rt, alloc, &joined(alloc, run.asked)?, disk)?;
     for (number, state) in run.states.iter().enumerate() {
         let told = joined(alloc, state.told)?;
         if output.as_slice() == told.as_slice() && has_files(alloc, &mut served.disk, state)? {
@@ -173,17 +178,18 @@ fn found_on(alloc: Global, run: &Run, disk: MemoryDisk) -> Result<Option<usize>,
 
 /// Serves a session of these steps on a disk that may fail.
 fn served_on(
+    rt: &(impl Threads + Sync),
     alloc: Global,
     steps: &[Steps],
     disk: FailingDisk<MemoryDisk>,
 ) -> Result<Served<FailingDisk<MemoryDisk>, MemoryDisk>, Fail> {
-    let (_output, served) = run_session(alloc, &talk_of(alloc, steps)?.sent, disk)?;
+    let (_output, served) = run_session(rt, alloc, &talk_of(alloc, steps)?.sent, disk)?;
     Ok(served)
 }
 
 /// What a crash of each kind leaves is the state behind so many commands that were done, or that behind the next one.
 fn try_left(
-    rt: &impl Abort,
+    rt: &(impl Abort + Threads + Sync),
     alloc: Global,
     run: &Run,
     done: usize,
@@ -192,7 +198,7 @@ fn try_left(
     let before = state_behind(run, done);
     let after = state_behind(run, done.saturating_add(1));
     for choice in 0..3 {
-        let found = found_on(alloc, run, left.crashed(alloc, choice)?)?;
+        let found = found_on(rt, alloc, run, left.crashed(alloc, choice)?)?;
         let fits = found == Some(before) || found == Some(after);
         same(rt, (done, choice, fits), (done, choice, true));
     }
@@ -201,12 +207,12 @@ fn try_left(
 
 /// The first run on a disk that may fail, and what it leaves: how it ends, and how often the disk failed.
 fn try_run(
-    rt: &impl Abort,
+    rt: &(impl Abort + Threads + Sync),
     alloc: Global,
     run: &Run,
     disk: FailingDisk<MemoryDisk>,
 ) -> Result<(Status, u64), Fail> {
-    let served = served_on(alloc, run.steps, disk)?;
+    let served = served_on(rt, alloc, run.steps, disk)?;
     let done = served.order.iter().filter(|entry| entry.kind == 0).count();
     let ended = (served.status, served.disk.faults());
     let left = served.disk.into_inner();
@@ -215,7 +221,12 @@ fn try_run(
 }
 
 /// The disk stops before the call with this number, from 0, and then fails that call alone.
-fn try_call(rt: &impl Abort, alloc: Global, run: &Run, call: u64) -> Result<(), Fail> {
+fn try_call(
+    rt: &(impl Abort + Threads + Sync),
+    alloc: Global,
+    run: &Run,
+    call: u64,
+) -> Result<(), Fail> {
     let stopping = FailingDisk::stopping_after(MemoryDisk::new(alloc), call);
     let (status, faults) = try_run(rt, alloc, run, stopping)?;
     same(rt, (call, status, faults), (call, Status::DiskFault, 1));
@@ -226,7 +237,7 @@ fn try_call(rt: &impl Abort, alloc: Global, run: &Run, call: u64) -> Result<(), 
 }
 
 /// The first run is told what its steps say. Each of its calls is tried, and there is none behind the last.
-pub fn try_stops(rt: &impl Abort, alloc: Global, run: &Run) -> Result<(), Fail> {
+pub fn try_stops(rt: &(impl Abort + Threads + Sync), alloc: Global, run: &Run) -> Result<(), Fail> {
     let talk = talk_of(alloc, run.steps)?;
     let whole = try_talk(rt, alloc, MemoryDisk::new(alloc), &talk)?;
     same(rt, whole.calls(), run.calls);
@@ -293,7 +304,7 @@ const TO_FORGET: &[Steps] = &[ROOT_SENT, ROOT_FINISHED, &[(FORGET, DONE)]];
 
 /// The disk stops so many calls behind opening and those that come before.
 fn try_crash(
-    rt: &impl Abort,
+    rt: &(impl Abort + Threads + Sync),
     alloc: Global,
     steps: &[Steps],
     before: u64,
@@ -302,8 +313,8 @@ fn try_crash(
     let (calls, choice, state) = row;
     let count = OPENING.saturating_add(before).saturating_add(*calls);
     let disk = FailingDisk::stopping_after(MemoryDisk::new(alloc), count);
-    let left = served_on(alloc, steps, disk)?.disk.into_inner();
-    let found = found_on(alloc, &archives(), left.crashed(alloc, *choice)?)?;
+    let left = served_on(rt, alloc, steps, disk)?.disk.into_inner();
+    let found = found_on(rt, alloc, &archives(), left.crashed(alloc, *choice)?)?;
     same(
         rt,
         (*calls, *choice, found),
@@ -336,13 +347,17 @@ const TO_CHUNK: &[Steps] = &[ROOT_SENT, ROOT_FINISHED, CHUNK_FAILS];
 const BEFORE_PUT: u64 = 16;
 
 /// A second run finds what was finished, whether a crash comes or not.
-fn try_found(rt: &impl Abort, alloc: Global, left: MemoryDisk) -> Result<(), Fail> {
+fn try_found(
+    rt: &(impl Abort + Threads + Sync),
+    alloc: Global,
+    left: MemoryDisk,
+) -> Result<(), Fail> {
     let run = archives();
     for choice in 0..3 {
-        let found = found_on(alloc, &run, left.crashed(alloc, choice)?)?;
+        let found = found_on(rt, alloc, &run, left.crashed(alloc, choice)?)?;
         same(rt, (choice, found), (choice, Some(1)));
     }
-    same(rt, found_on(alloc, &run, left)?, Some(1));
+    same(rt, found_on(rt, alloc, &run, left)?, Some(1));
     Ok(())
 }
 
@@ -352,7 +367,7 @@ fn the_put_of_a_chunk_fails(rt: HostRuntime) -> Result<(), Fail> {
     let talk = talk_of(alloc, TO_CHUNK)?;
     let plan = [OPENING.saturating_add(BEFORE_PUT)].to_vec(alloc)?;
     let disk = FailingDisk::at_calls(MemoryDisk::new(alloc), plan);
-    let (output, served) = run_session(alloc, &talk.sent, disk)?;
+    let (output, served) = run_session(&rt, alloc, &talk.sent, disk)?;
     same(&rt, output.as_slice(), talk.told.as_slice());
     let ended = (served.status, served.status.number());
     same(&rt, ended, (Status::DiskFault, 3));

@@ -8,6 +8,8 @@ use super::manifests::{PUT_CONF, finished, manifests};
 use super::prunes::{gone, one_each, weeks};
 use super::ranges::restored;
 use super::reuse::{again, reused};
+use super::syncs::synced;
+use super::verifies::{FAULTY, verified};
 use super::*;
 
 /// What is sent, and what is replied to it.
@@ -52,12 +54,12 @@ fn add_run(bytes: &mut Vec<u8>, count: usize, byte: u8) -> Result<(), AllocError
 
 /// Serves a session to its end, on a disk that is handed back.
 pub fn try_talk(
-    rt: &impl Abort,
+    rt: &(impl Abort + Threads + Sync),
     alloc: Global,
     disk: MemoryDisk,
     talk: &Talk,
 ) -> Result<MemoryDisk, Fail> {
-    let (output, served) = run_session(alloc, &talk.sent, disk)?;
+    let (output, served) = run_session(rt, alloc, &talk.sent, disk)?;
     let report = LaneReport {
         taken: talk.sent.len() as u64,
         given: talk.told.len() as u64,
@@ -79,7 +81,11 @@ const DE_FILE: &str =
 pub const BOTH: Files = &[(DE_FILE, 14), (ABC_FILE, 15)];
 
 /// Serves a session on an empty disk.
-fn try_parts(rt: &impl Abort, alloc: Global, parts: &[Steps]) -> Result<(), Fail> {
+fn try_parts(
+    rt: &(impl Abort + Threads + Sync),
+    alloc: Global,
+    parts: &[Steps],
+) -> Result<(), Fail> {
     let talk = talk_of(alloc, parts)?;
     try_talk(rt, alloc, MemoryDisk::new(alloc), &talk)?;
     Ok(())
@@ -89,6 +95,8 @@ fn try_parts(rt: &impl Abort, alloc: Global, parts: &[Steps]) -> Result<(), Fail
 fn commands_are_answered(rt: HostRuntime) -> Result<(), Fail> {
     let alloc = rt.alloc();
     try_parts(&rt, alloc, &restored())?;
+    try_parts(&rt, alloc, &verified())?;
+    try_parts(&rt, alloc, &synced())?;
     try_parts(&rt, alloc, &reused())?;
     try_parts(&rt, alloc, &[fixed_refused()])?;
     try_parts(&rt, alloc, &[finished()])
@@ -96,7 +104,7 @@ fn commands_are_answered(rt: HostRuntime) -> Result<(), Fail> {
 
 /// Serves a session on an empty disk, which then holds these files.
 fn try_kept(
-    rt: &impl Abort,
+    rt: &(impl Abort + Threads + Sync),
     alloc: Global,
     parts: &[Steps],
     files: &[(&str, u64)],
@@ -188,7 +196,11 @@ pub fn manifest_talk(alloc: Global, row: &(&[u8], &[u8])) -> Result<Talk, AllocE
     Ok(talk)
 }
 
-fn try_manifests(rt: &impl Abort, alloc: Global, rows: &[(&[u8], &[u8])]) -> Result<(), Fail> {
+fn try_manifests(
+    rt: &(impl Abort + Threads + Sync),
+    alloc: Global,
+    rows: &[(&[u8], &[u8])],
+) -> Result<(), Fail> {
     for row in rows {
         let talk = manifest_talk(alloc, row)?;
         let disk = try_talk(rt, alloc, MemoryDisk::new(alloc), &talk)?;
@@ -224,6 +236,10 @@ fn damaged_chunks_are_told(rt: HostRuntime) -> Result<(), Fail> {
         disk.put(alloc, ABC_FILE, file)?;
         let asked: [(&[u8], &[u8]); 2] = [(GET_ABC, *reply), (ALL_FIVE, *reply)];
         let talk = talk_of(alloc, &[ROOT_SENT, READING, &asked, WHOLE])?;
+        try_talk(&rt, alloc, disk, &talk)?;
+        let mut disk = MemoryDisk::new(alloc);
+        disk.put(alloc, ABC_FILE, file)?;
+        let talk = talk_of(alloc, &[ROOT_SENT, FAULTY])?;
         try_talk(&rt, alloc, disk, &talk)?;
     }
     Ok(())

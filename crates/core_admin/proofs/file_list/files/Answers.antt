@@ -3,7 +3,6 @@ use Rattle.store_types.specs.Names.{IsKey, key_of}
 use Rattle.store_types.specs.declared.names.SnapshotKey.{SnapshotKey}
 use Rattle.store_types.specs.declared.refusal.Refusal.TheVariants.{BadName, NoSnapshot, Unreadable}
 use Rattle.wire_commands.specs.declared.command.Command.TheVariants as commands
-use Rattle.wire_commands.specs.declared.reply.Reply.TheVariants.{Refused}
 use Rattle.store_history.specs.declared.act.Act.TheVariants.{Plain}
 use Rattle.core_state.specs.Found.{kept_named, named_kept}
 use Rattle.core_state.specs.declared.kept.Kept.{Kept}
@@ -11,9 +10,8 @@ use Rattle.core_state.specs.declared.kept.Listed.{Listed}
 use Rattle.core_state.proofs.Commanding.{read_does, read_leaves, refused_does, same_kept, stopped_does, stopped_leaves}
 use Rattle.core_state.proofs.Naming.{damage_short, kept_key, kept_whole, named_is, none_kept, none_named}
 use Rattle.core_state.proofs.Texts.{bad_name_has_text, no_snapshot_has_text, unreadable_has_text}
-use Rattle.core_admin.specs.FilesTold.{AnswersFiles}
 use Rattle.core_admin.proofs.FilesRead.{files_refused}
-use Rattle.core_admin.proofs.FilesTelling.{answers_damaged, answers_rows, answers_stopped, as_rows, called, files_rows, files_stop, refuses_unread, tells_damaged, tells_refused, tells_rows, tells_stopped, told_damaged, told_refused, told_rows, told_stopped}
+use Rattle.core_admin.proofs.FilesTelling.{answers_damaged, answers_refused, answers_rows, answers_stopped, called, files_rows, files_stop, refuses_unread, tells_damaged, tells_refused, tells_rows, tells_stopped}
 use Rattle.core_admin.proofs.RowTexts.{files_has_text}
 use Rattle.core_admin.proofs.file_list.files.Goals as goal
 
@@ -32,13 +30,8 @@ returns-in_default-clause-does g c =
 pub returns-in_default-clause-by_kept : goal.returns-in_default-clause-by_kept
 returns-in_default-clause-by_kept g c =
     let bad : key_of c.args.snapshot.now ≡ None = search rules in
-    subst (λ r. AnswersFiles r (Refused BadName)) (sym (none_named c.args.snapshot.now c.args.parts.now.catalogue.items bad)) refl
-
-pub returns-in_default-clause-told : goal.returns-in_default-clause-told
-returns-in_default-clause-told g c = λ h.
-    let bad : key_of c.args.snapshot.now ≡ None = search rules in
     let items = c.args.parts.now.catalogue.items in
-    (refl, told_refused ((g.D.Disk).content c.args.parts.now.disk) c.args.snapshot.now items BadName (none_named c.args.snapshot.now items bad))
+    answers_refused c.args.snapshot.now items g.D.Disk c.args.parts.now.disk BadName (none_named c.args.snapshot.now items bad)
 
 pub returns-in_default-clause-unreadable : goal.returns-in_default-clause-unreadable
 returns-in_default-clause-unreadable g c =
@@ -64,14 +57,7 @@ returns-in_default-snapshot_named-clause-by_kept g c =
     let items = c.args.parts.now.catalogue.items in
     let named : key_of c.args.snapshot.now ≡ Some c.in-Ok.key = search rules in
     let missing : kept_named c.in-Ok.key items ≡ None = search rules in
-    subst (λ r. AnswersFiles r (Refused NoSnapshot)) (sym (none_kept c.args.snapshot.now items c.in-Ok.key named missing)) refl
-
-pub returns-in_default-snapshot_named-clause-told : goal.returns-in_default-snapshot_named-clause-told
-returns-in_default-snapshot_named-clause-told g c = λ h.
-    let items = c.args.parts.now.catalogue.items in
-    let named : key_of c.args.snapshot.now ≡ Some c.in-Ok.key = search rules in
-    let missing : kept_named c.in-Ok.key items ≡ None = search rules in
-    (refl, told_refused ((g.D.Disk).content c.args.parts.now.disk) c.args.snapshot.now items NoSnapshot (none_kept c.args.snapshot.now items c.in-Ok.key named missing))
+    answers_refused c.args.snapshot.now items g.D.Disk c.args.parts.now.disk NoSnapshot (none_kept c.args.snapshot.now items c.in-Ok.key named missing)
 
 pub returns-in_default-snapshot_named-clause-unreadable : goal.returns-in_default-snapshot_named-clause-unreadable
 returns-in_default-snapshot_named-clause-unreadable g c =
@@ -116,16 +102,7 @@ returns-in-Some-unreadable-clause-by_kept g c =
     let named : key_of c.args.snapshot.now ≡ Some c.in-Ok.key = search rules in
     let is = found c.args.snapshot.now items c.deref.result.now c.in-Ok.key k named c.deref.ensures.value c.in-Some.ensures in
     let damage : k.unreadable ≡ Some c.in_ok-name.name = search rules in
-    answers_damaged c.args.snapshot.now items k c.in_ok-name.name is damage
-
-pub returns-in-Some-unreadable-clause-told : goal.returns-in-Some-unreadable-clause-told
-returns-in-Some-unreadable-clause-told g c = λ h.
-    let items = c.args.parts.now.catalogue.items in
-    let k = c.in-Some.kept.now in
-    let named : key_of c.args.snapshot.now ≡ Some c.in-Ok.key = search rules in
-    let is = found c.args.snapshot.now items c.deref.result.now c.in-Ok.key k named c.deref.ensures.value c.in-Some.ensures in
-    let damage : k.unreadable ≡ Some c.in_ok-name.name = search rules in
-    (refl, told_damaged ((g.D.Disk).content c.args.parts.now.disk) c.args.snapshot.now items k c.in_ok-name.name is damage)
+    answers_damaged c.args.snapshot.now items g.D.Disk c.args.parts.now.disk k c.in_ok-name.name is damage
 
 pub returns-in-Some-unreadable-clause-unreadable : goal.returns-in-Some-unreadable-clause-unreadable
 returns-in-Some-unreadable-clause-unreadable g c =
@@ -162,15 +139,7 @@ returns-in_err-rows-clause-by_kept g c =
     let named : key_of c.args.snapshot.now ≡ Some c.in-Ok.key = search rules in
     let is = found c.args.snapshot.now items c.deref.result.now c.in-Ok.key c.in-Some.kept.now named c.deref.ensures.value c.in-Some.ensures in
     let whole : c.in-Some.kept.now.unreadable ≡ None = search rules in
-    answers_stopped c.args.snapshot.now items c.in-Some.kept.now is whole c.in_err-rows.field-0.0 _ c.from_residual-in_err-rows.ensures.1 c.in_err-rows.ensures.named
-
-pub returns-in_err-rows-clause-told : goal.returns-in_err-rows-clause-told
-returns-in_err-rows-clause-told g c = λ h.
-    let items = c.args.parts.now.catalogue.items in
-    let named : key_of c.args.snapshot.now ≡ Some c.in-Ok.key = search rules in
-    let is = found c.args.snapshot.now items c.deref.result.now c.in-Ok.key c.in-Some.kept.now named c.deref.ensures.value c.in-Some.ensures in
-    let whole : c.in-Some.kept.now.unreadable ≡ None = search rules in
-    ((c.rows_read.ensures.reads).same h, told_stopped c.args.snapshot.now items c.in-Some.kept.now is whole ((g.D.Disk).content c.args.parts.now.disk) c.in_err-rows.field-0.0 _ c.from_residual-in_err-rows.ensures.1 (c.in_err-rows.ensures.value h))
+    answers_stopped c.args.snapshot.now items c.in-Some.kept.now is whole g.D.Disk c.args.parts.now.disk c.in_err-rows.field-0.0 _ c.from_residual-in_err-rows.ensures.1 c.in_err-rows.ensures.named c.in_err-rows.ensures.value
 
 pub returns-in_err-rows-clause-unreadable : goal.returns-in_err-rows-clause-unreadable
 returns-in_err-rows-clause-unreadable g c =
@@ -202,15 +171,7 @@ returns-clause-by_kept g c =
     let named : key_of c.args.snapshot.now ≡ Some c.in-Ok.key = search rules in
     let is = found c.args.snapshot.now items c.deref.result.now c.in-Ok.key c.in-Some.kept.now named c.deref.ensures.value c.in-Some.ensures in
     let whole : c.in-Some.kept.now.unreadable ≡ None = search rules in
-    answers_rows c.args.snapshot.now items c.in-Some.kept.now is whole c.in_ok-rows.rows
-
-pub returns-clause-told : goal.returns-clause-told
-returns-clause-told g c = λ h.
-    let items = c.args.parts.now.catalogue.items in
-    let named : key_of c.args.snapshot.now ≡ Some c.in-Ok.key = search rules in
-    let is = found c.args.snapshot.now items c.deref.result.now c.in-Ok.key c.in-Some.kept.now named c.deref.ensures.value c.in-Some.ensures in
-    let whole : c.in-Some.kept.now.unreadable ≡ None = search rules in
-    ((c.rows_read.ensures.reads).same h, told_rows ((g.D.Disk).content c.args.parts.now.disk) c.args.snapshot.now items c.in-Some.kept.now is whole ∙ ap as_rows (c.in_ok-rows.ensures.value h))
+    answers_rows c.args.snapshot.now items c.in-Some.kept.now is whole g.D.Disk c.args.parts.now.disk c.in_ok-rows.rows c.in_ok-rows.ensures.value
 
 pub returns-clause-unreadable : goal.returns-clause-unreadable
 returns-clause-unreadable g c =

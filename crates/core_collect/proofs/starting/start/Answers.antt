@@ -1,3 +1,4 @@
+use Rattle.store_history.specs.declared.act.Act.TheVariants.{Start}
 use Rattle.core_state.proofs.Applying.{start_refused_applies, start_refused_keeps}
 use Rattle.core_collect.proofs.StartActs.{refused_tells, start_applies, start_keeps, start_tells, stop_applies, stop_keeps, stop_tells}
 use Rattle.core_collect.proofs.starting.start.Goals as goal
@@ -6,11 +7,11 @@ use Rattle.core_collect.proofs.starting.start.Goals as goal
 
 pub returns-in-Answered-clause-applies : goal.returns-in-Answered-clause-applies
 returns-in-Answered-clause-applies g c =
-    start_refused_applies g.D.Disk g.C.Clock c.args.core.now c.begin.new.core c.args.lane c.in-Answered.answer c.requires.lane c.in-Answered.ensures.begun c.in-Answered.ensures.text
+    start_refused_applies g.D.Disk g.C.Clock c.args.core.now c.begin.new.core c.args.lane Start c.in-Answered.answer tt c.requires.lane c.in-Answered.ensures.begun c.in-Answered.ensures.text
 
 pub returns-in-Answered-clause-keeps : goal.returns-in-Answered-clause-keeps
 returns-in-Answered-clause-keeps g c =
-    start_refused_keeps g.D.Disk g.C.Clock c.args.core.now c.begin.new.core c.args.lane c.in-Answered.answer c.in-Answered.ensures.begun
+    start_refused_keeps g.D.Disk g.C.Clock c.args.core.now c.begin.new.core c.args.lane Start c.in-Answered.answer tt c.in-Answered.ensures.begun
 
 pub returns-in-Answered-clause-told : goal.returns-in-Answered-clause-told
 returns-in-Answered-clause-told g c =

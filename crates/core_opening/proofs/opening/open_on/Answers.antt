@@ -20,13 +20,13 @@ pub returns-in-Ok-opened_of-clause-opened : goal.returns-in-Ok-opened_of-clause-
 returns-in-Ok-opened_of-clause-opened g c =
     let d = g.D.Disk in
     let now : Files = d.content c.opened_of.new.disk in
-    λ L R honest stands.
+    λ L R remote honest stands.
     let x = c.in-Ok-opened_of.ensures in
     let begun = x.begins in
     let synced = c.sync.ensures.serves.kept.0 honest in
     opened_stands d g.C.Clock.readings c.args.disk _ L R
     (record { fault = refl; collector = refl; last = c.moment.ensures; entries = begun.entries; calls = begun.calls; sessions = begun.sessions; locks = c.new.ensures })
-    (x.serves.kept.0 synced) stands
+    remote (x.serves.kept.0 synced) stands
     (subst (λ (m : Files). MayClean m m now) (c.in-Ok.ensures.same honest) (x.cleaned synced).only) (x.catalogue synced) (x.book synced)
 
 pub returns-in-Ok-opened_of-clause-touches : goal.returns-in-Ok-opened_of-clause-touches

@@ -9,7 +9,7 @@ use Rattle.core_state.proofs.Applying.{refused_applies, refused_keeps_all, done_
 use Rattle.core_state.proofs.Touching.{untouched}
 use Rattle.core_state.proofs.Unreadables.{tells_refused, tells_done}
 use Rattle.core_reader.specs.Asked.{asked_file}
-use Rattle.core_reader.specs.Damages.{TellsDamaged, needed}
+use Rattle.core_reader.specs.Damages.{MayName, TellsDamaged, damage_by}
 use Rattle.core_reader.proofs.Damaging.{damages_refused, damages_done}
 use Rattle.core_reader.proofs.ActLemmas.{readers_done, readers_formed, readers_refused, readers_step, readers_untouching}
 use Rattle.core_reader.proofs.act.reader_act.Goals as goal
@@ -27,7 +27,7 @@ pub returns-in-Answered-clause-unreadable : goal.returns-in-Answered-clause-unre
 returns-in-Answered-clause-unreadable g c = tells_refused g.D.Disk g.C.Clock.readings _ _ c.args.lane _ _ _ c.in-Answered.ensures.begun
 
 pub returns-in-Answered-clause-damaged : goal.returns-in-Answered-clause-damaged
-returns-in-Answered-clause-damaged g c = damages_refused g.D.Disk g.C.Clock.readings _ _ c.args.lane _ _ _ c.in-Answered.ensures.begun
+returns-in-Answered-clause-damaged g c = damages_refused g.D.Disk g.C.Clock.readings _ _ c.args.lane _ _ _ _ c.in-Answered.ensures.begun
 
 pub returns-in-Answered-clause-by_kept : goal.returns-in-Answered-clause-by_kept
 returns-in-Answered-clause-by_kept g c = readers_refused g.D.Disk g.C.Clock.readings _ _ c.args.lane c.args.act _ c.in-Answered.ensures.begun
@@ -83,6 +83,7 @@ returns-in-At-clause-damaged g c =
     let at = c.in-At.at in
     let begun = c.in-At.ensures.begun in
     let ready = subst (λ l. IsReady g.C.Clock.readings c.args.core.now c.begin.new.core l at.moment) (sym begun.lane_is) begun.ready in
-    subst (λ l. TellsDamaged d old.disk (needed c.args.act (session_at old l) old.catalogue.items) c.settle.result.entry.kind c.settle.result.reply) begun.lane_is
-    (damages_done d g.C.Clock.readings c.args.core.now c.begin.new.core _ _ at.lane at.moment (λ p. needed c.args.act (session_at p at.lane) p.catalogue.items) _ _ ready
+    subst (λ l. TellsDamaged d old.disk (MayName c.args.act (session_at old l) old.catalogue.items) (damage_by c.args.act (session_at old l) old.catalogue.items) c.settle.result.entry.kind c.settle.result.reply) begun.lane_is
+    (damages_done d g.C.Clock.readings c.args.core.now c.begin.new.core _ _ at.lane at.moment (λ p. MayName c.args.act (session_at p at.lane) p.catalogue.items)
+    (λ p. damage_by c.args.act (session_at p at.lane) p.catalogue.items) _ _ ready
     c.perform-ended.ensures.damaged c.settle.ensures)

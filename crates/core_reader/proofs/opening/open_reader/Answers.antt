@@ -1,4 +1,4 @@
-use Rattle.std.proofs.Common.{rules, ◌≡◌, ◌<◌, ◌∙◌, ℕ, refl, sym, ap, arith, length, List, [], Option, Some, None}
+use Rattle.std.proofs.Common.{rules, ◌≡◌, ◌<◌, ◌∙◌, ℕ, refl, sym, ap, arith, length, get_or-set_same, List, [], Option, Some, None}
 use Rattle.store_types.specs.declared.refusal.Refusal.TheVariants.{BadName, NoSnapshot, Unreadable, WrongState}
 use Rattle.store_types.specs.declared.refusal.SessionState.{SessionState}
 use Rattle.store_types.specs.Names.{key_of}
@@ -7,13 +7,15 @@ use Rattle.wire_commands.specs.declared.reply.Reply.TheVariants.{Done}
 use Rattle.store_history.specs.declared.act.Act.TheVariants.{Plain}
 use Rattle.store_model.specs.Store as model
 use Rattle.store_model.specs.Store.{reader, with_session, snapshot_named}
+use Rattle.core_state.specs.Closing.{is_reader}
 use Rattle.core_state.specs.Found.{kept_named}
 use Rattle.core_state.specs.Named.{is_named}
+use Rattle.core_state.specs.Replies.{reply_told}
 use Rattle.core_state.specs.Shown.{shown_snapshot}
 use Rattle.core_state.specs.Wanted.{session_at}
-use Rattle.core_state.specs.declared.kept.Session.TheVariants.{Reader}
+use Rattle.core_state.specs.declared.kept.Session.TheVariants.{Idle, Reader}
 use Rattle.core_state.specs.declared.stop.Stop.TheVariants.{Refused}
-use Rattle.core_state.proofs.ByKept.{told_stopped}
+use Rattle.core_state.proofs.ByKept.{stopped}
 use Rattle.core_state.proofs.Commanding.{busy_by_state, busy_does, changed_does, idle_shown, refused_does, same_kept}
 use Rattle.core_state.proofs.Found.{kept_is, not_kept}
 use Rattle.core_state.proofs.Finding.{mapped, is_some}
@@ -22,7 +24,7 @@ use Rattle.core_state.proofs.NamedLemmas.{list_all-set}
 use Rattle.core_state.proofs.Naming.{damage_short, kept_whole, named_is, none_kept, none_named}
 use Rattle.core_state.proofs.Soundness.{shows_changed}
 use Rattle.core_state.proofs.Texts.{bad_name_has_text, no_snapshot_has_text, done_has_text, unreadable_has_text}
-use Rattle.core_reader.specs.AnsweredBy.{reader_told}
+use Rattle.core_reader.specs.AnsweredBy.{ActOpens}
 use Rattle.core_reader.proofs.OpenSteps.{asks_busy, open_busy, open_bad, open_missing, open_found, sound_reader, disk_reader, tells_damaged, tells_refused, tells_whole, told_busy, told_damaged, told_opened, told_unnamed}
 use Rattle.core_reader.proofs.Telling.{tells_unread}
 use Rattle.core_reader.proofs.opening.open_reader.Goals as goal
@@ -52,8 +54,8 @@ pub returns-in_err-idle-clause-by_kept : goal.returns-in_err-idle-clause-by_kept
 returns-in_err-idle-clause-by_kept g c =
     let old = c.args.parts.now in
     let lane = c.args.at.lane in
-    told_stopped (reader_told c.args.snapshot.now lane (session_at old lane) old.catalogue.items old.locks) _ _ c.from_residual.ensures.1
-    (told_busy c.args.snapshot.now lane (session_at old lane) old.catalogue.items old.locks _ c.in_err-idle.ensures.value)
+    stopped (λ r. ActOpens c.args.snapshot.now old old c.args.at r) _ _ c.from_residual.ensures.1
+    (record { answers = sym (ap reply_told (told_busy c.args.snapshot.now lane (session_at old lane) old.catalogue.items old.locks _ c.in_err-idle.ensures.value)); opened = tt })
 
 -- ---- the text names no snapshot
 
@@ -79,7 +81,7 @@ returns-in_default-clause-by_kept g c =
     let items = old.catalogue.items in
     let lane = c.args.at.lane in
     let bad : key_of c.args.snapshot.now ≡ None = search rules in
-    told_unnamed c.args.snapshot.now lane (session_at old lane) items old.locks BadName c.in_ok-idle.ensures.value (none_named c.args.snapshot.now items bad)
+    record { answers = told_unnamed c.args.snapshot.now lane (session_at old lane) items old.locks BadName c.in_ok-idle.ensures.value (none_named c.args.snapshot.now items bad); opened = tt }
 
 -- ---- there is no such snapshot
 
@@ -110,7 +112,7 @@ returns-in_default-snapshot_named-clause-by_kept g c =
     let lane = c.args.at.lane in
     let named : key_of c.args.snapshot.now ≡ Some c.in-Ok.key = search rules in
     let missing : kept_named c.in-Ok.key items ≡ None = search rules in
-    told_unnamed c.args.snapshot.now lane (session_at old lane) items old.locks NoSnapshot c.in_ok-idle.ensures.value (none_kept c.args.snapshot.now items c.in-Ok.key named missing)
+    record { answers = told_unnamed c.args.snapshot.now lane (session_at old lane) items old.locks NoSnapshot c.in_ok-idle.ensures.value (none_kept c.args.snapshot.now items c.in-Ok.key named missing); opened = tt }
 
 -- ---- it is damaged
 
@@ -148,7 +150,7 @@ returns-in-Some-unreadable-clause-by_kept g c =
     let named : key_of c.args.snapshot.now ≡ Some c.in-Ok.key = search rules in
     let there : kept_named c.in-Ok.key items ≡ Some k = search rules in
     let damage : k.unreadable ≡ Some c.in_ok-name.name = search rules in
-    told_damaged c.args.snapshot.now lane (session_at old lane) items old.locks k c.in_ok-name.name c.in_ok-idle.ensures.value (named_is c.args.snapshot.now items c.in-Ok.key k named there) damage
+    record { answers = told_damaged c.args.snapshot.now lane (session_at old lane) items old.locks k c.in_ok-name.name c.in_ok-idle.ensures.value (named_is c.args.snapshot.now items c.in-Ok.key k named there) damage; opened = tt }
 
 -- ---- it is opened
 
@@ -192,4 +194,8 @@ returns-clause-by_kept g c =
     let named : key_of c.args.snapshot.now ≡ Some c.in-Ok.key = search rules in
     let there : kept_named c.in-Ok.key items ≡ Some k = search rules in
     let whole : k.unreadable ≡ None = search rules in
-    told_opened c.args.snapshot.now lane (session_at old lane) items old.locks k c.in_ok-idle.ensures.value (named_is c.args.snapshot.now items c.in-Ok.key k named there) whole
+    let within : lane < length old.sessions.items = omega (arith, old.lanes, old.sessions.ok.0, c.requires) in
+    record {
+      answers = told_opened c.args.snapshot.now lane (session_at old lane) items old.locks k c.in_ok-idle.ensures.value (named_is c.args.snapshot.now items c.in-Ok.key k named there) whole;
+      opened = ap is_reader (get_or-set_same old.sessions.items lane _ Idle within);
+    }

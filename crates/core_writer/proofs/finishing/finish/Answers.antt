@@ -9,7 +9,7 @@ use Rattle.core_state.specs.Changes.{IsFirm, LeavesChange, after}
 use Rattle.core_state.specs.Wanted.{session_at}
 use Rattle.core_state.specs.Named.{is_named, is_named_snapshot}
 use Rattle.core_state.specs.Replies.{refuses_finish}
-use Rattle.core_state.proofs.Commanding.{failed_does, failed_leaves, no_admins, refused_does, same_kept, unwritten_does, writes_does, writes_leaves}
+use Rattle.core_state.proofs.Commanding.{failed_does, failed_leaves, not_still, refused_does, same_kept, unwritten_does, writes_does, writes_leaves}
 use Rattle.core_state.proofs.NamedLemmas.{list_all-set, list_all-at}
 use Rattle.core_state.proofs.Texts.{no_file_has_text, done_has_text}
 use Rattle.core_writer.specs.Finished.{manifest_in}
@@ -77,7 +77,7 @@ returns-clause-leaves g c = let d = g.D.Disk in
     (λ h. c.in_ok-finish.ensures.installed h ∙ ap (λ x. after x (d.content old.disk)) (sym change))
     (subst (LeavesChange d old.disk _) (sym change) (inr c.finish.ensures.crash)) (subst (IsFirm d old.disk _) (sym change) c.in_ok-finish.ensures.firm)
     (c.close.ensures.catalogue ∙ ap (closed c.args.at.number c.index_mut-session.result.now) c.reserve.ensures.items ∙ ap (λ x. closed c.args.at.number x old.catalogue.items) (sym session))
-    (no_admins (Plain Finish) refl)
+    (not_still (Plain Finish) refl)
     (finish_adds d old _ c.args.at.lane _ _ c.requires (ap manifest_in here ∙ told) c.in_ok-finish.ensures.installed)
     (λ _. idle_set old c.args.at.lane _ c.requires c.close.ensures.session)
 

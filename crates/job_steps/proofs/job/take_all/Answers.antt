@@ -9,7 +9,7 @@ use Rattle.job_steps.proofs.ReplyLemmas.{taken_next, folded_next, folded_all}
 use Rattle.job_steps.proofs.job.take_all.Goals as goal
 
 pub take-requires-clause-asked : goal.take-requires-clause-asked
-take-requires-clause-asked c =
+take-requires-clause-asked g c κs lives =
     let rs = c.args.replies.items in
     let ys = c.loop-reply.yielded in
     let r = c.in-Some.reply in
@@ -17,7 +17,7 @@ take-requires-clause-asked c =
     (taken_next c.loop-reply.job rs (length ys) r turn.0 turn.1 c.loop-reply.invariant.to_come).0
 
 pub take-requires-clause-form : goal.take-requires-clause-form
-take-requires-clause-form c =
+take-requires-clause-form g c κs lives =
     let rs = c.args.replies.items in
     let ys = c.loop-reply.yielded in
     let r = c.in-Some.reply in
@@ -25,7 +25,7 @@ take-requires-clause-form c =
     (taken_next c.loop-reply.job rs (length ys) r turn.0 turn.1 c.loop-reply.invariant.to_come).1
 
 pub take-requires-clause-text : goal.take-requires-clause-text
-take-requires-clause-text c =
+take-requires-clause-text g c κs lives =
     let rs = c.args.replies.items in
     let ys = c.loop-reply.yielded in
     let r = c.in-Some.reply in
@@ -33,7 +33,7 @@ take-requires-clause-text c =
     (taken_next c.loop-reply.job rs (length ys) r turn.0 turn.1 c.loop-reply.invariant.to_come).2
 
 pub loop-reply-preserved : goal.loop-reply-preserved
-loop-reply-preserved c =
+loop-reply-preserved g c =
     let rs = c.args.replies.items in
     let ys = c.loop-reply.yielded in
     let r = c.in-Some.reply in
@@ -46,12 +46,12 @@ loop-reply-preserved c =
     record {
       can_next = search rules;
       finite = search rules;
-      to_come = subst (λ j. AreReplies j (drop (length (ys ++ r ∷ [])) rs)) (sym c.take.ensures) left;
-      same = ap (λ j. fold take_more j (drop (length (ys ++ r ∷ [])) rs)) c.take.ensures ∙ folded;
+      to_come = subst (λ j. AreReplies j (drop (length (ys ++ r ∷ [])) rs)) (sym c.in_ok-take.ensures.ok) left;
+      same = ap (λ j. fold take_more j (drop (length (ys ++ r ∷ [])) rs)) c.in_ok-take.ensures.ok ∙ folded;
     }
 
 pub returns : goal.returns
-returns c =
+returns g c =
     let rs = c.args.replies.items in
     let ys = c.loop-reply.yielded in
     let all = YieldsList-end (YieldsList-from_vec rs (cc) (cc)) ys _ c.loop-reply.yielded_by _ c.next.new.self c.in-None.is c.next.ensures.steps in

@@ -1,13 +1,10 @@
 use Rattle.std.proofs.Common.{refl}
 use Rattle.core_state.specs.History.{event_of}
 use Rattle.core_state.proofs.Reaching.{reaches_more}
-use Rattle.core_state.proofs.Reserves.{reserved_room}
-use Rattle.lane.proofs.Acting.{leaves, want_kind, may_tell}
+use Rattle.lane.proofs.Acting.{caused, leaves, want_kind, may_tell}
 use Rattle.lane.proofs.Entries.{one_entered}
+use Rattle.lane.proofs.Readers.{keeps_reader}
 use Rattle.lane.proofs.acts.ask.Goals as goal
-
-pub apply-reply-requires-clause-room : goal.apply-reply-requires-clause-room
-apply-reply-requires-clause-room g c = reserved_room c.args.core.now c.args.lane c.requires.room
 
 pub returns-clause-did : goal.returns-clause-did
 returns-clause-did g c = λ first began. record {
@@ -30,3 +27,9 @@ returns-clause-room g c = leaves c.args.act c.args.core.now _ c.args.lane c.appl
 pub returns-clause-entered : goal.returns-clause-entered
 returns-clause-entered g c = one_entered g.D.Disk _ _ c.args.lane c.apply-reply.result _ (c.apply-reply.ensures.applies).answers
     (want_kind c.args.act c.apply-reply.result (record { reply = c.in-Some.reply; last = (c.apply-reply.result).last }) c.apply-reply.ensures.short ((c.apply-reply.ensures.applies).answers).last refl)
+
+pub returns-clause-reader : goal.returns-clause-reader
+returns-clause-reader g c =
+    keeps_reader g.D.Disk c.args.core.now c.apply-reply.new.core c.args.lane c.args.act c.apply-reply.result (record { reply = c.in-Some.reply; last = (c.apply-reply.result).last }) c.requires.replied
+    (caused g.D.Disk c.args.act c.args.core.now c.apply-reply.new.core c.apply-reply.result c.requires.replied (c.apply-reply.ensures.applies).cause)
+    (c.apply-reply.ensures.applies).answers c.apply-reply.ensures.keeps c.apply-reply.ensures.opened c.in-Some.is

@@ -34,10 +34,10 @@ returns-in-Ok-open_on-clause-leaves g c = let d = g.D.Disk in let s = g.S.Source
     let entered = c.run_alone-report.ensures.entered in
     let order = handed_back d first core (saved.parts).disk _ (left.order).items ((left.report).calls).items disk left.disk entered (opened.begun).entries (opened.begun).calls (opened.begun).fault
     (order_as ∙ ap (λ x. (x.journal).entries.items) ends.rest) (calls_as ∙ ap (λ x. (x.journal).calls.items) ends.rest) (opened.serves).count (ends.serves).count back.disk in
-    let both = has_both d readings c.args.clock disk first core saved
+    let both = has_both d readings c.args.clock disk c.args.remote first core saved
     (s.left c.args.port.now.source) (s.left c.run_alone-report.new.port.source) (k.taken c.args.port.now.sink) (k.taken c.run_alone-report.new.port.sink)
     (left.order).items ((left.report).calls).items not_saved report left.disk
-    g.met.D.Disk.told opened.opened opened.touches opened.recovers (opened.begun).last opened.book opened.cleaned
+    g.met.D.Disk.told (opened.handed).0 opened.opened opened.touches opened.recovers (opened.begun).last opened.book opened.cleaned
     (c.run_alone-report.ensures.ran (began (opening_at d disk first []) None (readings c.args.clock)) (opened.records (opening_at d disk first []) None refl) refl)
     ends order_as calls_as back.disk in
     let count_before : d.faults disk ≤ d.faults (core.parts).disk = let a = (opened.serves).count in omega (arith, a, entered.count) in

@@ -1,0 +1,428 @@
+-- A VERIFY's read of a chunk is the store's.
+use Rattle.disk_trait.specs.declared.disk.Disk.{Ghosts}
+use Rattle.std.proofs.Common.{◌≡◌, ◌<◌, ◌≤◌, ℕ, zero, suc, Bool, true, false, nat_lt, if◌then◌else◌, List, [], ◌∷◌, length, slice_get, Option, Some, None, Result, Ok, Err, IsErrAnd, IsTrue, refl, sym, ap, subst, ◌∙◌, arith}
+use Rattle.std.proofs.lemmas.Bool.{le-ltb, or_from}
+use Rattle.std.proofs.lemmas.List.Elements.{All-head, All-tail}
+use Rattle.std.specs.FinMap.{get}
+use Rattle.std.specs.List.{All}
+use Rattle.std.specs.Option.{option_map}
+use Rattle.std.specs.Result.{result_ok}
+use Rattle.disk_trait.specs.Files.{Files}
+use Rattle.disk_trait.specs.declared.disk.DiskError.TheVariants as disks
+use Rattle.store_types.specs.declared.names.Digest32.{Digest32}
+use Rattle.store_types.specs.declared.refusal.ChunkFault.{ChunkFault}
+use Rattle.store_types.specs.declared.refusal.ChunkFault.TheVariants.{NotABlob, Nothing}
+use Rattle.store_types.specs.declared.refusal.Refusal.{Refusal}
+use Rattle.store_types.specs.declared.refusal.Refusal.TheVariants.{BadRange, Damaged, NoFile, Unreadable}
+use Rattle.store_types.specs.Chain.Refusing.{◌>>=◌, or_else}
+use Rattle.store_types.specs.FileNames.{is_dynamic_name, is_fixed_name, is_index_name}
+use Rattle.blob_codec.specs.Blob.{blob as blob_of}
+use Rattle.store_files.specs.Archive.{Archive, Content, File, archive, blob, archive_text, digest_of, file_named, file_text, pieces_of}
+use Rattle.store_files.specs.Folder.{chunk_name}
+use Rattle.wire_frames.specs.Frames.{body_limit}
+use Rattle.wire_commands.specs.declared.reply.Reply.{Reply}
+use Rattle.wire_commands.specs.declared.reply.Reply.TheVariants as replies
+use Rattle.wire_commands.specs.declared.reply.Reply.TheVariants.{Data, Done}
+use Rattle.store_model.specs.Store as model
+use Rattle.store_model.specs.Store.{Store, Outcome, reader, session, want_reader}
+use Rattle.store_model.specs.ReaderSteps.{read_chunk, reader_files}
+use Rattle.store_model.specs.Stands.{FitsContent, HoldsPieces, IsSnapshot, names_content}
+use Rattle.restore_reader.specs.Session.{Reading}
+use Rattle.snapshot_files.specs.Entry.{entry_at}
+use Rattle.snapshot_files.specs.Indexes.{is_fixed_layout}
+use Rattle.snapshot_files.specs.Parts.{RefusesPart}
+use Rattle.snapshot_files.specs.Reads as reads
+use Rattle.snapshot_files.specs.declared.read_error.ReadError.{ReadError}
+use Rattle.snapshot_files.specs.declared.read_error.ReadError.TheVariants as errors
+use Rattle.snapshot_files.proofs.Archives.{blob_no_dynamic, blob_no_fixed, layout_named}
+use Rattle.snapshot_files.proofs.EntryLemmas.{archive_entry}
+use Rattle.chunk_store.specs.Pieces.{IsHeld}
+use Rattle.core_state.specs.declared.kept.Listed.{Listed}
+use Rattle.core_state.specs.declared.kept.Session.{Session}
+use Rattle.core_state.specs.declared.parts.Parts.{Parts}
+use Rattle.core_state.specs.declared.stop.Stop.{Stop}
+use Rattle.core_state.specs.declared.stop.Stop.TheVariants.{Refused, NoMemory, DiskFailed}
+use Rattle.core_state.specs.Found.{path_in}
+use Rattle.core_state.specs.Holds.{Holds, Shows}
+use Rattle.core_state.specs.Replies.{refuses_entry}
+use Rattle.core_state.specs.Stops.{Gives, IfRefused, stop_by_read}
+use Rattle.core_state.specs.Unreadables.{Asked, TellsUnreadable, part_read}
+use Rattle.core_state.specs.Wanted.{reader_in, session_at}
+use Rattle.core_state.proofs.Commanding.{none_refused, reader_shown, reader_wanted, refused_by_state}
+use Rattle.core_state.proofs.Finding.{found_in}
+use Rattle.core_state.proofs.Found.{IsThere, is_there, not_there, there_fits, there_kind, there_named, there_text}
+use Rattle.core_state.proofs.Unreadables.{tells_failed}
+use Rattle.core_reader.specs.Asked.{as_entry, asked_entry, index_of, place_of}
+use Rattle.core_reader.specs.Chunks.{StopsAt, blob_limit, bytes_at, bytes_in}
+use Rattle.core_reader.specs.Damages.{asked_damage, bytes_damage}
+use Rattle.core_reader.proofs.Held.{pieces_held}
+use Rattle.core_reader.proofs.ReadPart.{IsPlaced, place_refused, place_untold}
+use Rattle.core_reader.proofs.Telling.{Tells, tells_by}
+
+true_false : true ≡ false → ⊥
+true_false e = cc
+
+-- ---- the step
+
+abbrev piece_then : Store → ℕ → Option (List ℕ) → Outcome
+piece_then s count o = or_else (BadRange count) o >>= λ piece. Ok (s, Data (blob_of piece))
+
+abbrev of_content : Store → ℕ → Content → Outcome
+of_content s place c = piece_then s (length (pieces_of c)) (slice_get (pieces_of c) place)
+
+module _ (s : Store) (lane : ℕ) (name : List ℕ) (place : ℕ) where
+  chunk_unread : (refusal : Refusal) → want_reader (session s lane) ≡ Err refusal → read_chunk s lane name place ≡ Err refusal
+  unfolding read_chunk
+  chunk_unread refusal no_reader = rw no_reader refl
+
+  unnamed : (r : model.Reader) → session s lane ≡ reader r → is_index_name name ≡ false → read_chunk s lane name place ≡ Err NoFile
+  unfolding read_chunk
+  unnamed r at bad = rw (at, bad) refl
+
+  missed : (r : model.Reader) → session s lane ≡ reader r → is_index_name name ≡ true → file_named name (reader_files s r) ≡ None → read_chunk s lane name place ≡ Err NoFile
+  unfolding read_chunk
+  missed r at good missing = rw (at, good, missing) refl
+
+  found_file : (r : model.Reader) (f : File) → session s lane ≡ reader r → is_index_name name ≡ true → file_named name (reader_files s r) ≡ Some f
+      → read_chunk s lane name place ≡ of_content s place f.content
+  unfolding read_chunk
+  found_file r f at good found = rw (at, good, found) refl
+
+module _ {D : Type 0} (parts : Parts D) (s : Store) (lane : ℕ) (name : List ℕ) (place : ℕ) (shows : Shows parts s) (lt : lane < 64) where
+  pub chunk_unnamed : (path : List ℕ) → IsPlaced name (session_at parts lane) parts.catalogue.items path → is_index_name name ≡ false → read_chunk s lane name place ≡ Err NoFile
+  chunk_unnamed path there bad = let (v, at, is) = reader_shown parts s lane there.reading shows lt there.reads in unnamed s lane name place v at bad
+
+  absent : (r : Reading) → reader_in (session_at parts lane) ≡ Ok r → path_in r.key name parts.catalogue.items ≡ None → read_chunk s lane name place ≡ Err NoFile
+  absent r reads missing = by_name (is_index_name name) refl
+    where
+      by_name : (b : Bool) → is_index_name name ≡ b → read_chunk s lane name place ≡ Err NoFile
+      by_name true good =
+          let (v, at, is) = reader_shown parts s lane r shows lt reads in
+          missed s lane name place v at good (not_there name parts.catalogue.items s.snapshots v.key shows.catalogue (ap (λ (x : Reading). path_in x.key name parts.catalogue.items) is ∙ missing))
+      by_name false bad = let (v, at, is) = reader_shown parts s lane r shows lt reads in unnamed s lane name place v at bad
+
+  -- where the file does not stand the store refuses it too
+  pub chunk_refuses : (refusal : Refusal) → place_of name (session_at parts lane) parts.catalogue.items ≡ Err refusal → read_chunk s lane name place ≡ Err refusal
+  chunk_refuses =
+      place_refused name (session_at parts lane) parts.catalogue.items (λ r. read_chunk s lane name place ≡ Err r)
+      (λ r e. chunk_unread s lane name place r (reader_wanted parts s lane r shows lt e)) absent
+
+-- ---- what stands there
+
+-- a file of an index's name is an archive of its layout
+index_archive : (c : Content) (name : List ℕ) → names_content c name ≡ true → is_index_name name ≡ true → (a : Archive) × (c ≡ archive a) × (is_fixed_name name ≡ is_fixed_layout a.layout)
+index_archive (blob bytes) name kind good =
+    absurd (true_false (sym good ∙ or_from (is_fixed_name name) (is_dynamic_name name) (blob_no_fixed name kind) (blob_no_dynamic name kind)))
+index_archive (archive a) name kind good = (a, refl, layout_named a name kind)
+
+at_place : {A : Type 0} (P : A → Type 0) (xs : List A) (i : ℕ) (x : A) → All P xs → slice_get xs i ≡ Some x → P x
+at_place P [] i x all e = absurd (none_some e)
+  where
+    none_some : None ≡ Some x → ⊥
+    none_some e = cc
+at_place P (y ∷ ys) zero x all e = subst P (same e) (All-head P y ys all)
+  where
+    same : Some y ≡ Some x → y ≡ x
+    same e = cc
+at_place P (y ∷ ys) (suc i) x all e = at_place P ys i x (All-tail P y ys all) e
+
+-- an archive's piece, as an entry of its index tells it
+told_refused : (s : Store) (count : ℕ) (o : Option (List ℕ)) (refusal : Refusal) → or_else (BadRange count) (option_map digest_of o) ≡ Err refusal → piece_then s count o ≡ Err refusal
+told_refused s count None refusal e = ap (λ r. Err r) (same e)
+  where
+    same : ◌≡◌ {A = Result Digest32 Refusal} (Err (BadRange count)) (Err refusal) → BadRange count ≡ refusal
+    same e = cc
+told_refused s count (Some p) refusal e = absurd (ok_err e)
+  where
+    ok_err : ◌≡◌ {A = Result Digest32 Refusal} (Ok (digest_of p)) (Err refusal) → ⊥
+    ok_err e = cc
+
+told_piece : (count : ℕ) (o : Option (List ℕ)) (digest : Digest32) → or_else (BadRange count) (option_map digest_of o) ≡ Ok digest → (p : List ℕ) × (o ≡ Some p) × (digest ≡ digest_of p)
+told_piece count None digest e = absurd (err_ok e)
+  where
+    err_ok : ◌≡◌ {A = Result Digest32 Refusal} (Err (BadRange count)) (Ok digest) → ⊥
+    err_ok e = cc
+told_piece count (Some p) digest e = (p, refl, sym (same e))
+  where
+    same : ◌≡◌ {A = Result Digest32 Refusal} (Ok (digest_of p)) (Ok digest) → digest_of p ≡ digest
+    same e = cc
+
+-- the file of the reader's snapshot is an archive, whose pieces stand on the disk
+record HasIndex (m : Files) (s : Store) (lane : ℕ) (name path : List ℕ) (place : ℕ) : Type 0 where
+  pub one : Archive
+  pub entry_is : entry_at m path (is_fixed_name name) place ≡ or_else (BadRange (length one.pieces)) (option_map digest_of (slice_get one.pieces place))
+  pub step_is : read_chunk s lane name place ≡ piece_then s (length one.pieces) (slice_get one.pieces place)
+  pub held : All (IsHeld m) one.pieces
+
+module _ {D : Type 0} (d : Ghosts D) (old : Parts D) (s : Store) (lane : ℕ) (name path : List ℕ) (place : ℕ) (lt : lane < 64) (placed : IsPlaced name (session_at old lane) old.catalogue.items path)
+    (good : is_index_name name ≡ true) (h : Holds d old s) where
+  abbrev content : Files
+  content = d.content old.disk
+
+  has_index : HasIndex content s lane name path place
+  unfolding file_text
+  has_index =
+      let (v, at, is) = reader_shown old s lane placed.reading h.shows lt placed.reads in
+      let t : IsThere s.snapshots v.key name path = is_there name old.catalogue.items s.snapshots v.key path (h.shows).catalogue (ap (λ (x : Reading). path_in x.key name old.catalogue.items) is ∙ placed.found) in
+      let stored = (t.file).content in
+      let (a, archived, kind) = index_archive stored name (there_kind s.snapshots v.key name path t ((h.shows).sound).each) good in
+      let fits : FitsContent (archive a) = subst FitsContent archived (there_fits s.snapshots v.key name path t ((h.shows).sound).each) in
+      let text : get content path ≡ Some (archive_text a) = there_text content s.snapshots v.key name path t ((h.files).snapshots).files ∙ ap (λ c. Some (file_text c)) archived in
+      let holds : HoldsPieces content t.snapshot = found_in (HoldsPieces content) _ s.snapshots t.snapshot ((h.files).snapshots).pieces t.kept in
+      let one : IsSnapshot t.snapshot = found_in IsSnapshot _ s.snapshots t.snapshot ((h.files).snapshots).each t.kept in
+      let pieces : All (IsHeld content) (pieces_of stored) =
+      subst (λ (o : Option File). All (IsHeld content) (elim (option_map (λ (f : File). f.content) o) [ None ↦ [] | Some c ↦ pieces_of c ])) t.named (pieces_held content t.snapshot name holds one) in
+      record {
+        one = a;
+        entry_is = ap (λ b. entry_at content path b place) kind ∙ archive_entry content path a place fits text;
+        step_is = found_file s lane name place v t.file at good (there_named s.snapshots v.key name path t) ∙ ap (of_content s place) archived;
+        held = subst (λ c. All (IsHeld content) (pieces_of c)) archived pieces;
+      }
+
+  module _ (q : List ℕ) (is_fixed : Bool) (here : q ≡ path) (kind : is_fixed ≡ is_fixed_name name) where
+    entry_same : entry_at content path (is_fixed_name name) place ≡ entry_at content q is_fixed place
+    entry_same = ap (λ p. entry_at content p (is_fixed_name name) place) (sym here) ∙ ap (λ b. entry_at content q b place) (sym kind)
+
+    -- there is no such entry
+    pub entry_refused : (refusal : Refusal) → entry_at content q is_fixed place ≡ Err refusal → read_chunk s lane name place ≡ Err refusal
+    entry_refused refusal tells =
+        let i = has_index in
+        i.step_is ∙ told_refused s (length (i.one).pieces) (slice_get (i.one).pieces place) refusal (sym i.entry_is ∙ entry_same ∙ tells)
+
+    -- the blob of its piece is given, which stands there
+    pub entry_given : (digest : Digest32) → entry_at content q is_fixed place ≡ Ok digest
+        → (p : List ℕ) × IsHeld content p × (digest ≡ digest_of p) × (read_chunk s lane name place ≡ Ok (s, Data (blob_of p)))
+    entry_given digest tells =
+        let i = has_index in
+        let (p, there, named) = told_piece (length (i.one).pieces) (slice_get (i.one).pieces place) digest (sym i.entry_is ∙ entry_same ∙ tells) in (
+          p,
+          at_place (IsHeld content) (i.one).pieces place p i.held there,
+          named,
+          i.step_is ∙ ap (piece_then s (length (i.one).pieces)) there,
+        )
+
+-- ---- the bytes of a chunk that stands there
+
+blob_fits : (p : List ℕ) → length p ≤ 16_777_216 → length (blob_of p) ≤ blob_limit
+unfolding blob_of
+blob_fits p le = omega (arith, le)
+
+pub bytes_held : (m : Files) (p : List ℕ) (digest : Digest32) → IsHeld m p → digest ≡ digest_of p → bytes_at m digest ≡ Ok (blob_of p)
+bytes_held m p digest held named =
+    ap (bytes_at m) named ∙ ap (bytes_in (digest_of p)) held.0
+    ∙ ap (λ (b : Bool). let r : Result (List ℕ) Refusal = if b then Err (Damaged (digest_of p) NotABlob) else Ok (blob_of p) in r)
+    (le-ltb blob_limit (length (blob_of p)) (blob_fits p (held.1).1))
+
+-- so it is read, and the read stops by no refusal
+pub none_stops : (m n : Files) (p : List ℕ) (digest : Digest32) (P : Refusal → Type 0) (stop : Stop) → n ≡ m → IsHeld m p → digest ≡ digest_of p
+    → Gives {A = List ℕ} (λ bytes. bytes) (Err stop) (bytes_at n digest) → IfRefused P stop
+none_stops m n p digest P stop same held named gives =
+    none_refused {A = List ℕ} (λ bytes. bytes) (blob_of p) P stop
+    (subst (λ w. Gives {A = List ℕ} (λ bytes. bytes) (Err stop) w) (ap (λ f. bytes_at f digest) same ∙ bytes_held m p digest held named) gives)
+
+pub bytes_given : (s : Store) (lane : ℕ) (name : List ℕ) (place : ℕ) (m n : Files) (p bytes : List ℕ) (digest : Digest32) → n ≡ m → IsHeld m p → digest ≡ digest_of p
+    → bytes_at n digest ≡ Ok bytes → read_chunk s lane name place ≡ Ok (s, Data (blob_of p)) → read_chunk s lane name place ≡ Ok (s, Data bytes)
+bytes_given s lane name place m n p bytes digest same held named gives is =
+    is ∙ ap (λ b. Ok (s, Data b)) (oks (blob_of p) bytes (sym (bytes_held m p digest held named) ∙ ap (λ f. bytes_at f digest) (sym same) ∙ gives))
+  where
+    oks : (x y : List ℕ) → ◌≡◌ {A = Result (List ℕ) Refusal} (Ok x) (Ok y) → x ≡ y
+    oks x y e = cc
+
+-- it fits a reply
+pub bytes_short : (bytes : List ℕ) → length bytes ≤ 16_777_228 → length bytes < body_limit
+bytes_short bytes le = omega (arith, le)
+
+-- ---- what is asked for
+
+module _ (name : List ℕ) (place : ℕ) (session : Session) (catalogue : List Listed) where
+  abbrev asked_by : Result (List ℕ) Refusal → Option Asked
+  asked_by o = option_map (as_entry name place) (result_ok o)
+
+  index_unread : (refusal : Refusal) → reader_in session ≡ Err refusal → index_of name session catalogue ≡ Err refusal
+  unfolding index_of
+  index_unread refusal no_reader = rw no_reader refl
+
+  pub index_unnamed : (r : Reading) → reader_in session ≡ Ok r → is_index_name name ≡ false → index_of name session catalogue ≡ Err NoFile
+  unfolding index_of
+  index_unnamed r at bad = rw (at, bad) refl
+
+  index_absent : (r : Reading) → reader_in session ≡ Ok r → is_index_name name ≡ true → path_in r.key name catalogue ≡ None → index_of name session catalogue ≡ Err NoFile
+  unfolding index_of
+  index_absent r at good missing = rw (at, good, missing) refl
+
+  pub index_there : (r : Reading) (path : List ℕ) → reader_in session ≡ Ok r → is_index_name name ≡ true → path_in r.key name catalogue ≡ Some path → index_of name session catalogue ≡ Ok path
+  unfolding index_of
+  index_there r path at good found = rw (at, good, found) refl
+
+  pub index_unplaced : (refusal : Refusal) → place_of name session catalogue ≡ Err refusal → index_of name session catalogue ≡ Err refusal
+  index_unplaced = place_refused name session catalogue (λ r. index_of name session catalogue ≡ Err r) index_unread absent
+    where
+      absent : (r : Reading) → reader_in session ≡ Ok r → path_in r.key name catalogue ≡ None → index_of name session catalogue ≡ Err NoFile
+      absent r at missing = by_name (is_index_name name) refl
+        where
+          by_name : (b : Bool) → is_index_name name ≡ b → index_of name session catalogue ≡ Err NoFile
+          by_name true good = index_absent r at good missing
+          by_name false bad = index_unnamed r at bad
+
+  unplaced_none : (refusal : Refusal) → place_of name session catalogue ≡ Err refusal → asked_entry name place session catalogue ≡ None
+  unplaced_none refusal e = ap asked_by (index_unplaced refusal e)
+
+  pub entry_unplaced : (refusal : Refusal) → place_of name session catalogue ≡ Err refusal → (asked_entry name place session catalogue ≡ None) × ((n : List ℕ) → refusal ≡ Unreadable n → ⊥)
+  entry_unplaced refusal e = (unplaced_none refusal e, place_untold name session catalogue refusal e)
+
+  pub entry_unnamed : (path : List ℕ) → IsPlaced name session catalogue path → is_index_name name ≡ false → asked_entry name place session catalogue ≡ None
+  entry_unnamed path there bad = ap asked_by (index_unnamed there.reading there.reads bad)
+
+  pub entry_asked : (path : List ℕ) → IsPlaced name session catalogue path → is_index_name name ≡ true → asked_entry name place session catalogue ≡ Some (as_entry name place path)
+  entry_asked path there good = ap asked_by (index_there there.reading path there.reads good there.found)
+
+  -- nor does its refusal tell of damage
+  pub entry_undamaged : (H : Type 0) (m : Files) (refusal : Refusal) → place_of name session catalogue ≡ Err refusal
+      → (H → asked_damage m (asked_entry name place session catalogue) ≡ None) × ((digest : Digest32) (found : ChunkFault) → refusal ≡ Damaged digest found → ⊥)
+  entry_undamaged H m refusal e = (
+    λ h. ap (asked_damage m) (unplaced_none refusal e),
+    place_refused name session catalogue (λ r. (digest : Digest32) (found : ChunkFault) → r ≡ Damaged digest found → ⊥)
+        (λ r u. refused_by_state session r (λ q. (digest : Digest32) (found : ChunkFault) → q ≡ Damaged digest found → ⊥) (λ state digest found is. cc) u)
+        (λ r at missing digest found is. cc) refusal e,
+  )
+
+  pub entry_refused_by : (refusal : Refusal) → place_of name session catalogue ≡ Err refusal → refuses_entry refusal ≡ true
+  entry_refused_by = place_refused name session catalogue (λ r. refuses_entry r ≡ true) (λ r e. refused_by_state session r (λ q. refuses_entry q ≡ true) (λ state. refl) e) (λ r at missing. refl)
+
+-- ---- what is told of the index
+
+module _ {D : Type 0} (d : Ghosts D) (disk : D) (asked : Option Asked) (a : Asked) (is : asked ≡ Some a) where
+  -- it was read
+  pub tells_readable : (kind : ℕ) (reply : Option Reply) → ((n : List ℕ) → reply ≡ Some (replies.Refused (Unreadable n)) → ⊥) → (d.honest disk → part_read (d.content disk) a ≡ Ok Done)
+      → TellsUnreadable d disk asked kind reply
+  tells_readable kind reply other read = record {
+    named = λ name e. absurd (other name e);
+    cause = λ name b e at h. absurd (other name e);
+    missing = λ name b k at h g. absurd (ok_err name (sym (read h) ∙ ap (part_read (d.content disk)) (same b (sym is ∙ at)) ∙ g));
+  }
+    where
+      same : (b : Asked) → Some a ≡ Some b → a ≡ b
+      same b e = cc
+
+      ok_err : (name : List ℕ) → ◌≡◌ {A = Result Reply Refusal} (Ok Done) (Err (Unreadable name)) → ⊥
+      ok_err name e = cc
+
+  -- and the chunk was not
+  pub tells_unloaded : (digest : Digest32) (stop : Stop) (result : Result Reply Stop) → IsErrAnd result (λ x. x ≡ stop) → StopsAt digest stop → (d.honest disk → part_read (d.content disk) a ≡ Ok Done)
+      → Tells d disk asked result
+  tells_unloaded digest stop result stops at read = tells_by d disk asked stop result stops (by_stop stop at)
+    where
+      apart : (refusal : Refusal) (found : ChunkFault) (n : List ℕ) → refusal ≡ Damaged digest found → Some (replies.Refused refusal) ≡ Some (replies.Refused (Unreadable n)) → ⊥
+      apart refusal found n is e = damaged_apart (sym is ∙ same e)
+        where
+          same : Some (replies.Refused refusal) ≡ Some (replies.Refused (Unreadable n)) → refusal ≡ Unreadable n
+          same e = cc
+
+          damaged_apart : Damaged digest found ≡ Unreadable n → ⊥
+          damaged_apart e = cc
+
+      by_stop : (stop : Stop) → StopsAt digest stop → Tells d disk asked (Err stop)
+      by_stop (Refused refusal) h = tells_readable 0 (Some (replies.Refused refusal)) (λ n e. apart refusal (h.0).0 n (h.0).1 e) read
+      by_stop NoMemory h = tells_failed d disk asked disks.NoMemory
+      by_stop DiskFailed h = tells_failed d disk asked disks.Failed
+
+module _ (m : Files) (path q name : List ℕ) (place : ℕ) (is_fixed : Bool) (here : q ≡ path) (kind : is_fixed ≡ is_fixed_name name) where
+  abbrev asked_of : Result Digest32 Refusal → Result Reply Refusal
+  asked_of o = o >>= λ digest. Ok Done
+
+  pub entry_here : entry_at m q is_fixed place ≡ entry_at m path (is_fixed_name name) place
+  entry_here = ap (λ p. entry_at m p is_fixed place) here ∙ ap (λ b. entry_at m path b place) kind
+
+  pub entry_got : (digest : Digest32) → entry_at m q is_fixed place ≡ Ok digest → part_read m (as_entry name place path) ≡ Ok Done
+  entry_got digest gives = ap asked_of (sym entry_here ∙ gives)
+
+  pub entry_stop : (e : ReadError) → reads.Gives {A = Digest32} (λ digest. digest) (Err e) (entry_at m q is_fixed place)
+      → reads.Gives {A = Reply} (λ part. part) (Err e) (part_read m (as_entry name place path))
+  entry_stop (errors.Refused refusal) gives = ap asked_of (sym entry_here ∙ gives)
+  entry_stop errors.NoMemory gives = tt
+  entry_stop errors.Failed gives = tt
+
+  -- ---- what is damaged
+
+  abbrev damage_in : Result Digest32 Refusal → Option (Digest32 × ChunkFault)
+  damage_in o = elim o [ Ok digest ↦ bytes_damage digest (get m (chunk_name digest.0)) | Err refusal ↦ None ]
+
+  pub damage_unread : (asked : Option Asked) (refusal : Refusal) → asked ≡ Some (as_entry name place path) → entry_at m q is_fixed place ≡ Err refusal → asked_damage m asked ≡ None
+  damage_unread asked refusal is gives = ap (asked_damage m) is ∙ ap damage_in (sym entry_here ∙ gives)
+
+  damage_read : (asked : Option Asked) (digest : Digest32) → asked ≡ Some (as_entry name place path) → entry_at m q is_fixed place ≡ Ok digest
+      → asked_damage m asked ≡ bytes_damage digest (get m (chunk_name digest.0))
+  damage_read asked digest is gives = ap (asked_damage m) is ∙ ap damage_in (sym entry_here ∙ gives)
+
+  -- what is told of the bytes is what they are
+  pub damage_told : (asked : Option Asked) (digest : Digest32) (found : ChunkFault) (n : Files) → asked ≡ Some (as_entry name place path) → entry_at m q is_fixed place ≡ Ok digest → n ≡ m
+      → bytes_at n digest ≡ Err (Damaged digest found) → asked_damage m asked ≡ Some (digest, found)
+  damage_told asked digest found n is gives same tells =
+      damage_read asked digest is gives ∙ by_bytes (get m (chunk_name digest.0)) (ap (λ f. bytes_at f digest) (sym same) ∙ tells)
+    where
+      faults : (a b : ChunkFault) → ◌≡◌ {A = Result (List ℕ) Refusal} (Err (Damaged digest a)) (Err (Damaged digest b)) → a ≡ b
+      faults a b e = cc
+
+      by_test : (bytes : List ℕ) (b : Bool) → (if b then Err (Damaged digest NotABlob) else Ok bytes) ≡ Err (Damaged digest found)
+          → ◌≡◌ {A = Option (Digest32 × ChunkFault)} (if b then Some (digest, NotABlob) else None) (Some (digest, found))
+      by_test bytes true e = ap (λ f. Some (digest, f)) (faults NotABlob found e)
+      by_test bytes false e = absurd (ok_err e)
+        where
+          ok_err : ◌≡◌ {A = Result (List ℕ) Refusal} (Ok bytes) (Err (Damaged digest found)) → ⊥
+          ok_err e = cc
+
+      by_bytes : (o : Option (List ℕ)) → bytes_in digest o ≡ Err (Damaged digest found) → bytes_damage digest o ≡ Some (digest, found)
+      by_bytes None e = ap (λ f. Some (digest, f)) (faults Nothing found e)
+      by_bytes (Some bytes) e = by_test bytes (nat_lt blob_limit (length bytes)) e
+
+  -- and bytes that are given are not damaged
+  pub damage_none : (asked : Option Asked) (digest : Digest32) (given : List ℕ) (n : Files) → asked ≡ Some (as_entry name place path) → entry_at m q is_fixed place ≡ Ok digest → n ≡ m
+      → bytes_at n digest ≡ Ok given → asked_damage m asked ≡ None
+  damage_none asked digest given n is gives same tells =
+      damage_read asked digest is gives ∙ by_bytes (get m (chunk_name digest.0)) (ap (λ f. bytes_at f digest) (sym same) ∙ tells)
+    where
+      err_ok : (refusal : Refusal) → ◌≡◌ {A = Result (List ℕ) Refusal} (Err refusal) (Ok given) → ⊥
+      err_ok refusal e = cc
+
+      by_test : (bytes : List ℕ) (b : Bool) → (if b then Err (Damaged digest NotABlob) else Ok bytes) ≡ Ok given
+          → ◌≡◌ {A = Option (Digest32 × ChunkFault)} (if b then Some (digest, NotABlob) else None) None
+      by_test bytes true e = absurd (err_ok (Damaged digest NotABlob) e)
+      by_test bytes false e = refl
+
+      by_bytes : (o : Option (List ℕ)) → bytes_in digest o ≡ Ok given → bytes_damage digest o ≡ None
+      by_bytes None e = absurd (err_ok (Damaged digest Nothing) e)
+      by_bytes (Some bytes) e = by_test bytes (nat_lt blob_limit (length bytes)) e
+
+-- by what the read gave
+pub gives_so : (digest : Digest32) (found : ChunkFault) (stop : Stop) (wanted : Result (List ℕ) Refusal) → stop ≡ Refused (Damaged digest found)
+    → Gives {A = List ℕ} (λ bytes. bytes) (Err stop) wanted → wanted ≡ Err (Damaged digest found)
+gives_so digest found stop wanted is gives = subst (λ x. Gives {A = List ℕ} (λ bytes. bytes) (Err x) wanted) is gives
+
+-- an index that is not read tells of no chunk
+no_chunk : (path : List ℕ) (r : Refusal) → RefusesPart path r → (digest : Digest32) (found : ChunkFault) → r ≡ Damaged digest found → ⊥
+no_chunk path (BadRange size) h digest found e = cc
+no_chunk path (Unreadable name) h digest found e = cc
+no_chunk path _ h digest found e = absurd h
+
+pub unread_undamaged : (path : List ℕ) (e : ReadError) (H P : Type 0) (wanted : Result Digest32 Refusal) → reads.IfRefused (RefusesPart path) e → (H → reads.Gives {A = Digest32} (λ digest. digest) (Err e) wanted)
+    → ((refusal : Refusal) → H → wanted ≡ Err refusal → P) → IfRefused (λ refusal. (H → P) × ((digest : Digest32) (found : ChunkFault) → refusal ≡ Damaged digest found → ⊥)) (stop_by_read e)
+unread_undamaged path (errors.Refused refusal) H P wanted kind gives so = (λ h. so refusal h (gives h), no_chunk path refusal kind)
+unread_undamaged path errors.NoMemory H P wanted kind gives so = tt
+unread_undamaged path errors.Failed H P wanted kind gives so = tt
+
+-- ---- what is answered
+
+refusal_answers : (path : List ℕ) (r : Refusal) → RefusesPart path r → refuses_entry r ≡ true
+refusal_answers path (BadRange size) h = refl
+refusal_answers path (Unreadable name) h = refl
+refusal_answers path _ h = absurd h
+
+pub entry_error_answers : (path : List ℕ) (e : ReadError) → reads.IfRefused (RefusesPart path) e → IfRefused (λ r. IsTrue (refuses_entry r)) (stop_by_read e)
+entry_error_answers path (errors.Refused refusal) h = refusal_answers path refusal h
+entry_error_answers path errors.NoMemory h = tt
+entry_error_answers path errors.Failed h = tt
+
+pub chunk_answers : (digest : Digest32) (stop : Stop) → StopsAt digest stop → IfRefused (λ refusal. IsTrue (refuses_entry refusal)) stop
+chunk_answers digest (Refused refusal) h = ap refuses_entry (h.0).1
+chunk_answers digest NoMemory h = tt
+chunk_answers digest DiskFailed h = tt

@@ -1,0 +1,149 @@
+-- A VERIFY's reads answer what stands on an honest disk.
+use Rattle.disk_trait.specs.declared.disk.Disk.{Ghosts}
+use Rattle.std.proofs.Common.{◌≡◌, ℕ, Bool, true, false, List, Result, Ok, Err, IfOk, sym, ap, subst, ◌∙◌}
+use Rattle.disk_trait.specs.Files.{Files}
+use Rattle.store_types.specs.declared.names.Digest32.{Digest32}
+use Rattle.store_types.specs.declared.refusal.Refusal.{Refusal}
+use Rattle.store_types.specs.declared.refusal.Refusal.TheVariants.{NoFile}
+use Rattle.store_types.specs.Chain.Refusing.{◌>>=◌}
+use Rattle.store_types.specs.FileNames.{is_fixed_name, is_index_name}
+use Rattle.wire_commands.specs.declared.reply.Reply.{Reply}
+use Rattle.wire_commands.specs.declared.reply.Reply.TheVariants.{Data}
+use Rattle.snapshot_files.specs.Entry.{entry_at}
+use Rattle.snapshot_files.specs.Parts.{part_at}
+use Rattle.snapshot_files.specs.Reads as reads
+use Rattle.snapshot_files.specs.declared.read_error.ReadError.{ReadError}
+use Rattle.snapshot_files.specs.declared.read_error.ReadError.TheVariants as errors
+use Rattle.core_state.specs.declared.entering.Place.{Place}
+use Rattle.core_state.specs.declared.parts.Parts.{Parts}
+use Rattle.core_state.specs.declared.stop.Stop.{Stop}
+use Rattle.core_state.specs.declared.stop.Stop.TheVariants.{Refused, NoMemory, DiskFailed}
+use Rattle.core_state.specs.Replies.{reply_told}
+use Rattle.core_state.specs.Stops.{Gives, stop_by_read, told}
+use Rattle.core_state.specs.Wanted.{session_at}
+use Rattle.core_state.proofs.ByKept.{Stops, stopped}
+use Rattle.core_reader.specs.AnsweredBy.{ActReads, chunk_told, part_told}
+use Rattle.core_reader.specs.Asked.{index_of, place_of}
+use Rattle.core_reader.specs.Chunks.{bytes_at}
+use Rattle.core_reader.proofs.ReadEntry.{entry_here, index_there, index_unnamed, index_unplaced}
+use Rattle.core_reader.proofs.ReadPart.{IsPlaced}
+
+-- ---- how a read stops
+
+-- it is refused as is wanted
+stop_told : (wanted : Result Reply Refusal) (stop : Stop) (result : Result Reply Stop) → Stops result stop → Gives {A = Reply} (λ reply. reply) (Err stop) wanted
+    → IfOk (told result) (λ reply. reply ≡ reply_told wanted)
+stop_told wanted stop result stops gives = stopped (λ r. IfOk (told r) (λ reply. reply ≡ reply_told wanted)) result stop stops (by_stop stop gives)
+  where
+    by_stop : (stop : Stop) → Gives {A = Reply} (λ reply. reply) (Err stop) wanted → IfOk (told (Err stop)) (λ reply. reply ≡ reply_told wanted)
+    by_stop (Refused refusal) gives = sym (ap reply_told gives)
+    by_stop NoMemory gives = tt
+    by_stop DiskFailed gives = tt
+
+-- what stops the first stops both
+first_stops : {A : Type 0} (rest : A → Result Reply Refusal) (stop : Stop) (first : Result A Refusal) → Gives {A = A} (λ x. x) (Err stop) first → Gives {A = Reply} (λ reply. reply) (Err stop) (first >>= rest)
+first_stops {A} rest (Refused refusal) first gives = ap (λ (o : Result A Refusal). o >>= rest) gives
+first_stops rest NoMemory first gives = tt
+first_stops rest DiskFailed first gives = tt
+
+read_stop : {A : Type 0} (e : ReadError) (wanted : Result A Refusal) → reads.Gives {A = A} (λ x. x) (Err e) wanted → Gives {A = A} (λ x. x) (Err (stop_by_read e)) wanted
+read_stop (errors.Refused refusal) wanted gives = gives
+read_stop errors.NoMemory wanted gives = tt
+read_stop errors.Failed wanted gives = tt
+
+-- ---- a part of a file
+
+module _ {D : Type 0} (d : Ghosts D) (old : Parts D) (at : Place) (name : List ℕ) (offset : ℕ) where
+  abbrev part_here : Result Reply Refusal
+  part_here = part_told name offset (d.content old.disk) at.lane (session_at old at.lane) old.catalogue.items old.locks
+
+  abbrev placed : Result (List ℕ) Refusal
+  placed = place_of name (session_at old at.lane) old.catalogue.items
+
+  abbrev part_in : List ℕ → Result Reply Refusal
+  part_in path = part_at (d.content old.disk) path offset
+
+  -- there is no such file
+  pub part_missing : (stop : Stop) (result : Result Reply Stop) → Stops result stop → Gives {A = List ℕ} (λ path. path) (Err stop) placed → ActReads d (part_told name offset) old at result
+  part_missing stop result stops gives = λ honest. stop_told part_here stop result stops (first_stops {A = List ℕ} part_in stop placed gives)
+
+  module _ (path q : List ℕ) (there : placed ≡ Ok path) (here : q ≡ path) where
+    part_wanted : part_here ≡ part_in q
+    part_wanted = ap (λ (o : Result (List ℕ) Refusal). o >>= part_in) there ∙ ap part_in (sym here)
+
+    -- it is refused by what stands there
+    pub part_unread : (e : ReadError) (result : Result Reply Stop) → Stops result (stop_by_read e) → (d.honest old.disk → reads.Gives {A = Reply} (λ part. part) (Err e) (part_in q))
+        → ActReads d (part_told name offset) old at result
+    part_unread e result stops gives = λ honest.
+        stop_told part_here (stop_by_read e) result stops
+        (subst (λ w. Gives {A = Reply} (λ reply. reply) (Err (stop_by_read e)) w) (sym part_wanted) (read_stop {A = Reply} e (part_in q) (gives honest)))
+
+    -- it is given
+    pub part_answers : (part : Reply) → (d.honest old.disk → part_in q ≡ Ok part) → ActReads d (part_told name offset) old at (Ok part)
+    part_answers part gives = λ honest. sym (ap reply_told (part_wanted ∙ gives honest))
+
+-- ---- the chunk at an entry
+
+module _ {D : Type 0} (d : Ghosts D) (old : Parts D) (at : Place) (name : List ℕ) (place : ℕ) where
+  abbrev chunk_here : Result Reply Refusal
+  chunk_here = chunk_told name place (d.content old.disk) at.lane (session_at old at.lane) old.catalogue.items old.locks
+
+  abbrev indexed : Result (List ℕ) Refusal
+  indexed = index_of name (session_at old at.lane) old.catalogue.items
+
+  abbrev data_in : List ℕ → Result Reply Refusal
+  data_in bytes = Ok (Data bytes)
+
+  abbrev bytes_in : Digest32 → Result Reply Refusal
+  bytes_in digest = bytes_at (d.content old.disk) digest >>= data_in
+
+  abbrev chunk_in : List ℕ → Result Reply Refusal
+  chunk_in path = entry_at (d.content old.disk) path (is_fixed_name name) place >>= bytes_in
+
+  -- there is no such file
+  pub chunk_missing : (stop : Stop) (result : Result Reply Stop) → Stops result stop → Gives {A = List ℕ} (λ path. path) (Err stop) (place_of name (session_at old at.lane) old.catalogue.items)
+      → ActReads d (chunk_told name place) old at result
+  chunk_missing stop result stops gives = λ honest. stop_told chunk_here stop result stops (first_stops {A = List ℕ} chunk_in stop indexed (by_stop stop gives))
+    where
+      by_stop : (stop : Stop) → Gives {A = List ℕ} (λ path. path) (Err stop) (place_of name (session_at old at.lane) old.catalogue.items) → Gives {A = List ℕ} (λ path. path) (Err stop) indexed
+      by_stop (Refused refusal) gives = index_unplaced name place (session_at old at.lane) old.catalogue.items refusal gives
+      by_stop NoMemory gives = tt
+      by_stop DiskFailed gives = tt
+
+  module _ (path : List ℕ) (there : IsPlaced name (session_at old at.lane) old.catalogue.items path) where
+    -- its name is no index's
+    pub chunk_unindexed : is_index_name name ≡ false → ActReads d (chunk_told name place) old at (Err (Refused NoFile))
+    chunk_unindexed bad = λ honest.
+        sym (ap reply_told (ap (λ (o : Result (List ℕ) Refusal). o >>= chunk_in) (index_unnamed name place (session_at old at.lane) old.catalogue.items there.reading there.reads bad)))
+
+    module _ (good : is_index_name name ≡ true) (q : List ℕ) (is_fixed : Bool) (here : q ≡ path) (kind : is_fixed ≡ is_fixed_name name) where
+      abbrev entry : Result Digest32 Refusal
+      entry = entry_at (d.content old.disk) q is_fixed place
+
+      chunk_wanted : chunk_here ≡ (entry >>= bytes_in)
+      chunk_wanted =
+          ap (λ (o : Result (List ℕ) Refusal). o >>= chunk_in) (index_there name place (session_at old at.lane) old.catalogue.items there.reading path there.reads good there.found)
+          ∙ ap (λ (o : Result Digest32 Refusal). o >>= bytes_in) (sym (entry_here (d.content old.disk) path q name place is_fixed here kind))
+
+      -- the entry is refused by what stands there
+      pub entry_unread : (e : ReadError) (result : Result Reply Stop) → Stops result (stop_by_read e) → (d.honest old.disk → reads.Gives {A = Digest32} (λ digest. digest) (Err e) entry)
+          → ActReads d (chunk_told name place) old at result
+      entry_unread e result stops gives = λ honest.
+          stop_told chunk_here (stop_by_read e) result stops
+          (subst (λ w. Gives {A = Reply} (λ reply. reply) (Err (stop_by_read e)) w) (sym chunk_wanted)
+          (first_stops {A = Digest32} bytes_in (stop_by_read e) entry (read_stop {A = Digest32} e entry (gives honest))))
+
+      module _ (digest : Digest32) (n : Files) (read : entry ≡ Ok digest) (same : n ≡ d.content old.disk) where
+        bytes_wanted : chunk_here ≡ (bytes_at n digest >>= data_in)
+        bytes_wanted = chunk_wanted ∙ ap (λ (o : Result Digest32 Refusal). o >>= bytes_in) read ∙ ap (λ f. bytes_at f digest >>= data_in) (sym same)
+
+        -- the chunk is
+        pub chunk_stops : (stop : Stop) (result : Result Reply Stop) → Stops result stop → Gives {A = List ℕ} (λ bytes. bytes) (Err stop) (bytes_at n digest)
+            → IfOk (told result) (λ reply. reply ≡ reply_told chunk_here)
+        chunk_stops stop result stops gives =
+            stop_told chunk_here stop result stops
+            (subst (λ w. Gives {A = Reply} (λ reply. reply) (Err stop) w) (sym bytes_wanted) (first_stops {A = List ℕ} data_in stop (bytes_at n digest) gives))
+
+        -- it is given
+        pub chunk_given : (bytes : List ℕ) → bytes_at n digest ≡ Ok bytes → Data bytes ≡ reply_told chunk_here
+        chunk_given bytes gives = sym (ap reply_told (bytes_wanted ∙ ap (λ (o : Result (List ℕ) Refusal). o >>= data_in) gives))

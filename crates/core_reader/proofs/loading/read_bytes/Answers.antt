@@ -1,0 +1,21 @@
+use Rattle.core_reader.proofs.Loads.{bytes_stopped, bytes_there, load_at, load_failed}
+use Rattle.core_reader.proofs.Telling.{reads_as}
+use Rattle.core_reader.proofs.loading.read_bytes.Goals as goal
+
+pub returns-in-Ok-clause-reads : goal.returns-in-Ok-clause-reads
+returns-in-Ok-clause-reads g c = reads_as g.D.Disk c.args.disk.now c.read.new.disk _ _ (λ failed. absurd (c.as_blob.ensures.unfailed failed)) c.read.ensures.reads
+
+pub returns-in-Ok-clause-value : goal.returns-in-Ok-clause-value
+returns-in-Ok-clause-value g c = λ h.
+    bytes_there (g.D.Disk.content c.args.disk.now) c.args.digest.now c.in-Ok.bytes.items c.as_blob.result (c.in-Ok.ensures.bytes h) c.as_blob.ensures.value
+
+pub returns-in-Err-clause-reads : goal.returns-in-Err-clause-reads
+returns-in-Err-clause-reads g c =
+    reads_as g.D.Disk c.args.disk.now c.read.new.disk _ _ (load_failed c.read.result c.in-Err.fault c.stopped.result c.in-Err.is c.stopped.ensures.value) c.read.ensures.reads
+
+pub returns-in-Err-clause-value : goal.returns-in-Err-clause-value
+returns-in-Err-clause-value g c = λ h.
+    bytes_stopped (g.D.Disk.content c.args.disk.now) c.args.digest.now c.in-Err.fault c.stopped.result c.stopped.ensures.value c.in-Err.ensures.asked (c.in-Err.ensures.bytes h)
+
+pub returns-in-Err-clause-damage : goal.returns-in-Err-clause-damage
+returns-in-Err-clause-damage g c = load_at c.args.digest.now c.in-Err.fault c.stopped.result c.stopped.ensures.value c.stopped.ensures.text c.in-Err.ensures.asked

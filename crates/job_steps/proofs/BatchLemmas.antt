@@ -1,0 +1,202 @@
+-- The chunks that wait, and their first fault.
+use Rattle.std.proofs.Common.{◌≡◌, ℕ, suc, ◌+◌, ◌-◌, ◌<◌, ◌≤◌, Bool, true, false, cond, List, [], ◌∷◌, ◌++◌, length, get_or, drop, Option, None, Some, Result, Ok, Err, refl, sym, ap, subst, ◌∙◌, arith, length-drop}
+use Rattle.std.specs.Prelude.{◌&&◌, All, is_none, is_ok, is_some, nat_le, nat_lt, slice_index_or}
+use Rattle.std.specs.Option.{option_or}
+use Rattle.std.specs.Str.{bytes_eq}
+use Rattle.std.proofs.lemmas.Bool.{ltb-true, leb-true, lt-ltb, le-leb}
+use Rattle.std.proofs.lemmas.List.{drop-map, drop-drop, drop_all, drop_more, length-map}
+use Rattle.sha2.specs.Sha256.{sha256}
+use Rattle.store_types.specs.declared.names.Digest32.{Digest32}
+use Rattle.store_types.specs.declared.refusal.BadBlob.{BadBlob}
+use Rattle.store_types.specs.declared.refusal.ChunkFault.{ChunkFault}
+use Rattle.blob_codec.specs.Blob.{data_of}
+use Rattle.chunk_store.specs.Pieces.{TestsPiece, by_data, checked}
+use Rattle.wire_commands.specs.declared.rows.FileFault.{FileFault}
+use Rattle.wire_commands.specs.declared.rows.FileFault.TheVariants as faults
+use Rattle.store_model.specs.VerifyJob.{chunk_fault, digest, is_piece_of}
+use Rattle.job_steps.specs.declared.chunks.Chunks.{Chunks}
+use Rattle.job_steps.specs.declared.chunks.Entry.{Entry}
+use Rattle.job_steps.specs.declared.chunks.Waiting.{Waiting}
+use Rattle.job_steps.specs.Visits.{HasNext, IsTested, ReadsOne, StaysAt, digests_left, digests_of, fault_with, next_digest, place_in}
+
+-- ---- the test of a chunk
+
+same_test : (a b : Bool) → (a ≡ true → b ≡ true) → (b ≡ true → a ≡ true) → a ≡ b
+same_test true true f g = refl
+same_test true false f g = sym (f refl)
+same_test false true f g = g refl
+same_test false false f g = refl
+
+not_empty : (n : ℕ) → nat_le 1 n ≡ nat_lt 0 n
+not_empty n =
+    same_test (nat_le 1 n) (nat_lt 0 n)
+    (λ h. let above : 1 ≤ n = leb-true 1 n h in lt-ltb 0 n (omega arith))
+    (λ h. let above : 0 < n = ltb-true 0 n h in le-leb 1 n (omega arith))
+
+module _ (d : Digest32) (bytes : List ℕ) where
+  fault_of_none : (cause : BadBlob) → data_of bytes ≡ Err cause → chunk_fault d bytes ≡ Some (faults.Damaged d)
+  fault_of_none cause e = rw (chunk_fault, e) refl
+
+  fault_of_piece : (piece : List ℕ) (t : Bool) → data_of bytes ≡ Ok piece → is_piece_of d piece ≡ t → chunk_fault d bytes ≡ cond t None (Some (faults.Damaged d))
+  fault_of_piece piece t e h = rw (chunk_fault, e, h) refl
+
+  checked_is : (piece : List ℕ) (t : Bool) → is_piece_of d piece ≡ t → is_ok (checked (d.0) piece) ≡ t
+  checked_is piece t h =
+      let same : (nat_le 1 (length piece) && bytes_eq (sha256 piece) (d.0)) ≡ t = ap (λ b. b && bytes_eq (sha256 piece) (d.0)) (not_empty (length piece)) ∙ h in
+      by_test t same
+    where
+      by_test : (t : Bool) → (nat_le 1 (length piece) && bytes_eq (sha256 piece) (d.0)) ≡ t → is_ok (checked (d.0) piece) ≡ t
+      by_test true same = rw (same, checked) refl
+      by_test false same = rw (same, checked) refl
+
+  none_of : (t : Bool) → is_none (cond t None (Some (faults.Damaged d))) ≡ t
+  none_of true = refl
+  none_of false = refl
+
+  found_is : (held : Result (List ℕ) BadBlob) → data_of bytes ≡ held → is_ok (by_data (d.0) held) ≡ is_none (chunk_fault d bytes)
+  found_is (Err cause) e = sym (ap is_none (fault_of_none cause e))
+  found_is (Ok piece) e =
+      let t = is_piece_of d piece in
+      checked_is piece t refl ∙ sym (ap is_none (fault_of_piece piece t e refl) ∙ none_of t)
+
+  -- what the test says is whether the model has a fault
+  pub tested_is : {A : Type 0} (result : Result A ChunkFault) → TestsPiece (d.0) bytes result → is_ok result ≡ is_none (chunk_fault d bytes)
+  tested_is (Ok x) h = sym h ∙ found_is (data_of bytes) refl
+  tested_is (Err fault) h = sym (ap is_ok h) ∙ found_is (data_of bytes) refl
+
+  -- a chunk has no fault, or that it is damaged
+  pub fault_cases : (t : Bool) → is_none (chunk_fault d bytes) ≡ t → chunk_fault d bytes ≡ cond t None (Some (faults.Damaged d))
+  fault_cases t h = by_data_of (data_of bytes) refl
+    where
+      by_data_of : (held : Result (List ℕ) BadBlob) → data_of bytes ≡ held → chunk_fault d bytes ≡ cond t None (Some (faults.Damaged d))
+      by_data_of (Err cause) e =
+          let is = fault_of_none cause e in
+          let no : false ≡ t = sym (ap is_none is) ∙ h in
+          is ∙ ap (λ b. cond b None (Some (faults.Damaged d))) no
+      by_data_of (Ok piece) e =
+          let s = is_piece_of d piece in
+          let is = fault_of_piece piece s e refl in
+          let same : s ≡ t = sym (none_of s) ∙ sym (ap is_none is) ∙ h in
+          is ∙ ap (λ b. cond b None (Some (faults.Damaged d))) same
+
+-- ---- the first of some faults
+
+pub or_none : (fault : Option FileFault) → option_or fault None ≡ fault
+or_none None = refl
+or_none (Some f) = refl
+
+pub or_assoc : (a b c : Option FileFault) → option_or (option_or a b) c ≡ option_or a (option_or b c)
+or_assoc None b c = refl
+or_assoc (Some f) b c = refl
+
+-- a fault so far comes first
+pub fault_first : (fault : Option FileFault) (ws : List Waiting) → option_or fault (fault_with None ws) ≡ fault_with fault ws
+fault_first fault [] = or_none fault
+fault_first fault (w ∷ ws) =
+    let one = chunk_fault w.digest w.blob in
+    ap (option_or fault) (sym (fault_first one ws)) ∙ sym (or_assoc fault one (fault_with None ws)) ∙ fault_first (option_or fault one) ws
+
+pub fault_some : (f : FileFault) (ws : List Waiting) → fault_with (Some f) ws ≡ Some f
+fault_some f ws = sym (fault_first (Some f) ws)
+
+-- one more waits
+pub fault_push : (fault : Option FileFault) (ws : List Waiting) (w : Waiting) → fault_with fault (ws ++ w ∷ []) ≡ option_or (fault_with fault ws) (chunk_fault w.digest w.blob)
+fault_push fault [] w = refl
+fault_push fault (x ∷ ws) w = fault_push (option_or fault (chunk_fault x.digest x.blob)) ws w
+
+-- none waits
+pub fault_empty : (fault : Option FileFault) (ws : List Waiting) → length ws ≡ 0 → fault_with fault ws ≡ fault
+fault_empty fault [] h = refl
+fault_empty fault (w ∷ ws) h = absurd (omega (arith, h))
+
+-- ---- a batch that is tested
+
+-- the same chunk, tested or not
+pub record IsSameChunk (x y : Waiting) : Type 0 where
+  pub digest : y.digest ≡ x.digest
+  pub blob : y.blob ≡ x.blob
+
+pub same_faults : (xs ys : List Waiting) → length ys ≡ length xs → ((i : ℕ) (d : Waiting) → i < length xs → IsSameChunk (slice_index_or xs i d) (slice_index_or ys i d))
+    → (fault : Option FileFault) → fault_with fault ys ≡ fault_with fault xs
+same_faults [] [] len each fault = refl
+same_faults [] (y ∷ ys) len each fault = absurd (omega (arith, len))
+same_faults (x ∷ xs) [] len each fault = absurd (omega (arith, len))
+same_faults (x ∷ xs) (y ∷ ys) len each fault =
+    let first : IsSameChunk x y = each 0 x (omega arith) in
+    let one : chunk_fault y.digest y.blob ≡ chunk_fault x.digest x.blob = ap (λ d. chunk_fault d y.blob) first.digest ∙ ap (chunk_fault x.digest) first.blob in
+    ap (λ f. fault_with (option_or fault f) ys) one
+    ∙ same_faults xs ys (omega (arith, len)) (λ i d lt. each (suc i) d (omega (arith, lt))) (option_or fault (chunk_fault x.digest x.blob))
+
+-- the first is whole, or not
+pub whole_first : (w : Waiting) (ws : List Waiting) → IsTested w → w.is_whole ≡ true → fault_with None (w ∷ ws) ≡ fault_with None ws
+whole_first w ws tested h = ap (λ f. fault_with f ws) (fault_cases w.digest w.blob true (sym tested ∙ h))
+
+pub damaged_first : (w : Waiting) (ws : List Waiting) → IsTested w → w.is_whole ≡ false → fault_with None (w ∷ ws) ≡ Some (faults.Damaged w.digest)
+damaged_first w ws tested h = ap (λ f. fault_with f ws) (fault_cases w.digest w.blob false (sym tested ∙ h)) ∙ fault_some (faults.Damaged w.digest) ws
+
+-- ---- the next of the entries
+
+head_is : {A : Type 0} (xs : List A) (d : A) → 0 < length xs → xs ≡ slice_index_or xs 0 d ∷ drop 1 xs
+head_is [] d h = absurd (omega (arith, h))
+head_is (x ∷ xs) d h = refl
+
+module _ (c : Chunks) where
+  left_length : length (digests_left c) ≡ length (c.entries.items) - place_in c
+  left_length = simp (length-map, length-drop) refl
+
+  pub left_is : HasNext c → digests_left c ≡ next_digest c ∷ drop 1 (digests_left c)
+  left_is next = head_is (digests_left c) (digest []) (omega (arith, left_length, next))
+
+  pub none_left : length (c.entries.items) ≤ place_in c → digests_left c ≡ []
+  none_left h = ap digests_of (drop_all (place_in c) c.entries.items h)
+
+  -- the entry that is read next
+  pub next_is : HasNext c → (e : Entry) → e ≡ get_or c.entries.items (place_in c) e → e.digest ≡ next_digest c
+  next_is next e is =
+      let places : drop (place_in c) c.entries.items ≡ e ∷ drop (place_in c + 1) c.entries.items
+      = drop_more c.entries.items (place_in c) e next ∙ ap (λ x. x ∷ drop (place_in c + 1) c.entries.items) (sym is) in
+      sym (ap (λ xs. slice_index_or (digests_of xs) 0 (digest [])) places)
+
+-- one more is read
+pub left_more : (entries : List Entry) (n : ℕ) → digests_of (drop (n + 1) entries) ≡ drop 1 (digests_of (drop n entries))
+left_more entries n = ap digests_of (sym (drop-drop 1 n entries)) ∙ sym (drop-map (λ (e : Entry). e.digest) 1 (drop n entries))
+
+-- ---- what a call leaves
+
+pub reads_one : (old new : Chunks) → new.entries.items ≡ old.entries.items → place_in new ≡ place_in old + 1 → ReadsOne old new
+reads_one old new same more = record {
+  place = more;
+  left =
+      ap (λ (xs : List Entry). digests_of (drop (place_in new) xs)) same ∙ ap (λ n. digests_of (drop n old.entries.items)) more
+      ∙ left_more old.entries.items (place_in old);
+}
+
+module _ (old new : Chunks) (stays : StaysAt old new) where
+  pub left_stays : digests_left new ≡ digests_left old
+  left_stays = ap (λ (xs : List Entry). digests_of (drop (place_in new) xs)) stays.entries ∙ ap (λ n. digests_of (drop n old.entries.items)) stays.place
+
+  pub next_stays : HasNext old → HasNext new
+  next_stays next = omega (arith, next, stays.place, ap length stays.entries)
+
+-- a file with a fault keeps it
+pub put_known : (fault : Option FileFault) (ws : List Waiting) (found : Option FileFault) → is_some fault ≡ true
+    → fault_with fault ws ≡ option_or (fault_with fault ws) found
+put_known None ws found h = cc
+put_known (Some f) ws found h = let is = fault_some f ws in is ∙ sym (ap (λ x. option_or x found) is)
+
+-- ---- the chunks that wait, one by one
+
+pub at_place : (ws : List Waiting) (i : ℕ) (w : Waiting) → i < length ws → w ≡ get_or ws i w → All IsTested ws → (drop i ws ≡ w ∷ drop (i + 1) ws) × IsTested w
+at_place ws i w lt is tested = (drop_more ws i w lt ∙ ap (λ x. x ∷ drop (i + 1) ws) (sym is), subst IsTested (sym is) (tested i w lt))
+
+pub whole_at : (ws : List Waiting) (i : ℕ) (w : Waiting) → i < length ws → w ≡ get_or ws i w → All IsTested ws → w.is_whole ≡ true
+    → fault_with None (drop i ws) ≡ fault_with None (drop (i + 1) ws)
+whole_at ws i w lt is tested h =
+    let at = at_place ws i w lt is tested in
+    ap (fault_with None) at.0 ∙ whole_first w (drop (i + 1) ws) at.1 h
+
+pub damaged_at : (ws : List Waiting) (i : ℕ) (w : Waiting) → i < length ws → w ≡ get_or ws i w → All IsTested ws → w.is_whole ≡ false
+    → fault_with None (drop i ws) ≡ Some (faults.Damaged w.digest)
+damaged_at ws i w lt is tested h =
+    let at = at_place ws i w lt is tested in
+    ap (fault_with None) at.0 ∙ damaged_first w (drop (i + 1) ws) at.1 h

@@ -1,0 +1,141 @@
+-- What whole files say.
+use Rattle.std.proofs.Common.{◌≡◌, ℕ, ◌*◌, ◌/◌, ◌-◌, ◌≤◌, true, false, IsTrue, List, [], ◌∷◌, ◌++◌, length, map, take, Option, None, Ok, refl, sym, ap, subst, ◌∙◌, arith}
+use Rattle.std.specs.Prelude.{◌+◌, ◌<◌, ◌^◌, ◌&&◌, ◌==◌, nat_le, nat_lt, slice_index_or}
+use Rattle.std.specs.Str.{bytes_eq}
+use Rattle.std.proofs.Math.Nat.{mul-le-mul, mul-le-mul_right}
+use Rattle.std.proofs.lemmas.Bool.{and_parts, eqb-true, leb-true}
+use Rattle.std.proofs.lemmas.List.{length-map, map_more, map_push}
+use Rattle.store_types.specs.declared.names.Digest32.{Digest32}
+use Rattle.store_types.specs.FileNames.{is_fixed_name, is_dynamic_name, manifest_name}
+use Rattle.blob_codec.specs.Blob.{data_of}
+use Rattle.store_files.specs.FixedIndex.{FixedIndex, fixed_of}
+use Rattle.store_files.specs.FixedIndex as fixed_index
+use Rattle.store_files.specs.DynamicIndex.{Ended, DynamicIndex, dynamic_of}
+use Rattle.store_files.specs.DynamicIndex as dynamic_index
+use Rattle.fixed_index.specs.Viewing.{start_of, stop_of}
+use Rattle.fixed_index.proofs.Reading.{fixed_of-fits, fixed_of-ok}
+use Rattle.dynamic_index.specs.Pieces as pieces
+use Rattle.dynamic_index.proofs.Reading.{dynamic_of-fits}
+use Rattle.wire_commands.specs.declared.rows.FileRow.{FileRow}
+use Rattle.wire_commands.specs.declared.rows.FileFault.{FileFault}
+use Rattle.store_model.specs.VerifyJob.{Judged, digest, without_entries, compared, last_end, fixed_judged, dynamic_judged, manifest_fault, blob_fault, blob_judged, judged}
+use Rattle.job_steps.specs.declared.chunks.Entry.{Entry}
+use Rattle.job_steps.specs.Visits.{HasPieces, blob_fault_of, digests_of, dynamic_digests_of, fixed_digests_of}
+
+-- where the entries of a dynamic index end
+pub last_same : (es : List Ended) → pieces.last_end 0 es ≡ last_end es
+last_same [] = refl
+last_same (e ∷ []) = refl
+last_same (e ∷ f ∷ es) = last_same (f ∷ es)
+
+-- ---- an index that is read
+
+made : {fault fault' : Option FileFault} {bytes bytes' : ℕ} {digests digests' : List Digest32} → fault ≡ fault' → bytes ≡ bytes' → digests ≡ digests'
+    → let a : Judged = record { fault = fault; bytes = bytes; digests = digests } in let b : Judged = record { fault = fault'; bytes = bytes'; digests = digests' } in a ≡ b
+made f b d = cc
+
+module _ (row : FileRow) (bytes : List ℕ) (fault : Option FileFault) (total : ℕ) (csum : List ℕ) (digests : List Digest32) (differs : fault ≡ compared row total csum) where
+  compared_so : (size : ℕ) (sum : List ℕ) → total ≡ size → csum ≡ sum → fault ≡ compared row size sum
+  compared_so size sum sized summed = differs ∙ ap (λ n. compared row n csum) sized ∙ ap (compared row size) summed
+
+  pub fixed_read : (x : FixedIndex) → fixed_of bytes ≡ Ok x → total ≡ x.size → csum ≡ fixed_index.csum_of x → digests ≡ fixed_digests_of x
+      → (let j : Judged = record { fault = fault; bytes = total; digests = digests } in j) ≡ fixed_judged row bytes
+  unfolding fixed_judged
+  fixed_read x reads sized summed named = rw (reads, fixed_judged) (made (compared_so x.size (fixed_index.csum_of x) sized summed) sized named)
+
+  pub dynamic_read : (x : DynamicIndex) → dynamic_of bytes ≡ Ok x → total ≡ pieces.size_of x → csum ≡ dynamic_index.csum_of x → digests ≡ dynamic_digests_of x
+      → (let j : Judged = record { fault = fault; bytes = total; digests = digests } in j) ≡ dynamic_judged row bytes
+  unfolding dynamic_judged
+  dynamic_read x reads sized summed named =
+      let ends = sized ∙ last_same x.entries in
+      rw (reads, dynamic_judged) (made (compared_so (last_end x.entries) (dynamic_index.csum_of x) ends summed) ends named)
+
+-- ---- the entries of an index, one by one
+
+pub fixed_more : (es new : List Entry) (e : Entry) (x : FixedIndex) (i : ℕ) → i < length x.digests → new ≡ es ++ e ∷ [] → (e.digest).0 ≡ slice_index_or x.digests i []
+    → digests_of es ≡ map digest (take i x.digests) → digests_of new ≡ map digest (take (i + 1) x.digests)
+fixed_more es new e x i lt pushed read before =
+    ap digests_of pushed ∙ map_push (λ (y : Entry). y.digest) es e ∙ ap (λ ds. ds ++ e.digest ∷ []) before
+    ∙ ap (λ d. map digest (take i x.digests) ++ digest d ∷ []) read ∙ sym (map_more digest x.digests i [] lt)
+
+pub dynamic_more : (es new : List Entry) (e : Entry) (x : DynamicIndex) (i : ℕ) → i < length x.entries → new ≡ es ++ e ∷ [] → (e.digest).0 ≡ (pieces.entry_at x i).digest
+    → digests_of es ≡ map (λ y. digest y.digest) (take i x.entries) → digests_of new ≡ map (λ y. digest y.digest) (take (i + 1) x.entries)
+dynamic_more es new e x i lt pushed read before =
+    let none : Ended = record { end = 0; digest = [] } in
+    ap digests_of pushed ∙ map_push (λ (y : Entry). y.digest) es e ∙ ap (λ ds. ds ++ e.digest ∷ []) before
+    ∙ ap (λ d. map (λ (y : Ended). digest y.digest) (take i x.entries) ++ digest d ∷ []) read
+    ∙ sym (map_more (λ (y : Ended). digest y.digest) x.entries i none lt)
+
+-- as many as there are digests
+pub counted : (es : List Entry) (ds : List Digest32) → digests_of es ≡ ds → length es ≡ length ds
+counted es ds is = sym (length-map es (λ (y : Entry). y.digest)) ∙ ap length is
+
+-- ---- the pieces of an index are in range
+
+reaches : (size cut : ℕ) → 1 ≤ cut → size ≤ (size + cut - 1) / cut * cut
+reaches size cut positive = omega arith
+
+pub has_pieces : (bytes : List ℕ) (x : FixedIndex) → fixed_of bytes ≡ Ok x → HasPieces x
+has_pieces bytes x is =
+    let fits = fixed_of-fits bytes x is in
+    let found = fixed_of-ok bytes x is in
+    let sizes : IsTrue (fixed_index.has_sizes x) = subst (λ (y : FixedIndex). IsTrue (fixed_index.has_sizes y)) (sym found.0) found.1.sizes in
+    let both = and_parts (fixed_index.is_chunk_size x.chunk_size) (length x.digests == fixed_index.piece_count x.size x.chunk_size) sizes in
+    let count : length x.digests ≡ fixed_index.piece_count x.size x.chunk_size = eqb-true (length x.digests) (fixed_index.piece_count x.size x.chunk_size) both.1 in
+    record {
+      limit = omega (arith, fits.limit);
+      longest = fits.most;
+      size = subst (λ n. x.size ≤ n * x.chunk_size) (sym count) (reaches x.size x.chunk_size (omega (arith, fits.least)));
+      reach = fits.reach;
+    }
+
+pub piece_in : (x : FixedIndex) (i : ℕ) → HasPieces x → i < length x.digests → (start_of x i ≤ stop_of x i) × (stop_of x i ≤ start_of x i + 16_777_216)
+piece_in x i fits lt =
+    let within : i + 1 ≤ length x.digests = omega arith in
+    let more = mul-le-mul_right x.chunk_size within in
+    (omega (arith, fits.reach, more), omega (arith, fits.longest))
+
+pub fixed_small : (x : FixedIndex) → HasPieces x → x.size ≤ 2 ^ 44
+fixed_small x fits = omega (arith, fits.size, mul-le-mul fits.limit fits.longest)
+
+step_bound : (start : ℕ) (e : Ended) (es : List Ended) → IsTrue (dynamic_index.steps_fit start (e ∷ es)) → (e.end ≤ start + 16_777_216) × IsTrue (dynamic_index.steps_fit e.end es)
+step_bound start e es fit =
+    let parts = and_parts (nat_lt start e.end && nat_le e.end (start + 16_777_216)) (dynamic_index.steps_fit e.end es) fit in
+    let both = and_parts (nat_lt start e.end) (nat_le e.end (start + 16_777_216)) parts.0 in
+    (leb-true e.end (start + 16_777_216) both.1, parts.1)
+
+last_end_small : (start : ℕ) (es : List Ended) → IsTrue (dynamic_index.steps_fit start es) → pieces.last_end start es ≤ start + length es * 16_777_216
+last_end_small start [] fit = omega arith
+last_end_small start (e ∷ es) fit =
+    let first = step_bound start e es fit in
+    omega (arith, first.0, last_end_small e.end es first.1)
+
+pub dynamic_small : (bytes : List ℕ) (x : DynamicIndex) → dynamic_of bytes ≡ Ok x → (length x.entries ≤ 1_048_576) × (pieces.size_of x ≤ 2 ^ 44)
+dynamic_small bytes x is =
+    let fits = dynamic_of-fits bytes x is in
+    (omega (arith, fits.0), omega (arith, fits.0, last_end_small 0 x.entries fits.1))
+
+-- ---- a blob
+
+module _ (snapshot name bytes contents : List ℕ) (reads : data_of bytes ≡ Ok contents) where
+  pub blob_manifest : bytes_eq name manifest_name ≡ true → manifest_fault snapshot contents ≡ blob_fault snapshot name bytes
+  blob_manifest h = rw (blob_fault, reads, h) refl
+
+  pub blob_other : bytes_eq name manifest_name ≡ false → None ≡ blob_fault snapshot name bytes
+  blob_other h = rw (blob_fault, reads, h) refl
+
+-- ---- by the file's name
+
+module _ (snapshot bytes : List ℕ) (row : FileRow) where
+  pub judged_fixed : is_fixed_name row.file ≡ true → fixed_judged row bytes ≡ judged snapshot row bytes
+  unfolding judged
+  judged_fixed h = rw h refl
+
+  module _ (other : is_fixed_name row.file ≡ false) where
+    pub judged_dynamic : is_dynamic_name row.file ≡ true → dynamic_judged row bytes ≡ judged snapshot row bytes
+    unfolding judged
+    judged_dynamic h = rw (other, h) refl
+
+    pub judged_blob : is_dynamic_name row.file ≡ false → without_entries (blob_fault_of snapshot row.file row bytes) ≡ judged snapshot row bytes
+    unfolding judged blob_judged
+    judged_blob h = rw (other, h) refl

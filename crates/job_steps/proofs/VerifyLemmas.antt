@@ -1,0 +1,250 @@
+-- What a VERIFY makes of the replies to its steps.
+use Rattle.std.proofs.Common.{◌≡◌, ℕ, ◌*◌, ◌≤◌, Bool, true, false, List, [], ◌∷◌, ◌++◌, drop, length, Option, None, Some, refl, sym, ap, subst, ◌∙◌, arith, length-append}
+use Rattle.std.specs.Prelude.{◌+◌, ◌<◌, ◌^◌, ◌&&◌, All, is_some, nat_lt}
+use Rattle.std.specs.List.{flat_map}
+use Rattle.std.specs.Option.{option_map, option_or}
+use Rattle.std.proofs.lemmas.Bool.{and_parts, and_from, true≢false, false≢true, ltb-true, ltb-false, lt-ltb, le-ltb, eqb-true, eq-eqb}
+use Rattle.std.proofs.lemmas.List.{length-map}
+use Rattle.std.proofs.lemmas.List.Elements.{All-nil, All-cons, All-head, All-tail}
+use Rattle.store_types.specs.declared.names.Digest32.{Digest32}
+use Rattle.store_types.specs.declared.refusal.Refusal.TheVariants.{Damaged, Unreadable}
+use Rattle.wire_commands.specs.declared.rows.FileRow.{FileRow}
+use Rattle.wire_commands.specs.declared.rows.FileFault.{FileFault}
+use Rattle.wire_commands.specs.declared.rows.FileFault.TheVariants as faults
+use Rattle.wire_commands.specs.declared.rows.FaultRow.{FaultRow}
+use Rattle.wire_commands.specs.declared.reply.Reply.{Reply}
+use Rattle.wire_commands.specs.declared.reply.Reply.TheVariants.{Part, Data, Verified, Refused}
+use Rattle.wire_commands.specs.ReplyText.{file_fault_text, fault_row_text, reply_text}
+use Rattle.wire_commands.specs.HasText.{FitsFileFault, FitsFaultRow, ReplyHasText}
+use Rattle.store_model.specs.declared.step.Step.TheVariants.{ReadChunk}
+use Rattle.store_model.specs.Job.{Visit, asking, reading, closing, next}
+use Rattle.store_model.specs.Jobs.{take, take_more}
+use Rattle.store_model.specs.VerifyJob.{Judged, tally, next_file, file_done, next_chunk, with_fault, judged, file_read, part_read, read_part, checked}
+use Rattle.job_steps.specs.declared.chunks.Chunks.{Chunks}
+use Rattle.job_steps.specs.declared.chunks.Entry.{Entry}
+use Rattle.job_steps.specs.declared.stages.Checking.{Checking}
+use Rattle.job_steps.specs.declared.stages.Reading.{Reading}
+use Rattle.job_steps.specs.declared.stages.Whole.{Whole}
+use Rattle.job_steps.specs.declared.visit.Visit as stages
+use Rattle.job_steps.specs.Checks.{checked_by, fault_of, fault_told, found_by, job_of, read_by, read_on, reading_of, shown_whole, stops, unread_by}
+use Rattle.job_steps.specs.Closes.{ended_by}
+use Rattle.job_steps.specs.FaultRows.{fault_fits, IsFitFault, IsFitRow}
+use Rattle.job_steps.specs.Replies.{EndsInText}
+use Rattle.job_steps.specs.States.{chunks_of}
+use Rattle.job_steps.specs.Visits.{HasNext, IsRead, digests_left, digests_of, fault_with, judged_by, next_digest, place_in, shown_visit}
+use Rattle.job_steps.proofs.BatchLemmas.{fault_empty, left_is, none_left}
+
+-- ---- the report
+
+fault_short : (f : FileFault) → FitsFileFault f → length (file_fault_text f) ≤ 33
+fault_short faults.Differs h = omega arith
+fault_short (faults.Damaged d) h = omega (arith, h)
+fault_short faults.Unreadable h = omega arith
+
+rows_short : (rows : List FaultRow) → All FitsFaultRow rows → length (flat_map fault_row_text rows) ≤ 290 * length rows
+rows_short [] fit = omega arith
+rows_short (r ∷ rs) fit =
+    let first = All-head FitsFaultRow r rs fit in
+    let rest = rows_short rs (All-tail FitsFaultRow r rs fit) in
+    simp length-append (omega (arith, first.0, fault_short r.fault first.1, rest))
+
+-- the test's rows
+fault_of_test : (f : FileFault) → fault_fits f ≡ true → FitsFileFault f
+fault_of_test (faults.Damaged d) h = eqb-true (length d.0) 32 h
+fault_of_test f h = tt
+
+pub rows_of_test : (rows : List FaultRow) → All IsFitRow rows → All FitsFaultRow rows
+rows_of_test [] fit = All-nil FitsFaultRow
+rows_of_test (r ∷ rs) fit =
+    let parts = and_parts (nat_lt (length r.file) 256) (fault_fits r.fault) (All-head IsFitRow r rs fit) in
+    All-cons FitsFaultRow r rs (ltb-true (length r.file) 256 parts.0, fault_of_test r.fault parts.1) (rows_of_test rs (All-tail IsFitRow r rs fit))
+
+pub row_tested : (file : List ℕ) (f : FileFault) → length file < 256 → fault_fits f ≡ true → (nat_lt (length file) 256 && fault_fits f) ≡ true
+row_tested file f short fits = and_from (nat_lt (length file) 256) (fault_fits f) (lt-ltb (length file) 256 short) fits
+
+pub verified_spelled : (files entries bytes : ℕ) (rows : List FaultRow) → files < 256 → entries < 2 ^ 64 → bytes < 2 ^ 64 → length rows ≤ files → All FitsFaultRow rows
+    → ReplyHasText (Verified files entries bytes rows)
+unfolding reply_text
+verified_spelled files entries bytes rows few counted summed within fit =
+    ((few, counted, summed, omega (arith, few, within), fit), simp length-append (omega (arith, few, within, rows_short rows fit)))
+
+-- ---- from file to file
+
+module _ (v : Visit) where
+  pub next_none : (later : List FileRow) → length later ≡ 0 → asking (closing (tally v)) ≡ next_file v later
+  unfolding next_file
+  next_none [] h = refl
+  next_none (r ∷ rs) h = absurd (omega (arith, h))
+
+  pub next_some : (later rest : List FileRow) (row : FileRow) → later ≡ row ∷ rest → asking (reading (record v { later = rest }) row []) ≡ next_file v later
+  unfolding next_file
+  next_some later rest row is = sym (ap (next_file v) is)
+
+-- where the files to come are told, those before do not matter
+pub next_any : (v : Visit) (before later : List FileRow) → next_file (record v { later = before }) later ≡ next_file v later
+unfolding next_file
+next_any v before [] = refl
+next_any v before (r ∷ rs) = refl
+
+-- the files to come are as they were
+pub later_kept : (v : Visit) (row : FileRow) (fault : Option FileFault) → (with_fault row fault v).later ≡ v.later
+later_kept v row None = refl
+later_kept v row (Some fault) = refl
+
+pub entries_kept : (v : Visit) (row : FileRow) (fault : Option FileFault) → (with_fault row fault v).entries ≡ v.entries
+entries_kept v row None = refl
+entries_kept v row (Some fault) = refl
+
+-- ---- parts of a file
+
+inner : {A : Type 0} {x y : A} → (let a : Option A = Some x in a) ≡ Some y → x ≡ y
+inner e = cc
+
+module _ (v : Visit) (row : FileRow) (bytes : List ℕ) (total : ℕ) where
+  -- more of the file is to come
+  pub part_more : length bytes < total → asking (reading v row bytes) ≡ part_read v row bytes total
+  unfolding part_read
+  part_more h = rw (lt-ltb (length bytes) total h) refl
+
+  pub part_whole : total ≤ length bytes → file_read v row (judged v.snapshot row bytes) ≡ part_read v row bytes total
+  unfolding part_read
+  part_whole within = rw (le-ltb (length bytes) total within) refl
+
+  pub judged_more : length bytes < total → judged_by v row bytes total ≡ None
+  judged_more h = rw (lt-ltb (length bytes) total h, judged_by) refl
+
+  pub judged_whole : total ≤ length bytes → judged_by v row bytes total ≡ Some (judged v.snapshot row bytes)
+  judged_whole within = rw (le-ltb (length bytes) total within, judged_by) refl
+
+-- a part is behind the bytes of the same file
+module _ (r after : Reading) (visit : after.visit ≡ r.visit) (row : after.row ≡ r.row) where
+  pub same_reading : after.bytes.items ≡ r.bytes.items → reading_of after ≡ reading_of r
+  same_reading bytes =
+      ap (λ (x : stages.Visit). asking (reading (shown_visit x) after.row after.bytes.items)) visit
+      ∙ ap (λ x. asking (reading (shown_visit r.visit) x after.bytes.items)) row ∙ ap (λ x. asking (reading (shown_visit r.visit) r.row x)) bytes
+
+  module _ (more : List ℕ) (total : ℕ) (bytes : after.bytes.items ≡ r.bytes.items ++ more) where
+    goes_on : asking (reading (shown_visit r.visit) r.row (r.bytes.items ++ more)) ≡ reading_of after
+    goes_on =
+        sym
+        (ap (λ (x : stages.Visit). asking (reading (shown_visit x) after.row after.bytes.items)) visit
+        ∙ ap (λ x. asking (reading (shown_visit r.visit) x after.bytes.items)) row ∙ ap (λ x. asking (reading (shown_visit r.visit) r.row x)) bytes)
+
+    ends_so : (j : Judged) → file_read (shown_visit r.visit) r.row j ≡ file_read (shown_visit after.visit) after.row j
+    ends_so j =
+        sym (ap (λ (x : stages.Visit). file_read (shown_visit x) after.row j) visit ∙ ap (λ x. file_read (shown_visit r.visit) x j) row)
+
+    by_test : (whole : Option Whole) → option_map shown_whole whole ≡ judged_by (shown_visit r.visit) r.row (r.bytes.items ++ more) total
+        → (t : Bool) → nat_lt (length (r.bytes.items ++ more)) total ≡ t
+        → read_on after whole ≡ part_read (shown_visit r.visit) r.row (r.bytes.items ++ more) total
+    by_test None told true h =
+        let short : length (r.bytes.items ++ more) < total = ltb-true (length (r.bytes.items ++ more)) total h in
+        sym goes_on ∙ part_more (shown_visit r.visit) r.row (r.bytes.items ++ more) total short
+    by_test None told false h =
+        let within : total ≤ length (r.bytes.items ++ more) = ltb-false (length (r.bytes.items ++ more)) total h in
+        let is = told ∙ judged_whole (shown_visit r.visit) r.row (r.bytes.items ++ more) total within in
+        absurd (false≢true (ap is_some is))
+    by_test (Some w) told true h =
+        let short : length (r.bytes.items ++ more) < total = ltb-true (length (r.bytes.items ++ more)) total h in
+        let is = told ∙ judged_more (shown_visit r.visit) r.row (r.bytes.items ++ more) total short in
+        absurd (true≢false (ap is_some is))
+    by_test (Some w) told false h =
+        let within : total ≤ length (r.bytes.items ++ more) = ltb-false (length (r.bytes.items ++ more)) total h in
+        let is = told ∙ judged_whole (shown_visit r.visit) r.row (r.bytes.items ++ more) total within in
+        let same : shown_whole w ≡ judged (shown_visit r.visit).snapshot r.row (r.bytes.items ++ more) = inner is in
+        sym (ends_so (shown_whole w)) ∙ ap (file_read (shown_visit r.visit) r.row) same ∙ part_whole (shown_visit r.visit) r.row (r.bytes.items ++ more) total within
+
+    pub part_taken : (whole : Option Whole) → option_map shown_whole whole ≡ judged_by (shown_visit r.visit) r.row (r.bytes.items ++ more) total
+        → read_on after whole ≡ part_read (shown_visit r.visit) r.row (r.bytes.items ++ more) total
+    part_taken whole told = by_test whole told (nat_lt (length (r.bytes.items ++ more)) total) refl
+
+-- the file is whole, and its chunks come next
+pub chunks_first : (v after : Visit) (row : FileRow) (w : Whole)
+    → after ≡ (let y : Visit = record v { entries = v.entries + length (w.chunks.entries.items); bytes = v.bytes + w.bytes } in y)
+    → next_chunk after row (fault_with w.fault w.chunks.waiting.items) (place_in w.chunks) (digests_left w.chunks) ≡ file_read v row (shown_whole w)
+unfolding file_read
+chunks_first v after row w is =
+    let at : place_in w.chunks ≡ 0 = omega (arith, w.unread) in
+    let counted = ap (λ n. (let y : Visit = record v { entries = v.entries + n; bytes = v.bytes + w.bytes } in y)) (sym (length-map w.chunks.entries.items (λ (e : Entry). e.digest))) in
+    ap (λ f. next_chunk after row f (place_in w.chunks) (digests_left w.chunks)) (fault_empty w.fault w.chunks.waiting.items w.unread.1)
+    ∙ ap (λ n. next_chunk after row w.fault n (digests_of (drop n w.chunks.entries.items))) at
+    ∙ ap (λ (x : Visit). next_chunk x row w.fault 0 (digests_of w.chunks.entries.items)) (is ∙ counted)
+
+-- a fault ends the file
+module _ (r : Reading) (reply : Reply) where
+  pub fault_read : (fault : FileFault) → fault_told reply ≡ Some fault → file_done (shown_visit r.visit) r.row (Some fault) ≡ unread_by r reply
+  fault_read fault h = rw (h, unread_by) refl
+
+  pub ended_read : fault_told reply ≡ None → ended_by closing reply ≡ unread_by r reply
+  ended_read h = rw (h, unread_by) refl
+
+-- any reply to the read of a part, as the model has it
+pub read_is : (r : Reading) (reply : Reply) → read_by r reply ≡ take_more (reading_of r) reply
+unfolding take read_part
+read_is r (Part total more) = refl
+read_is r (Refused (Damaged asked found)) = refl
+read_is r (Refused (Unreadable name)) = refl
+read_is r (Refused refusal) = refl
+read_is r reply = refl
+
+-- ---- a chunk
+
+taken : (v : Visit) (row : FileRow) (fault : Option FileFault) (place : ℕ) (d : Digest32) (left later : List Digest32) (reply : Reply) → left ≡ d ∷ later
+    → checked v row fault place d later reply ≡ take_more (next_chunk v row fault place left) reply
+unfolding take next_chunk
+taken v row fault place d left later reply is = sym (ap (λ xs. take_more (next_chunk v row fault place xs) reply) is)
+
+module _ (c : Checking) where
+  by_reply : (reply : Reply)
+      → checked_by c reply ≡ checked (shown_visit c.visit) c.row (fault_of c) (place_in c.chunks) (next_digest c.chunks) (drop 1 (digests_left c.chunks)) reply
+  unfolding checked
+  by_reply (Data bytes) = refl
+  by_reply (Refused (Damaged asked found)) = refl
+  by_reply (Refused (Unreadable name)) = refl
+  by_reply (Refused refusal) = refl
+  by_reply reply = refl
+
+  -- any reply to the read of a chunk, as the model has it
+  pub checked_is : (reply : Reply) → checked_by c reply ≡ take_more (job_of c) reply
+  checked_is reply =
+      by_reply reply
+      ∙ taken (shown_visit c.visit) c.row (fault_of c) (place_in c.chunks) (next_digest c.chunks) (digests_left c.chunks) (drop 1 (digests_left c.chunks)) reply (left_is c.chunks c.next)
+
+  -- the next chunk is read, with this fault of it
+  pub found_so : (fault : Option FileFault) (place : ℕ) (left : List Digest32) (found : Option FileFault)
+      → fault ≡ option_or (fault_of c) found → place ≡ place_in c.chunks + 1 → left ≡ drop 1 (digests_left c.chunks)
+      → next_chunk (shown_visit c.visit) c.row fault place left ≡ found_by c found
+  found_so fault place left found told at later =
+      ap (λ f. next_chunk (shown_visit c.visit) c.row f place left) told
+      ∙ ap (λ n. next_chunk (shown_visit c.visit) c.row (option_or (fault_of c) found) n left) at
+      ∙ ap (next_chunk (shown_visit c.visit) c.row (option_or (fault_of c) found) (place_in c.chunks + 1)) later
+
+  -- what is asked
+  pub asks_chunk : next (job_of c) ≡ Some (ReadChunk (c.row).file (place_in c.chunks))
+  unfolding next_chunk
+  asks_chunk =
+      ap (λ xs. next (next_chunk (shown_visit c.visit) c.row (fault_of c) (place_in c.chunks) xs)) (left_is c.chunks c.next)
+
+  pub goes_on_checking : stops (job_of c) ≡ false
+  unfolding next_chunk
+  goes_on_checking =
+      ap (λ xs. stops (next_chunk (shown_visit c.visit) c.row (fault_of c) (place_in c.chunks) xs)) (left_is c.chunks c.next)
+
+-- behind the last chunk the file is done
+pub chunks_done : (v : stages.Visit) (row : FileRow) (fault : Option FileFault) (chunks : Chunks) → IsRead chunks → length (chunks.waiting.items) ≡ 0
+    → file_done (shown_visit v) row fault ≡ chunks_of v row fault chunks
+unfolding next_chunk
+chunks_done v row fault chunks read none =
+    sym
+    (ap (λ f. next_chunk (shown_visit v) row f (place_in chunks) (digests_left chunks)) (fault_empty fault chunks.waiting.items none)
+    ∙ ap (next_chunk (shown_visit v) row fault (place_in chunks)) (none_left chunks read))
+
+-- a job that reads chunks has a text
+pub chunks_text : (v : stages.Visit) (row : FileRow) (fault : Option FileFault) (chunks : Chunks) → HasNext chunks → EndsInText (chunks_of v row fault chunks)
+unfolding next_chunk
+chunks_text v row fault chunks next =
+    subst (λ xs. EndsInText (next_chunk (shown_visit v) row (fault_with fault chunks.waiting.items) (place_in chunks) xs)) (sym (left_is chunks next)) tt
+
+-- a damaged chunk's fault has a text
+pub damaged_fits : (d : Digest32) → length (d.0) ≡ 32 → IsFitFault (Some (faults.Damaged d))
+damaged_fits d h = eq-eqb (length (d.0)) 32 h

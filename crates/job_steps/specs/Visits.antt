@@ -1,0 +1,139 @@
+-- A VERIFY's state.
+use Rattle.std.specs.Prelude.{◌≡◌, ℕ, ◌+◌, ◌*◌, ◌^◌, ◌<◌, ◌≤◌, true, List, [], ◌∷◌, drop, length, map, min, nat_lt, vec_capacity, Option, Some, None, is_none, is_some, Result, IfOk, if◌then◌else◌, slice_index_or}
+use Rattle.std.specs.Option.{option_or}
+use Rattle.sha2.specs.Sha256.{sha256}
+use Rattle.store_types.specs.declared.names.Digest32.{Digest32}
+use Rattle.store_files.specs.FixedIndex.{FixedIndex}
+use Rattle.store_files.specs.DynamicIndex.{DynamicIndex}
+use Rattle.wire_commands.specs.declared.rows.FileFault.{FileFault}
+use Rattle.wire_commands.specs.declared.rows.FileRow.{FileRow}
+use Rattle.wire_commands.specs.declared.reply.Reply.{Reply}
+use Rattle.wire_commands.specs.declared.reply.Reply.TheVariants.{Part}
+use Rattle.store_model.specs.declared.step.Step.{Step}
+use Rattle.store_model.specs.declared.step.Step.TheVariants.{ReadFile}
+use Rattle.store_model.specs.Job as model
+use Rattle.store_model.specs.VerifyJob as verify
+use Rattle.job_steps.specs.declared.chunks.Entry.{Entry}
+use Rattle.job_steps.specs.declared.chunks.Waiting.{Waiting}
+use Rattle.job_steps.specs.declared.chunks.Chunks.{Chunks}
+use Rattle.job_steps.specs.declared.chunks.Judged.{Judged}
+use Rattle.job_steps.specs.declared.visit.Visit.{Visit}
+
+abbrev pub shown_visit : Visit → model.Visit
+shown_visit v = record {
+  snapshot = v.snapshot;
+  files = v.files;
+  entries = v.entries;
+  bytes = v.bytes;
+  faults = v.faults.items;
+  later = v.later.items;
+}
+
+-- ---- the chunks of an index
+
+abbrev pub digests_of : List Entry → List Digest32
+digests_of entries = map (λ e. e.digest) entries
+
+-- how many of its chunks were read: those that were tested, and those that wait
+abbrev pub place_in : Chunks → ℕ
+place_in c = c.tested + length c.waiting.items
+
+-- the digests of those to be read
+abbrev pub digests_left : Chunks → List Digest32
+digests_left c = digests_of (drop (place_in c) c.entries.items)
+
+-- the first fault of a file whose fault so far is this, with the chunks that wait: what they hold counts, tested or not
+abbrev pub fault_with : Option FileFault → List Waiting → Option FileFault
+fault_with fault [] = fault
+fault_with fault (w ∷ ws) = fault_with (option_or fault (verify.chunk_fault w.digest w.blob)) ws
+
+-- a test of each was done
+abbrev pub IsTested : Waiting → Type 0
+IsTested w = w.is_whole ≡ is_none (verify.chunk_fault w.digest w.blob)
+
+-- room for as many chunks as a batch of it has
+abbrev pub HasRoom : Chunks → Type 0
+HasRoom c = min 4096 (length c.entries.items) ≤ vec_capacity c.waiting
+
+-- all were read
+abbrev pub IsRead : Chunks → Type 0
+IsRead c = length c.entries.items ≤ place_in c
+
+-- there is a chunk to be read, and its digest
+abbrev pub HasNext : Chunks → Type 0
+HasNext c = place_in c < length c.entries.items
+
+abbrev pub next_digest : Chunks → Digest32
+next_digest c = slice_index_or (digests_left c) 0 (verify.digest [])
+
+-- ---- what a call leaves
+
+-- one more was read
+pub record ReadsOne (old new : Chunks) : Type 0 where
+  pub place : place_in new ≡ place_in old + 1
+  pub left : digests_left new ≡ drop 1 (digests_left old)
+
+-- as many were read
+pub record StaysAt (old new : Chunks) : Type 0 where
+  pub entries : new.entries.items ≡ old.entries.items
+  pub place : place_in new ≡ place_in old
+
+-- none waits any more
+pub record TestsAll (old new : Chunks) : Type 0 where
+  pub stays : StaysAt old new
+  pub none : new.waiting.items ≡ []
+  pub room : HasRoom old → HasRoom new
+
+-- a chunk is not tested where the file has a fault already: a file has its first fault alone
+abbrev pub WaitsFor : Option FileFault → Chunks → Type 0
+WaitsFor fault c = is_some fault ≡ true → length c.waiting.items ≡ 0
+
+-- behind the last of them none waits
+abbrev pub EndsTested : Chunks → Type 0
+EndsTested c = IsRead c → length c.waiting.items ≡ 0
+
+-- none of its chunks was read
+abbrev pub IsUnread : Chunks → Type 0
+IsUnread c = (c.tested ≡ 0) × (length c.waiting.items ≡ 0)
+
+-- of the file at hand no entries are counted
+abbrev pub IsUncounted : Visit → Type 0
+IsUncounted v = (v.entries ≤ v.files * 2 ^ 20) × (v.bytes ≤ v.files * 2 ^ 44)
+
+-- ---- a whole file
+
+abbrev pub shown_judged : Judged → verify.Judged
+shown_judged j = record { fault = j.fault; bytes = j.bytes; digests = digests_of j.entries.items }
+
+abbrev pub GivesJudged : {E : Type 0} → Result Judged E → verify.Judged → Type 0
+GivesJudged result judged = IfOk result (λ given. shown_judged given ≡ judged)
+
+-- the pieces of a fixed index are in range: none is longer than a piece may be, and together they have its size
+pub record HasPieces (x : FixedIndex) : Type 0 where
+  pub limit : length x.digests ≤ 1_048_576
+  pub longest : x.chunk_size ≤ 16_777_216
+  pub size : x.size ≤ length x.digests * x.chunk_size
+  pub reach : length x.digests * x.chunk_size < x.size + x.chunk_size
+
+-- the digests of an index
+abbrev pub fixed_digests_of : FixedIndex → List Digest32
+fixed_digests_of x = map verify.digest x.digests
+
+abbrev pub dynamic_digests_of : DynamicIndex → List Digest32
+dynamic_digests_of x = map (λ e. verify.digest e.digest) x.entries
+
+-- the fault of a blob of this name: that it differs from what is listed comes first
+abbrev pub blob_fault_of : List ℕ → List ℕ → FileRow → List ℕ → Option FileFault
+blob_fault_of snapshot name row bytes = option_or (verify.compared row (length bytes) (sha256 bytes)) (verify.blob_fault snapshot name bytes)
+
+abbrev pub GivesFault : {E : Type 0} → Result (Option FileFault) E → Option FileFault → Type 0
+GivesFault result fault = IfOk result (λ given. given ≡ fault)
+
+-- a part of a file was read: the one reply that is taken only where there is memory
+abbrev pub IsPartRead : Option Step → Reply → Type 0
+IsPartRead (Some (ReadFile name offset)) (Part total bytes) = Unit {0}
+IsPartRead step reply = ⊥
+
+-- what a file with these bytes says, where they are all of it
+abbrev pub judged_by : model.Visit → FileRow → List ℕ → ℕ → Option verify.Judged
+judged_by v row bytes total = if nat_lt (length bytes) total then None else Some (verify.judged v.snapshot row bytes)
