@@ -16,8 +16,13 @@ use Rattle.wire_commands.specs.declared.rows.FileFault.TheVariants as faults
 use Rattle.store_model.specs.VerifyJob.{chunk_fault, digest, is_piece_of}
 use Rattle.job_steps.specs.declared.chunks.Chunks.{Chunks}
 use Rattle.job_steps.specs.declared.chunks.Entry.{Entry}
-use Rattle.job_steps.specs.declared.chunks.Waiting.{Waiting}
-use Rattle.job_steps.specs.Visits.{HasNext, IsTested, ReadsOne, StaysAt, digests_left, digests_of, fault_with, next_digest, place_in}
+use Rattle.job_steps.specs.declared.part.Waiting.{Waiting}
+use Rattle.job_steps.specs.declared.tested.TestOf.{TestOf}
+use Rattle.job_steps.specs.declared.tested.Tested.{Tested}
+use Rattle.std.specs.declared.thread.PromisedHandle.{PromisedHandle}
+use Rattle.job_steps.specs.Parts.{parts_fault}
+use Rattle.job_steps.specs.Visits.{HasNext, IsSettled, ReadsOne, StaysAt, digests_left, digests_of, fault_in, next_digest, place_in}
+use Rattle.job_steps.specs.Waits.{IsTested, fault_with}
 
 -- ---- the test of a chunk
 
@@ -104,10 +109,44 @@ pub fault_push : (fault : Option FileFault) (ws : List Waiting) (w : Waiting) �
 fault_push fault [] w = refl
 fault_push fault (x ∷ ws) w = fault_push (option_or fault (chunk_fault x.digest x.blob)) ws w
 
--- none waits
-pub fault_empty : (fault : Option FileFault) (ws : List Waiting) → length ws ≡ 0 → fault_with fault ws ≡ fault
-fault_empty fault [] h = refl
-fault_empty fault (w ∷ ws) h = absurd (omega (arith, h))
+-- ---- the parts at threads
+
+-- the fault of the part that a thread tests
+abbrev pub fault_at : PromisedHandle Tested TestOf → Option FileFault
+fault_at p = fault_with None p.promise.0.value.chunks.items
+
+-- one more was handed over
+pub parts_push : (ps : List (PromisedHandle Tested TestOf)) (p : PromisedHandle Tested TestOf) → parts_fault (ps ++ p ∷ []) ≡ option_or (parts_fault ps) (fault_at p)
+parts_push [] p = or_none (fault_at p)
+parts_push (q ∷ ps) p = ap (option_or (fault_at q)) (parts_push ps p) ∙ sym (or_assoc (fault_at q) (parts_fault ps) (fault_at p))
+
+-- the last of them is joined
+pub parts_pop : (all rest : List (PromisedHandle Tested TestOf)) (p : PromisedHandle Tested TestOf) (fault : Option FileFault) → all ≡ rest ++ p ∷ []
+    → option_or (parts_fault rest) (option_or (fault_at p) fault) ≡ option_or (parts_fault all) fault
+parts_pop all rest p fault is =
+    sym
+    (ap (λ ps. option_or (parts_fault ps) fault) is ∙ ap (λ f. option_or f fault) (parts_push rest p)
+    ∙ or_assoc (parts_fault rest) (fault_at p) fault)
+
+-- the fault so far, those at threads, and those that wait, in this order
+pub fault_in_order : (fault : Option FileFault) (c : Chunks) → fault_in fault c ≡ option_or fault (option_or (parts_fault c.handed.parts.items) (fault_with None c.waiting.chunks.items))
+fault_in_order fault c =
+    let parts = parts_fault c.handed.parts.items in
+    sym (fault_first (option_or fault parts) c.waiting.chunks.items) ∙ or_assoc fault parts (fault_with None c.waiting.chunks.items)
+
+-- what waits was handed over, and none waits behind it
+pub fault_handed : (fault found : Option FileFault) (old : Chunks) (parts : List (PromisedHandle Tested TestOf)) (ws : List Waiting) → ws ≡ []
+    → option_or found (parts_fault parts) ≡ option_or (parts_fault old.handed.parts.items) (fault_with None old.waiting.chunks.items)
+    → fault_with (option_or (option_or fault found) (parts_fault parts)) ws ≡ fault_in fault old
+fault_handed fault found old parts ws none told =
+    ap (fault_with (option_or (option_or fault found) (parts_fault parts))) none ∙ or_assoc fault found (parts_fault parts) ∙ ap (option_or fault) told
+    ∙ sym (fault_in_order fault old)
+
+-- where none is at a thread and none waits
+pub fault_settled : (fault : Option FileFault) (c : Chunks) → IsSettled c → fault_in fault c ≡ fault
+fault_settled fault c settled =
+    ap (λ ws. fault_with (option_or fault (parts_fault c.handed.parts.items)) ws) settled.1
+    ∙ ap (λ ps. option_or fault (parts_fault ps)) settled.0 ∙ or_none fault
 
 -- ---- a batch that is tested
 
@@ -126,13 +165,6 @@ same_faults (x ∷ xs) (y ∷ ys) len each fault =
     let one : chunk_fault y.digest y.blob ≡ chunk_fault x.digest x.blob = ap (λ d. chunk_fault d y.blob) first.digest ∙ ap (chunk_fault x.digest) first.blob in
     ap (λ f. fault_with (option_or fault f) ys) one
     ∙ same_faults xs ys (omega (arith, len)) (λ i d lt. each (suc i) d (omega (arith, lt))) (option_or fault (chunk_fault x.digest x.blob))
-
--- the first is whole, or not
-pub whole_first : (w : Waiting) (ws : List Waiting) → IsTested w → w.is_whole ≡ true → fault_with None (w ∷ ws) ≡ fault_with None ws
-whole_first w ws tested h = ap (λ f. fault_with f ws) (fault_cases w.digest w.blob true (sym tested ∙ h))
-
-pub damaged_first : (w : Waiting) (ws : List Waiting) → IsTested w → w.is_whole ≡ false → fault_with None (w ∷ ws) ≡ Some (faults.Damaged w.digest)
-damaged_first w ws tested h = ap (λ f. fault_with f ws) (fault_cases w.digest w.blob false (sym tested ∙ h)) ∙ fault_some (faults.Damaged w.digest) ws
 
 -- ---- the next of the entries
 
@@ -179,24 +211,29 @@ module _ (old new : Chunks) (stays : StaysAt old new) where
   next_stays next = omega (arith, next, stays.place, ap length stays.entries)
 
 -- a file with a fault keeps it
-pub put_known : (fault : Option FileFault) (ws : List Waiting) (found : Option FileFault) → is_some fault ≡ true
-    → fault_with fault ws ≡ option_or (fault_with fault ws) found
-put_known None ws found h = cc
-put_known (Some f) ws found h = let is = fault_some f ws in is ∙ sym (ap (λ x. option_or x found) is)
+pub put_known : (fault : Option FileFault) (c : Chunks) (found : Option FileFault) → is_some fault ≡ true → fault_in fault c ≡ option_or (fault_in fault c) found
+put_known None c found h = cc
+put_known (Some f) c found h = let is = fault_some f c.waiting.chunks.items in is ∙ sym (ap (λ x. option_or x found) is)
 
 -- ---- the chunks that wait, one by one
 
-pub at_place : (ws : List Waiting) (i : ℕ) (w : Waiting) → i < length ws → w ≡ get_or ws i w → All IsTested ws → (drop i ws ≡ w ∷ drop (i + 1) ws) × IsTested w
-at_place ws i w lt is tested = (drop_more ws i w lt ∙ ap (λ x. x ∷ drop (i + 1) ws) (sym is), subst IsTested (sym is) (tested i w lt))
+module _ (ws : List Waiting) (i : ℕ) (w : Waiting) (lt : i < length ws) (is : w ≡ get_or ws i w) where
+  at_place : drop i ws ≡ w ∷ drop (i + 1) ws
+  at_place = drop_more ws i w lt ∙ ap (λ x. x ∷ drop (i + 1) ws) (sym is)
 
-pub whole_at : (ws : List Waiting) (i : ℕ) (w : Waiting) → i < length ws → w ≡ get_or ws i w → All IsTested ws → w.is_whole ≡ true
-    → fault_with None (drop i ws) ≡ fault_with None (drop (i + 1) ws)
-whole_at ws i w lt is tested h =
-    let at = at_place ws i w lt is tested in
-    ap (fault_with None) at.0 ∙ whole_first w (drop (i + 1) ws) at.1 h
+  pub whole_there : is_none (chunk_fault w.digest w.blob) ≡ true → fault_with None (drop i ws) ≡ fault_with None (drop (i + 1) ws)
+  whole_there h = ap (fault_with None) at_place ∙ ap (λ f. fault_with f (drop (i + 1) ws)) (fault_cases w.digest w.blob true h)
 
-pub damaged_at : (ws : List Waiting) (i : ℕ) (w : Waiting) → i < length ws → w ≡ get_or ws i w → All IsTested ws → w.is_whole ≡ false
-    → fault_with None (drop i ws) ≡ Some (faults.Damaged w.digest)
-damaged_at ws i w lt is tested h =
-    let at = at_place ws i w lt is tested in
-    ap (fault_with None) at.0 ∙ damaged_first w (drop (i + 1) ws) at.1 h
+  pub damaged_there : is_none (chunk_fault w.digest w.blob) ≡ false → fault_with None (drop i ws) ≡ Some (faults.Damaged w.digest)
+  damaged_there h =
+      ap (fault_with None) at_place ∙ ap (λ f. fault_with f (drop (i + 1) ws)) (fault_cases w.digest w.blob false h)
+      ∙ fault_some (faults.Damaged w.digest) (drop (i + 1) ws)
+
+  tested_there : All IsTested ws → IsTested w
+  tested_there tested = subst IsTested (sym is) (tested i w lt)
+
+  pub whole_at : All IsTested ws → w.is_whole ≡ true → fault_with None (drop i ws) ≡ fault_with None (drop (i + 1) ws)
+  whole_at tested h = whole_there (sym (tested_there tested) ∙ h)
+
+  pub damaged_at : All IsTested ws → w.is_whole ≡ false → fault_with None (drop i ws) ≡ Some (faults.Damaged w.digest)
+  damaged_at tested h = damaged_there (sym (tested_there tested) ∙ h)

@@ -31,8 +31,8 @@ use Rattle.job_steps.specs.Closes.{ended_by}
 use Rattle.job_steps.specs.FaultRows.{fault_fits, IsFitFault, IsFitRow}
 use Rattle.job_steps.specs.Replies.{EndsInText}
 use Rattle.job_steps.specs.States.{chunks_of}
-use Rattle.job_steps.specs.Visits.{HasNext, IsRead, digests_left, digests_of, fault_with, judged_by, next_digest, place_in, shown_visit}
-use Rattle.job_steps.proofs.BatchLemmas.{fault_empty, left_is, none_left}
+use Rattle.job_steps.specs.Visits.{HasNext, IsRead, IsSettled, digests_left, digests_of, fault_in, judged_by, next_digest, place_in, shown_visit}
+use Rattle.job_steps.proofs.BatchLemmas.{fault_settled, left_is, none_left}
 
 -- ---- the report
 
@@ -161,12 +161,12 @@ module _ (r after : Reading) (visit : after.visit ≡ r.visit) (row : after.row 
 -- the file is whole, and its chunks come next
 pub chunks_first : (v after : Visit) (row : FileRow) (w : Whole)
     → after ≡ (let y : Visit = record v { entries = v.entries + length (w.chunks.entries.items); bytes = v.bytes + w.bytes } in y)
-    → next_chunk after row (fault_with w.fault w.chunks.waiting.items) (place_in w.chunks) (digests_left w.chunks) ≡ file_read v row (shown_whole w)
+    → next_chunk after row (fault_in w.fault w.chunks) (place_in w.chunks) (digests_left w.chunks) ≡ file_read v row (shown_whole w)
 unfolding file_read
 chunks_first v after row w is =
-    let at : place_in w.chunks ≡ 0 = omega (arith, w.unread) in
+    let at : place_in w.chunks ≡ 0 = omega (arith, w.unread.0, ap length w.unread.1.1) in
     let counted = ap (λ n. (let y : Visit = record v { entries = v.entries + n; bytes = v.bytes + w.bytes } in y)) (sym (length-map w.chunks.entries.items (λ (e : Entry). e.digest))) in
-    ap (λ f. next_chunk after row f (place_in w.chunks) (digests_left w.chunks)) (fault_empty w.fault w.chunks.waiting.items w.unread.1)
+    ap (λ f. next_chunk after row f (place_in w.chunks) (digests_left w.chunks)) (fault_settled w.fault w.chunks w.unread.1)
     ∙ ap (λ n. next_chunk after row w.fault n (digests_of (drop n w.chunks.entries.items))) at
     ∙ ap (λ (x : Visit). next_chunk x row w.fault 0 (digests_of w.chunks.entries.items)) (is ∙ counted)
 
@@ -231,19 +231,19 @@ module _ (c : Checking) where
       ap (λ xs. stops (next_chunk (shown_visit c.visit) c.row (fault_of c) (place_in c.chunks) xs)) (left_is c.chunks c.next)
 
 -- behind the last chunk the file is done
-pub chunks_done : (v : stages.Visit) (row : FileRow) (fault : Option FileFault) (chunks : Chunks) → IsRead chunks → length (chunks.waiting.items) ≡ 0
+pub chunks_done : (v : stages.Visit) (row : FileRow) (fault : Option FileFault) (chunks : Chunks) → IsRead chunks → IsSettled chunks
     → file_done (shown_visit v) row fault ≡ chunks_of v row fault chunks
 unfolding next_chunk
-chunks_done v row fault chunks read none =
+chunks_done v row fault chunks read settled =
     sym
-    (ap (λ f. next_chunk (shown_visit v) row f (place_in chunks) (digests_left chunks)) (fault_empty fault chunks.waiting.items none)
+    (ap (λ f. next_chunk (shown_visit v) row f (place_in chunks) (digests_left chunks)) (fault_settled fault chunks settled)
     ∙ ap (next_chunk (shown_visit v) row fault (place_in chunks)) (none_left chunks read))
 
 -- a job that reads chunks has a text
 pub chunks_text : (v : stages.Visit) (row : FileRow) (fault : Option FileFault) (chunks : Chunks) → HasNext chunks → EndsInText (chunks_of v row fault chunks)
 unfolding next_chunk
 chunks_text v row fault chunks next =
-    subst (λ xs. EndsInText (next_chunk (shown_visit v) row (fault_with fault chunks.waiting.items) (place_in chunks) xs)) (sym (left_is chunks next)) tt
+    subst (λ xs. EndsInText (next_chunk (shown_visit v) row (fault_in fault chunks) (place_in chunks) xs)) (sym (left_is chunks next)) tt
 
 -- a damaged chunk's fault has a text
 pub damaged_fits : (d : Digest32) → length (d.0) ≡ 32 → IsFitFault (Some (faults.Damaged d))

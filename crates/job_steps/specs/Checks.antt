@@ -15,7 +15,7 @@ use Rattle.job_steps.specs.declared.stages.Reading.{Reading}
 use Rattle.job_steps.specs.declared.stages.Whole.{Whole}
 use Rattle.job_steps.specs.Closes.{ended_by}
 use Rattle.job_steps.specs.States.{chunks_of}
-use Rattle.job_steps.specs.Visits.{digests_left, digests_of, fault_with, next_digest, place_in, shown_visit}
+use Rattle.job_steps.specs.Visits.{digests_left, digests_of, fault_in, next_digest, place_in, shown_visit}
 
 abbrev pub IsPart : Reply → Type 0
 IsPart (Part total bytes) = Unit {0}
@@ -71,7 +71,7 @@ job_of c = chunks_of c.visit c.row c.fault c.chunks
 
 -- its fault with what waits
 abbrev pub fault_of : Checking → Option FileFault
-fault_of c = fault_with c.fault c.chunks.waiting.items
+fault_of c = fault_in c.fault c.chunks
 
 -- the next chunk is read, with this fault of it
 abbrev pub found_by : Checking → Option FileFault → Job
@@ -87,9 +87,13 @@ damaged_by c = found_by c (Some (faults.Damaged (next_digest c.chunks)))
 abbrev pub unreadable_by : Checking → Job
 unreadable_by c = verify.file_done (shown_visit c.visit) c.row (option_or (fault_of c) (Some faults.Unreadable))
 
+-- after any reply to its read but a chunk, by the fault that it tells
+abbrev pub unheld_by : Checking → Reply → Option FileFault → Job
+unheld_by c reply (Some (faults.Damaged digest)) = damaged_by c
+unheld_by c reply (Some fault) = unreadable_by c
+unheld_by c reply None = ended_by closing reply
+
 -- after the reply to its read
 abbrev pub checked_by : Checking → Reply → Job
 checked_by c (Data blob) = held_by c blob
-checked_by c (Refused (Damaged asked found)) = damaged_by c
-checked_by c (Refused (Unreadable name)) = unreadable_by c
-checked_by c reply = ended_by closing reply
+checked_by c reply = unheld_by c reply (fault_told reply)

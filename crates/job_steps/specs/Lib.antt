@@ -1,5 +1,7 @@
 pub mod Closes
 pub mod FaultRows
+pub mod Waits
+pub mod Parts
 pub mod Visits
 pub mod Rows
 pub mod States

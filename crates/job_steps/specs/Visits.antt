@@ -1,5 +1,5 @@
 -- A VERIFY's state.
-use Rattle.std.specs.Prelude.{◌≡◌, ℕ, ◌+◌, ◌*◌, ◌^◌, ◌<◌, ◌≤◌, true, List, [], ◌∷◌, drop, length, map, min, nat_lt, vec_capacity, Option, Some, None, is_none, is_some, Result, IfOk, if◌then◌else◌, slice_index_or}
+use Rattle.std.specs.Prelude.{◌≡◌, ℕ, ◌+◌, ◌*◌, ◌^◌, ◌<◌, ◌≤◌, true, List, [], drop, length, map, nat_lt, Option, Some, None, is_some, Result, IfOk, if◌then◌else◌, slice_index_or}
 use Rattle.std.specs.Option.{option_or}
 use Rattle.sha2.specs.Sha256.{sha256}
 use Rattle.store_types.specs.declared.names.Digest32.{Digest32}
@@ -14,10 +14,11 @@ use Rattle.store_model.specs.declared.step.Step.TheVariants.{ReadFile}
 use Rattle.store_model.specs.Job as model
 use Rattle.store_model.specs.VerifyJob as verify
 use Rattle.job_steps.specs.declared.chunks.Entry.{Entry}
-use Rattle.job_steps.specs.declared.chunks.Waiting.{Waiting}
 use Rattle.job_steps.specs.declared.chunks.Chunks.{Chunks}
 use Rattle.job_steps.specs.declared.chunks.Judged.{Judged}
 use Rattle.job_steps.specs.declared.visit.Visit.{Visit}
+use Rattle.job_steps.specs.Parts.{parts_fault}
+use Rattle.job_steps.specs.Waits.{fault_with}
 
 abbrev pub shown_visit : Visit → model.Visit
 shown_visit v = record {
@@ -34,26 +35,17 @@ shown_visit v = record {
 abbrev pub digests_of : List Entry → List Digest32
 digests_of entries = map (λ e. e.digest) entries
 
--- how many of its chunks were read: those that were tested, and those that wait
+-- how many of its chunks were read: those that are tested or at a thread, and those that wait
 abbrev pub place_in : Chunks → ℕ
-place_in c = c.tested + length c.waiting.items
+place_in c = c.tested + length c.waiting.chunks.items
 
 -- the digests of those to be read
 abbrev pub digests_left : Chunks → List Digest32
 digests_left c = digests_of (drop (place_in c) c.entries.items)
 
--- the first fault of a file whose fault so far is this, with the chunks that wait: what they hold counts, tested or not
-abbrev pub fault_with : Option FileFault → List Waiting → Option FileFault
-fault_with fault [] = fault
-fault_with fault (w ∷ ws) = fault_with (option_or fault (verify.chunk_fault w.digest w.blob)) ws
-
--- a test of each was done
-abbrev pub IsTested : Waiting → Type 0
-IsTested w = w.is_whole ≡ is_none (verify.chunk_fault w.digest w.blob)
-
--- room for as many chunks as a batch of it has
-abbrev pub HasRoom : Chunks → Type 0
-HasRoom c = min 4096 (length c.entries.items) ≤ vec_capacity c.waiting
+-- the first fault of a file whose fault so far is this, with the chunks that were read: what they hold counts, tested or not
+abbrev pub fault_in : Option FileFault → Chunks → Option FileFault
+fault_in fault c = fault_with (option_or fault (parts_fault c.handed.parts.items)) c.waiting.chunks.items
 
 -- all were read
 abbrev pub IsRead : Chunks → Type 0
@@ -78,23 +70,26 @@ pub record StaysAt (old new : Chunks) : Type 0 where
   pub entries : new.entries.items ≡ old.entries.items
   pub place : place_in new ≡ place_in old
 
--- none waits any more
+-- none waits any more, nor is one at a thread
+abbrev pub IsSettled : Chunks → Type 0
+IsSettled c = (c.handed.parts.items ≡ []) × (c.waiting.chunks.items ≡ [])
+
+-- as many were read, and all of them are tested
 pub record TestsAll (old new : Chunks) : Type 0 where
   pub stays : StaysAt old new
-  pub none : new.waiting.items ≡ []
-  pub room : HasRoom old → HasRoom new
+  pub settled : IsSettled new
 
 -- a chunk is not tested where the file has a fault already: a file has its first fault alone
 abbrev pub WaitsFor : Option FileFault → Chunks → Type 0
-WaitsFor fault c = is_some fault ≡ true → length c.waiting.items ≡ 0
+WaitsFor fault c = is_some fault ≡ true → c.waiting.chunks.items ≡ []
 
--- behind the last of them none waits
+-- behind the last of them none waits, nor is one at a thread
 abbrev pub EndsTested : Chunks → Type 0
-EndsTested c = IsRead c → length c.waiting.items ≡ 0
+EndsTested c = IsRead c → IsSettled c
 
 -- none of its chunks was read
 abbrev pub IsUnread : Chunks → Type 0
-IsUnread c = (c.tested ≡ 0) × (length c.waiting.items ≡ 0)
+IsUnread c = (c.tested ≡ 0) × IsSettled c
 
 -- of the file at hand no entries are counted
 abbrev pub IsUncounted : Visit → Type 0

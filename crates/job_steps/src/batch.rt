@@ -1,16 +1,16 @@
-//! The chunks of an index that a VERIFY reads, which are tested in batches.
+//! The chunks of an index that a VERIFY reads, which are tested in batches, and of a batch in parts, by threads of their own.
 
-ghost use Rattle.std.specs.Prelude.{◌≡◌, ◌<◌, ◌≤◌, length, vec_len, IfOk, MatchBool, None, Option};
+ghost use Rattle.std.specs.Prelude.{◌≡◌, ◌<◌, ◌≤◌, [], vec_len, IfOk, MatchBool, Option};
 ghost use Rattle.std.specs.Bool.{OnFalse};
-ghost use Rattle.std.specs.List.{All};
 ghost use Rattle.std.specs.Option.{option_or};
 ghost use Rattle.job_steps.specs.FaultRows.{IsFitFault};
 ghost use Rattle.store_model.specs.VerifyJob.{chunk_fault};
-ghost use Rattle.job_steps.specs.Visits.{EndsTested, HasNext, HasRoom, IsRead, IsTested, IsUnread, ReadsOne, StaysAt, TestsAll, WaitsFor, fault_with, next_digest, place_in};
+ghost use Rattle.job_steps.specs.Visits.{EndsTested, HasNext, IsRead, IsUnread, ReadsOne, StaysAt, TestsAll, WaitsFor, fault_in, next_digest, place_in};
 
-use crate::chunks::{Chunks, Entry, Waiting};
-use chunk_store::test;
-use rayon::prelude::par_for_each_mut;
+use crate::chunks::{Chunks, Entry};
+use crate::handed::Handed;
+use crate::part::{Part, Waiting};
+use crate::testing::{PART_LIMIT, first_of};
 use std::alloc::{AllocError, Global};
 use std::thread::Threads;
 use store_types::Bytes;
@@ -22,58 +22,8 @@ const BATCH_LIMIT: usize = 4096;
 /// A batch ends where its chunks have so many bytes or more, by their index.
 const BATCH_BYTES: u64 = 64 * 1024 * 1024;
 
-/// The chunk is the blob of a piece with its digest, or it is not.
-fn test_one(waiting: &mut Waiting)
-    ensures digest { waiting.new.digest ≡ waiting.old.digest }
-    ensures blob { waiting.new.blob ≡ waiting.old.blob }
-    ensures tested { IsTested waiting.new }
-{
-    waiting.is_whole = test(&waiting.digest, waiting.blob.as_slice()).is_ok();
-}
-
-/// Tests each, by as many threads as there are processors, up to 32. It takes no memory, and the answer is that of one thread.
-fn test_all<R: Threads + Sync>(rt: &R, waiting: &mut [Waiting])
-    ensures same { (fault : Option FileFault) → fault_with fault waiting.new ≡ fault_with fault waiting.old }
-    ensures count { length waiting.new ≡ length waiting.old }
-    ensures tested { All IsTested waiting.new }
-{
-    par_for_each_mut(
-        rt,
-        waiting,
-        |_, one: &mut Waiting|
-            ensures digest { one.new.digest ≡ one.old.digest }
-            ensures blob { one.new.blob ≡ one.old.blob }
-            ensures tested { IsTested one.new }
-        { test_one(one) },
-    );
-}
-
-/// The fault of the first that is not whole.
-fn first_fault(waiting: &[Waiting]) -> Option<FileFault>
-    requires { All IsTested waiting.now }
-    ensures first { result ≡ fault_with None waiting.now }
-    ensures fits { IsFitFault result }
-{
-    for one in waiting {
-        if !one.is_whole {
-            return Some(FileFault::Damaged(one.digest));
-        }
-    }
-    None
-}
-
-/// The first of two faults.
-pub fn first_of(fault: Option<FileFault>, other: Option<FileFault>) -> Option<FileFault>
-    requires fault { IsFitFault fault }
-    requires other { IsFitFault other }
-    ensures first { result ≡ option_or fault other }
-    ensures fits { IsFitFault result }
-{
-    match fault {
-        Some(fault) => Some(fault),
-        None => other,
-    }
-}
+/// And so does a part of it.
+const PART_BYTES: u64 = 2 * 1024 * 1024;
 
 impl Chunks {
     /// The chunks of an index with these entries, of which none was read, with room for a batch.
@@ -81,13 +31,15 @@ impl Chunks {
         requires { vec_len entries ≤ 1_048_576 }
         ensures entries { IfOk result (λ c. c.entries.items ≡ entries.items) }
         ensures unread { IfOk result IsUnread }
-        ensures room { IfOk result HasRoom }
     {
-        let room = entries.len().min(BATCH_LIMIT);
-        let waiting = Vec::with_capacity(alloc, room)?;
+        let handed = Handed::new(alloc, entries.len())?;
+        let waiting = Part::new(alloc)?;
         Ok(Chunks {
             entries,
             tested: 0,
+            handed,
+            batch_chunks: 0,
+            batch_bytes: 0,
             waiting,
             bytes: 0,
         })
@@ -97,7 +49,7 @@ impl Chunks {
     pub fn place(&self) -> usize
         ensures { result ≡ place_in self.now }
     {
-        self.tested + self.waiting.len()
+        self.tested + self.waiting.chunks.len()
     }
 
     /// All were read.
@@ -117,47 +69,43 @@ impl Chunks {
 
     /// The next chunk was read, and is not to be tested. None waits before it.
     pub fn skip(&mut self)
-        requires none { vec_len self.old.waiting ≡ 0 }
+        requires none { self.old.waiting.chunks.items ≡ [] }
         requires next { HasNext self.old }
         ensures reads { ReadsOne self.old self.new }
-        ensures waiting { self.new.waiting.items ≡ self.old.waiting.items }
-        ensures room { HasRoom self.old → HasRoom self.new }
+        ensures handed { self.new.handed.parts.items ≡ self.old.handed.parts.items }
+        ensures none { self.new.waiting.chunks.items ≡ [] }
+        ensures fault { (fault : Option FileFault) → fault_in fault self.new ≡ fault_in fault self.old }
     {
         self.tested += 1;
     }
 
     /// The next chunk was read, and waits. It takes no memory.
     fn hold(&mut self, blob: Bytes)
-        requires room { HasRoom self.old }
-        requires few { vec_len self.old.waiting < 4096 }
+        requires few { vec_len self.old.waiting.chunks < 128 }
         requires next { HasNext self.old }
         ensures reads { ReadsOne self.old self.new }
         ensures fault { (fault : Option FileFault) →
-            fault_with fault self.new.waiting.items
-            ≡ option_or (fault_with fault self.old.waiting.items) (chunk_fault (next_digest self.old) blob) }
-        ensures room { HasRoom self.new }
+            fault_in fault self.new ≡ option_or (fault_in fault self.old) (chunk_fault (next_digest self.old) blob) }
     {
         let Entry { digest, length } = self.next();
         self.bytes += u64::from(length);
-        self.waiting.push_reserved(Waiting {
+        self.waiting.chunks.push_reserved(Waiting {
             digest,
             blob,
             is_whole: false,
         });
     }
 
-    /// The next chunk was read, and these are its bytes. It waits for its batch: where the file has a fault already it is
+    /// The next chunk was read, and these are its bytes. It waits for its part: where the file has a fault already it is
     /// not tested. It takes no memory.
     pub fn put(&mut self, fault: &Option<FileFault>, blob: Bytes)
         requires waits { WaitsFor fault.now self.old }
-        requires room { HasRoom self.old }
-        requires few { vec_len self.old.waiting < 4096 }
+        requires few { vec_len self.old.waiting.chunks < 128 }
         requires next { HasNext self.old }
         ensures reads { ReadsOne self.old self.new }
-        ensures fault { fault_with fault.now self.new.waiting.items
-            ≡ option_or (fault_with fault.now self.old.waiting.items) (chunk_fault (next_digest self.old) blob) }
+        ensures fault { fault_in fault.now self.new
+            ≡ option_or (fault_in fault.now self.old) (chunk_fault (next_digest self.old) blob) }
         ensures waits { WaitsFor fault.now self.new }
-        ensures room { HasRoom self.new }
     {
         if fault.is_some() {
             self.skip();
@@ -168,27 +116,50 @@ impl Chunks {
 
     /// The batch has ended: it is as long as one may be, or of as many bytes, or its index has no more.
     fn has_ended(&self) -> bool
-        ensures few { OnFalse result (vec_len self.now.waiting < 4096) }
-        ensures next { OnFalse result (HasNext self.now) }
+        ensures { OnFalse result (HasNext self.now) }
     {
-        self.waiting.len() >= BATCH_LIMIT || self.bytes >= BATCH_BYTES || self.is_read()
+        self.batch_chunks + self.waiting.chunks.len() >= BATCH_LIMIT
+            || self.batch_bytes + self.bytes >= BATCH_BYTES
+            || self.is_read()
     }
 
-    /// Tests those that wait, and gives the fault of the first that is damaged. None waits then. It takes no memory.
+    /// Those that wait are as many as one thread tests, or of as many bytes.
+    fn is_part(&self) -> bool
+        ensures { OnFalse result (vec_len self.now.waiting.chunks < 128) }
+    {
+        self.waiting.chunks.len() >= PART_LIMIT || self.bytes >= PART_BYTES
+    }
+
+    /// Tests those that wait, and gives the first fault of the batch. None waits then, and none is at a thread. It takes no memory.
     pub fn test<R: Threads + Sync>(&mut self, rt: &R) -> Option<FileFault>
-        ensures fault { (fault : Option FileFault) → option_or fault result ≡ fault_with fault self.old.waiting.items }
+        ensures fault { (fault : Option FileFault) → option_or fault result ≡ fault_in fault self.old }
         ensures fits { IsFitFault result }
         ensures tests { TestsAll self.old self.new }
     {
-        test_all(rt, &mut self.waiting);
-        let fault = first_fault(&self.waiting);
-        self.tested += self.waiting.len();
-        self.waiting.clear();
+        self.tested += self.waiting.chunks.len();
         self.bytes = 0;
-        fault
+        self.batch_chunks = 0;
+        self.batch_bytes = 0;
+        self.handed.finish(rt, &mut self.waiting)
     }
 
-    /// Where the batch has ended it is tested, and the file's fault is told with its own. It takes no memory.
+    /// Hands those that wait to a thread. Where there is none, the first fault of the batch so far is given.
+    fn hand<R: Threads + Sync>(&mut self, rt: &R) -> Option<FileFault>
+        ensures fault { (fault : Option FileFault) → fault_in (option_or fault result) self.new ≡ fault_in fault self.old }
+        ensures fits { IsFitFault result }
+        ensures stays { StaysAt self.old self.new }
+        ensures none { self.new.waiting.chunks.items ≡ [] }
+    {
+        let count = self.waiting.chunks.len();
+        self.tested += count;
+        self.batch_chunks += count;
+        self.batch_bytes += self.bytes;
+        self.bytes = 0;
+        self.handed.hand(rt, &mut self.waiting)
+    }
+
+    /// Where a part is whole a thread begins to test it. Where the batch has ended all of it is tested, and the file's fault is
+    /// told with its own. It takes no memory.
     pub fn settle<R: Threads + Sync>(
         &mut self,
         rt: &R,
@@ -196,18 +167,19 @@ impl Chunks {
     ) -> Option<FileFault>
         requires fits { IsFitFault fault }
         requires waits { WaitsFor fault self.old }
-        requires room { HasRoom self.old }
-        ensures fault { fault_with result self.new.waiting.items ≡ fault_with fault self.old.waiting.items }
+        ensures fault { fault_in result self.new ≡ fault_in fault self.old }
         ensures fits { IsFitFault result }
         ensures stays { StaysAt self.old self.new }
         ensures waits { WaitsFor result self.new }
-        ensures room { HasRoom self.new }
-        ensures few { vec_len self.new.waiting < 4096 }
+        ensures few { vec_len self.new.waiting.chunks < 128 }
         ensures ends { EndsTested self.new }
     {
-        if !self.has_ended() {
-            return fault;
+        if self.has_ended() {
+            return first_of(fault, self.test(rt));
         }
-        first_of(fault, self.test(rt))
+        if self.is_part() {
+            return first_of(fault, self.hand(rt));
+        }
+        fault
     }
 }

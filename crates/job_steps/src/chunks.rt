@@ -1,9 +1,11 @@
 //! The chunks of an index, and what a whole file says.
 
-ghost use Rattle.std.specs.Prelude.{◌≡◌, ◌+◌, ◌*◌, ◌≤◌, ◌^◌, length, vec_len};
+ghost use Rattle.std.specs.Prelude.{◌≡◌, ◌+◌, ◌*◌, ◌≤◌, ◌^◌, vec_len};
 ghost use Rattle.job_steps.specs.FaultRows.{IsFitFault};
 
-use store_types::{Bytes, Digest32};
+use crate::handed::Handed;
+use crate::part::Part;
+use store_types::Digest32;
 use wire_commands::FileFault;
 
 /// An entry of an index.
@@ -14,28 +16,23 @@ pub struct Entry {
     pub length: u32,
 }
 
-/// A chunk that was read, and is to be tested with its batch.
-#[derive(Drop)]
-pub struct Waiting {
-    pub digest: Digest32,
-    pub blob: Bytes,
-    /// It is the blob of a piece with the digest. It tells nothing before the test.
-    pub is_whole: bool,
-    ghost fits: { length digest.0 ≡ 32 },
-}
-
-/// The entries of an index, how many of their chunks were tested, and those behind them that wait.
+/// The entries of an index, how many of their chunks are tested or at a thread, and those behind them that wait.
 #[derive(Drop)]
 pub struct Chunks {
     pub entries: Vec<Entry>,
     pub tested: usize,
-    pub waiting: Vec<Waiting>,
+    pub handed: Handed,
+    /// How many chunks of the batch are at a thread, and what they have together, by the index.
+    pub batch_chunks: usize,
+    pub batch_bytes: u64,
+    pub waiting: Part,
     /// What those that wait have together, by the index.
     pub bytes: u64,
-    ghost within: { tested + vec_len waiting ≤ vec_len entries },
+    ghost within: { tested + vec_len waiting.chunks ≤ vec_len entries },
     ghost limit: { vec_len entries ≤ 1_048_576 },
-    ghost few: { vec_len waiting ≤ 4096 },
-    ghost held: { bytes ≤ vec_len waiting * 2 ^ 32 },
+    ghost begun: { batch_chunks ≤ tested },
+    ghost held: { bytes ≤ vec_len waiting.chunks * 2 ^ 32 },
+    ghost batch_held: { batch_bytes ≤ batch_chunks * 2 ^ 32 },
 }
 
 /// A file's fault, and of an index how many bytes its entries have together, and each of them.

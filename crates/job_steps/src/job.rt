@@ -110,7 +110,7 @@ impl Job {
     }
 
     /// Takes the reply to the step that was asked, and moves what it needs out of it. Chunks that were read are tested in
-    /// batches, by as many threads as there are processors: what the job then is doesn't tell how.
+    /// batches, by threads that may run on behind this call: what the job then is doesn't tell how.
     ///
     /// Memory may be wanting for a part of a file alone. Then the job is as before, and the reply is dropped.
     pub fn take<R: Threads + Sync>(

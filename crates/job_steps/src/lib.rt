@@ -5,18 +5,22 @@
 //! any other refusal of a step is the job's report.
 //!
 //! A VERIFY opens a reader of its snapshot, asks for its files, reads each of them in parts and each chunk that an index names,
-//! and closes the reader. What a file says is compared with what is listed of it; chunks are tested in batches, by as many
-//! threads as there are processors. What is damaged or can't be read is its file's fault; any other refusal of a step is the
-//! job's report, behind the step that closes the reader.
+//! and closes the reader. What a file says is compared with what is listed of it; chunks are tested in batches, and parts of a
+//! batch by threads of their own, while the next chunks are read. What is damaged or can't be read is its file's fault; any
+//! other refusal of a step is the job's report, behind the step that closes the reader.
 #![tactic(auto)]
 
 mod batch;
 mod chunks;
 mod ending;
+mod handed;
 mod job;
 mod judging;
+mod part;
 mod prune;
 mod stages;
+mod tested;
+mod testing;
 mod verify;
 mod visit;
 

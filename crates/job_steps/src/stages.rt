@@ -3,7 +3,7 @@
 ghost use Rattle.std.specs.Prelude.{◌≡◌, ◌+◌, ◌<◌, ◌≤◌, ◌^◌, length, vec_len};
 ghost use Rattle.wire_commands.specs.HasText.{FitsFileRow};
 ghost use Rattle.job_steps.specs.FaultRows.{IsFitFault};
-ghost use Rattle.job_steps.specs.Visits.{HasNext, HasRoom, IsUncounted, IsUnread, WaitsFor};
+ghost use Rattle.job_steps.specs.Visits.{HasNext, IsUncounted, IsUnread, WaitsFor};
 
 use crate::chunks::Chunks;
 use crate::visit::Visit;
@@ -31,7 +31,6 @@ pub struct Whole {
     ghost size: { bytes ≤ 2 ^ 44 },
     ghost fits: { IsFitFault fault },
     ghost unread: { IsUnread chunks },
-    ghost room: { HasRoom chunks },
 }
 
 /// An index whose chunks are read, with its file's fault so far. There is a chunk to be read.
@@ -46,6 +45,5 @@ pub struct Checking {
     ghost told: { visit.files + length visit.later.items < 255 },
     ghost next: { HasNext chunks },
     ghost waits: { WaitsFor fault chunks },
-    ghost room: { HasRoom chunks },
-    ghost few: { vec_len chunks.waiting < 4096 },
+    ghost few: { vec_len chunks.waiting.chunks < 128 },
 }

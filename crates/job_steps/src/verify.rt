@@ -6,16 +6,18 @@ ghost use Rattle.wire_commands.specs.HasText.{FitsFileRow, ReplyHasText};
 ghost use Rattle.store_model.specs.VerifyJob as model;
 ghost use Rattle.job_steps.specs.Replies.{EndsInText};
 ghost use Rattle.job_steps.specs.States.{chunks_of, job_in};
-ghost use Rattle.job_steps.specs.Checks.{CountsFile, GivesWhole, IsPart, checked_by, damaged_by, fault_told as told_of, held_by, read_by, read_on, reading_of, shown_whole, unread_by, unreadable_by};
+ghost use Rattle.job_steps.specs.Checks.{CountsFile, GivesWhole, IsPart, checked_by, damaged_by, fault_told as told_of, held_by, read_by, read_on, reading_of, shown_whole, unheld_by, unread_by, unreadable_by};
+ghost use Rattle.job_steps.specs.Closes.{ended_by};
+ghost use Rattle.store_model.specs.Job.{closing};
 ghost use Rattle.job_steps.specs.FaultRows.{IsFitFault};
-ghost use Rattle.job_steps.specs.Visits.{EndsTested, HasRoom, IsUncounted, WaitsFor, judged_by, place_in, shown_visit as shown};
+ghost use Rattle.job_steps.specs.Visits.{EndsTested, IsUncounted, WaitsFor, judged_by, place_in, shown_visit as shown};
 
-use crate::batch::first_of;
 use crate::chunks::{Chunks, Entry, Judged};
 use crate::ending::ended;
 use crate::job::State;
 use crate::judging::{file_name, judge};
 use crate::stages::{Checking, Reading, Whole};
+use crate::testing::first_of;
 use crate::visit::{Opening, Visit};
 use std::alloc::{AllocError, Global};
 use std::collections::VecDeque;
@@ -120,8 +122,7 @@ fn next_chunk(
     requires fault { IsFitFault fault }
     requires told { visit.files + length visit.later.items < 255 }
     requires waits { WaitsFor fault chunks }
-    requires room { HasRoom chunks }
-    requires few { vec_len chunks.waiting < 4096 }
+    requires few { vec_len chunks.waiting.chunks < 128 }
     requires ends { EndsTested chunks }
     ensures job { job_in result ≡ chunks_of visit row fault chunks }
     ensures text { EndsInText (job_in result) }
@@ -313,10 +314,32 @@ impl Checking {
     {
         match reply {
             Reply::Data(blob) => self.held(rt, alloc, blob),
-            Reply::Refused(Refusal::Damaged { .. }) => self.damaged(rt, alloc),
-            Reply::Refused(Refusal::Unreadable { .. }) => self.unreadable(rt, alloc),
-            reply => ended(reply),
+            reply => self.unheld(rt, alloc, reply),
         }
+    }
+
+    /// The state after any other reply to the read of the next chunk.
+    fn unheld<R: Threads + Sync>(self, rt: &R, alloc: Global, reply: Reply) -> State
+        requires { ReplyHasText reply }
+        ensures job { job_in result ≡ unheld_by self reply (told_of reply) }
+        ensures text { EndsInText (job_in result) }
+    {
+        match fault_told(&reply) {
+            Some(FileFault::Damaged(_)) => self.damaged(rt, alloc),
+            Some(_) => self.unreadable(rt, alloc),
+            None => self.stopped(rt, reply),
+        }
+    }
+
+    /// The job ends, and no thread tests any more.
+    fn stopped<R: Threads>(self, rt: &R, reply: Reply) -> State
+        requires { ReplyHasText reply }
+        ensures job { job_in result ≡ ended_by closing reply }
+        ensures text { EndsInText (job_in result) }
+    {
+        let Checking { mut chunks, .. } = self;
+        let _ = chunks.handed.join(rt);
+        ended(reply)
     }
 
     /// The next chunk is there, with these bytes. Where its batch has ended it is tested.

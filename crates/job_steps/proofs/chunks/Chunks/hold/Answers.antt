@@ -1,7 +1,9 @@
 use Rattle.std.proofs.Common.{length, refl, ap, ◌∙◌, arith}
 use Rattle.std.specs.Option.{option_or}
 use Rattle.store_model.specs.VerifyJob.{chunk_fault}
-use Rattle.job_steps.specs.Visits.{fault_with}
+use Rattle.job_steps.specs.Parts.{parts_fault}
+use Rattle.job_steps.specs.Visits.{fault_in}
+use Rattle.job_steps.specs.Waits.{fault_with}
 use Rattle.job_steps.proofs.BatchLemmas.{fault_push, reads_one}
 use Rattle.job_steps.proofs.chunks.Chunks.hold.Goals as goal
 
@@ -10,6 +12,8 @@ returns-clause-reads c = reads_one c.args.self.now _ refl (omega (arith, ap leng
 
 pub returns-clause-fault : goal.returns-clause-fault
 returns-clause-fault c = λ fault.
-    let ws = c.args.self.now.waiting.items in
-    ap (fault_with fault) c.push_reserved.ensures.items ∙ fault_push fault ws _
-    ∙ ap (λ d. option_or (fault_with fault ws) (chunk_fault d c.args.blob)) c.next-length.ensures
+    let old = c.args.self.now in
+    let ws = old.waiting.chunks.items in
+    let before = option_or fault (parts_fault old.handed.parts.items) in
+    ap (fault_with before) c.push_reserved.ensures.items ∙ fault_push before ws _
+    ∙ ap (λ d. option_or (fault_in fault old) (chunk_fault d c.args.blob)) c.next-length.ensures

@@ -1,23 +1,22 @@
-use Rattle.std.proofs.Common.{length, sym, ap, ◌∙◌, arith}
+use Rattle.std.proofs.Common.{sym, ◌∙◌}
 use Rattle.std.specs.Prelude.{is_some}
 use Rattle.std.proofs.lemmas.Bool.{both_ways}
 use Rattle.store_model.specs.VerifyJob.{chunk_fault}
-use Rattle.job_steps.specs.Visits.{fault_with, next_digest}
+use Rattle.job_steps.specs.Visits.{next_digest}
 use Rattle.job_steps.proofs.BatchLemmas.{put_known}
 use Rattle.job_steps.proofs.chunks.Chunks.put.Goals as goal
 
 pub skip-requires-clause-none : goal.skip-requires-clause-none
-skip-requires-clause-none c = omega (arith, c.requires.waits (sym c.is_some.ensures ∙ c.if-is_some.true), c.args.self.now.waiting.ok.0)
+skip-requires-clause-none c = c.requires.waits (sym c.is_some.ensures ∙ c.if-is_some.true)
 
 pub returns-then-is_some-clause-fault : goal.returns-then-is_some-clause-fault
 returns-then-is_some-clause-fault c =
     let chunks = c.args.self.now in
     let fault = c.args.fault.now in
-    ap (fault_with fault) c.skip.ensures.waiting
-    ∙ put_known fault chunks.waiting.items (chunk_fault (next_digest chunks) c.args.blob) (sym c.is_some.ensures ∙ c.if-is_some.true)
+    c.skip.ensures.fault fault ∙ put_known fault chunks (chunk_fault (next_digest chunks) c.args.blob) (sym c.is_some.ensures ∙ c.if-is_some.true)
 
 pub returns-then-is_some-clause-waits : goal.returns-then-is_some-clause-waits
-returns-then-is_some-clause-waits c = λ some. ap length c.skip.ensures.waiting ∙ c.requires.waits some
+returns-then-is_some-clause-waits c = λ some. c.skip.ensures.none
 
 pub returns-clause-fault : goal.returns-clause-fault
 returns-clause-fault c = c.hold.ensures.fault c.args.fault.now

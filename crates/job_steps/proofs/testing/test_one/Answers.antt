@@ -2,7 +2,7 @@ use Rattle.std.proofs.Common.{ap, ◌∙◌}
 use Rattle.std.specs.Prelude.{is_none}
 use Rattle.store_model.specs.VerifyJob.{chunk_fault}
 use Rattle.job_steps.proofs.BatchLemmas.{tested_is}
-use Rattle.job_steps.proofs.batch.test_one.Goals as goal
+use Rattle.job_steps.proofs.testing.test_one.Goals as goal
 
 pub returns-clause-tested : goal.returns-clause-tested
 returns-clause-tested c =

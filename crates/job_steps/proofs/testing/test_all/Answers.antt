@@ -1,10 +1,10 @@
 use Rattle.std.proofs.Common.{◌<◌, sym, ap, subst, ◌∙◌}
 use denote.Param.Send.{sendable}
 use Rattle.std.proofs.Crossing.{crosses}
-use Rattle.job_steps.specs.declared.chunks.Waiting.{Waiting}
-use Rattle.job_steps.specs.Visits.{IsTested}
+use Rattle.job_steps.specs.declared.part.Waiting.{Waiting}
+use Rattle.job_steps.specs.Waits.{IsTested}
 use Rattle.job_steps.proofs.BatchLemmas.{same_faults}
-use Rattle.job_steps.proofs.batch.test_all.Goals as goal
+use Rattle.job_steps.proofs.testing.test_all.Goals as goal
 
 pub par_for_each_mut-requires : goal.par_for_each_mut-requires
 par_for_each_mut-requires g c = (search (sendable, crosses) depth 40, (search (sendable, crosses) depth 40, (search (sendable, crosses) depth 40, λ i p lt e. tt)))

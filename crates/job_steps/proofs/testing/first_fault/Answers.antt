@@ -1,9 +1,9 @@
 use Rattle.std.proofs.Common.{◌<◌, length, None, sym, ◌∙◌, arith}
 use Rattle.std.proofs.lemmas.List.{at_drop_all}
-use Rattle.job_steps.specs.Visits.{fault_with}
+use Rattle.job_steps.specs.Waits.{fault_with}
 use Rattle.job_steps.proofs.BatchLemmas.{damaged_at, whole_at}
 use Rattle.job_steps.proofs.VerifyLemmas.{damaged_fits}
-use Rattle.job_steps.proofs.batch.first_fault.Goals as goal
+use Rattle.job_steps.proofs.testing.first_fault.Goals as goal
 
 pub returns-then-not-one-clause-first : goal.returns-then-not-one-clause-first
 returns-then-not-one-clause-first c =
