@@ -15,6 +15,7 @@ STATUSES = {
     5: "the replies could not be written",
     6: "out of memory",
     9: "the session is too long",
+    10: "a read of the remote failed",
 }
 STATES = {0: "no session", 1: "a writer", 2: "a reader"}
 WORDS = {
@@ -45,6 +46,8 @@ WORDS = {
     "DiskFault": "the disk failed",
     "Halted": "the disk failed before",
     "NoMemory": "the store is out of memory",
+    "NoRemote": "there is no second store to pull from",
+    "RemoteFault": "the second store's disk failed",
 }
 
 
@@ -72,13 +75,14 @@ class Ended(Exception):
 
 
 class Talk:
-    """`with Talk(root) as store: store.ask(command)` gives the reply's fields, or raises Refused."""
+    """`with Talk(root) as store: store.ask(command)` gives the reply's fields, or raises Refused. SYNC pulls from `remote`."""
 
-    def __init__(self, root):
+    def __init__(self, root, remote=None):
         self.work = tempfile.mkdtemp(prefix="session-")
         session = os.path.join(self.work, "session")
         os.mkfifo(session)
-        self.run = subprocess.Popen([os.path.join(TOP, "pbstore"), "run", root, session], stderr=None)
+        beside = ["--remote", remote] if remote else []
+        self.run = subprocess.Popen([os.path.join(TOP, "pbstore"), "run", root, *beside, session], stderr=None)
         try:
             self.pipe = open(self.opened(session), "wb", buffering=0)
             self.replies = open(self.waited_for(session + ".out"), "rb")

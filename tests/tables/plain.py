@@ -24,6 +24,31 @@ TABLES = {
         "MANY_HEADER": [many_listed(64)[:12]],
         "LIST": [frame(list_after())],
     },
+    "plain_tests/src/pulls.rt": {
+        "WHOLE": [
+            blob(manifest(A, *BOTH_LISTED)),
+            blob(b"123456789"),
+            dynamic_header(uuid_of(A, "root.didx"), NOW, dynamic_csum([b"abc", b"de"])),
+            entries_of(ends_of([b"abc", b"de"])),
+            blob(b"abc"),
+            blob(b"de"),
+        ],
+        "AT_TEN": [blob(manifest(TEN))],
+        "AT_ELEVEN": [blob(manifest(ELEVEN))],
+        "LISTS_ITSELF": [blob(manifest(TEN, listed(MANIFEST, 1, bytes(32))))],
+        "SYNC": [frames(sync("host/a"), group("host/a"))],
+        "TWICE": [frames(sync("host/a"), sync("host/a"), group("host/a"))],
+        "WITHOUT": [frame(sync("host/a")), frame(no_remote()), frame(sync("host")), frame(bad_name())],
+        "the_later_is_pulled": [frames(keys(ELEVEN), keys(), keys(TEN, ELEVEN))],
+        "a_snapshot_is_pulled_whole": [frames(keys(A), keys(A))],
+        "what_was_pulled_before_stays": [
+            frames(refused(30), keys()),
+            frames(refused(30), keys(TEN)),
+            frames(no_memory(), keys(TEN)),
+            frames(disk_fault(), halted(5)),
+        ],
+        "a_manifest_is_no_file_of_its_own": [frames(exists(), keys())],
+    },
     "plain_tests/src/reading.rt": {
         "CHUNK_MAGIC": [blob(b"", crc=0xc71c0011)],
         "MANIFEST_BLOB": [

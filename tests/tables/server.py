@@ -2,8 +2,6 @@
 from session import *
 from tables.common import *
 
-# What a manifest lists of a blob and an archive.
-BOTH_LISTED = [listed_blob("a.conf.blob", blob(b"123456789")), listed("root.didx", 5, dynamic_csum([b"abc", b"de"]))]
 # What one lists of an archive of one piece of a fixed size.
 FIXED_LISTED = listed("root.fidx", 3, fixed_csum([b"abc"]))
 # The blob of 4 MiB, and one of a byte more.
@@ -11,12 +9,20 @@ LARGE_BLOBS = [blob(bytes((4 << 20) - 12)), blob(bytes((4 << 20) - 11))]
 # The third snapshot of a group, and one of another group that stands behind all others.
 A_THIRD = "host/a/2020-01-15T06:30:05Z"
 OTHER = "vm/z/2020-01-15T06:30:03Z"
+# Archives that share pieces, and long ones.
+ONCE, SHARING, TWICE = [b"abc"], [b"de", b"abc", b"xyz"], [b"abc", b"de", b"abc"]
+LONG = [[b"x"] * count for count in (4096, 4097, 8193)]
 
 
 
 def both_listed(snapshot=A, conf=blob(b"123456789"), size=5, csum=dynamic_csum([b"abc", b"de"])):
     """The manifest's file of a snapshot with a blob and an archive, listed as these."""
     return blob(manifest(snapshot, listed_blob("a.conf.blob", conf), listed("root.didx", size, csum)))
+
+
+def ended_at(*ends):
+    """The entries of an index of `abc` and `de` that end there."""
+    return entries_of(list(zip(ends, (sha256(b"abc"), sha256(b"de")))))
 
 
 def verified_both(*faults):
@@ -1209,6 +1215,101 @@ TABLES = {
         "SYNC": [frame(sync("host/a"))],
         "NO_REMOTE": [frame(no_remote())],
         "SYNCED": [frame(sync("host")), frame(sync(A)), frame(sync("host"))],
+    },
+    "server_tests/src/serving/pulls.rt": {
+        "SNAPSHOTS": [
+            blob(manifest(TEN)),
+            blob(manifest(ELEVEN)),
+            blob(manifest(NOON)),
+            blob(manifest("host/b/2020-01-15T12:00:00Z")),
+        ],
+        "PULLED": [
+            frames(keys(ELEVEN), keys(), keys(TEN, ELEVEN)),
+            frames(keys(TEN, ELEVEN), keys(), keys(TEN, ELEVEN)),
+            frames(keys(NOON), keys(), keys(ELEVEN, NOON)),
+            frames(keys(TEN), keys(), keys(TEN)),
+            frames(keys(ELEVEN), keys(), keys(TEN, ELEVEN)),
+            frames(unreadable(NOON + "/index.json.blob"), unreadable(NOON + "/index.json.blob"), keys(TEN)),
+        ],
+        "NOT_PULLED": [
+            frames(keys(), keys(), keys(ELEVEN)),
+            frames(keys(), keys(), keys(NOON)),
+            frames(keys(), keys(), keys(NOON)),
+            frames(keys(), keys(), keys(TEN)),
+            frames(keys(), keys(), keys(TEN)),
+            frames(keys(), keys(), keys(TEN)),
+            frames(keys(), keys(), keys()),
+        ],
+        "REFUSED": [
+            frame(sync("host")),
+            frame(sync("host")),
+            frame(sync(A)),
+        ],
+        "SHARED_PIECES": [
+            frame(append(0, (b"abc", 0), (b"de", 3), (b"abc", 5))),
+            frame(close_index(0, 3, 8, dynamic_csum(TWICE))),
+            frame(new_dynamic("b.didx")),
+            frame(append(0, (b"de", 0), (b"abc", 2), (b"xyz", 5))),
+            frame(close_index(0, 3, 8, dynamic_csum(SHARING))),
+        ],
+        "SHARED_PIECES_ENDED": [
+            frame(new_fixed("root.fidx", 3, 4096)),
+            frame(close_index(0, 1, 3, fixed_csum(ONCE))),
+            frame(new_dynamic("none.didx")),
+            frame(close_index(0, 0, 0, dynamic_csum([]))),
+            frame(
+                put_manifest(
+                    A,
+                    listed("root.fidx", 3, fixed_csum(ONCE)),
+                    listed("none.didx", 0, dynamic_csum([])),
+                    listed("b.didx", 8, dynamic_csum(SHARING)),
+                    listed("root.didx", 8, dynamic_csum(TWICE)),
+                ),
+            ),
+        ],
+        "X_CHUNK": [blob(b"x")],
+        "X_DIGEST": [sha256(b"x")],
+        "LONG_ARCHIVES": [
+            it
+            for pieces in LONG
+            for it in (
+                dynamic_header(uuid_of(A, "root.didx"), NOW, dynamic_csum(pieces)),
+                blob(manifest(A, listed("root.didx", len(pieces), dynamic_csum(pieces)))),
+            )
+        ],
+    },
+    "server_tests/src/serving/pull_faults.rt": {
+        "MANIFEST_FAULTS": [
+            blob(manifest(A, listed(MANIFEST, 1, bytes(32)))),
+            frame(mismatch(2)),
+            both_listed(size=6),
+            frame(mismatch(6, "root.didx")),
+        ],
+        "ROOT_MISSING": [frame(unreadable(f"{A}/root.didx"))],
+        "BLOB_FAULTS": [
+            blob(b"123456789", crc=0xcbf43927),
+            frame(mismatch(6, "a.conf.blob")),
+        ],
+        "CHUNK_FAULTS": [
+            frame(damaged(sha256(b"abc"), 0)),
+            blob(b"abc")[:12] + b"abd",
+            frame(damaged(sha256(b"abc"), 1)),
+            blob(b"de"),
+            frame(damaged(sha256(b"abc"), 2, sha256(b"de"))),
+            frame(damaged(sha256(b"de"), 0)),
+        ],
+        "LATE_ENDS": [
+            dynamic_header(uuid_of(A, "root.didx"), NOW, sha256(ended_at(4, 6))),
+            ended_at(4, 6),
+            frame(bad_offset(1, 3)),
+            dynamic_header(uuid_of(A, "root.didx"), NOW, sha256(ended_at(3, 6))),
+            ended_at(3, 6),
+            frame(bad_close(2, 5)),
+        ],
+        "BOTH_KEYS": [frame(keys(A, A_LATER))],
+        "LATER_KEY": [frame(keys(A_LATER))],
+        "DISK_FAULT": [frame(disk_fault())],
+        "REMOTE_FAULT": [frame(refused(30))],
     },
     "server_tests/src/serving/verifies.rt": {
         "VERIFY": [frame(verify(A))],

@@ -3,7 +3,7 @@ use Rattle.std.proofs.Common.{◌≡◌, false, refl}
 use Rattle.wire_commands.specs.declared.command.Command.TheVariants.{OpenWriter, Previous, NewFixed, NewDynamic, Chunk as ChunkCommand, Append, CloseIndex, Blob as BlobCommand, Finish, Abort, OpenReader, Download, GetChunk, Range, CloseReader, List as ListAll, Files as FilesOf, Forget, Prune, Verify, Sync, Gc, Group, Bye}
 use Rattle.store_history.specs.Acts.{IsWellFormed, class_of, stepping}
 use Rattle.store_history.specs.declared.act.Act.{Act}
-use Rattle.store_history.specs.declared.act.Act.TheVariants.{Plain, JobGroup, Blob, Chunk, ReadFile, ReadChunk, RemoteList, Start, Step, Short, End}
+use Rattle.store_history.specs.declared.act.Act.TheVariants.{Plain, JobGroup, Blob, Chunk, ReadFile, ReadChunk, RemoteList, RemoteFile, RemoteChunk, Start, Step, Short, End}
 use Rattle.store_history.specs.LastTouches.{may_touch}
 use Rattle.core_admin.specs.AdminActs.{IsAdmins}
 
@@ -39,6 +39,8 @@ admins_formed (Chunk digest checked) h = absurd h
 admins_formed (ReadFile name offset) h = absurd h
 admins_formed (ReadChunk name entry) h = absurd h
 admins_formed (RemoteList command) h = absurd h
+admins_formed (RemoteFile snapshot name offset) h = absurd h
+admins_formed (RemoteChunk digest) h = absurd h
 admins_formed Start h = absurd h
 admins_formed Step h = absurd h
 admins_formed Short h = absurd h
@@ -52,6 +54,8 @@ admins_step (Chunk digest checked) h = absurd h
 admins_step (ReadFile name offset) h = absurd h
 admins_step (ReadChunk name entry) h = absurd h
 admins_step (RemoteList command) h = absurd h
+admins_step (RemoteFile snapshot name offset) h = absurd h
+admins_step (RemoteChunk digest) h = absurd h
 admins_step Start h = absurd h
 admins_step Step h = absurd h
 admins_step Short h = absurd h

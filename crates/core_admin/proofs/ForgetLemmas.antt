@@ -119,7 +119,7 @@ module _ {D : Type 0} (d : Ghosts D) (old new : Parts D) (at : Place) (text : Li
       writes_leaves d old new at act Done tt refl (λ h. gone h ∙ sym (ap (λ (change : Change). after change (d.content old.disk)) change_is)) (goes first)
       (subst (λ (change : Change). IsFirm d old.disk new.disk change) (sym change_is) firm) (c ∙ sym (ap (λ o. without_named o old.catalogue.items) named)) (λ _. (l, locks))
       (λ s h p held. inl (stood_before (manifest_path key ∷ paths) (d.content old.disk) (chunk_name (sha256 p)) _ (sym (ap (λ m. get m (chunk_name (sha256 p))) (gone h.honest)) ∙ held)))
-      (λ e. absurd (never e))
+      (λ e. absurd (never e)) (λ e. absurd (never e))
 
   pub done_does : (failed : Type 0) → Serves d.honest d.faults old.disk new.disk failed → at.lane < 64 → to_forget text (session_at old at.lane) old.catalogue.items old.locks ≡ Ok key
       → least_sharer old.locks key ≡ None → IsKey key → (d.honest old.disk → d.content new.disk ≡ without (manifest_path key ∷ paths) (d.content old.disk))

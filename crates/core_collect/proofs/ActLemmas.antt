@@ -84,7 +84,7 @@ as_any_kind d old new answer name (halted place before five told) is = absurd (a
     apart e = cc
 
 start_kind : {D E C : Type 0} (d : Ghosts D) (old new : Core D E C) (answer : Answer) (name : List ℕ) → StartHasCause d old new Start answer → answer.reply ≡ Some (replies.Refused (refusals.Unreadable name)) → (answer.entry).kind ≡ 0
-start_kind d old new answer name (start_opens opens before three told) is = absurd (untold (refusals.Unreadable name) (sym told ∙ is))
+start_kind d old new answer name (start_opens before three told) is = absurd (untold (refusals.Unreadable name) (sym told ∙ is))
 start_kind d old new answer name (start_as_any cause) is = as_any_kind d old new answer name cause is
 
 pub start_unreadable : {D E C : Type 0} (d : Ghosts D) (old new : Core D E C) (lane : ℕ) (answer : Answer) → StartHasCause d old new Start answer → StartTells old new lane answer

@@ -7,9 +7,9 @@ use Rattle.port_traits.specs.declared.clock.Clock as clocks
 use Rattle.store_history.specs.declared.act.Act.{Act}
 use Rattle.store_history.specs.declared.act.Answer.{Answer}
 use Rattle.store_history.specs.declared.act.Event.{Event}
-use Rattle.store_history.specs.Acts.{Class, stepping, starting, sweeping, wanting, ending, class_of}
+use Rattle.store_history.specs.Acts.{Class, stepping, reaching, starting, sweeping, wanting, ending, class_of}
 use Rattle.core_state.specs.declared.state.Core.{Core}
-use Rattle.core_state.specs.Applies.{ActApplies, ActKeeps}
+use Rattle.core_state.specs.Applies.{ActKeeps, CoreApplies}
 use Rattle.core_state.specs.Closing.{is_closing}
 use Rattle.core_state.specs.Entering.{OthersHold, held_by}
 use Rattle.core_state.specs.History.{event_of}
@@ -21,27 +21,27 @@ use Rattle.core_laws.proofs.Reserving.{reserved_reaches}
 
 -- ---- the events
 
-pub none_played : {D E C : Type 0} (d : Ghosts D) (clock : clocks.Ghosts C) (old new : Core D E C) → SameCore old new → HasPlayed d clock old new [] []
-none_played d clock old new same = record {
+pub none_played : {D E C : Type 0} (d : Ghosts D) (e : Ghosts E) (clock : clocks.Ghosts C) (old new : Core D E C) → SameCore old new → HasPlayed d e clock old new [] []
+none_played d e clock old new same = record {
   events = [];
   asked = refl;
   answered = refl;
   leads = λ first began h x.
-      subst (λ es. Reaches d clock.readings first began new (record h { events = es })) (sym (append-nil h.events)) (reserved_reaches d clock.readings old new same first began h x);
+      subst (λ es. Reaches d e clock.readings first began new (record h { events = es })) (sym (append-nil h.events)) (reserved_reaches d e clock.readings old new same first began h x);
 }
 
-pub played_more : {D E C : Type 0} (d : Ghosts D) (clock : clocks.Ghosts C) (first mid new : Core D E C) (acts : List (ℕ × Act)) (answers : List Answer) (lane : ℕ) (act : Act) (answer : Answer)
-    → lane < 64 → ActApplies d clock mid new lane act answer → ActKeeps d mid new lane act answer → HasPlayed d clock first mid acts answers
-    → HasPlayed d clock first new (acts ++ (lane, act) ∷ []) (answers ++ answer ∷ [])
-played_more d clock first mid new acts answers lane act answer lt applies keeps played =
-    let e : Event = event_of act answer (d.calls (new.parts).disk) in
-    let asked : asked_in e ≡ (lane, act) = ap (λ n. (n, act)) (applies.answers).lane_is in record {
-      events = played.events ++ e ∷ [];
-      asked = map-append asked_in played.events (e ∷ []) ∙ ap (λ xs. xs ++ asked_in e ∷ []) played.asked ∙ ap (λ x. acts ++ x ∷ []) asked;
-      answered = map-append (λ v. v.answer) played.events (e ∷ []) ∙ ap (λ xs. xs ++ answer ∷ []) played.answered;
+pub played_more : {D E C : Type 0} (d : Ghosts D) (e : Ghosts E) (clock : clocks.Ghosts C) (first mid new : Core D E C) (acts : List (ℕ × Act)) (answers : List Answer) (lane : ℕ) (act : Act) (answer : Answer)
+    → lane < 64 → CoreApplies d e clock mid new lane act answer → ActKeeps d mid new lane act answer → HasPlayed d e clock first mid acts answers
+    → HasPlayed d e clock first new (acts ++ (lane, act) ∷ []) (answers ++ answer ∷ [])
+played_more d e clock first mid new acts answers lane act answer lt applies keeps played =
+    let event : Event = event_of act answer (d.calls (new.parts).disk) in
+    let asked : asked_in event ≡ (lane, act) = ap (λ n. (n, act)) (applies.answers).lane_is in record {
+      events = played.events ++ event ∷ [];
+      asked = map-append asked_in played.events (event ∷ []) ∙ ap (λ xs. xs ++ asked_in event ∷ []) played.asked ∙ ap (λ x. acts ++ x ∷ []) asked;
+      answered = map-append (λ v. v.answer) played.events (event ∷ []) ∙ ap (λ xs. xs ++ answer ∷ []) played.answered;
       leads = λ one began h x.
-          subst (λ es. Reaches d clock.readings one began new (record h { events = es })) (append_assoc h.events played.events (e ∷ []))
-          (reaches_more d clock one began mid new lane act answer lt applies keeps (with_more h played.events) (played.leads one began h x));
+          subst (λ es. Reaches d e clock.readings one began new (record h { events = es })) (append_assoc h.events played.events (event ∷ []))
+          (reaches_more d e clock one began mid new lane act answer lt applies keeps (with_more h played.events) (played.leads one began h x));
     }
 
 -- ---- the reserves
@@ -49,6 +49,7 @@ played_more d clock first mid new acts answers lane act answer lt applies keeps 
 spare_by : {D E C : Type 0} (c : Class) (old new : Core D E C) (lane : ℕ) (closing : _) (answer : Answer) → ClassKeeps c old new lane closing answer
     → KeepsSpare old.journal new.journal lane × OthersHold old.journal new.journal lane
 spare_by stepping old new lane closing answer keeps = (keeps.spare, keeps.others)
+spare_by reaching old new lane closing answer keeps = (keeps.spare, keeps.others)
 spare_by starting old new lane closing answer keeps = (keeps.spare, keeps.others)
 spare_by sweeping old new lane closing answer keeps = (keeps.spare, keeps.others)
 spare_by wanting old new lane closing answer keeps = (keeps.spare, keeps.others)

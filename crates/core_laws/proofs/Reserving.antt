@@ -1,5 +1,5 @@
 -- Entries that are reserved change nothing of what a core stands for.
-use Rattle.std.proofs.Common.{◌≡◌, ◌≤◌, ℕ, length, Option, is_some, sym, ap, subst, ◌∙◌}
+use Rattle.std.proofs.Common.{◌≡◌, ◌≤◌, ℕ, length, Option, is_some, sym, ap, subst, ◌∙◌, arith}
 use Rattle.std.specs.FinMap.{get}
 use Rattle.std.specs.Prelude.{◌↔◌, IsSome}
 use Rattle.disk_trait.specs.declared.disk.Disk.{Ghosts}
@@ -18,11 +18,13 @@ use Rattle.core_state.specs.KeepsTouches.{KeepsTouches, swept_of, touches_of_his
 use Rattle.core_state.specs.Numbers.{AreNumbered}
 use Rattle.core_state.specs.Records.{Reaches, Records}
 use Rattle.core_state.specs.Recovers.{Recovers}
+use Rattle.core_state.specs.Remotes.{RemoteServes, RemoteStays, failed_reads, faults_of}
 use Rattle.core_state.specs.Sweeps.{ShowsOpen}
 use Rattle.core_state.specs.Upkeeps.{touches_kept}
+use Rattle.core_state.proofs.RemoteLemmas.{serves_then, stays_same}
 use Rattle.core_laws.specs.Playing.{SameCore}
 
-module _ {D E C : Type 0} (d : Ghosts D) (readings : C → Option Readings) (old new : Core D E C) (same : SameCore old new) where
+module _ {D E C : Type 0} (d : Ghosts D) (e : Ghosts E) (readings : C → Option Readings) (old new : Core D E C) (same : SameCore old new) where
   acts : length (new.journal).entries.items ≡ length (old.journal).entries.items
   acts = ap length (same.entries).entries
 
@@ -75,12 +77,22 @@ module _ {D E C : Type 0} (d : Ghosts D) (readings : C → Option Readings) (old
   recovers : (start : ℕ) (h : History) → Recovers d start old h → Recovers d start new h
   recovers start h r = record { begun = r.begun; each = λ t c from image. r.each t c from (subst (λ (p : Parts D). d.images p.disk t c) same.parts image) }
 
-  pub reserved_reaches : (first : Core D E C) (began h : History) → Reaches d readings first began old h → Reaches d readings first began new h
+  serves : RemoteServes e old new
+  serves = record {
+    stays = subst (RemoteStays e old.remote) (sym same.remote) (stays_same e old.remote);
+    failed = λ _.
+        let entries = ap failed_reads (same.entries).entries in
+        let faults = ap (faults_of e) same.remote in
+        omega (arith, entries, faults);
+  }
+
+  pub reserved_reaches : (first : Core D E C) (began h : History) → Reaches d e readings first began old h → Reaches d e readings first began new h
   reserved_reaches first began h x = record {
     records = records h x.records;
-    stands = λ L R s m clear. stands _ (x.stands L R s m clear);
-    foreign = λ L R s m clear none.
-        subst (λ (p : Parts D). KeepsForeign d (first.parts).disk p.disk) (sym same.parts) (x.foreign L R s m clear (sym same.fault ∙ none));
-    recovers = λ told start L R s m r clear. recovers start _ (x.recovers told start L R s m r clear);
-    touches = λ L R s m clear. touches _ (x.touches L R s m clear);
+    stands = λ L R s clear. stands _ (x.stands L R s clear);
+    foreign = λ L R s clear none.
+        subst (λ (p : Parts D). KeepsForeign d (first.parts).disk p.disk) (sym same.parts) (x.foreign L R s clear (sym same.fault ∙ none));
+    recovers = λ told start L R s r clear. recovers start _ (x.recovers told start L R s r clear);
+    touches = λ L R s clear. touches _ (x.touches L R s clear);
+    remote = serves_then e first old new x.remote serves;
   }

@@ -32,11 +32,11 @@ abbrev pub asked_in : Event → ℕ × Act
 asked_in e = (lane e, e.act)
 
 -- The acts were done in this order, each on its lane with its answer. Wherever acts had led from a first core and its history, these led on.
-pub record HasPlayed {D E C : Type 0} (d : Ghosts D) (clock : clocks.Ghosts C) (old new : Core D E C) (acts : List (ℕ × Act)) (answers : List Answer) : Type 0 where
+pub record HasPlayed {D E C : Type 0} (d : Ghosts D) (e : Ghosts E) (clock : clocks.Ghosts C) (old new : Core D E C) (acts : List (ℕ × Act)) (answers : List Answer) : Type 0 where
   pub events : List Event
   pub asked : map asked_in events ≡ acts
   pub answered : map (λ e. e.answer) events ≡ answers
-  pub leads : (first : Core D E C) (began h : History) → Reaches d clock.readings first began old h → Reaches d clock.readings first began new (with_more h events)
+  pub leads : (first : Core D E C) (began h : History) → Reaches d e clock.readings first began old h → Reaches d e clock.readings first began new (with_more h events)
 
 -- but for entries that are to be had without memory
 pub record SameCore {D E C : Type 0} (old new : Core D E C) : Type 0 where

@@ -35,14 +35,14 @@ fn make_room<D, E, C>(core: &mut Core<D, E, C>, count: u32) -> Result<(), AllocE
 /// Does acts one after another, each on its lane, and gives their answers. Entries and answers are reserved first: where
 /// memory for them is wanting, nothing is done, and the acts are handed back.
 #[tactic(auto, using(crate::proofs::Played::none_played, crate::proofs::Played::played_more, crate::proofs::Played::stays_whole, crate::proofs::Played::one_spare))]
-pub fn play<D: Disk, E, C: Clock>(
+pub fn play<D: Disk, E: Disk, C: Clock>(
     core: &mut Core<D, E, C>,
     alloc: Global,
     acts: Vec<(u32, Act)>,
 ) -> Result<Vec<Answer>, Vec<(u32, Act)>>
     requires { ArePlayable acts.items }
     ensures played { IfOk result
-        (λ answers. HasPlayed D.Disk C.Clock core.old core.new acts.items answers.items) }
+        (λ answers. HasPlayed D.Disk E.Disk C.Clock core.old core.new acts.items answers.items) }
     ensures whole { OnOk result (AllWhole core.new) }
     ensures handed { IfErr result (λ back. back ≡ acts) }
     ensures unchanged { IfErr result (λ back. SameCore core.old core.new) }

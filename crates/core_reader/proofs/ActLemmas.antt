@@ -9,7 +9,7 @@ use Rattle.store_types.specs.declared.refusal.Refusal.TheVariants.{Halted, NoMem
 use Rattle.wire_commands.specs.declared.reply.Reply.{Reply}
 use Rattle.wire_commands.specs.declared.reply.Reply.TheVariants.{Done, Refused}
 use Rattle.store_history.specs.declared.act.Act.{Act}
-use Rattle.store_history.specs.declared.act.Act.TheVariants.{Plain, JobGroup, Blob, Chunk, ReadFile, ReadChunk, RemoteList, Start, Step, Short, End}
+use Rattle.store_history.specs.declared.act.Act.TheVariants.{Plain, JobGroup, Blob, Chunk, ReadFile, ReadChunk, RemoteList, RemoteFile, RemoteChunk, Start, Step, Short, End}
 use Rattle.store_history.specs.declared.act.Answer.{Answer}
 use Rattle.store_history.specs.Acts.{IsWellFormed, class_of, stepping}
 use Rattle.store_history.specs.LastTouches.{may_touch}
@@ -59,6 +59,8 @@ readers_formed (Chunk digest checked) h = absurd h
 readers_formed (ReadFile name offset) h = tt
 readers_formed (ReadChunk name entry) h = tt
 readers_formed (RemoteList command) h = absurd h
+readers_formed (RemoteFile snapshot name offset) h = absurd h
+readers_formed (RemoteChunk digest) h = absurd h
 readers_formed Start h = absurd h
 readers_formed Step h = absurd h
 readers_formed Short h = absurd h
@@ -72,6 +74,8 @@ readers_step (Chunk digest checked) h = absurd h
 readers_step (ReadFile name offset) h = refl
 readers_step (ReadChunk name entry) h = refl
 readers_step (RemoteList command) h = absurd h
+readers_step (RemoteFile snapshot name offset) h = absurd h
+readers_step (RemoteChunk digest) h = absurd h
 readers_step Start h = absurd h
 readers_step Step h = absurd h
 readers_step Short h = absurd h

@@ -1,1 +1,3 @@
 pub mod RemoteLemmas
+pub mod Given
+pub mod Told

@@ -1,47 +1,136 @@
--- The acts that ask the remote.
-use Rattle.std.specs.Prelude.{◌≡◌, ℕ, Bool, List, Some, is_some, Result, Err}
+-- The acts that read the remote.
+use Rattle.std.specs.Prelude.{◌≡◌, ◌≤◌, ◌⊎◌, ℕ, Bool, List, length, map, take, Option, Some, is_some, IsSome, IfSome, IfOk, IsErrOf, Result, Ok, Err}
+use Rattle.disk_trait.specs.Disk.{Rose}
+use Rattle.disk_trait.specs.Files.{Files}
+use Rattle.disk_trait.specs.declared.disk.Disk.{Ghosts}
+use Rattle.store_types.specs.declared.names.Digest32.{Digest32}
+use Rattle.store_types.specs.declared.names.SnapshotKey.{SnapshotKey}
+use Rattle.store_types.specs.declared.refusal.ChunkFault.{ChunkFault}
 use Rattle.store_types.specs.declared.refusal.Refusal.{Refusal}
-use Rattle.store_types.specs.declared.refusal.Refusal.TheVariants.{BadName, NoRemote}
+use Rattle.store_types.specs.declared.refusal.Refusal.TheVariants.{BadName, Damaged, NoRemote}
 use Rattle.store_types.specs.Chain.Refusing.{◌>>=◌, or_else, unless}
-use Rattle.store_types.specs.Names.{group_of}
+use Rattle.store_types.specs.Names.{group_of, key_of, key_text}
+use Rattle.blob_codec.specs.Blob.{blob}
+use Rattle.store_files.specs.Folder.{file_path}
 use Rattle.wire_commands.specs.declared.command.Command.TheVariants.{Sync}
-use Rattle.wire_commands.specs.declared.reply.Reply.TheVariants as replies
+use Rattle.wire_commands.specs.declared.reply.Reply.{Reply}
+use Rattle.wire_commands.specs.declared.reply.Reply.TheVariants.{Data, Keys, Refused}
+use Rattle.wire_commands.specs.HasText.{ReplyHasText}
+use Rattle.store_model.specs.Stands.{group_limit}
+use Rattle.chunk_store.specs.Pieces.{found_at}
+use Rattle.snapshot_files.specs.Grouped.{GroupKeys}
+use Rattle.snapshot_files.specs.Parts.{part_at}
 use Rattle.store_history.specs.declared.act.Act.{Act}
-use Rattle.store_history.specs.declared.act.Act.TheVariants.{RemoteList}
+use Rattle.store_history.specs.declared.act.Act.TheVariants.{RemoteChunk, RemoteFile, RemoteList}
 use Rattle.store_history.specs.declared.act.Answer.{Answer}
 use Rattle.core_state.specs.declared.kept.Session.{Session}
+use Rattle.core_state.specs.declared.parts.Parts.{Parts}
 use Rattle.core_state.specs.declared.state.Core.{Core}
-use Rattle.core_state.specs.declared.stop.Stop.{Stop}
-use Rattle.core_state.specs.declared.stop.Stop.TheVariants as stops
+use Rattle.core_state.specs.declared.stop.RemoteStop.{RemoteStop}
+use Rattle.core_state.specs.declared.stop.RemoteStop.TheVariants as stops
+use Rattle.core_state.specs.Remotes.{faults_of}
+use Rattle.core_state.specs.Replies.{reply_told}
 use Rattle.core_state.specs.Wanted.{session_at, want_idle}
 
 abbrev pub IsRemotes : Act → Type 0
 IsRemotes (RemoteList (Sync group)) = Unit {0}
+IsRemotes (RemoteFile snapshot name offset) = Unit {0}
+IsRemotes (RemoteChunk digest) = Unit {0}
 IsRemotes act = ⊥
 
--- A SYNC of the group may be begun on a lane with this session, or what refuses it.
-abbrev pub sync_told : List ℕ → Bool → Session → Result (Unit {0}) Refusal
-sync_told group has_remote session = do
+-- ---- what refuses it
+
+-- a SYNC of the group may be begun on a lane with this session
+abbrev pub begin_told : List ℕ → Session → Result (Unit {0}) Refusal
+begin_told group session = do
   _ ← want_idle session
   _ ← or_else BadName (group_of group)
-  unless NoRemote has_remote
+  Ok tt
 
--- it stops by that refusal, or by want of memory
-abbrev pub StopsBy : Result (Unit {0}) Refusal → Stop → Type 0
-StopsBy told (stops.Refused refusal) = told ≡ Err refusal
-StopsBy told stops.NoMemory = Unit {0}
-StopsBy told stops.DiskFailed = ⊥
+abbrev pub read_told : Act → Bool → Session → Result (Unit {0}) Refusal
+read_told (RemoteList (Sync group)) has_remote session = begin_told group session >>= λ _. unless NoRemote has_remote
+read_told act has_remote session = unless NoRemote has_remote
 
--- whether a SYNC of the group may be begun on the lane, by what the core keeps
-abbrev pub sync_at : {D E C : Type 0} → Core D E C → ℕ → List ℕ → Result (Unit {0}) Refusal
-sync_at core lane group = sync_told group (is_some core.remote) (session_at core.parts lane)
+-- nothing refuses it, or it is refused so; or memory is wanting
+abbrev pub TellsBy : Result (Unit {0}) Refusal → Result (Unit {0}) RemoteStop → Type 0
+TellsBy told (Ok done) = told ≡ Ok tt
+TellsBy told (Err (stops.Refused refusal)) = told ≡ Err refusal
+TellsBy told (Err stops.NoMemory) = Unit {0}
+TellsBy told (Err stops.Failed) = ⊥
 
-abbrev pub StopsList : {D E C : Type 0} → Core D E C → ℕ → Act → Stop → Type 0
-StopsList core lane (RemoteList (Sync group)) stop = StopsBy (sync_at core lane group) stop
-StopsList core lane act stop = ⊥
+abbrev pub TellsBegin : {D : Type 0} → Parts D → ℕ → List ℕ → Result (Unit {0}) RemoteStop → Type 0
+TellsBegin parts lane group result = TellsBy (begin_told group (session_at parts lane)) result
 
--- On any disk, where it is done it is refused so.
-abbrev pub RemoteTells : {D E C : Type 0} → Core D E C → ℕ → Act → Answer → Type 0
-RemoteTells old lane (RemoteList (Sync group)) answer =
-    (answer.entry).kind ≡ 0 → (refusal : Refusal) × (answer.reply ≡ Some (replies.Refused refusal)) × (sync_at old lane group ≡ Err refusal)
-RemoteTells old lane act answer = Unit {0}
+abbrev pub TellsRead : {D : Type 0} → Parts D → ℕ → Bool → Act → Result (Unit {0}) RemoteStop → Type 0
+TellsRead parts lane has_remote act result = TellsBy (read_told act has_remote (session_at parts lane)) result
+
+-- it is read exactly where nothing refuses it, or memory is wanting
+abbrev pub EndsBy : Result (Unit {0}) Refusal → Result Reply RemoteStop → Type 0
+EndsBy told (Ok reply) = told ≡ Ok tt
+EndsBy told (Err (stops.Refused refusal)) = told ≡ Err refusal
+EndsBy told (Err stops.NoMemory) = Unit {0}
+EndsBy told (Err stops.Failed) = told ≡ Ok tt
+
+abbrev pub TellsEnd : {D E : Type 0} → Parts D → Option E → ℕ → Act → Result Reply RemoteStop → Type 0
+TellsEnd parts remote lane act result = EndsBy (read_told act (is_some remote) (session_at parts lane)) result
+
+-- the group, or the snapshot, that it names
+abbrev pub HasName : Act → Type 0
+HasName (RemoteList (Sync group)) = IsSome (group_of group)
+HasName (RemoteFile snapshot name offset) = IsSome (key_of snapshot)
+HasName act = Unit {0}
+
+-- a refusal has a spelling
+abbrev pub StopHasText : RemoteStop → Type 0
+StopHasText (stops.Refused refusal) = ReplyHasText (Refused refusal)
+StopHasText stop = Unit {0}
+
+-- On any remote: a read is made exactly where nothing refuses it, and else this is the refusal.
+pub record RemoteTells {D E C : Type 0} (old : Core D E C) (lane : ℕ) (act : Act) (answer : Answer) : Type 0 where
+  pub refused : (answer.entry).kind ≡ 0
+      → (refusal : Refusal) × (answer.reply ≡ Some (Refused refusal)) × (read_told act (is_some old.remote) (session_at old.parts lane) ≡ Err refusal)
+  pub reads : ((answer.entry).kind ≡ 1) ⊎ ((answer.entry).kind ≡ 7) → read_told act (is_some old.remote) (session_at old.parts lane) ≡ Ok tt
+
+-- ---- what it gives
+
+-- a snapshot's text
+abbrev pub IsShort : List ℕ → Type 0
+IsShort text = length text ≤ 90
+
+-- as a reply to GROUP has them
+abbrev pub texts_of : List SnapshotKey → List (List ℕ)
+texts_of keys = map key_text (take group_limit keys)
+
+abbrev pub blob_told : Digest32 → Result (List ℕ) ChunkFault → Reply
+blob_told digest (Ok piece) = Data (blob piece)
+blob_told digest (Err fault) = Refused (Damaged digest fault)
+
+-- of these files: the group's snapshots whose manifest is there; a part of the file, which is unreadable where nothing is there; and the
+-- chunk's blob, which is damaged where it is none
+abbrev pub GivesFrom : Files → Act → Reply → Type 0
+GivesFrom files (RemoteList (Sync group)) reply =
+    IfSome (group_of group) (λ g. (keys : List SnapshotKey) × GroupKeys files g keys × (reply ≡ Keys (texts_of keys)))
+GivesFrom files (RemoteFile snapshot name offset) reply = IfSome (key_of snapshot) (λ key. reply ≡ reply_told (part_at files (file_path key name) offset))
+GivesFrom files (RemoteChunk digest) reply = reply ≡ blob_told digest (found_at files digest.0)
+GivesFrom files act reply = Unit {0}
+
+-- those of an honest remote
+abbrev pub Gives : {E X : Type 0} → Ghosts E → E → Act → Result Reply X → Type 0
+Gives e remote act result = e.honest remote → IfOk result (GivesFrom (e.content remote) act)
+
+abbrev pub GivesRemote : {E : Type 0} → Ghosts E → Option E → Act → Result Reply RemoteStop → Type 0
+GivesRemote e remote act result = IfSome remote (λ r. Gives e r act result)
+
+-- by its failure, or memory was wanting
+abbrev pub IsUnread : RemoteStop → Type 0
+IsUnread (stops.Refused refusal) = ⊥
+IsUnread stop = Unit {0}
+
+-- it failed only where its count rose
+abbrev pub FailsBy : {E : Type 0} → Ghosts E → Option E → Option E → Result Reply RemoteStop → Type 0
+FailsBy e old new result = IsErrOf result stops.Failed → Rose (faults_of e old) (faults_of e new)
+
+-- Of an honest remote, whatever it holds: what was read is what stands there.
+abbrev pub RemoteGives : {D E C : Type 0} → Ghosts E → Core D E C → Act → Answer → Type 0
+RemoteGives e old act answer =
+    (answer.entry).kind ≡ 1 → IfSome old.remote (λ r. e.honest r → IfSome answer.reply (GivesFrom (e.content r) act))

@@ -1,53 +1,56 @@
-//! An act that asks the remote.
+//! An act that reads the remote.
 
-ghost use Rattle.std.specs.Prelude.{◌<◌};
-ghost use Rattle.core_state.specs.Applies.{ActApplies, ActKeeps};
+ghost use Rattle.std.specs.Prelude.{◌<◌, IfOk, IsTrue, MatchResult};
+ghost use Rattle.wire_commands.specs.HasText.{ReplyHasText};
+ghost use Rattle.store_history.specs.Acts.{IsWellFormed};
+ghost use Rattle.core_state.specs.Applies.{ActKeeps, CoreApplies};
+ghost use Rattle.core_state.specs.Remotes.{RemoteStays};
+ghost use Rattle.core_state.specs.Replies.{may_give};
 ghost use Rattle.core_state.specs.Reserved.{HasRoom};
-ghost use Rattle.core_state.specs.Stops.{StopHasText};
-ghost use Rattle.core_remote.specs.RemoteActs.{IsRemotes, RemoteTells, StopsBy, StopsList, sync_at};
+ghost use Rattle.core_remote.specs.RemoteActs.{FailsBy, GivesRemote, IsRemotes, RemoteGives, RemoteTells, StopHasText, TellsEnd};
 
-use core_state::{Act, Admitted, Answer, Core, Stop, begin, settle};
+use crate::reading::read;
+use crate::refusing::may_read;
+use core_state::{Act, Admitted, Answer, Core, Parts, RemoteStop, begin, settle_read};
 use disk_trait::Disk;
 use port_traits::Clock;
 use std::alloc::Global;
-use store_types::{GroupKey, Refusal};
-use wire_commands::Command;
+use wire_commands::Reply;
 
-/// What refuses a SYNC's first step. The disk is not called.
-///
-/// The refusals, in the order in which they are tested: the lane has a session; the text names no group; there is no
-/// remote. Where there is one, memory is wanting for its list: it is not read yet.
-fn list<D, E, C>(core: &Core<D, E, C>, alloc: Global, lane: u32, group: &[u8]) -> Stop
-    requires { lane < 64 }
-    ensures stops { StopsBy (sync_at core.now lane group.now) result }
-    ensures text { StopHasText result }
-{
-    let has_remote = core.remote.is_some();
-    if let Err(refusal) = core.parts.idle(lane) {
-        return Stop::Refused(refusal);
-    }
-    match GroupKey::parse(alloc, group) {
-        Err(_) => Stop::NoMemory,
-        Ok(Err(_)) => Stop::Refused(Refusal::BadName),
-        Ok(Ok(_)) if has_remote => Stop::NoMemory,
-        Ok(Ok(_)) => Stop::Refused(Refusal::NoRemote),
-    }
-}
+/// Lets go of an act that is answered without it.
+fn let_go(_act: Act) {}
 
-fn perform<D, E, C>(core: &Core<D, E, C>, alloc: Global, lane: u32, act: Act) -> Stop
+/// Reads the remote, where nothing refuses it.
+fn reach<D, E: Disk>(
+    parts: &Parts<D>,
+    remote: &mut Option<E>,
+    alloc: Global,
+    lane: u32,
+    act: Act,
+) -> Result<Reply, RemoteStop>
     requires lane { lane < 64 }
     requires kind { IsRemotes act }
-    ensures stops { StopsList core.now lane act result }
-    ensures text { StopHasText result }
+    requires formed { IsWellFormed act }
+    ensures tells { TellsEnd parts.now remote.old lane act result }
+    ensures stays { RemoteStays E.Disk remote.old remote.new }
+    ensures failed { FailsBy E.Disk remote.old remote.new result }
+    ensures gives { GivesRemote E.Disk remote.old act result }
+    // on any remote
+    ensures kind { IfOk result (λ reply. IsTrue (may_give act reply)) }
+    ensures text { MatchResult result ReplyHasText StopHasText }
 {
-    match act {
-        Act::RemoteList(Command::Sync { group }) => list(core, alloc, lane, group.as_slice()),
-        _ => unreachable!(),
+    let has_remote = remote.is_some();
+    match may_read(parts, alloc, lane, has_remote, &act) {
+        Ok(()) => read(remote, alloc, act),
+        Err(stop) => {
+            let_go(act);
+            Err(stop)
+        }
     }
 }
 
-/// Does an act that asks the remote, and enters it in the order.
-pub fn remote_act<D: Disk, E, C: Clock>(
+/// Reads the remote once, and enters it in the order. The disk is not called.
+pub fn remote_act<D: Disk, E: Disk, C: Clock>(
     core: &mut Core<D, E, C>,
     alloc: Global,
     lane: u32,
@@ -56,16 +59,22 @@ pub fn remote_act<D: Disk, E, C: Clock>(
     requires lane { lane < 64 }
     requires room { HasRoom core.old lane }
     requires kind { IsRemotes act }
-    ensures applies { ActApplies D.Disk C.Clock core.old core.new lane act result }
+    requires formed { IsWellFormed act }
+    ensures applies { CoreApplies D.Disk E.Disk C.Clock core.old core.new lane act result }
     ensures keeps { ActKeeps D.Disk core.old core.new lane act result }
-    // on any disk
+    // on any remote: what refuses it
     ensures by_kept { RemoteTells core.old lane act result }
+    // of an honest remote, whatever it holds: what it gives
+    ensures by_remote { RemoteGives E.Disk core.old act result }
 {
     match begin(core, alloc, lane, &act) {
-        Admitted::Answered(answer) => answer,
+        Admitted::Answered(answer) => {
+            let_go(act);
+            answer
+        }
         Admitted::At(at) => {
-            let stop = perform(core, alloc, lane, act);
-            settle(core, at, Err(stop))
+            let ended = reach(&core.parts, &mut core.remote, alloc, lane, act);
+            settle_read(core, at, ended)
         }
     }
 }

@@ -1,6 +1,6 @@
 -- An act that is refused before it is done, and one that is done, are entered.
 use Rattle.disk_trait.specs.declared.disk.Disk.{Ghosts}
-use Rattle.std.proofs.Common.{◌≡◌, ◌<◌, ◌≤◌, ℕ, true, ◌++◌, length, Option, Some, None, Result, Ok, Err, refl, sym, ap, subst, ◌∙◌, arith}
+use Rattle.std.proofs.Common.{◌≡◌, ◌<◌, ◌≤◌, ℕ, true, ◌++◌, length, is_some, Option, Some, None, Result, Ok, Err, refl, sym, ap, subst, ◌∙◌, arith}
 use Rattle.std.proofs.lemmas.List.{length-map}
 use Rattle.port_traits.specs.Readings.{Readings}
 use Rattle.disk_trait.specs.declared.disk.DiskError.{DiskError}
@@ -14,7 +14,7 @@ use Rattle.store_model.specs.Steps.{answered}
 use Rattle.store_model.specs.Weave.{fault_refusal, first_fault}
 use Rattle.store_history.specs.declared.act.Act.{Act}
 use Rattle.store_history.specs.declared.act.Answer.{Answer}
-use Rattle.store_history.specs.Acts.{IsWellFormed, Class, stepping, starting, sweeping, wanting, ending, class_of}
+use Rattle.store_history.specs.Acts.{IsWellFormed, Class, stepping, reaching, starting, sweeping, wanting, ending, class_of}
 use Rattle.store_history.specs.History.{moved, act_outcome, entry, step_kind, short_kind, fault_kind, sent_by}
 use Rattle.store_history.specs.Legal.{IsClosing, Right, collecting_on}
 use Rattle.core_state.specs.declared.state.Core.{Core}
@@ -32,12 +32,12 @@ use Rattle.core_state.proofs.Sessions.{closes_found}
 use Rattle.core_state.proofs.Entered.{events_are, moves, IsActed, entered_stands}
 
 -- store and fault are as before
-record WorldMoves (h : History) (k m : ℕ) (act : Act) (n : ℕ) : Type 0 where
+pub record WorldMoves (h : History) (k m : ℕ) (act : Act) (n : ℕ) : Type 0 where
   pub fault : (moves h k m act n).fault ≡ (world h).fault
   pub store : (moves h k m act n).store ≡ (world h).store
 
 -- nothing has happened but that the clock was read
-begun_acted : {D E C : Type 0} (d : Ghosts D) (readings : C → Option Readings) (old mid : Core D E C) (h : History) (k m : ℕ) (act : Act) (n : ℕ)
+pub begun_acted : {D E C : Type 0} (d : Ghosts D) (readings : C → Option Readings) (old mid : Core D E C) (h : History) (k m : ℕ) (act : Act) (n : ℕ)
     → StandsFor d readings old h → IsBegun readings old mid k m → WorldMoves h k m act n
     → open_in (collector_by n k mid.collector) ≡ shown_collecting (moves h k m act n).collecting → IsActed d readings old mid h k m act n
 begun_acted d readings old mid h k m act n s b same shown = record {
@@ -46,7 +46,7 @@ begun_acted d readings old mid h k m act n s b same shown = record {
   calls = (b.entries).calls;
   later = let e = ap (λ p. d.calls p.disk) b.parts in omega (arith, e);
   honest = subst (λ p. d.honest p.disk) (sym b.parts) s.honest;
-  remote = b.remote;
+  remote = ap is_some b.remote;
   fault = b.fault ∙ s.fault ∙ sym same.fault;
   shows = subst (Shows mid.parts) (sym same.store) (subst (λ p. Shows p (world h).store) (sym b.parts) s.shows);
   collecting = shown;
@@ -67,6 +67,7 @@ right_short : (h : History) (k m : ℕ) (act : Act) (c : Class) → (c ≡ endin
     → Right h.remote (world h) k m act (Some (Refused NoMemory)) c short_kind
 right_short h k m act stepping ne held uncut = (refl, held refl)
 right_short h k m act starting ne held uncut = refl
+right_short h k m act reaching ne held uncut = refl
 right_short h k m act sweeping ne held uncut = (refl, uncut refl)
 right_short h k m act wanting ne held uncut = refl
 right_short h k m act ending ne held uncut = absurd (ne refl)
@@ -88,25 +89,29 @@ refusal_is o first is = ap fault_refusal is
 fault_stays : (n : ℕ) (o : Option ℕ) (first : ℕ) → o ≡ Some first → first_fault n o ≡ o
 fault_stays n o first is = ap (first_fault n) is ∙ sym is
 
--- a command, a step of a job, or the start of a collector
+-- a command, a step of a job, a read of the remote, or the start of a collector
 abbrev pub IsAsked : Class → Type 0
 IsAsked stepping = Unit {0}
 IsAsked starting = Unit {0}
+IsAsked reaching = Unit {0}
 IsAsked _ = ⊥
 
 asked_no_end : (c : Class) → IsAsked c → c ≡ ending → ⊥
 asked_no_end stepping asked e = cc
 asked_no_end starting asked e = cc
+asked_no_end reaching asked e = cc
 asked_no_end c asked e = absurd asked
 
 asked_no_sweep : (c : Class) → IsAsked c → c ≡ sweeping → ⊥
 asked_no_sweep stepping asked e = cc
 asked_no_sweep starting asked e = cc
+asked_no_sweep reaching asked e = cc
 asked_no_sweep c asked e = absurd asked
 
 right_halted : (h : History) (k m : ℕ) (act : Act) (c : Class) → IsAsked c → {r : Option Reply} → r ≡ Some (Refused (fault_refusal (world h).fault)) → Right h.remote (world h) k m act r c fault_kind
 right_halted h k m act stepping asked is = is
 right_halted h k m act starting asked is = is
+right_halted h k m act reaching asked is = is
 right_halted h k m act c asked is = absurd asked
 
 pub halted_stands : {D E C : Type 0} (d : Ghosts D) (readings : C → Option Readings) (old new : Core D E C) (h : History) (k : ℕ) (act : Act) (answer : Answer)
@@ -159,7 +164,7 @@ acted_by g readings old mid acted h k m act n fault d shown is honest shows file
       calls = ap (λ j. j.calls.items) d.journal ∙ (b.entries).calls;
       later = let e = ap (λ p. g.calls p.disk) b.parts in let l = d.later in omega (arith, e, l);
       honest = honest;
-      remote = d.remote ∙ b.remote;
+      remote = ap is_some (d.remote ∙ b.remote);
       fault = is;
       shows = shows;
       collecting = ap (λ c. open_in (collector_by n k c)) d.collector ∙ shown;

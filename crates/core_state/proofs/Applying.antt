@@ -13,7 +13,7 @@ use Rattle.store_types.specs.declared.refusal.Refusal.TheVariants.{DiskFault}
 use Rattle.wire_commands.specs.declared.reply.Reply.{Reply}
 use Rattle.wire_commands.specs.declared.reply.Reply.TheVariants as replies
 use Rattle.store_history.specs.declared.act.Act.{Act}
-use Rattle.store_history.specs.declared.act.Act.TheVariants.{Chunk, RemoteList, Start, Step, Short, End}
+use Rattle.store_history.specs.declared.act.Act.TheVariants.{Chunk, Start, Step, Short, End}
 use Rattle.store_history.specs.declared.act.Answer.{Answer}
 use Rattle.store_history.specs.Acts.{IsWellFormed, class_of, stepping, starting, sweeping, wanting, ending}
 use Rattle.store_history.specs.History.{act_outcome}
@@ -30,7 +30,7 @@ use Rattle.core_state.specs.Applies.{ActApplies, ActKeeps, IsClearFor, IsDone}
 use Rattle.core_state.specs.Begins.{AdmittedHasText, IsAdmitted, IsNotShort, IsReady, IsShort, ReadsClock, Refuses, short, halted}
 use Rattle.core_state.specs.Changes.{Change, IsFirm, LeavesChange, after, by_reply, by_stop, stays}
 use Rattle.core_state.specs.Catalogue.{listed_by}
-use Rattle.core_state.specs.Closing.{HasClosed, closes, closes_by, is_closing}
+use Rattle.core_state.specs.Closing.{HasClosed, closes, closes_by, is_closing, is_writer}
 use Rattle.core_state.specs.Collectors.{collector_by}
 use Rattle.core_state.specs.Commands.{ActDoes, ActLeaves, IsNoRefusal, change_at, is_still, is_collectors, is_step}
 use Rattle.core_state.specs.Entering.{held_by}
@@ -144,7 +144,6 @@ step_other act step = record { end = λ e. cc; sweep = λ e. cc; step = λ e. cc
 
 pub start_other : (act : Act) → IsStart act → IsNoEnd act
 start_other Start is = record { end = λ e. cc; sweep = λ e. cc; step = λ e. cc; no = refl }
-start_other (RemoteList c) is = record { end = λ e. cc; sweep = λ e. cc; step = λ e. cc; no = refl }
 start_other act is = absurd is
 
 start_asked : (act : Act) → IsStart act → IsAsked (class_of act)
@@ -189,11 +188,10 @@ pub want_other : (act : Act) → class_of act ≡ wanting → IsNoEnd act
 want_other Short want = record { end = λ e. cc; sweep = λ e. cc; step = λ e. cc; no = refl }
 want_other act want = cc
 
-class_told : (act : Act) (answer : Answer) → IsNoEnd act → (class_of act ≡ starting → ⊥) → IsSome answer.reply → IsTold act answer
+pub class_told : (act : Act) (answer : Answer) → IsNoEnd act → (class_of act ≡ starting → ⊥) → IsSome answer.reply → IsTold act answer
 class_told End answer other no_start is = absurd (other.end refl)
 class_told Step answer other no_start is = absurd (other.sweep refl)
 class_told Start answer other no_start is = absurd (no_start refl)
-class_told (RemoteList c) answer other no_start is = is
 class_told act answer other no_start is = is
 
 -- an act that never ends a session
@@ -241,7 +239,7 @@ module _ {D E C : Type 0} (d : Ghosts D) (clock : clocks.Ghosts C) where
   early_by old new lane act answer unstepped timely keeps early =
       early_more old.upkeep new.upkeep act answer.reply old.last (answer.entry).moment new.last (timely.clock).risen timely.last (keeps.upkeep unstepped) early
 
-  refused_remote : (old new : Core D E C) (lane : ℕ) (answer : Answer) → Refuses d clock.readings old new lane answer → new.remote ≡ old.remote
+  pub refused_remote : (old new : Core D E C) (lane : ℕ) (answer : Answer) → Refuses d clock.readings old new lane answer → new.remote ≡ old.remote
   refused_remote old new lane answer (short is) = (is.entered).remote ∙ (is.begun).remote
   refused_remote old new lane answer (halted is) = (is.entered).remote ∙ (is.begun).remote
 
@@ -256,7 +254,7 @@ module _ {D E C : Type 0} (d : Ghosts D) (clock : clocks.Ghosts C) where
       (refusal_untouched act (refusals.Halted is.first) is.moment (touches_kept (is.between).upkeep)) is.entered
 
   -- nor does it change the collector but by its entry
-  refused_collector : (old new : Core D E C) (lane : ℕ) (answer : Answer) → Refuses d clock.readings old new lane answer → new.collector ≡ collector_by (answer.entry).kind lane old.collector
+  pub refused_collector : (old new : Core D E C) (lane : ℕ) (answer : Answer) → Refuses d clock.readings old new lane answer → new.collector ≡ collector_by (answer.entry).kind lane old.collector
   refused_collector old new lane answer (short is) =
       (is.entered).collector ∙ ap (collector_by 2 lane) (is.begun).collector ∙ ap (λ k. collector_by k lane old.collector) (sym (ap (λ x. x.kind) (is.entered).entry))
   refused_collector old new lane answer (halted is) =
@@ -268,7 +266,7 @@ module _ {D E C : Type 0} (d : Ghosts D) (clock : clocks.Ghosts C) where
   refused_as old new lane answer (short is) = (refusals.NoMemory, (is.entered).reply_is, λ e. cc)
   refused_as old new lane answer (halted is) = (refusals.Halted is.first, (is.entered).reply_is, λ e. cc)
 
-  refused_kept : (old new : Core D E C) (lane : ℕ) (act : Act) (answer : Answer) → IsNoEnd act
+  pub refused_kept : (old new : Core D E C) (lane : ℕ) (act : Act) (answer : Answer) → IsNoEnd act
       → Refuses d clock.readings old new lane answer → (is_closing old lane act ≡ true → IsNotShort (Answered answer)) → ActKeeps d old new lane act answer
   refused_kept old new lane act answer other refuses memory =
       let parts = refused_parts d clock.readings old new lane answer refuses in
@@ -287,7 +285,8 @@ module _ {D E C : Type 0} (d : Ghosts D) (clock : clocks.Ghosts C) where
         admin = λ _. (ap (λ p. p.sessions.items) parts, ap (λ p. p.locks) parts);
         ended = λ _. undone answer refusal is;
         halted = where_some _ _ (refused_same d clock.readings old new lane answer refuses);
-        remote = refused_remote old new lane answer refuses;
+        writes = λ _. undone answer refusal is;
+        remote = λ _. refused_remote old new lane answer refuses;
         upkeep = λ _. refusal_enters_none old new lane act answer refuses;
         collector = λ _. refused_collector old new lane answer refuses;
         stepped = λ is. absurd (other.step is);
@@ -406,7 +405,8 @@ module _ {D E C : Type 0} (d : Ghosts D) (clock : clocks.Ghosts C) where
         admin = λ is. (ap (λ p. p.sessions.items) settles.parts ∙ (leaves.admin (step_still act step is)).0 ∙ ap (λ p. p.sessions.items) before, ap (λ p. p.locks) settles.parts ∙ (leaves.admin (step_still act step is)).1 ∙ ap (λ p. p.locks) before);
         ended = λ ends done. ap (λ p. session_at p at.lane) settles.parts ∙ done_told _ result (leaves.ended ends) (if_plain answer.reply _ reply done);
         halted = where_none _ _ ready.no_fault;
-        remote = settles.remote ∙ rest.remote ∙ (ready.begun).remote;
+        writes = λ writes done. ap (λ p. is_writer (session_at p at.lane)) settles.parts ∙ done_told _ result (leaves.writes writes) (if_plain answer.reply _ reply done);
+        remote = λ _. settles.remote ∙ rest.remote ∙ (ready.begun).remote;
         upkeep = λ _. entered_touches d old mid (with_fault acted (fault_by acted.fault (length (acted.journal).entries.items) (told result))) new at.lane at.moment (kind_by (told result)) act (Some (reply_by (told result))) answer
             (ready.begun).upkeep rest.upkeep settles;
         collector = λ _. settles.collector ∙ ap (collector_by (kind_by (told result)) at.lane) (rest.collector ∙ (ready.begun).collector)

@@ -9,7 +9,7 @@ use Rattle.store_types.specs.declared.refusal.Refusal.TheVariants.{DiskFault}
 use Rattle.wire_commands.specs.declared.reply.Reply.{Reply}
 use Rattle.wire_commands.specs.declared.reply.Reply.TheVariants.{Refused}
 use Rattle.store_history.specs.declared.act.Act.{Act}
-use Rattle.store_history.specs.declared.act.Act.TheVariants.{Plain, JobGroup, Blob, Chunk, ReadFile, ReadChunk, RemoteList, Start, Step, Short, End}
+use Rattle.store_history.specs.declared.act.Act.TheVariants.{Plain, JobGroup, Blob, Chunk, ReadFile, ReadChunk, RemoteList, RemoteFile, RemoteChunk, Start, Step, Short, End}
 use Rattle.store_history.specs.declared.act.Answer.{Answer}
 use Rattle.store_history.specs.Acts.{class_of, stepping, wanting}
 use Rattle.core_state.specs.declared.state.Core.{Core}
@@ -65,6 +65,8 @@ step_caused d old new (Chunk digest checked) answer step h = h
 step_caused d old new (ReadFile name offset) answer step h = h
 step_caused d old new (ReadChunk name entry) answer step h = h
 step_caused d old new (RemoteList command) answer step h = cc
+step_caused d old new (RemoteFile snapshot name offset) answer step h = cc
+step_caused d old new (RemoteChunk digest) answer step h = cc
 step_caused d old new Start answer step h = cc
 step_caused d old new Step answer step h = cc
 step_caused d old new Short answer step h = cc

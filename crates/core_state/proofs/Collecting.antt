@@ -8,7 +8,7 @@ use Rattle.store_files.specs.Archive.{Snapshot}
 use Rattle.gc_plan.specs.Plan.{Plan}
 use Rattle.store_model.specs.Lanes.{Collecting}
 use Rattle.store_history.specs.declared.act.Act.{Act}
-use Rattle.store_history.specs.Acts.{Class, stepping, starting, sweeping, wanting, ending, class_of}
+use Rattle.store_history.specs.Acts.{Class, stepping, reaching, starting, sweeping, wanting, ending, class_of}
 use Rattle.store_history.specs.History.{World, moved, halted_on, kind_of, open_on}
 use Rattle.store_history.specs.History as worlds
 use Rattle.core_state.specs.declared.collector.Collector.{Collector}
@@ -155,6 +155,7 @@ module _ (k : ℕ) where
 halted_same : (k : ℕ) (c : Class) (w : Option Collecting) → (c ≡ sweeping → ⊥) → halted_on k c w ≡ w
 halted_same k stepping w other = refl
 halted_same k starting w other = refl
+halted_same k reaching w other = refl
 halted_same k sweeping w other = absurd (other refl)
 halted_same k wanting w other = refl
 halted_same k ending w other = refl

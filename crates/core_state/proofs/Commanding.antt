@@ -1,5 +1,5 @@
 -- What a command's exits need to prove its two records.
-use Rattle.std.proofs.Common.{◌≡◌, ◌<◌, ◌↔◌, ℕ, Bool, ◌&&◌, not, List, true, false, length, get_or, Option, Some, Result, Ok, Err, IfOk, IsErrOf, IsErrAnd, IsTrue, inl, inr, ⊎_elim, refl, sym, ap, subst, ◌∙◌, arith}
+use Rattle.std.proofs.Common.{◌≡◌, ◌<◌, ◌↔◌, ℕ, Bool, ◌&&◌, not, List, true, false, length, get_or, get_or-set_same, set, Option, Some, Result, Ok, Err, IfOk, IsErrOf, IsErrAnd, IsTrue, inl, inr, ⊎_elim, refl, sym, ap, subst, ◌∙◌, arith}
 use Rattle.std.proofs.lemmas.List.{get_or_default}
 use Rattle.std.proofs.lemmas.Bool.{and_parts}
 use Rattle.std.specs.FinMap.{get}
@@ -43,7 +43,7 @@ use Rattle.core_state.specs.Catalogue.{listed_by}
 use Rattle.core_state.specs.Changes.{Change, IsFirm, LeavesChange, MayLeave, after, by_stop, change_of, stays, undone, installs, stores, drops, finishes, forgets}
 use Rattle.core_state.specs.Chunks.{Adds, IsSafe}
 use Rattle.core_state.specs.Closing.{HasClosed, closes, is_reader, is_writer}
-use Rattle.core_state.specs.Commands.{ActDoes, ActLeaves, IsNoRefusal, change_at, ends_session, is_quiet, is_still, reads_only}
+use Rattle.core_state.specs.Commands.{ActDoes, ActLeaves, IsNoRefusal, change_at, ends_session, is_quiet, is_still, leaves_writer, reads_only}
 use Rattle.core_state.specs.Due.{IsDue}
 use Rattle.core_state.specs.Holds.{Holds, IsOnDisk, Shows, Does, Acts}
 use Rattle.core_state.specs.Replies.{may_answer}
@@ -64,6 +64,12 @@ session_shown parts s lane shows lt =
     let items = parts.sessions.items in
     let within : lane < length items = omega (arith, parts.lanes, parts.sessions.ok.0, lt) in
     at_lane items s lane (get_or items lane Idle) shows.sessions (shows.sound).lanes lt (sym (get_or_default items lane (get_or items lane Idle) Idle within))
+
+-- a writer that was put there is the lane's
+pub writes_set : {D : Type 0} (old new : Parts D) (lane : ℕ) (left : Session) → lane < 64 → new.sessions.items ≡ set old.sessions.items lane left → is_writer left ≡ true → is_writer (session_at new lane) ≡ true
+writes_set old new lane left lt sets writes =
+    let within : lane < length old.sessions.items = omega (arith, old.lanes, old.sessions.ok.0, lt) in
+    ap (λ (xs : List Session). is_writer (get_or xs lane Idle)) sets ∙ ap is_writer (get_or-set_same old.sessions.items lane left Idle within) ∙ writes
 
 refusals_same : {A : Type 0} (a b : Refusal) → ◌≡◌ {A = Result A Refusal} (Err a) (Err b) → a ≡ b
 refusals_same a b e = cc
@@ -240,6 +246,8 @@ act_does s lane moment (acts.Chunk digest checked) = checked_chunk s lane (data_
 act_does s lane moment (acts.ReadFile name offset) = read_file s lane name offset
 act_does s lane moment (acts.ReadChunk name entry) = read_chunk s lane name entry
 act_does s lane moment (acts.RemoteList command) = Err refusals.NoMemory
+act_does s lane moment (acts.RemoteFile snapshot name offset) = Err refusals.NoMemory
+act_does s lane moment (acts.RemoteChunk digest) = Err refusals.NoMemory
 act_does s lane moment acts.Start = Err refusals.NoMemory
 act_does s lane moment acts.Step = Err refusals.NoMemory
 act_does s lane moment acts.Short = Err refusals.NoMemory
@@ -254,6 +262,8 @@ does_is remote w s lane moment (acts.Chunk digest checked) = refl
 does_is remote w s lane moment (acts.ReadFile name offset) = refl
 does_is remote w s lane moment (acts.ReadChunk name entry) = refl
 does_is remote w s lane moment (acts.RemoteList command) = refl
+does_is remote w s lane moment (acts.RemoteFile snapshot name offset) = refl
+does_is remote w s lane moment (acts.RemoteChunk digest) = refl
 does_is remote w s lane moment acts.Start = refl
 does_is remote w s lane moment acts.Step = refl
 does_is remote w s lane moment acts.Short = refl
@@ -445,6 +455,7 @@ module _ {D : Type 0} (d : Ghosts D) where
     pub change : change_at old at.lane act ≡ stays
     pub listed : listed_by act (Some reply) at.number (session_at old at.lane) old.catalogue.items ≡ old.catalogue.items
     pub goes_on : ends_session act ≡ false
+    pub writes : leaves_writer act ≡ true → is_writer (session_at old at.lane) ≡ true
 
   plainly : (old : Parts D) (at : Place) (act : Act) (result : Result Reply Stop) → IfOk result (DoneIdly old at act) → IfOk result IsNoRefusal
   plainly old at act (Ok reply) idly = idly.plain
@@ -462,6 +473,10 @@ module _ {D : Type 0} (d : Ghosts D) where
   ends_none : (old new : Parts D) (at : Place) (act : Act) (result : Result Reply Stop) → IfOk result (DoneIdly old at act) → ends_session act ≡ true → IfOk result (λ _. session_at new at.lane ≡ Idle)
   ends_none old new at act (Ok reply) idly ends = absurd (false_true (sym idly.goes_on ∙ ends))
   ends_none old new at act (Err stop) idly ends = tt
+
+  still_writes : (old new : Parts D) (at : Place) (act : Act) (result : Result Reply Stop) → IfOk result (DoneIdly old at act) → SameKept old new → leaves_writer act ≡ true → IfOk result (λ _. is_writer (session_at new at.lane) ≡ true)
+  still_writes old new at act (Ok reply) idly kept writes = ap (λ (xs : List Session). is_writer (get_or xs at.lane Idle)) kept.sessions ∙ idly.writes writes
+  still_writes old new at act (Err stop) idly kept writes = tt
 
   closed_so : (old new : Parts D) (at : Place) (act : Act) (result : Result Reply Stop) → IfOk result (DoneIdly old at act) → (closes act (session_at old at.lane) ≡ true → IsErrOf result DiskFailed)
       → closes act (session_at old at.lane) ≡ true → HasClosed new at.lane (told result)
@@ -489,6 +504,7 @@ module _ {D : Type 0} (d : Ghosts D) where
     due = λ f s _. due f s;
     closed = closed_so old new at act result idly closed;
     ended = ends_none old new at act result idly;
+    writes = still_writes old new at act result idly kept;
   }
 
   -- ---- exits: by `?` or by a return, the result is an error with this stop
@@ -658,8 +674,9 @@ module _ {D : Type 0} (d : Ghosts D) where
 
   pub changed_leaves : (old new : Parts D) (at : Place) (act : Act) (reply : Reply) → new.disk ≡ old.disk → IsNoRefusal reply → change_at old at.lane act ≡ stays
       → new.catalogue.items ≡ listed_by act (Some reply) at.number (session_at old at.lane) old.catalogue.items
-      → is_still act ≡ false → (ends_session act ≡ true → session_at new at.lane ≡ Idle) → ActLeaves d old new at act (Ok reply)
-  changed_leaves old new at act reply same plain change listed other ended =
+      → is_still act ≡ false → (ends_session act ≡ true → session_at new at.lane ≡ Idle) → (leaves_writer act ≡ true → is_writer (session_at new at.lane) ≡ true)
+      → ActLeaves d old new at act (Ok reply)
+  changed_leaves old new at act reply same plain change listed other ended writes =
       let none = reads_none old.disk new.disk ⊥ same (λ f. f) in record {
         unchanged = done_unchanged old new reply plain;
         quiet = λ _. same;
@@ -673,6 +690,7 @@ module _ {D : Type 0} (d : Ghosts D) where
         due = λ f. absurd (not_done reply f);
         closed = λ closing. ended (closes_ends act (session_at old at.lane) closing);
         ended = ended;
+        writes = writes;
       }
 
   -- ---- commands that write the disk
@@ -697,8 +715,9 @@ module _ {D : Type 0} (d : Ghosts D) where
       → LeavesChange d old.disk new.disk (change_at old at.lane act) → IsFirm d old.disk new.disk (change_at old at.lane act)
       → new.catalogue.items ≡ listed_by act (Some reply) at.number (session_at old at.lane) old.catalogue.items
       → (is_still act ≡ true → (new.sessions.items ≡ old.sessions.items) × (new.locks ≡ old.locks))
-      → Adds d old new act (Ok reply) → (ends_session act ≡ true → session_at new at.lane ≡ Idle) → ActLeaves d old new at act (Ok reply)
-  writes_leaves old new at act reply plain called content crash firm listed admin adds ended = record {
+      → Adds d old new act (Ok reply) → (ends_session act ≡ true → session_at new at.lane ≡ Idle) → (leaves_writer act ≡ true → is_writer (session_at new at.lane) ≡ true)
+      → ActLeaves d old new at act (Ok reply)
+  writes_leaves old new at act reply plain called content crash firm listed admin adds ended writes = record {
     unchanged = done_unchanged old new reply plain;
     quiet = λ quiet. absurd (false_true (sym called ∙ quiet));
     reads = λ only h. content h ∙ ap (λ change. after change (d.content old.disk)) (reads_stay act (session_at old at.lane) old.catalogue.items only);
@@ -711,6 +730,7 @@ module _ {D : Type 0} (d : Ghosts D) where
     due = λ f. absurd (not_done reply f);
     closed = λ closing. ended (closes_ends act (session_at old at.lane) closing);
     ended = ended;
+    writes = writes;
   }
 
   -- The write of the disk failed, or was short of memory.
@@ -769,6 +789,7 @@ module _ {D : Type 0} (d : Ghosts D) where
         due = λ f. absurd (not_memory f);
         closed = λ closing. absurd (going was closing);
         ended = λ _. tt;
+        writes = λ _. tt;
       }
       by_error disks.Failed was = record {
         unchanged = leaves_all old new (Err DiskFailed) tt kept (λ r e t. cc) (λ fine. absurd (fine refl));
@@ -783,4 +804,5 @@ module _ {D : Type 0} (d : Ghosts D) where
         due = λ _. due;
         closed = λ closing. tt;
         ended = λ _. tt;
+        writes = λ _. tt;
       }

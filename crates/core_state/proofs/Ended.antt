@@ -1,6 +1,6 @@
 -- A lane's end is entered.
 use Rattle.disk_trait.specs.declared.disk.Disk.{Ghosts}
-use Rattle.std.proofs.Common.{◌≡◌, ◌<◌, ◌≤◌, ℕ, ◌++◌, length, Option, Some, None, refl, sym, ap, subst, ◌∙◌, arith}
+use Rattle.std.proofs.Common.{◌≡◌, ◌<◌, ◌≤◌, ℕ, ◌++◌, is_some, length, Option, Some, None, refl, sym, ap, subst, ◌∙◌, arith}
 use Rattle.std.proofs.lemmas.List.{length-map}
 use Rattle.port_traits.specs.Readings.{Readings}
 use Rattle.store_types.specs.declared.refusal.Refusal.TheVariants.{DiskFault}
@@ -44,7 +44,7 @@ closed_by g readings old mid acted h k m n fault d shown is honest shows files c
   calls = ap (λ j. j.calls.items) d.journal ∙ (b.entries).calls;
   later = let e = ap (λ p. g.calls p.disk) b.parts in let l = d.later in omega (arith, e, l);
   honest = honest;
-  remote = d.remote ∙ b.remote;
+  remote = ap is_some (d.remote ∙ b.remote);
   fault = is;
   shows = shows;
   collecting = ap (λ c. open_in (collector_by n k c)) d.collector ∙ shown;

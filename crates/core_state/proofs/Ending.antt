@@ -91,7 +91,8 @@ module _ {D E C : Type 0} (d : Ghosts D) (clock : clocks.Ghosts C) where
     admin = λ is. absurd (false_true is);
     ended = λ _ _. ap (λ p. session_at p at.lane) entered.parts ∙ leaves.ended refl;
     halted = where_none _ _ none;
-    remote = entered.remote ∙ rest.remote ∙ next.remote;
+    writes = λ writes. absurd (false_true writes);
+    remote = λ _. entered.remote ∙ rest.remote ∙ next.remote;
     upkeep = λ _. entered_touches d old mid acted new at.lane at.moment 6 End None answer next.upkeep rest.upkeep entered;
     collector = λ _. entered_collector old mid acted new at 6 None answer next rest.collector entered;
     stepped = λ is. absurd (false_true is);
@@ -160,7 +161,8 @@ module _ {D E C : Type 0} (d : Ghosts D) (clock : clocks.Ghosts C) where
     admin = λ is. absurd (false_true is);
     ended = λ _. undone answer DiskFault settles.reply_is;
     halted = where_none _ _ none;
-    remote = settles.remote ∙ rest.remote ∙ next.remote;
+    writes = λ writes. absurd (false_true writes);
+    remote = λ _. settles.remote ∙ rest.remote ∙ next.remote;
     upkeep = λ _. entered_touches d old mid (with_fault acted (Some (length (acted.journal).entries.items))) new at.lane at.moment 5 End (Some (reply_by (Err disks.Failed))) answer next.upkeep rest.upkeep settles;
     collector = λ _. entered_collector old mid (with_fault acted (Some (length (acted.journal).entries.items))) new at 5 (Some (reply_by (Err disks.Failed))) answer next rest.collector settles;
     stepped = λ is. absurd (false_true is);
@@ -228,7 +230,8 @@ module _ {D E C : Type 0} (d : Ghosts D) (clock : clocks.Ghosts C) where
         admin = λ is. absurd (false_true is);
         ended = λ _ _. ap (λ p. session_at p at.lane) entered.parts ∙ idle;
         halted = where_some _ _ still;
-        remote = entered.remote ∙ rest.remote ∙ next.remote;
+        writes = λ writes. absurd (false_true writes);
+        remote = λ _. entered.remote ∙ rest.remote ∙ next.remote;
         upkeep = λ _. entered_touches d old mid acted new at.lane at.moment 6 End None answer next.upkeep rest.upkeep entered;
         collector = λ _. entered_collector old mid acted new at 6 None answer next rest.collector entered;
         stepped = λ is. absurd (false_true is);

@@ -39,7 +39,7 @@ pub record Grows {D E C : Type 0} (d : Ghosts D) (readings : C → Option Readin
   pub fault : new.fault ≡ (after h.remote (world h) e).fault
   pub reached : e.calls ≤ d.calls (new.parts).disk
   pub honest : d.honest (new.parts).disk
-  pub remote : new.remote ≡ old.remote
+  pub remote : is_some new.remote ≡ is_some old.remote
   pub shows : Shows new.parts (after h.remote (world h) e).store
   pub collecting : open_in new.collector ≡ shown_collecting (after h.remote (world h) e).collecting
   pub files : (after h.remote (world h) e).fault ≡ None → IsOnDisk (d.content (new.parts).disk) (after h.remote (world h) e).store
@@ -72,7 +72,7 @@ grown d readings old new h e s g = let more = sym (world_more h e) in record {
   time = time_more readings old.clock new.clock old.last h e (s.last ∙ moment_is h.remote (opened h.opening) h.events) s.time g.clock;
   reached = let at = ap (λ w. w.calls) (world_more h e) in let r = g.reached in omega (arith, at, r);
   honest = g.honest;
-  remote = ap is_some g.remote ∙ s.remote;
+  remote = g.remote ∙ s.remote;
   shows = subst (λ w. Shows new.parts w.store) more g.shows;
   collecting = g.collecting ∙ ap (λ w. shown_collecting w.collecting) more;
   files = subst (λ w. w.fault ≡ None → IsOnDisk (d.content (new.parts).disk) w.store) more g.files;
@@ -99,7 +99,7 @@ pub record IsActed {D E C : Type 0} (d : Ghosts D) (readings : C → Option Read
   pub calls : (mid.journal).calls.items ≡ (old.journal).calls.items
   pub later : d.calls (old.parts).disk ≤ d.calls (mid.parts).disk
   pub honest : d.honest (mid.parts).disk
-  pub remote : mid.remote ≡ old.remote
+  pub remote : is_some mid.remote ≡ is_some old.remote
   pub fault : mid.fault ≡ (moves h k m act n).fault
   pub shows : Shows mid.parts (moves h k m act n).store
   -- its collector is that once it is entered
@@ -143,7 +143,7 @@ entered_stands d readings old mid new h k m act n reply answer s inside formed s
       fault = e.fault ∙ a.fault ∙ ap (λ x. x.fault) moved_is;
       reached = omega arith;
       honest = subst (λ p. d.honest p.disk) (sym e.parts) a.honest;
-      remote = e.remote ∙ a.remote;
+      remote = ap is_some e.remote ∙ a.remote;
       shows = subst (λ x. Shows new.parts x.store) moved_is (subst (λ p. Shows p (moves h k m act n).store) (sym e.parts) a.shows);
       collecting = ap open_in e.collector ∙ a.collecting ∙ ap (λ x. shown_collecting x.collecting) moved_is;
       files = subst (λ x. x.fault ≡ None → IsOnDisk (d.content (new.parts).disk) x.store) moved_is

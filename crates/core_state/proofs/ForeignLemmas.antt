@@ -36,14 +36,14 @@ use Rattle.core_state.specs.declared.kept.Session.TheVariants.{Idle, Writer, Rea
 use Rattle.core_state.specs.declared.kept.StoredFile.{StoredFile}
 use Rattle.core_state.specs.declared.kept.Writing.{Writing}
 use Rattle.core_state.specs.declared.state.Core.{Core}
-use Rattle.core_state.specs.Answers.{HasCause, EndHasCause, StartHasCause, StepHasCause, IsCaused, done, short, failed, halted, ended, end_failed, start_opens, start_as_any, step_passes, step_ends, step_as_any, fault_after}
+use Rattle.core_state.specs.Answers.{HasCause, EndHasCause, ReachHasCause, StartHasCause, StepHasCause, IsCaused, done, short, failed, halted, ended, end_failed, reach_reads, reach_failed, reach_as_any, start_opens, start_as_any, step_passes, step_ends, step_as_any, fault_after}
 use Rattle.core_state.specs.Applies.{ActKeeps}
 use Rattle.core_state.specs.Changes.{Change, stays, undone, installs, stores, drops, finishes, forgets, after, by_reply, by_writer, change_of, chunk_put, blob_put, index_put, finish_by, finish_put, manifest_by, put_paths, names_beside, forgotten}
 use Rattle.core_state.specs.Commands.{change_at, is_step}
 use Rattle.core_state.specs.Foreign.{IsForeign, KeepsForeign}
 use Rattle.core_state.specs.Holds.{Shows}
 use Rattle.core_state.specs.Passes.{MayChange, StepLeaves}
-use Rattle.core_state.specs.Replies.{command_answers, may_answer, may_end}
+use Rattle.core_state.specs.Replies.{command_answers, may_answer, may_end, may_give}
 use Rattle.core_state.specs.Shown.{shown_file, shown_files, shown_session}
 use Rattle.core_state.specs.Wanted.{session_at}
 use Rattle.core_state.proofs.AnyPaths.{temporary_in}
@@ -186,6 +186,8 @@ module _ (q : List ℕ) (none : IsNoFile q) where
   missed_change (acts.ReadFile name offset) session catalogue chunk has = tt
   missed_change (acts.ReadChunk name entry) session catalogue chunk has = tt
   missed_change (acts.RemoteList command) session catalogue chunk has = tt
+  missed_change (acts.RemoteFile snapshot name offset) session catalogue chunk has = tt
+  missed_change (acts.RemoteChunk digest) session catalogue chunk has = tt
   missed_change acts.Start session catalogue chunk has = tt
   missed_change acts.Step session catalogue chunk has = tt
   missed_change acts.Short session catalogue chunk has = tt
@@ -240,6 +242,8 @@ not_told (acts.Chunk digest checked) = refl
 not_told (acts.ReadFile name offset) = refl
 not_told (acts.ReadChunk name entry) = refl
 not_told (acts.RemoteList command) = refl
+not_told (acts.RemoteFile snapshot name offset) = refl
+not_told (acts.RemoteChunk digest) = refl
 not_told acts.Start = refl
 not_told acts.Step = refl
 not_told acts.Short = refl
@@ -283,8 +287,23 @@ no_fault_ends : (reply : Reply) → IsTrue (may_end reply) → reply ≡ replies
 no_fault_ends reply may is = true_false (may_end reply) may (ap may_end is)
 
 not_started : {D E C : Type 0} (d : Ghosts D) (old new : Core D E C) (act : Act) (answer : Answer) → StartHasCause d old new act answer → new.fault ≡ None → answer.reply ≡ Some (replies.Refused refusals.DiskFault) → ⊥
-not_started d old new act answer (start_opens opens before kind told) none is = none_fault (sym told ∙ is)
+not_started d old new act answer (start_opens before kind told) none is = none_fault (sym told ∙ is)
 not_started d old new act answer (start_as_any cause) none is = not_caused d old new act answer cause none is
+
+remote_fault : Some (replies.Refused refusals.RemoteFault) ≡ Some (replies.Refused refusals.DiskFault) → ⊥
+remote_fault e = cc
+
+never_given : (act : Act) → IsTrue (may_give act (replies.Refused refusals.DiskFault)) → ⊥
+never_given (acts.RemoteList command) may = cc
+never_given (acts.RemoteFile snapshot name offset) may = cc
+never_given (acts.RemoteChunk digest) may = cc
+never_given act may = cc
+
+not_reached : {D E C : Type 0} (d : Ghosts D) (old new : Core D E C) (act : Act) (answer : Answer) → ReachHasCause d old new act answer → new.fault ≡ None → answer.reply ≡ Some (replies.Refused refusals.DiskFault) → ⊥
+not_reached d old new act answer (reach_reads before one reply told may) none is =
+    never_given act (subst (λ r. IsTrue (may_give act r)) (same_some reply (replies.Refused refusals.DiskFault) (sym told ∙ is)) may)
+not_reached d old new act answer (reach_failed before seven told) none is = remote_fault (sym told ∙ is)
+not_reached d old new act answer (reach_as_any cause) none is = not_caused d old new act answer cause none is
 
 not_stepped : {D E C : Type 0} (d : Ghosts D) (old new : Core D E C) (act : Act) (answer : Answer) → StepHasCause d old new act answer → new.fault ≡ None → answer.reply ≡ Some (replies.Refused refusals.DiskFault) → ⊥
 not_stepped d old new act answer (step_passes before kind told) none is = none_fault (sym told ∙ is)
@@ -298,7 +317,9 @@ not_faulted d old new (acts.Blob name checked) answer cause = not_caused d old n
 not_faulted d old new (acts.Chunk digest checked) answer cause = not_caused d old new (acts.Chunk digest checked) answer cause
 not_faulted d old new (acts.ReadFile name offset) answer cause = not_caused d old new (acts.ReadFile name offset) answer cause
 not_faulted d old new (acts.ReadChunk name entry) answer cause = not_caused d old new (acts.ReadChunk name entry) answer cause
-not_faulted d old new (acts.RemoteList command) answer cause = not_started d old new (acts.RemoteList command) answer cause
+not_faulted d old new (acts.RemoteList command) answer cause = not_reached d old new (acts.RemoteList command) answer cause
+not_faulted d old new (acts.RemoteFile snapshot name offset) answer cause = not_reached d old new (acts.RemoteFile snapshot name offset) answer cause
+not_faulted d old new (acts.RemoteChunk digest) answer cause = not_reached d old new (acts.RemoteChunk digest) answer cause
 not_faulted d old new acts.Start answer cause = not_started d old new acts.Start answer cause
 not_faulted d old new acts.Step answer cause = not_stepped d old new acts.Step answer cause
 not_faulted d old new acts.Short answer cause = λ none is. short_fault (sym cause.1 ∙ is)

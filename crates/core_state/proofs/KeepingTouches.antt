@@ -295,12 +295,13 @@ module _ {D E C : Type 0} (d : Ghosts D) (clock : clocks.Ghosts C) (old new : Co
   present (Chunk digest checked) f x is = by_cause digest checked f f.cause x is
   present act f x is = others act f x is tt tt
 
-pub touches_more : {D E C : Type 0} (d : Ghosts D) (clock : clocks.Ghosts C) (old new : Core D E C) (lane : ℕ) (act : Act) (answer : Answer) → lane < 64 → IsWellFormed act
-    → StandsMore d clock old new act answer → IsAnswered d old new lane answer → IsCaused d old new act answer → ActKeeps d old new lane act answer
+-- where the core stands for the history then
+pub touches_by : {D E C : Type 0} (d : Ghosts D) (clock : clocks.Ghosts C) (old new : Core D E C) (lane : ℕ) (act : Act) (answer : Answer) → lane < 64 → IsWellFormed act
+    → IsAnswered d old new lane answer → IsCaused d old new act answer → ActKeeps d old new lane act answer
     → is_step act ≡ false → new.collector ≡ collector_by (answer.entry).kind lane old.collector → ((answer.entry).kind ≡ 3 → ⊥)
-    → (h : History) → StandsFor d clock.readings old h → KeepsTouches d old h → IsClearFor act (then_event h (event_of act answer (d.calls (new.parts).disk)))
+    → (h : History) → StandsFor d clock.readings old h → KeepsTouches d old h → StandsFor d clock.readings new (then_event h (event_of act answer (d.calls (new.parts).disk)))
     → KeepsTouches d new (then_event h (event_of act answer (d.calls (new.parts).disk)))
-touches_more d clock old new lane act answer lt formed more answers cause keeps unstepped collector opens_none h s touches clear = record {
+touches_by d clock old new lane act answer lt formed answers cause keeps unstepped collector opens_none h s touches so = record {
   touches = subst (λ (t : LastTouches). SameTouches (touches_kept new.upkeep) t) (sym (ap (λ w. w.touches) longer))
       (same_then (touches_kept new.upkeep) plain after_.touches touched (same_back after_.touches plain unswept));
   present = λ none x digest.
@@ -346,5 +347,10 @@ touches_more d clock old new lane act answer lt formed more answers cause keeps 
     touched = same_then (touches_kept new.upkeep) (touches_by_entry act answer.reply (answer.entry).moment (touches_kept old.upkeep)) plain (keeps.upkeep unstepped)
         (entry_touches_same act answer.reply (answer.entry).moment (touches_kept old.upkeep) (touches_of_history h) touches.touches)
 
-    so : StandsFor d clock.readings new (then_event h e)
-    so = more h s clear
+pub touches_more : {D E C : Type 0} (d : Ghosts D) (clock : clocks.Ghosts C) (old new : Core D E C) (lane : ℕ) (act : Act) (answer : Answer) → lane < 64 → IsWellFormed act
+    → StandsMore d clock old new act answer → IsAnswered d old new lane answer → IsCaused d old new act answer → ActKeeps d old new lane act answer
+    → is_step act ≡ false → new.collector ≡ collector_by (answer.entry).kind lane old.collector → ((answer.entry).kind ≡ 3 → ⊥)
+    → (h : History) → StandsFor d clock.readings old h → KeepsTouches d old h → IsClearFor act (then_event h (event_of act answer (d.calls (new.parts).disk)))
+    → KeepsTouches d new (then_event h (event_of act answer (d.calls (new.parts).disk)))
+touches_more d clock old new lane act answer lt formed more answers cause keeps unstepped collector opens_none h s touches clear =
+    touches_by d clock old new lane act answer lt formed answers cause keeps unstepped collector opens_none h s touches (more h s clear)

@@ -28,7 +28,7 @@ use Rattle.store_history.specs.declared.act.Act.{Act}
 use Rattle.store_history.specs.declared.act.Act.TheVariants.{Plain}
 use Rattle.store_history.specs.declared.act.Answer.{Answer}
 use Rattle.store_history.specs.declared.act.Event.{Event}
-use Rattle.store_history.specs.Acts.{Class, IsWellFormed, stepping, starting, sweeping, wanting, ending, class_of}
+use Rattle.store_history.specs.Acts.{Class, IsWellFormed, stepping, reaching, starting, sweeping, wanting, ending, class_of}
 use Rattle.store_history.specs.History.{World, act_outcome, after, kind, kind_of, moved, opened, reply as reply_of}
 use Rattle.store_history.specs.Legal.{Right}
 use Rattle.store_history.specs.Sweeping.{Sweep, Swept, Unmarked, forgets, names_key, spared, swept_after, swept_by, while_open}
@@ -112,6 +112,7 @@ was_open k lane o y is = by_kind (k == 2) ((k == 4) || (k == 6)) is
 -- no collector starts, and none of its acts is done
 unstarted : (w : World) (s : Swept) (e : Event) (c : Class) (n : ℕ) → (c ≡ sweeping → ⊥) → (n ≡ 3 → ⊥) → swept_by w s e c (kind_of n) ≡ option_map (spared e.act (reply_of e)) s.sweep
 unstarted w s e stepping n other none = refl
+unstarted w s e reaching n other none = refl
 unstarted w s e sweeping n other none = absurd (other refl)
 unstarted w s e wanting n other none = refl
 unstarted w s e ending n other none = refl

@@ -32,6 +32,8 @@ pub mod Applying
 pub mod Starts
 pub mod Ending
 pub mod ForeignLemmas
+pub mod RemoteLemmas
+pub mod RemoteReads
 pub mod Reaching
 pub mod AnyPaths
 pub mod SameSnapshots

@@ -12,7 +12,7 @@ use Rattle.store_history.specs.declared.act.Act.{Act}
 use Rattle.store_history.specs.declared.act.Act.TheVariants.{Start, Step}
 use Rattle.store_history.specs.declared.act.Answer.{Answer}
 use Rattle.store_history.specs.declared.act.Event.{Event}
-use Rattle.store_history.specs.Acts.{stepping, starting, sweeping, wanting, ending, class_of}
+use Rattle.store_history.specs.Acts.{stepping, reaching, starting, sweeping, wanting, ending, class_of}
 use Rattle.store_history.specs.History.{entry, kind, moment, kind_of}
 use Rattle.store_history.specs.History as kinds
 use Rattle.store_history.specs.Legal.{moment_after}
@@ -22,8 +22,8 @@ use Rattle.core_state.specs.declared.state.Core.{Core}
 use Rattle.core_state.specs.History.{History, then_event, event_of}
 use Rattle.core_state.specs.Settles.{IsEntered, Settles, with_fault, fault_by, kind_by}
 use Rattle.core_state.specs.Begins.{ReadsClock, IsShort, Refuses, short, halted}
-use Rattle.core_state.specs.Answers.{IsAnswered, fault_after, HasCause, done, short as was_short, failed, halted as was_halted, StartHasCause, start_opens, start_as_any, StepHasCause, step_passes, step_ends, step_as_any, EndHasCause, ended, end_failed}
-use Rattle.core_state.specs.Records.{IsTimely, FitsKind, FitsReply, IsKept, AreKept, fault_in, Records}
+use Rattle.core_state.specs.Answers.{IsAnswered, fault_after, HasCause, done, short as was_short, failed, halted as was_halted, ReachHasCause, reach_reads, reach_failed, reach_as_any, StartHasCause, start_opens, start_as_any, StepHasCause, step_passes, step_ends, step_as_any, EndHasCause, ended, end_failed}
+use Rattle.core_state.specs.Records.{IsTimely, FitsKind, FitsReply, GivesReply, IsKept, AreKept, fault_in, Records}
 use Rattle.core_state.specs.Catalogue.{Lists, listed_by}
 use Rattle.core_state.specs.Numbers.{AreNumbered}
 use Rattle.core_state.specs.Wanted.{session_at}
@@ -154,9 +154,22 @@ asked_fits d old new act answer starts cause = subst (λ c. FitsKind c old.fault
     by_cause (failed before is told first rose) = inr (inr is)
     by_cause (was_halted place before is told) = inr (inr is)
 
+-- a read of the remote
+pub reach_fits : {D E C : Type 0} (d : Ghosts D) (old new : Core D E C) (act : Act) (answer : Answer)
+    → class_of act ≡ reaching → ReachHasCause d old new act answer → FitsKind (class_of act) old.fault (answer.entry).kind
+reach_fits d old new act answer reaches cause = subst (λ c. FitsKind c old.fault (answer.entry).kind) (sym reaches) (by_cause cause)
+  where
+    by_cause : ReachHasCause d old new act answer → FitsKind reaching old.fault (answer.entry).kind
+    by_cause (reach_reads before is reply told may) = inl (inr (inl is), before)
+    by_cause (reach_failed before is told) = inl (inr (inr is), before)
+    by_cause (reach_as_any (done before is reply told may)) = inl (inl is, before)
+    by_cause (reach_as_any (was_short is told)) = inr (inl is)
+    by_cause (reach_as_any (failed before is told first rose)) = inr (inr is)
+    by_cause (reach_as_any (was_halted place before is told)) = inr (inr is)
+
 -- the start of a collector
 pub start_fits : {D E C : Type 0} (d : Ghosts D) (old new : Core D E C) (answer : Answer) → StartHasCause d old new Start answer → FitsKind starting old.fault (answer.entry).kind
-start_fits d old new answer (start_opens opens before is told) = inl (inr is, before)
+start_fits d old new answer (start_opens before is told) = inl (inr is, before)
 start_fits d old new answer (start_as_any (done before is reply told may)) = inl (inl is, before)
 start_fits d old new answer (start_as_any (was_short is told)) = inr (inl is)
 start_fits d old new answer (start_as_any (failed before is told first rose)) = inr (inr is)
@@ -186,9 +199,18 @@ tells_reply d old new act answer (was_short is told) text = subst (λ k. FitsRep
 tells_reply d old new act answer (failed before is told first rose) text = fault_told old.fault None act (answer.entry).kind answer.reply is before told
 tells_reply d old new act answer (was_halted place before is told) text = fault_told old.fault (Some place) act (answer.entry).kind answer.reply is before told
 
+pub reach_tells : {D E C : Type 0} (d : Ghosts D) (old new : Core D E C) (act : Act) (answer : Answer)
+    → class_of act ≡ reaching → ReachHasCause d old new act answer → IfSome answer.reply ReplyHasText → FitsReply old.fault act (kind_of (answer.entry).kind) answer.reply
+reach_tells d old new act answer reaches (reach_reads before is reply told may) text =
+    subst (λ k. FitsReply old.fault act (kind_of k) answer.reply) (sym is)
+    (subst (λ r. FitsReply old.fault act kinds.pass_kind r) (sym told)
+    (subst (λ c. GivesReply c act (Some reply)) (sym reaches) (may, subst (λ r. IfSome r ReplyHasText) told text)))
+reach_tells d old new act answer reaches (reach_failed before is told) text = subst (λ k. FitsReply old.fault act (kind_of k) answer.reply) (sym is) told
+reach_tells d old new act answer reaches (reach_as_any cause) text = tells_reply d old new act answer cause text
+
 pub start_tells : {D E C : Type 0} (d : Ghosts D) (old new : Core D E C) (answer : Answer)
     → StartHasCause d old new Start answer → IfSome answer.reply ReplyHasText → FitsReply old.fault Start (kind_of (answer.entry).kind) answer.reply
-start_tells d old new answer (start_opens opens before is told) text = subst (λ k. FitsReply old.fault Start (kind_of k) answer.reply) (sym is) told
+start_tells d old new answer (start_opens before is told) text = subst (λ k. FitsReply old.fault Start (kind_of k) answer.reply) (sym is) told
 start_tells d old new answer (start_as_any cause) text = tells_reply d old new Start answer cause text
 
 pub sweep_tells : {D E C : Type 0} (d : Ghosts D) (old new : Core D E C) (answer : Answer)

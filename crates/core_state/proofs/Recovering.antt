@@ -205,14 +205,21 @@ StandsMore d clock old new act answer =
     (h : History) → StandsFor d clock.readings old h → IsClearFor act (then_event h (event_of act answer (d.calls (new.parts).disk)))
     → StandsFor d clock.readings new (then_event h (event_of act answer (d.calls (new.parts).disk)))
 
--- with one act more
+-- with one act more, where the core stands for the history then
+pub recovers_by : {D E C : Type 0} (d : Ghosts D) (clock : clocks.Ghosts C) (old new : Core D E C) (lane : ℕ) (act : Act) (answer : Answer)
+    → lane < 64 → IsAnswered d old new lane answer → IsCaused d old new act answer → ActKeeps d old new lane act answer → is_step act ≡ false
+    → TellsMoments d → (begin : ℕ) (h : History) → StandsFor d clock.readings old h → StandsFor d clock.readings new (then_event h (event_of act answer (d.calls (new.parts).disk)))
+    → Recovers d begin old h → Recovers d begin new (then_event h (event_of act answer (d.calls (new.parts).disk)))
+recovers_by d clock old new lane act answer lt answers cause keeps unstepped told begin h s so recovers =
+    let is = answers.lane_is in
+    let its : ActKeeps d old new (answer.entry).lane act answer = subst (λ l. ActKeeps d old new l act answer) (sym is) keeps in
+    recovers_here d clock told old new act answer h s its.halted _ (its.crash unstepped)
+    (led d clock told old new act answer h (subst (λ l. l < 64) (sym is) lt) so answers.fault cause its unstepped s) begin recovers
+
 pub recovers_more : {D E C : Type 0} (d : Ghosts D) (clock : clocks.Ghosts C) (old new : Core D E C) (lane : ℕ) (act : Act) (answer : Answer)
     → lane < 64 → StandsMore d clock old new act answer → IsAnswered d old new lane answer → IsCaused d old new act answer → ActKeeps d old new lane act answer → is_step act ≡ false
     → TellsMoments d → (begin : ℕ) (h : History) → StandsFor d clock.readings old h → IsClear (then_event h (event_of act answer (d.calls (new.parts).disk)))
     → Recovers d begin old h → Recovers d begin new (then_event h (event_of act answer (d.calls (new.parts).disk)))
 recovers_more d clock old new lane act answer lt more answers cause keeps unstepped told begin h s clear recovers =
-    let is = answers.lane_is in
-    let its : ActKeeps d old new (answer.entry).lane act answer = subst (λ l. ActKeeps d old new l act answer) (sym is) keeps in
-    recovers_here d clock told old new act answer h s its.halted _ (its.crash unstepped)
-    (led d clock told old new act answer h (subst (λ l. l < 64) (sym is) lt)
-    (more h s (clear_for act (then_event h (event_of act answer (d.calls (new.parts).disk))) clear)) answers.fault cause its unstepped s) begin recovers
+    recovers_by d clock old new lane act answer lt answers cause keeps unstepped told begin h s
+    (more h s (clear_for act (then_event h (event_of act answer (d.calls (new.parts).disk))) clear)) recovers

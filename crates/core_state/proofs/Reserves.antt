@@ -109,6 +109,8 @@ closing_two None (acts.Chunk digest checked) x h = absurd (true_false (sym h))
 closing_two None (acts.ReadFile name offset) x h = absurd (true_false (sym h))
 closing_two None (acts.ReadChunk name entry) x h = absurd (true_false (sym h))
 closing_two None (acts.RemoteList command) x h = absurd (true_false (sym h))
+closing_two None (acts.RemoteFile snapshot name offset) x h = absurd (true_false (sym h))
+closing_two None (acts.RemoteChunk digest) x h = absurd (true_false (sym h))
 closing_two None acts.Start x h = absurd (true_false (sym h))
 closing_two None acts.Step x h = absurd (true_false (sym h))
 closing_two None acts.Short x h = absurd (true_false (sym h))
@@ -220,6 +222,15 @@ pub opened_keeps : {D E C : Type 0} (d : Ghosts D) (readings : C → Option Read
 opened_keeps d readings old mid acted new lane moment closing answer ready same filled e =
     let b = ready.begun in let entered = subst (λ j. Enters j new.journal lane e.is_held) same e.room in
     by_spare old new mid.journal lane closing e.is_held false answer b.more b.others filled.0 filled.1
+    (spare_by old.journal mid.journal new.journal lane e.is_held b.none_lost b.whole entered) e.last_held entered
+
+-- an act of any kind was entered, with a whole reserve
+pub entered_keeps : {D E C : Type 0} (d : Ghosts D) (readings : C → Option Readings) (old mid acted new : Core D E C) (lane moment n : ℕ) (reply : Option Reply) (closing : Bool) (answer : Answer)
+    → IsReady readings old mid lane moment → acted.journal ≡ mid.journal → (3 ≤ held_by mid.journal lane) × (0 < (mid.journal).spare)
+    → IsEntered d acted new lane moment n reply answer → KeepsReserve old new lane closing answer
+entered_keeps d readings old mid acted new lane moment n reply closing answer ready same filled e =
+    let b = ready.begun in let entered = subst (λ j. Enters j new.journal lane e.is_held) same e.room in
+    by_spare old new mid.journal lane closing e.is_held (n == 2) answer b.more b.others filled.0 filled.1
     (spare_by old.journal mid.journal new.journal lane e.is_held b.none_lost b.whole entered) e.last_held entered
 
 -- what the lane's end may take after its session has ended
@@ -348,6 +359,8 @@ no_end_keeps old new lane (acts.Chunk digest checked) answer other no_step h = h
 no_end_keeps old new lane (acts.ReadFile name offset) answer other no_step h = h
 no_end_keeps old new lane (acts.ReadChunk name entry) answer other no_step h = h
 no_end_keeps old new lane (acts.RemoteList command) answer other no_step h = h
+no_end_keeps old new lane (acts.RemoteFile snapshot name offset) answer other no_step h = h
+no_end_keeps old new lane (acts.RemoteChunk digest) answer other no_step h = h
 no_end_keeps old new lane acts.Start answer other no_step h = h
 no_end_keeps old new lane acts.Step answer other no_step h = absurd (no_step refl)
 no_end_keeps old new lane acts.Short answer other no_step h = h

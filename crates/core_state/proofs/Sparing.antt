@@ -135,6 +135,8 @@ module _ (s : Store) (lane : ℕ) (sound : IsSound s) where
   spares_change (acts.ReadFile name offset) catalogue is = tt
   spares_change (acts.ReadChunk name entry) catalogue is = tt
   spares_change (acts.RemoteList c) catalogue is = tt
+  spares_change (acts.RemoteFile snapshot name offset) catalogue is = tt
+  spares_change (acts.RemoteChunk digest) catalogue is = tt
   spares_change acts.Start catalogue is = tt
   spares_change acts.Step catalogue is = tt
   spares_change acts.Short catalogue is = tt

@@ -1,17 +1,17 @@
 -- A start is entered: its collector opened, or it was refused as it was done.
 use Rattle.disk_trait.specs.declared.disk.Disk.{Ghosts}
-use Rattle.std.proofs.Common.{◌≡◌, ◌<◌, ℕ, List, [], ◌++◌, Option, Some, None, Ok, Err, refl, sym, ap, subst, ◌∙◌, arith}
+use Rattle.std.proofs.Common.{◌≡◌, ◌<◌, ℕ, List, [], ◌++◌, is_some, Option, Some, None, Ok, Err, refl, sym, ap, subst, ◌∙◌, arith}
 use Rattle.port_traits.specs.Readings.{Readings}
 use Rattle.store_types.specs.declared.refusal.Refusal.{Refusal}
 use Rattle.store_types.specs.declared.refusal.Refusal.TheVariants.{NoMemory}
 use Rattle.wire_commands.specs.declared.reply.Reply.TheVariants.{Refused}
 use Rattle.disk_trait.specs.declared.disk.DiskError.TheVariants.{NoMemory as DiskMemory}
 use Rattle.store_history.specs.declared.act.Act.{Act}
-use Rattle.store_history.specs.declared.act.Act.TheVariants.{RemoteList, Start}
+use Rattle.store_history.specs.declared.act.Act.TheVariants.{Start}
 use Rattle.store_history.specs.declared.act.Answer.{Answer}
 use Rattle.store_history.specs.Acts.{Class, starting, class_of}
 use Rattle.store_history.specs.History.{act_outcome, moved, sent_by, short_kind, step_kind}
-use Rattle.store_history.specs.Legal.{may_open, may_start, Refuses, Right}
+use Rattle.store_history.specs.Legal.{may_open, Refuses, Right}
 use Rattle.core_state.specs.declared.collector.Collector.{Collector}
 use Rattle.core_state.specs.declared.state.Core.{Core}
 use Rattle.core_state.specs.Begins.{IsBegun, IsReady}
@@ -64,7 +64,7 @@ module _ {D E C : Type 0} (d : Ghosts D) (readings : C → Option Readings) (old
     calls = (b.entries).calls;
     later = let e = ap (λ p. d.calls p.disk) b.parts in omega (arith, e);
     honest = honest;
-    remote = b.remote;
+    remote = ap is_some b.remote;
     fault = b.fault ∙ s.fault;
     shows = shows;
     collecting = opened_shown c lane goes;
@@ -75,7 +75,7 @@ module _ {D E C : Type 0} (d : Ghosts D) (readings : C → Option Readings) (old
   pub opened_stands : (new : Core D E C) (c : Collector) (answer : Answer) → k < 64 → may_open (world h) k ≡ Ok tt → c.lane ≡ k → c.ended ≡ None
       → IsEntered d (record mid { collector = Some c }) new k m 3 None answer → StandsFor d readings new (then_event h (event_of Start answer (d.calls (new.parts).disk)))
   opened_stands new c answer inside may lane goes entered =
-      entered_stands d readings old (record mid { collector = Some c }) new h k m Start 3 None answer s inside tt (fault, may, refl, tt) (opened_acted c lane goes) entered
+      entered_stands d readings old (record mid { collector = Some c }) new h k m Start 3 None answer s inside tt (fault, may, refl) (opened_acted c lane goes) entered
 
   -- ---- any start
 
@@ -83,10 +83,9 @@ module _ {D E C : Type 0} (d : Ghosts D) (readings : C → Option Readings) (old
   start_store : (act : Act) → IsStart act → (moves h k m act 0).store ≡ (world h).store
   unfolding moved act_outcome
   start_store Start is = refl
-  start_store (RemoteList c) is = refl
   start_store act is = absurd is
 
-  right_refused : (act : Act) (r : Refusal) (c : Class) → c ≡ starting → may_start h.remote (world h) k act ≡ Err r → Right h.remote (world h) k m act (Some (Refused r)) c step_kind
+  right_refused : (act : Act) (r : Refusal) (c : Class) → c ≡ starting → may_open (world h) k ≡ Err r → Right h.remote (world h) k m act (Some (Refused r)) c step_kind
   right_refused act r c is may =
       subst (λ c. Right h.remote (world h) k m act (Some (Refused r)) c step_kind) (sym is) (fault, subst (λ o. Refuses o (Some (Refused r))) (sym may) refl)
 
@@ -94,7 +93,7 @@ module _ {D E C : Type 0} (d : Ghosts D) (readings : C → Option Readings) (old
   right_short act c is = subst (λ c. Right h.remote (world h) k m act (Some (Refused NoMemory)) c short_kind) (sym is) refl
 
   -- refused by its tests
-  pub start_told_stands : (new : Core D E C) (act : Act) (r : Refusal) (answer : Answer) → IsStart act → k < 64 → may_start h.remote (world h) k act ≡ Err r
+  pub start_told_stands : (new : Core D E C) (act : Act) (r : Refusal) (answer : Answer) → IsStart act → k < 64 → may_open (world h) k ≡ Err r
       → Settles d mid new k m (Ok (Refused r)) answer → StandsFor d readings new (then_event h (event_of act answer (d.calls (new.parts).disk)))
   unfolding moved
   start_told_stands new act r answer starts inside may settles =

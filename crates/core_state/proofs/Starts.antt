@@ -79,7 +79,8 @@ module _ {D E C : Type 0} (d : Ghosts D) (clock : clocks.Ghosts C) (old mid new 
         admin = λ _. (ap (λ p. p.sessions.items) parts, ap (λ p. p.locks) parts);
         ended = λ ends. absurd (false_true ends);
         halted = where_none _ _ ready.no_fault;
-        remote = entered.remote ∙ (ready.begun).remote;
+        writes = λ writes. absurd (false_true writes);
+        remote = λ _. entered.remote ∙ (ready.begun).remote;
         upkeep = λ _. entered_touches d old mid acted new k m 3 Start None answer (ready.begun).upkeep (record { last = λ x. refl; undated = λ x. refl }) entered;
         collector = λ is. absurd (true_false is);
         stepped = λ is. absurd (false_true is);
@@ -100,7 +101,7 @@ module _ {D E C : Type 0} (d : Ghosts D) (clock : clocks.Ghosts C) (old mid new 
       → ActApplies d clock old new k Start answer
   start_opened_applies lt may lane goes touches =
       let timely = entered_timely d clock.readings old acted new k m 3 None answer (ready.begun).clock entered in
-      let cause = start_opens tt ready.no_fault kind_is entered.reply_is in
+      let cause = start_opens ready.no_fault kind_is entered.reply_is in
       let keeps = start_opened_keeps in
       let more : StandsMore d clock old new Start answer = λ h s clear. opened_stands d clock.readings old mid h k m s ready new c answer lt (may h s) lane goes entered in record {
         history = λ h s kept clear. more h s clear;
@@ -152,7 +153,8 @@ module _ {D E C : Type 0} (d : Ghosts D) (clock : clocks.Ghosts C) (old mid new 
         admin = λ _. (ap (λ p. p.sessions.items) kept, ap (λ p. p.locks) kept);
         ended = λ _. undone answer refusal reply_is;
         halted = where_none _ _ ready.no_fault;
-        remote = settles.remote ∙ (ready.begun).remote;
+        writes = λ _. undone answer refusal reply_is;
+        remote = λ _. settles.remote ∙ (ready.begun).remote;
         upkeep = λ _. entered_touches d old mid (with_fault mid (fault_by mid.fault (length (mid.journal).entries.items) result)) new k m (kind_by result) act (Some (reply_by result)) answer
             (ready.begun).upkeep untouched_by settles;
         collector = λ _. collector;

@@ -1,6 +1,6 @@
 -- An act of a collector after its start is entered: the core stands for the history with it.
 use Rattle.disk_trait.specs.declared.disk.Disk.{Ghosts}
-use Rattle.std.proofs.Common.{◌≡◌, ◌<◌, ◌≤◌, ℕ, Bool, true, false, ◌==◌, cond, List, [], length, Option, Some, None, IfSome, refl, sym, ap, subst, ◌∙◌, arith}
+use Rattle.std.proofs.Common.{◌≡◌, ◌<◌, ◌≤◌, ℕ, Bool, true, false, ◌==◌, cond, List, [], is_some, length, Option, Some, None, IfSome, refl, sym, ap, subst, ◌∙◌, arith}
 use Rattle.std.specs.Prelude.{option_map}
 use Rattle.std.proofs.lemmas.List.{length-map}
 use Rattle.disk_trait.specs.Disk.{Rose, Serves}
@@ -154,7 +154,7 @@ module _ {D E C : Type 0} (d : Ghosts D) (readings : C → Option Readings) (old
         calls = is.calls;
         later = is.later;
         honest = honest;
-        remote = is.remote;
+        remote = ap is_some is.remote;
         fault = fault;
         shows = subst (Shows acted.parts) (sym store) (shows_same old.parts acted.parts (world h).store (is.kept).catalogue (is.kept).sessions (is.kept).locks s.shows);
         collecting = shown;

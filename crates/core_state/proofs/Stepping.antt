@@ -103,7 +103,8 @@ module _ {D E C : Type 0} (d : Ghosts D) (clock : clocks.Ghosts C) (old acted ne
     admin = λ _. (ap (λ p. p.sessions.items) (is.entered).parts ∙ (is.kept).sessions, ap (λ p. p.locks) (is.entered).parts ∙ (is.kept).locks);
     ended = λ ends. absurd (false_true ends);
     halted = halts;
-    remote = (is.entered).remote ∙ is.remote;
+    writes = λ writes. absurd (false_true writes);
+    remote = λ _. (is.entered).remote ∙ is.remote;
     upkeep = λ no. absurd (false_true (sym no));
     collector = λ no. absurd (false_true (sym no));
     stepped = λ _. leaves;

@@ -1,7 +1,9 @@
 -- Which replies have a spelling.
 use Rattle.disk_trait.specs.declared.disk.Disk.{Ghosts}
-use Rattle.std.proofs.Common.{◌≡◌, ◌<◌, ◌≤◌, ◌^◌, ℕ, suc, List, [], ◌∷◌, ◌++◌, length, Some, refl, ap, subst, arith, length-append}
-use Rattle.store_types.specs.declared.refusal.Refusal.TheVariants.{WrongState, BadName, GroupBusy, NotNewer, NoSnapshot, NoFile, Exists, BadBlob, WrongDigest, WrongSize, UnknownChunk, BadOffset, BadClose, OpenIndexes, BadManifest, ManifestMismatch, NotAllowed, TooMany, BadRange, Damaged, Unreadable, DiskFault, Halted, NoMemory}
+use Rattle.std.proofs.Common.{◌≡◌, ◌<◌, ◌≤◌, ◌*◌, ◌^◌, ℕ, suc, List, [], ◌∷◌, ◌++◌, length, Some, refl, ap, subst, arith, length-append}
+use Rattle.std.proofs.lemmas.List.Elements.{All-head, All-tail}
+use Rattle.std.specs.List.{All, flat_map}
+use Rattle.store_types.specs.declared.refusal.Refusal.TheVariants.{WrongState, BadName, GroupBusy, NotNewer, NoSnapshot, NoFile, Exists, BadBlob, WrongDigest, WrongSize, UnknownChunk, BadOffset, BadClose, OpenIndexes, BadManifest, ManifestMismatch, NotAllowed, TooMany, BadRange, Damaged, Unreadable, NoRemote, RemoteFault, DiskFault, Halted, NoMemory}
 use Rattle.store_types.specs.declared.names.Digest32.{Digest32}
 use Rattle.store_types.specs.declared.refusal.CloseFault.{CloseFault}
 use Rattle.store_types.specs.declared.refusal.CloseFault.TheVariants.{Count, Size, Csum, Rest}
@@ -12,13 +14,22 @@ use Rattle.store_types.specs.declared.refusal.BadBlob.{BadBlob as BlobCause}
 use Rattle.store_types.specs.declared.refusal.BadBlob.TheVariants as blobs
 use Rattle.wire_frames.specs.Frames.{body_limit}
 use Rattle.wire_commands.specs.declared.reply.Reply.{Reply}
-use Rattle.wire_commands.specs.declared.reply.Reply.TheVariants.{Done, Base, Part, Data, Number, Refused}
+use Rattle.wire_commands.specs.declared.reply.Reply.TheVariants.{Done, Base, Part, Data, Keys, Number, Refused}
+use Rattle.wire_commands.specs.Fields.{text}
 use Rattle.wire_commands.specs.HasText.{FitsBadBlob, FitsCloseFault, FitsChunkFault, FitsMismatch, ReplyHasText}
 use Rattle.wire_commands.specs.RefusalText.{chunk_fault_text, refusal_text}
 use Rattle.wire_commands.specs.ReplyText.{reply_text}
 use Rattle.store_history.specs.declared.act.Answer.{Answer}
 use Rattle.core_state.specs.declared.state.Core.{Core}
 use Rattle.core_state.specs.Settles.{IsEntered}
+
+-- rows of at most so many bytes
+pub rows_short : {A : Type 0} (spelled : A → List ℕ) (most : ℕ) (xs : List A) → All (λ x. length (spelled x) ≤ most) xs → length (flat_map spelled xs) ≤ most * length xs
+rows_short spelled most [] all = omega arith
+rows_short spelled most (x ∷ xs) all =
+    let first = All-head (λ x. length (spelled x) ≤ most) x xs all in
+    let rest = rows_short spelled most xs (All-tail (λ x. length (spelled x) ≤ most) x xs all) in
+    omega (arith, first, rest, length-append (spelled x) (flat_map spelled xs))
 
 pub done_has_text : ReplyHasText Done
 unfolding reply_text
@@ -37,6 +48,12 @@ part_has_text total bytes lt short = (lt, omega (arith, short))
 pub data_has_text : (bytes : List ℕ) → length bytes < body_limit → ReplyHasText (Data bytes)
 unfolding reply_text
 data_has_text bytes short = (tt, omega (arith, short))
+
+pub keys_has_text : (texts : List (List ℕ)) → length texts ≤ 4096 → All (λ t. length t ≤ 90) texts → ReplyHasText (Keys texts)
+unfolding reply_text
+keys_has_text texts few all =
+    let short = rows_short text 91 texts (λ i d lt. let h = all i d lt in omega (arith, h)) in
+    ((omega (arith, few), λ i d lt. let h = all i d lt in omega (arith, h)), omega (arith, few, short))
 
 pub number_has_text : (number : ℕ) → number < 256 → ReplyHasText (Number number)
 unfolding reply_text
@@ -150,6 +167,14 @@ damaged_has_text digest (Other found) is fits = ((is, fits), short_behind digest
 pub unreadable_has_text : (name : List ℕ) → length name < 256 → ReplyHasText (Refused (Unreadable name))
 unfolding reply_text refusal_text
 unreadable_has_text name lt = (lt, omega (arith, lt))
+
+pub no_remote_has_text : ReplyHasText (Refused NoRemote)
+unfolding reply_text refusal_text
+no_remote_has_text = (tt, omega arith)
+
+pub remote_fault_has_text : ReplyHasText (Refused RemoteFault)
+unfolding reply_text refusal_text
+remote_fault_has_text = (tt, omega arith)
 
 pub disk_fault_has_text : ReplyHasText (Refused DiskFault)
 unfolding reply_text refusal_text

@@ -5,7 +5,7 @@ use Rattle.wire_commands.specs.declared.reply.Reply.{Reply}
 use Rattle.store_history.specs.declared.act.Act.{Act}
 use Rattle.store_history.specs.declared.act.Act.TheVariants.{Step}
 use Rattle.store_history.specs.declared.act.Event.{Event}
-use Rattle.store_history.specs.Acts.{Class, stepping, starting, sweeping, wanting, ending, class_of}
+use Rattle.store_history.specs.Acts.{Class, stepping, reaching, starting, sweeping, wanting, ending, class_of}
 use Rattle.store_history.specs.History.{World, EntryKind, kind, kind_of, moment}
 use Rattle.store_history.specs.LastTouches.{SameTouches, is_one_of, touched, touches_after}
 use Rattle.store_history.specs.Sweeping.{FitsSweep, Sweep, Swept, is_pass, marks_in, passing, sweep_of, swept_after, taken_in, without}
@@ -18,6 +18,7 @@ no_sweep act unstepped e = cc
 no_pass : (c : Class) (k : EntryKind) → (c ≡ sweeping → ⊥) → is_pass c k ≡ false
 no_pass stepping k other = refl
 no_pass starting k other = refl
+no_pass reaching k other = refl
 no_pass sweeping k other = absurd (other refl)
 no_pass wanting k other = refl
 no_pass ending k other = refl
@@ -41,6 +42,7 @@ unswept_touches R w s e other = touched_none s e (passing s e) (none_passing s e
 pub fits_other : (w : World) (s : Swept) (k : ℕ) (r : Option Reply) (c : Class) (n : EntryKind) → (c ≡ sweeping → ⊥) → FitsSweep w s k r c n
 fits_other w s k r stepping n other = tt
 fits_other w s k r starting n other = tt
+fits_other w s k r reaching n other = tt
 fits_other w s k r sweeping n other = absurd (other refl)
 fits_other w s k r wanting n other = tt
 fits_other w s k r ending n other = tt

@@ -2,18 +2,16 @@
 use Rattle.disk_trait.specs.declared.disk.Disk.{Ghosts}
 use Rattle.std.specs.Prelude.{◌≡◌, ◌≢◌, ◌≤◌, ℕ, true, ◌==◌, ◌⊎◌, [], ◌∷◌, ◌++◌, length, if◌then◌else◌, Option, Some, None, IfSome, IsSome, IsTrue}
 use Rattle.disk_trait.specs.Disk.{Rose}
-use Rattle.store_types.specs.declared.refusal.Refusal.TheVariants.{NoMemory, DiskFault, Halted}
+use Rattle.store_types.specs.declared.refusal.Refusal.TheVariants.{NoMemory, RemoteFault, DiskFault, Halted}
 use Rattle.wire_commands.specs.declared.reply.Reply.{Reply}
 use Rattle.wire_commands.specs.declared.reply.Reply.TheVariants.{Refused}
 use Rattle.wire_commands.specs.HasText.{ReplyHasText}
 use Rattle.store_model.specs.Weave.{first_fault}
 use Rattle.store_history.specs.declared.act.Act.{Act}
-use Rattle.store_history.specs.declared.act.Act.TheVariants.{RemoteList}
 use Rattle.store_history.specs.declared.act.Answer.{Answer}
-use Rattle.store_history.specs.Legal.{OpensCollector}
-use Rattle.store_history.specs.Acts.{Class, starting, sweeping, wanting, ending, class_of}
+use Rattle.store_history.specs.Acts.{Class, reaching, starting, sweeping, wanting, ending, class_of}
 use Rattle.core_state.specs.declared.state.Core.{Core}
-use Rattle.core_state.specs.Replies.{may_answer, may_end}
+use Rattle.core_state.specs.Replies.{may_answer, may_end, may_give}
 
 -- the place of the disk's fault, after an entry of this kind at this place
 abbrev pub fault_after : ℕ → ℕ → Option ℕ → Option ℕ
@@ -50,9 +48,15 @@ pub data EndHasCause {D E C : Type 0} (d : Ghosts D) (old new : Core D E C) (ans
   end_failed : old.fault ≡ None → (answer.entry).kind ≡ 5 → answer.reply ≡ Some (Refused DiskFault)
       → new.fault ≡ Some answer.place → Rose (d.faults (old.parts).disk) (d.faults (new.parts).disk) → EndHasCause d old new answer
 
--- The start of a collector opens it without a reply, or is answered as any act is, and so is that of a SYNC.
+-- A read of the remote gives what stands there, or fails, which is no fault of the disk. Any other answer comes as any act's.
+pub data ReachHasCause {D E C : Type 0} (d : Ghosts D) (old new : Core D E C) (act : Act) (answer : Answer) : Type 0 where
+  reach_reads : old.fault ≡ None → (answer.entry).kind ≡ 1 → (reply : Reply) → answer.reply ≡ Some reply → IsTrue (may_give act reply) → ReachHasCause d old new act answer
+  reach_failed : old.fault ≡ None → (answer.entry).kind ≡ 7 → answer.reply ≡ Some (Refused RemoteFault) → ReachHasCause d old new act answer
+  reach_as_any : HasCause d old new act answer → ReachHasCause d old new act answer
+
+-- The start of a collector opens it without a reply, or is answered as any act is.
 pub data StartHasCause {D E C : Type 0} (d : Ghosts D) (old new : Core D E C) (act : Act) (answer : Answer) : Type 0 where
-  start_opens : OpensCollector act → old.fault ≡ None → (answer.entry).kind ≡ 3 → answer.reply ≡ None → StartHasCause d old new act answer
+  start_opens : old.fault ≡ None → (answer.entry).kind ≡ 3 → answer.reply ≡ None → StartHasCause d old new act answer
   start_as_any : HasCause d old new act answer → StartHasCause d old new act answer
 
 -- A mark or a visit has no reply. The end of a collector replies its report, or what ended it early. Any other answer comes as any act's.
@@ -63,6 +67,7 @@ pub data StepHasCause {D E C : Type 0} (d : Ghosts D) (old new : Core D E C) (ac
 
 abbrev pub ClassHasCause : {D E C : Type 0} → Ghosts D → Class → Core D E C → Core D E C → Act → Answer → Type 0
 ClassHasCause d ending old new act answer = EndHasCause d old new answer
+ClassHasCause d reaching old new act answer = ReachHasCause d old new act answer
 ClassHasCause d starting old new act answer = StartHasCause d old new act answer
 ClassHasCause d sweeping old new act answer = StepHasCause d old new act answer
 ClassHasCause d wanting old new act answer = ((answer.entry).kind ≡ 2) × (answer.reply ≡ Some (Refused NoMemory))
@@ -88,5 +93,4 @@ ClassIsTold _ answer = IsSome answer.reply
 
 -- every act has a reply but a collector's start, a mark, a visit, and a lane's end
 abbrev pub IsTold : Act → Answer → Type 0
-IsTold (RemoteList command) answer = IsSome answer.reply
 IsTold act answer = ClassIsTold (class_of act) answer

@@ -14,15 +14,16 @@ use Rattle.core_state.specs.declared.state.Core.{Core}
 use Rattle.core_state.specs.Answers.{IsAnswered, IsCaused, IsTold}
 use Rattle.core_state.specs.Catalogue.{Lists}
 use Rattle.core_state.specs.Changes.{IsFirm, LeavesChange, after, by_reply}
-use Rattle.core_state.specs.Closing.{is_closing}
+use Rattle.core_state.specs.Closing.{is_closing, is_writer}
 use Rattle.core_state.specs.Collectors.{collector_by}
-use Rattle.core_state.specs.Commands.{IsNoRefusal, change_at, ends_session, is_collectors, is_quiet, is_step, is_still, reads_only}
+use Rattle.core_state.specs.Commands.{IsNoRefusal, change_at, ends_session, is_collectors, is_quiet, is_remotes, is_step, is_still, leaves_writer, reads_only}
 use Rattle.core_state.specs.Due.{DueAt}
 use Rattle.core_state.specs.History.{History, IsClear, StandsFor, then_event, event_of}
 use Rattle.core_state.specs.KeepsTouches.{KeepsTouches}
 use Rattle.core_state.specs.Passes.{StepLeaves}
 use Rattle.core_state.specs.Records.{IsTimely, Records}
 use Rattle.core_state.specs.Recovers.{Recovers, TellsMoments}
+use Rattle.core_state.specs.Remotes.{RemoteServes, ShowsRemote}
 use Rattle.core_state.specs.Reserved.{Keeps}
 use Rattle.core_state.specs.Unchanged.{Unchanged}
 use Rattle.core_state.specs.Upkeeps.{touches_kept}
@@ -60,6 +61,23 @@ pub record ActApplies {D E C : Type 0} (d : Ghosts D) (clock : clocks.Ghosts C) 
   pub told : IsTold act answer
   pub cause : IsCaused d old new act answer
 
+-- And beside its remote: where this stood for what the history's has, an answer that it gave is that of the history. It was read alone, and
+-- as many reads are entered as failed at most as its count of faults rose by.
+pub record CoreApplies {D E C : Type 0} (d : Ghosts D) (e : Ghosts E) (clock : clocks.Ghosts C) (old new : Core D E C) (lane : ℕ) (act : Act) (answer : Answer) : Type 0 where
+  pub history : (h : History) → StandsFor d clock.readings old h → ShowsRemote e old.remote h.remote → IsKeptFor d old act h
+      → IsClearFor act (then_event h (event_of act answer (d.calls (new.parts).disk))) → StandsFor d clock.readings new (then_event h (event_of act answer (d.calls (new.parts).disk)))
+  pub records : (h : History) → Records clock.readings old h → Records clock.readings new (then_event h (event_of act answer (d.calls (new.parts).disk)))
+  pub recovers : TellsMoments d → (start : ℕ) (h : History) → StandsFor d clock.readings old h → ShowsRemote e old.remote h.remote
+      → IsClear (then_event h (event_of act answer (d.calls (new.parts).disk)))
+      → IsKeptFor d old act h → Recovers d start old h → Recovers d start new (then_event h (event_of act answer (d.calls (new.parts).disk)))
+  pub touches : (h : History) → StandsFor d clock.readings old h → ShowsRemote e old.remote h.remote → KeepsTouches d old h
+      → IsClearFor act (then_event h (event_of act answer (d.calls (new.parts).disk))) → KeepsTouches d new (then_event h (event_of act answer (d.calls (new.parts).disk)))
+  pub answers : IsAnswered d old new lane answer
+  pub timely : IsTimely clock.readings old new answer
+  pub told : IsTold act answer
+  pub cause : IsCaused d old new act answer
+  pub remote : RemoteServes e old new
+
 -- What the act leaves of the core, on any disk but for what is said of an honest one.
 pub record ActKeeps {D E C : Type 0} (d : Ghosts D) (old new : Core D E C) (lane : ℕ) (act : Act) (answer : Answer) : Type 0 where
   -- a refused act has changed nothing
@@ -82,7 +100,9 @@ pub record ActKeeps {D E C : Type 0} (d : Ghosts D) (old new : Core D E C) (lane
   pub ended : ends_session act ≡ true → IsDone answer → session_at new.parts lane ≡ Idle
   -- after the disk failed no call of it is made
   pub halted : IfSome old.fault (λ _. (new.parts).disk ≡ (old.parts).disk)
-  pub remote : new.remote ≡ old.remote
+  -- the lane has a writer, once it was begun and until it is ended
+  pub writes : leaves_writer act ≡ true → IsDone answer → is_writer (session_at new.parts lane) ≡ true
+  pub remote : is_remotes act ≡ false → new.remote ≡ old.remote
   -- the last touches are as the act's reply makes them of those before: a refused act touches nothing
   pub upkeep : is_step act ≡ false → SameTouches (touches_kept new.upkeep) (touches_by_entry act answer.reply (answer.entry).moment (touches_kept old.upkeep))
   -- want of memory ends the lane's collector early, and the lane's end closes it; no other act but the collector's own changes it

@@ -12,7 +12,7 @@ use Rattle.wire_commands.specs.declared.command.Command.{Command}
 use Rattle.wire_commands.specs.declared.command.Command.TheVariants.{OpenWriter, NewFixed, NewDynamic, Append, CloseIndex, OpenReader, CloseReader, List as ListAll, Files as FilesOf, Forget, Group, Finish, Abort}
 use Rattle.store_model.specs.Store.{Store}
 use Rattle.store_history.specs.declared.act.Act.{Act}
-use Rattle.store_history.specs.declared.act.Act.TheVariants.{Plain, Blob, Chunk, JobGroup, ReadFile, ReadChunk, RemoteList, Start, Step, Short, End}
+use Rattle.store_history.specs.declared.act.Act.TheVariants.{Plain, Blob, Chunk, JobGroup, ReadFile, ReadChunk, RemoteList, RemoteFile, RemoteChunk, Start, Step, Short, End}
 use Rattle.store_history.specs.History.{World, act_outcome}
 use Rattle.core_state.specs.declared.entering.Place.{Place}
 use Rattle.core_state.specs.declared.kept.Session.TheVariants.{Idle}
@@ -22,7 +22,7 @@ use Rattle.core_state.specs.declared.stop.Stop.TheVariants.{DiskFailed}
 use Rattle.core_state.specs.Catalogue.{listed_by}
 use Rattle.core_state.specs.Changes.{Change, IsFirm, LeavesChange, after, by_stop, change_of}
 use Rattle.core_state.specs.Chunks.{Adds, IsSafe}
-use Rattle.core_state.specs.Closing.{HasClosed, closes}
+use Rattle.core_state.specs.Closing.{HasClosed, closes, is_writer}
 use Rattle.core_state.specs.Due.{IsDue}
 use Rattle.core_state.specs.Holds.{Acts, Holds}
 use Rattle.core_state.specs.Replies.{may_answer}
@@ -43,6 +43,8 @@ is_quiet (Plain (ListAll rest)) = true
 is_quiet (Plain (Group group)) = true
 is_quiet (JobGroup command) = true
 is_quiet (RemoteList command) = true
+is_quiet (RemoteFile snapshot name offset) = true
+is_quiet (RemoteChunk digest) = true
 is_quiet Start = true
 is_quiet Short = true
 is_quiet _ = false
@@ -73,7 +75,16 @@ abbrev pub is_still : Act → Bool
 is_still (ReadFile name offset) = true
 is_still (ReadChunk name entry) = true
 is_still (RemoteList command) = true
+is_still (RemoteFile snapshot name offset) = true
+is_still (RemoteChunk digest) = true
 is_still act = is_admins act
+
+-- the acts that read the remote
+abbrev pub is_remotes : Act → Bool
+is_remotes (RemoteList command) = true
+is_remotes (RemoteFile snapshot name offset) = true
+is_remotes (RemoteChunk digest) = true
+is_remotes _ = false
 
 -- a mark, a visit, or the end of a collector
 abbrev pub is_step : Act → Bool
@@ -93,6 +104,17 @@ ends_session (Plain Abort) = true
 ends_session (Plain CloseReader) = true
 ends_session End = true
 ends_session _ = false
+
+-- the acts after which the lane has a writer, once they are done
+abbrev pub leaves_writer : Act → Bool
+leaves_writer (Plain (OpenWriter snapshot)) = true
+leaves_writer (Plain (NewFixed file size chunk_size)) = true
+leaves_writer (Plain (NewDynamic file)) = true
+leaves_writer (Plain (Append number entries)) = true
+leaves_writer (Plain (CloseIndex number count size csum)) = true
+leaves_writer (Blob name checked) = true
+leaves_writer (Chunk digest checked) = true
+leaves_writer _ = false
 
 abbrev pub IsNoRefusal : Reply → Type 0
 IsNoRefusal (Refused refusal) = ⊥
@@ -133,6 +155,7 @@ pub record ActLeaves {D : Type 0} (d : Ghosts D) (old new : Parts D) (at : Place
   -- an act that ends the session wants no memory
   pub closed : closes act (session_at old at.lane) ≡ true → HasClosed new at.lane (told result)
   pub ended : ends_session act ≡ true → IfOk result (λ _. session_at new at.lane ≡ Idle)
+  pub writes : leaves_writer act ≡ true → IfOk result (λ _. is_writer (session_at new at.lane) ≡ true)
 
 -- ---- the two of a plain command
 

@@ -27,6 +27,7 @@ pub mod Changes
 pub mod Listing
 pub mod Unreadables
 pub mod Stops
+pub mod Remotes
 pub mod Wanted
 pub mod Due
 pub mod Commands

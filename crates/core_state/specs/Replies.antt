@@ -303,10 +303,39 @@ abbrev pub answers_end : Reply → Bool
 answers_end Done = true
 answers_end _ = false
 
--- the first step of a SYNC, which is only refused so far
+-- the first step of a SYNC, where the remote is not read
 abbrev pub answers_sync : Reply → Bool
 answers_sync (Refused refusal) = refuses_sync refusal
 answers_sync _ = false
+
+-- and any other read of the remote
+abbrev pub answers_unread : Reply → Bool
+answers_unread (Refused NoRemote) = true
+answers_unread _ = false
+
+-- what the remote has of a group: no more than a group has at most
+abbrev pub gives_keys : Reply → Bool
+gives_keys (Keys snapshots) = nat_le (length snapshots) group_limit
+gives_keys _ = false
+
+-- a part of one of its files, and the blob of a chunk, or what is refused as it stands there
+abbrev pub gives_file : ℕ → Reply → Bool
+gives_file offset (Part total bytes) = nat_le total offset || nat_lt 0 (length bytes)
+gives_file offset (Refused (BadRange size)) = true
+gives_file offset (Refused (Unreadable name)) = true
+gives_file offset _ = false
+
+abbrev pub gives_blob : Reply → Bool
+gives_blob (Data bytes) = true
+gives_blob (Refused (Damaged digest fault)) = true
+gives_blob _ = false
+
+-- what a read of the remote gives
+abbrev pub may_give : Act → Reply → Bool
+may_give (acts.RemoteList command) reply = gives_keys reply
+may_give (acts.RemoteFile snapshot name offset) reply = gives_file offset reply
+may_give (acts.RemoteChunk digest) reply = gives_blob reply
+may_give _ reply = false
 
 -- a collector that starts has no reply
 abbrev pub answers_start : Reply → Bool
@@ -357,6 +386,8 @@ may_answer (acts.Chunk digest checked) reply = answers_chunk reply
 may_answer (acts.ReadFile name offset) reply = answers_part offset reply
 may_answer (acts.ReadChunk name entry) reply = answers_entry reply
 may_answer (acts.RemoteList command) reply = answers_sync reply
+may_answer (acts.RemoteFile snapshot name offset) reply = answers_unread reply
+may_answer (acts.RemoteChunk digest) reply = answers_unread reply
 may_answer acts.Start reply = answers_start reply
 may_answer acts.Step reply = answers_step reply
 may_answer acts.End reply = answers_end reply

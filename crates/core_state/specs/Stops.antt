@@ -9,6 +9,8 @@ use Rattle.wire_commands.specs.declared.reply.Reply.TheVariants as replies
 use Rattle.wire_commands.specs.HasText.{ReplyHasText}
 use Rattle.snapshot_files.specs.declared.read_error.ReadError.{ReadError}
 use Rattle.snapshot_files.specs.declared.read_error.ReadError.TheVariants as reads
+use Rattle.core_state.specs.declared.stop.RemoteStop.{RemoteStop}
+use Rattle.core_state.specs.declared.stop.RemoteStop.TheVariants as remotes
 use Rattle.core_state.specs.declared.stop.Stop.{Stop}
 use Rattle.core_state.specs.declared.stop.Stop.TheVariants.{Refused, NoMemory, DiskFailed}
 
@@ -21,6 +23,11 @@ abbrev pub stop_by_read : ReadError → Stop
 stop_by_read (reads.Refused refusal) = Refused refusal
 stop_by_read reads.NoMemory = NoMemory
 stop_by_read reads.Failed = DiskFailed
+
+-- the remote is not read
+abbrev pub remote_stop_of : DiskError → RemoteStop
+remote_stop_of disks.NoMemory = remotes.NoMemory
+remote_stop_of disks.Failed = remotes.Failed
 
 -- the outcome of an act: a refusal is a reply
 abbrev pub told : Result Reply Stop → Result Reply DiskError

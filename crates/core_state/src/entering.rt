@@ -7,18 +7,22 @@ ghost use Rattle.wire_commands.specs.declared.reply.Reply.TheVariants.{Refused};
 ghost use Rattle.wire_commands.specs.HasText.{ReplyHasText};
 ghost use Rattle.core_state.specs.Begins.{AdmittedHasText, Begins, FillsUp, IsNext, IsNotShort, IsShort};
 ghost use Rattle.core_state.specs.Closing.{is_closing};
+ghost use Rattle.core_state.specs.Remotes.{SettlesRead};
 ghost use Rattle.core_state.specs.Reserved.{HasRoom};
 ghost use Rattle.core_state.specs.Settles.{IsEntered, Settles};
 ghost use Rattle.core_state.specs.Stops.{told};
 
 use crate::noting::note_entry;
 use crate::state::Core;
-use crate::stop::Stop;
+use crate::stop::{RemoteStop, Stop};
 use disk_trait::Disk;
 use port_traits::Clock;
 use std::alloc::Global;
 use store_history::{Act, Answer};
-use store_types::{COMMAND_KIND, Entry, FAULT_KIND, LAST_MOMENT, MEMORY_KIND, Refusal};
+use store_types::{
+    COMMAND_KIND, Entry, FAULT_KIND, LAST_MOMENT, MEMORY_KIND, PART_KIND, REMOTE_FAULT_KIND,
+    Refusal,
+};
 use wire_commands::Reply;
 
 /// Where an act stands in the order: its lane, its moment, and the number of its entry.
@@ -138,6 +142,34 @@ pub fn short<D: Disk, E, C: Clock>(core: &mut Core<D, E, C>, alloc: Global, lane
     let _ = core.journal.fill(lane as usize);
     let reply = Reply::Refused(Refusal::NoMemory);
     enter(core, at, MEMORY_KIND, Some(reply))
+}
+
+/// Enters a read of the remote by how it ended: what the remote gave, a refusal of what it has too, is a reply.
+pub fn settle_read<D: Disk, E, C>(
+    core: &mut Core<D, E, C>,
+    at: Place,
+    ended: Result<Reply, RemoteStop>,
+) -> Answer
+    requires lane { at.lane < 64 }
+    requires in_time { at.moment ≤ last_moment }
+    requires room { HasRoom core.old at.lane }
+    ensures { SettlesRead D.Disk core.old core.new at.lane at.moment ended result }
+{
+    match ended {
+        Ok(reply) => enter(core, at, PART_KIND, Some(reply)),
+        Err(RemoteStop::Refused(refusal)) => {
+            let reply = Reply::Refused(refusal);
+            enter(core, at, COMMAND_KIND, Some(reply))
+        }
+        Err(RemoteStop::NoMemory) => {
+            let reply = Reply::Refused(Refusal::NoMemory);
+            enter(core, at, MEMORY_KIND, Some(reply))
+        }
+        Err(RemoteStop::Failed) => {
+            let reply = Reply::Refused(Refusal::RemoteFault);
+            enter(core, at, REMOTE_FAULT_KIND, Some(reply))
+        }
+    }
 }
 
 /// Enters an act by how its command ended: a refusal is a reply.

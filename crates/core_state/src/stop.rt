@@ -1,7 +1,8 @@
 //! Why a command stops before its end.
 
 ghost use Rattle.std.specs.Prelude.{◌≡◌};
-ghost use Rattle.core_state.specs.Stops.{stop_by_read, stop_of};
+ghost use Rattle.core_state.specs.Stops.{remote_stop_of, stop_by_read, stop_of};
+ghost use Rattle.core_state.specs.declared.stop.RemoteStop.TheVariants.{NoMemory as RemoteWants};
 ghost use Rattle.core_state.specs.declared.stop.Stop.TheVariants.{DiskFailed, NoMemory, Refused};
 
 use disk_trait::{DiskError, Failed};
@@ -15,6 +16,14 @@ pub enum Stop {
     Refused(Refusal),
     NoMemory,
     DiskFailed,
+}
+
+/// Why a read of the remote gives nothing: it is refused without a read, memory is wanting, or the remote failed.
+#[derive(Debug, Drop)]
+pub enum RemoteStop {
+    Refused(Refusal),
+    NoMemory,
+    Failed,
 }
 
 impl From<Refusal> for Stop {
@@ -57,6 +66,33 @@ impl From<Failed> for Stop {
 
     fn from(_: Failed) -> Self {
         Stop::DiskFailed
+    }
+}
+
+impl From<AllocError> for RemoteStop {
+    ghost from_gives = { λ _ stop. stop ≡ RemoteWants };
+
+    fn from(_: AllocError) -> Self {
+        RemoteStop::NoMemory
+    }
+}
+
+impl<T: Drop> From<AllocFailed<T>> for RemoteStop {
+    ghost from_gives = { λ _ stop. stop ≡ RemoteWants };
+
+    fn from(_: AllocFailed<T>) -> Self {
+        RemoteStop::NoMemory
+    }
+}
+
+impl From<DiskError> for RemoteStop {
+    ghost from_gives = { λ e stop. stop ≡ remote_stop_of e };
+
+    fn from(e: DiskError) -> Self {
+        match e {
+            DiskError::NoMemory => RemoteStop::NoMemory,
+            DiskError::Failed => RemoteStop::Failed,
+        }
     }
 }
 

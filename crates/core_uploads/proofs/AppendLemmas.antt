@@ -91,6 +91,7 @@ module _ (moment number : ℕ) (entries : List AppendEntry) (found : Session) (w
               answers = append_refuses (w.session).writer number (map steps.named entries) r refuses.0;
               plain = tt;
               named = left_named;
+              writes = refl;
               same = as_found refuses.1;
               step = λ s lane sound at.
                   let f = writer_found s lane found w at is in
@@ -99,7 +100,7 @@ module _ (moment number : ℕ) (entries : List AppendEntry) (found : Session) (w
             }
         by_stop stops.NoMemory was text =
             let same : new ≡ w.session = subst (λ t. Does (λ u. u) settled w.session new (answer_of t) (row_steps.append (w.session).writer number (map steps.named entries))) was does in
-            record { text = tt; answers = tt; plain = tt; named = left_named; same = as_found same; step = tt }
+            record { text = tt; answers = tt; plain = tt; named = left_named; writes = refl; same = as_found same; step = tt }
         by_stop stops.DiskFailed was text = absurd (uncalled was)
 
     kept_after : (v after : model.Writer) → HasGrown number v after → shown_writer v ≡ w → (x : rows.Writing) → new ≡ settled x → Shows x after → left ≡ kept.Writer (shown_writer after)
@@ -114,6 +115,7 @@ module _ (moment number : ℕ) (entries : List AppendEntry) (found : Session) (w
       answers = refl;
       plain = tt;
       named = left_named;
+      writes = refl;
       same = tt;
       step = λ s lane sound at.
           let f = writer_found s lane found w at is in

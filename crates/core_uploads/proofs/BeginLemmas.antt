@@ -196,10 +196,11 @@ module _ (moment : ℕ) (kind : NewIndex) (name : List ℕ) (found : Session) (w
             answers = answers_name kind;
             plain = tt;
             named = sym (ap is_named is) ∙ named;
+            writes = refl;
             same = sym is;
             step = λ s lane sound at. let f = writer_found s lane found w at is in refused s lane moment kind name f.0 BadName f.1 (bad_name kind f.0 name moment (not_index name bad.1));
           })
-      by_stop stops.NoMemory bad = record { text = tt; answers = tt; plain = tt; named = sym (ap is_named is) ∙ named; same = sym is; step = tt }
+      by_stop stops.NoMemory bad = record { text = tt; answers = tt; plain = tt; named = sym (ap is_named is) ∙ named; writes = refl; same = sym is; step = tt }
       by_stop stops.DiskFailed bad = absurd bad
 
   module _ (new : sessions.Session) (result : Result ℕ Stop) (called : List ℕ) (called_is : called ≡ name)
@@ -229,6 +230,7 @@ module _ (moment : ℕ) (kind : NewIndex) (name : List ℕ) (found : Session) (w
               answers = answers_refused kind r (index_refusal kind (w.session).writer name moment r refuses.0);
               plain = tt;
               named = left_named;
+              writes = refl;
               same = ap (λ x. let y : Writing = record w { session = x } in kept.Writer y) refuses.1 ∙ sym is;
               step = λ s lane sound at.
                   let f = writer_found s lane found w at is in
@@ -238,7 +240,7 @@ module _ (moment : ℕ) (kind : NewIndex) (name : List ℕ) (found : Session) (w
             }
         by_stop stops.NoMemory was text =
             let same : new ≡ w.session = subst (λ x. Does (λ n. n) settled w.session new (answer_of x) (new_rows kind (w.session).writer name moment)) was does in
-            record { text = tt; answers = tt; plain = tt; named = left_named; same = ap (λ x. let y : Writing = record w { session = x } in kept.Writer y) same ∙ sym is; step = tt }
+            record { text = tt; answers = tt; plain = tt; named = left_named; writes = refl; same = ap (λ x. let y : Writing = record w { session = x } in kept.Writer y) same ∙ sym is; step = tt }
         by_stop stops.DiskFailed was text = absurd (uncalled was)
 
     pub begin_done : (n : ℕ) → n < 256 → moment ≤ last_moment → result ≡ Ok n → Quietly left (Ok (Number n))
@@ -247,6 +249,7 @@ module _ (moment : ℕ) (kind : NewIndex) (name : List ℕ) (found : Session) (w
       answers = answers_number kind n;
       plain = tt;
       named = left_named;
+      writes = refl;
       same = tt;
       step = λ s lane sound at.
           let f = writer_found s lane found w at is in

@@ -28,7 +28,7 @@ use Rattle.core_state.specs.declared.stop.Stop.{Stop}
 use Rattle.core_state.specs.declared.stop.Stop.TheVariants.{Refused, NoMemory, DiskFailed}
 use Rattle.core_state.specs.Catalogue.{listed_by}
 use Rattle.core_state.specs.Changes.{Change, IsFirm, LeavesChange, after, by_writer, file_put, stays, installs}
-use Rattle.core_state.specs.Closing.{closes}
+use Rattle.core_state.specs.Closing.{closes, is_writer}
 use Rattle.core_state.specs.Commands.{ActDoes, ActLeaves, change_at, ends_session, is_still, is_quiet, reads_only}
 use Rattle.core_state.specs.Due.{IsDue}
 use Rattle.core_state.specs.Holds.{Holds, IsOnDisk, Shows}
@@ -38,7 +38,7 @@ use Rattle.core_state.specs.Shown.{shown_writer}
 use Rattle.core_state.specs.Stops.{stop_of}
 use Rattle.core_state.specs.Unchanged.{SameKept}
 use Rattle.core_state.specs.Wanted.{session_at}
-use Rattle.core_state.proofs.Commanding.{act_does, failed_does, failed_leaves, refused_does, refused_leaves, short_does, short_leaves, writes_does, writes_leaves}
+use Rattle.core_state.proofs.Commanding.{act_does, failed_does, failed_leaves, refused_does, refused_leaves, short_does, short_leaves, writes_does, writes_leaves, writes_set}
 use Rattle.core_state.proofs.LockLemmas.{locked_writes_on}
 use Rattle.core_state.proofs.NamedLemmas.{writer_named, writer_stays_named}
 use Rattle.core_state.proofs.Sessions.{at_lane}
@@ -208,3 +208,4 @@ module _ {D : Type 0} (d : Ghosts D) (old new : Parts D) (at : Place) (act : Act
           (c ∙ sym listed) (λ admin. absurd (false_true (sym other ∙ admin)))
           (λ s h. puts_no_chunk (d.content old.disk) (d.content new.disk) ((pending.found).session.writer).key n.file n.text act pending.path (put h.honest))
           (λ ends. absurd (false_true (sym goes_on ∙ ends)))
+          (λ _. writes_set old new at.lane left lt l (ap is_writer (kept_is ∙ ap (with_pending n.file) pending.new_is)))

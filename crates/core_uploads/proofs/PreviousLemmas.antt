@@ -655,7 +655,7 @@ module _ {D : Type 0} (d : Ghosts D) (parts : Parts D) (at : Place) (name : List
 
     pub given_leaves : (g : Given) → IsPart g.part → new.catalogue.items ≡ parts.catalogue.items → ActLeaves d parts new at act (Ok g.part)
     given_leaves g kind c =
-        writes_leaves d parts new at act g.part (part_plain g.part kind) refl (λ h. read.same h) read.crash tt c (λ admin. absurd (false_true admin)) (adds_same d parts new act (Ok g.part) read.same) (λ ends. absurd (false_true ends))
+        writes_leaves d parts new at act g.part (part_plain g.part kind) refl (λ h. read.same h) read.crash tt c (λ admin. absurd (false_true admin)) (adds_same d parts new act (Ok g.part) read.same) (λ ends. absurd (false_true ends)) (λ writes. absurd (false_true writes))
 
     module _ (w : Writing) (path : List ℕ) (lt : at.lane < 64) (writes : wants.want_writer (session_at parts at.lane) ≡ Ok w) (good : is_file_name name ≡ true) (there : base_file ((w.session).writer).base name parts.catalogue.items ≡ Ok path) where
       based : (s : Store) (v : Writer) → Holds d parts s → shown_writer v ≡ w → HasBase s at.lane name offset v path

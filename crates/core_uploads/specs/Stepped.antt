@@ -1,5 +1,5 @@
 -- What a command that makes no call of the disk does to its lane's session.
-use Rattle.std.specs.Prelude.{◌≡◌, ℕ, Bool, Result, Ok, Err, IfOk, OnErr, IsTrue}
+use Rattle.std.specs.Prelude.{◌≡◌, ℕ, Bool, true, Result, Ok, Err, IfOk, OnErr, IsTrue}
 use Rattle.disk_trait.specs.Files.{Files}
 use Rattle.disk_trait.specs.declared.disk.DiskError.{DiskError}
 use Rattle.disk_trait.specs.declared.disk.DiskError.TheVariants as disks
@@ -11,6 +11,7 @@ use Rattle.core_state.specs.declared.kept.Session.{Session}
 use Rattle.core_state.specs.declared.kept.Session.TheVariants as kept
 use Rattle.core_state.specs.declared.stop.Stop.{Stop}
 use Rattle.core_state.specs.declared.stop.Stop.TheVariants.{Refused, NoMemory, DiskFailed}
+use Rattle.core_state.specs.Closing.{is_writer as is_writers}
 use Rattle.core_state.specs.Commands.{IsNoRefusal}
 use Rattle.core_state.specs.Holds.{IsSound, IsWriter, HasUploads}
 use Rattle.core_state.specs.Named.{is_named}
@@ -38,12 +39,13 @@ IsStepOf old new outcome_at (Err (Refused refusal)) =
 IsStepOf old new outcome_at (Err NoMemory) = Unit {0}
 IsStepOf old new outcome_at (Err DiskFailed) = ⊥
 
--- It does the store's step, and is answered by one of these replies. Where it stops the session is as before.
+-- It does the store's step, and is answered by one of these replies. The session is a writer's then too, and where it stops it is as before.
 pub record StepsQuietly (old new : Session) (outcome_at : Store → ℕ → Outcome) (may_be : Reply → Bool) (result : Result Reply Stop) : Type 0 where
   pub text : IfOk (told result) ReplyHasText
   pub answers : IfOk (told result) (λ reply. IsTrue (may_be reply))
   pub plain : IfOk result IsNoRefusal
   pub named : IsTrue (is_named new)
+  pub writes : is_writers new ≡ true
   pub same : OnErr result (new ≡ old)
   pub step : IsStepOf old new outcome_at result
 

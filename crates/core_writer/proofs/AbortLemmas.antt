@@ -124,7 +124,7 @@ module _ {D : Type 0} (d : Ghosts D) where
       (λ h. after_end (session_at old at.lane) (d.content old.disk) (d.content new.disk) (reads h))
       (subst (λ x. LeavesChange d old.disk x (ends_by (session_at old at.lane))) (sym same) (leaves_end (session_at old at.lane) old.disk removed crash))
       (firm_end (session_at old at.lane) old.disk new.disk) c (not_still acts.End refl)
-      (λ s h. adds_less (d.content old.disk) (d.content new.disk) (put_paths (files_in (session_at old at.lane))) acts.End (reads h.honest)) (λ _. idle)
+      (λ s h. adds_less (d.content old.disk) (d.content new.disk) (put_paths (files_in (session_at old at.lane))) acts.End (reads h.honest)) (λ _. idle) (λ writes. cc)
 
   pub end_fails : (old new : Parts D) (at : Place) (removed result : Result (Unit {0}) Failed) (e f : Failed) → removed ≡ Err e → IsErrAnd result (λ x. x ≡ f) → Serves d.honest d.faults old.disk new.disk (IsErr removed) → SameKept old new
       → ActDoes d old new at acts.End (ended_as result)
@@ -178,6 +178,7 @@ module _ {D : Type 0} (d : Ghosts D) where
         due = λ failed s h. tt;
         closed = λ _. ends.ended refl;
         ended = λ _. ends.ended refl;
+        writes = λ writes. cc;
       }
 
   -- the disk failed
@@ -214,4 +215,5 @@ module _ {D : Type 0} (d : Ghosts D) where
         due = λ failed s h. tt;
         closed = λ _. tt;
         ended = λ _. tt;
+        writes = λ _. tt;
       })

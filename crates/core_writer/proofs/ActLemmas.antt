@@ -5,7 +5,7 @@ use Rattle.port_traits.specs.Readings.{Readings}
 use Rattle.wire_commands.specs.declared.command.Command.TheVariants.{OpenWriter, Previous, NewFixed, NewDynamic, Chunk as ChunkCommand, Append, CloseIndex, Blob as BlobCommand, Finish, Abort, OpenReader, Download, GetChunk, Range, CloseReader, List as ListAll, Files as FilesOf, Forget, Prune, Verify, Sync, Gc, Group, Bye}
 use Rattle.wire_commands.specs.declared.reply.Reply.{Reply}
 use Rattle.store_history.specs.declared.act.Act.{Act}
-use Rattle.store_history.specs.declared.act.Act.TheVariants.{Plain, JobGroup, Blob, Chunk, ReadFile, ReadChunk, RemoteList, Start, Step, Short, End}
+use Rattle.store_history.specs.declared.act.Act.TheVariants.{Plain, JobGroup, Blob, Chunk, ReadFile, ReadChunk, RemoteList, RemoteFile, RemoteChunk, Start, Step, Short, End}
 use Rattle.store_history.specs.declared.act.Answer.{Answer}
 use Rattle.store_history.specs.Acts.{IsWellFormed, class_of, stepping}
 use Rattle.core_state.specs.declared.entering.Place.{Place}
@@ -49,6 +49,8 @@ writers_formed (Chunk digest checked) h = h
 writers_formed (ReadFile name offset) h = absurd h
 writers_formed (ReadChunk name entry) h = absurd h
 writers_formed (RemoteList command) h = absurd h
+writers_formed (RemoteFile snapshot name offset) h = absurd h
+writers_formed (RemoteChunk digest) h = absurd h
 writers_formed Start h = absurd h
 writers_formed Step h = absurd h
 writers_formed Short h = absurd h
@@ -62,6 +64,8 @@ writers_step (Chunk digest checked) h = refl
 writers_step (ReadFile name offset) h = absurd h
 writers_step (ReadChunk name entry) h = absurd h
 writers_step (RemoteList command) h = absurd h
+writers_step (RemoteFile snapshot name offset) h = absurd h
+writers_step (RemoteChunk digest) h = absurd h
 writers_step Start h = absurd h
 writers_step Step h = absurd h
 writers_step Short h = absurd h

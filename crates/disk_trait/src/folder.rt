@@ -81,10 +81,11 @@ impl<R: Files + AllocGlobal + Clone + Drop> Folder<R> {
 
     /// All bytes of the file at a name, where there is one.
     pub fn read(&mut self, alloc: Global, name: &str) -> Result<Option<Vec<u8>>, DiskError> {
-        if self.look_up(name)?.is_none() {
+        let Some(size) = self.look_up(name)? else {
             return Ok(None);
-        }
-        let mut bytes = Vec::new(alloc);
+        };
+        // One byte more than the file has, so that its end is read without growing.
+        let mut bytes = Vec::with_capacity(alloc, (size as usize).saturating_add(1))?;
         fs::open(&self.rt, self.path.as_str())?.read_to_end(&mut bytes)?;
         Ok(Some(bytes))
     }

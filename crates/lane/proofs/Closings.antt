@@ -115,32 +115,32 @@ record IsEndRun (e : Ending) (p : Position) (vs : List Event) : Type 0 where
   pub begins : told ≡ p.told ++ more
 
 -- where the sink failed, something or nothing is told
-sink_run : (k : ℕ) (p : Position) (vs : List Event) → p.is_over ≡ false → p.collecting ≡ None → p.job ≡ None → AreEndOf k vs → IsEndRun endings.SinkFault p vs
-sink_run k p [] on shut off ends = absurd ends
-sink_run k p (v ∷ []) on shut off ends =
+sink_run : (k : ℕ) (p : Position) (vs : List Event) → p.is_over ≡ false → p.collecting ≡ None → p.pull ≡ None → p.job ≡ None → AreEndOf k vs → IsEndRun endings.SinkFault p vs
+sink_run k p [] on shut idle off ends = absurd ends
+sink_run k p (v ∷ []) on shut idle off ends =
     let w = more_words endings.SinkFault p (next_at p) in
-    record { told = (last_words endings.SinkFault p (next_at p)).told; runs = end_runs endings.SinkFault p v on shut ends.asks ends.kind_is tt; more = w.0; begins = w.1 }
-sink_run k p (v ∷ u ∷ []) on shut off ends =
+    record { told = (last_words endings.SinkFault p (next_at p)).told; runs = end_runs endings.SinkFault p v on shut idle ends.asks ends.kind_is tt; more = w.0; begins = w.1 }
+sink_run k p (v ∷ u ∷ []) on shut idle off ends =
     let q = end_faulted endings.SinkFault p (reply v) in
     let w = more_words endings.SinkFault q (next_at q) in
     let h = more_heard p (reply v) (next_at p) in
     record {
       told = (last_words endings.SinkFault q (next_at q)).told;
-      runs = end_again_runs endings.SinkFault p v u shut off on (ends.0).asks (ends.0).kind_is (ends.1).asks (ends.1).kind_is tt;
+      runs = end_again_runs endings.SinkFault p v u shut idle off on (ends.0).asks (ends.0).kind_is (ends.1).asks (ends.1).kind_is tt;
       more = h.0 ++ w.0;
       begins = w.1 ∙ ap (λ ts. ts ++ w.0) h.1 ∙ append_assoc p.told h.0 w.0;
     }
-sink_run k p (v ∷ u ∷ x ∷ vs) on shut off ends = absurd ends
+sink_run k p (v ∷ u ∷ x ∷ vs) on shut idle off ends = absurd ends
 
 -- else the last words are
-told_run : (k : ℕ) (e : Ending) (p : Position) (vs : List Event) → e ≢ endings.SinkFault → p.is_over ≡ false → p.collecting ≡ None → p.job ≡ None → EndsSo e p (next_at p) → AreEndOf k vs
+told_run : (k : ℕ) (e : Ending) (p : Position) (vs : List Event) → e ≢ endings.SinkFault → p.is_over ≡ false → p.collecting ≡ None → p.pull ≡ None → p.job ≡ None → EndsSo e p (next_at p) → AreEndOf k vs
     → Runs e p vs (last_words e p (next_at p)).told
-told_run k e p [] ne on shut off so ends = absurd ends
-told_run k e p (v ∷ []) ne on shut off so ends = end_runs e p v on shut ends.asks ends.kind_is so
-told_run k e p (v ∷ u ∷ []) ne on shut off so ends =
+told_run k e p [] ne on shut idle off so ends = absurd ends
+told_run k e p (v ∷ []) ne on shut idle off so ends = end_runs e p v on shut idle ends.asks ends.kind_is so
+told_run k e p (v ∷ u ∷ []) ne on shut idle off so ends =
     subst (λ q. Runs e p (v ∷ u ∷ []) (last_words e q (next_at q)).told) (faulted_same e p (reply v) shut off ne so)
-    (end_again_runs e p v u shut off on (ends.0).asks (ends.0).kind_is (ends.1).asks (ends.1).kind_is so)
-told_run k e p (v ∷ u ∷ x ∷ vs) ne on shut off so ends = absurd ends
+    (end_again_runs e p v u shut idle off on (ends.0).asks (ends.0).kind_is (ends.1).asks (ends.1).kind_is so)
+told_run k e p (v ∷ u ∷ x ∷ vs) ne on shut idle off so ends = absurd ends
 
 none_more : (told : List Reply) (w : Reply) → told ≡ told ++ w ∷ [] → ⊥
 none_more told w h = omega (arith, ap length h, length-append told (w ∷ []))
@@ -200,16 +200,16 @@ faulted_words endings.SourceFault p o w shut off ne says so = faulted_same endin
 faulted_words endings.SourceTooLong p o w shut off ne says so = faulted_same endings.SourceTooLong p o shut off ne so
 faulted_words endings.NoMemory p o w shut off ne says so = absurd (none_more p.told w (sym (no_words endings.NoMemory p refl ∙ append-nil p.told) ∙ says))
 
-sink_told_run : (k : ℕ) (e : Ending) (p : Position) (vs : List Event) (w : Reply) → e ≢ endings.SinkFault → p.is_over ≡ false → p.collecting ≡ None → p.job ≡ None → EndsSo e p (next_at p)
+sink_told_run : (k : ℕ) (e : Ending) (p : Position) (vs : List Event) (w : Reply) → e ≢ endings.SinkFault → p.is_over ≡ false → p.collecting ≡ None → p.pull ≡ None → p.job ≡ None → EndsSo e p (next_at p)
     → (last_words e p (next_at p)).told ≡ p.told ++ w ∷ [] → AreEndOf k vs → Runs endings.SinkFault p vs (p.told ++ w ∷ [])
-sink_told_run k e p [] w ne on shut off so says ends = absurd ends
-sink_told_run k e p (v ∷ []) w ne on shut off so says ends =
-    subst (λ ts. Runs endings.SinkFault p (v ∷ []) ts) (sink_words e p (next_at p) w ne says) (end_runs endings.SinkFault p v on shut ends.asks ends.kind_is tt)
-sink_told_run k e p (v ∷ u ∷ []) w ne on shut off so says ends =
+sink_told_run k e p [] w ne on shut idle off so says ends = absurd ends
+sink_told_run k e p (v ∷ []) w ne on shut idle off so says ends =
+    subst (λ ts. Runs endings.SinkFault p (v ∷ []) ts) (sink_words e p (next_at p) w ne says) (end_runs endings.SinkFault p v on shut idle ends.asks ends.kind_is tt)
+sink_told_run k e p (v ∷ u ∷ []) w ne on shut idle off so says ends =
     subst (λ ts. Runs endings.SinkFault p (v ∷ u ∷ []) ts)
     (ap (λ q. (last_words endings.SinkFault q (next_at q)).told) (faulted_words e p (reply v) w shut off ne says so) ∙ sink_words e p (next_at p) w ne says)
-    (end_again_runs endings.SinkFault p v u shut off on (ends.0).asks (ends.0).kind_is (ends.1).asks (ends.1).kind_is tt)
-sink_told_run k e p (v ∷ u ∷ x ∷ vs) w ne on shut off so says ends = absurd ends
+    (end_again_runs endings.SinkFault p v u shut idle off on (ends.0).asks (ends.0).kind_is (ends.1).asks (ends.1).kind_is tt)
+sink_told_run k e p (v ∷ u ∷ x ∷ vs) w ne on shut idle off so says ends = absurd ends
 
 -- ---- the whole
 
@@ -306,7 +306,7 @@ all_given before after start k left taken taken' size given given' e words ends 
       told = (s.last).told ++ option_to_list words;
       stands_for = c.stands_for;
       lanes = of_ends k s.events c.vs s.lanes c.ends;
-      ran = s.runs e c.vs ((s.last).told ++ option_to_list words) (subst (λ ts. Runs e s.last c.vs ts) is (told_run k e s.last c.vs ne s.on s.shut s.off s.so c.ends));
+      ran = s.runs e c.vs ((s.last).told ++ option_to_list words) (subst (λ ts. Runs e s.last c.vs ts) is (told_run k e s.last c.vs ne s.on s.shut s.idle s.off s.so c.ends));
       size_is = s.size_is;
       took = s.took;
       gave = gave;
@@ -319,7 +319,7 @@ sink_failed : (before after : History → Type 0) (start : Start) (k : ℕ) (lef
     → RanAlone after start.history k start.left left start.taken taken (record { taken = size; given = given; ending = endings.SinkFault })
 sink_failed before after start k left taken size given words ends s =
     let c = closing before after start k left taken size given endings.SinkFault words ends s in
-    let r = sink_run k s.last c.vs s.on s.shut s.off c.ends in
+    let r = sink_run k s.last c.vs s.on s.shut s.idle s.off c.ends in
     record {
       events = s.events ++ c.vs;
       input = s.input;
@@ -377,7 +377,7 @@ closed_in_fault before after start k left taken taken' size given given' e words
       told = (s.last).told ++ w ∷ [];
       stands_for = c.stands_for;
       lanes = of_ends k s.events c.vs s.lanes c.ends;
-      ran = s.runs endings.SinkFault c.vs ((s.last).told ++ w ∷ []) (sink_told_run k e s.last c.vs w ne s.on s.shut s.off s.so (words_are e s.last (Some w) ne s.says) c.ends);
+      ran = s.runs endings.SinkFault c.vs ((s.last).told ++ w ∷ []) (sink_told_run k e s.last c.vs w ne s.on s.shut s.idle s.off s.so (words_are e s.last (Some w) ne s.says) c.ends);
       size_is = s.size_is;
       took = all_taken e s.last w start.left left s.input s.says s.took;
       gave = gave_more start.taken taken taken' given given' (s.last).told w false (subst (λ b. WritesCounted start.taken taken 0 given (text (s.last).told) b) (gives_all e ne) s.gave) wrote;

@@ -1,21 +1,19 @@
--- GC on a lane: its collector's acts, and where they lead. And a SYNC's first step.
-use Rattle.std.proofs.Common.{◌≡◌, inl, inr, ℕ, Bool, true, false, ◌||◌, ◌==◌, List, [], ◌∷◌, ◌++◌, Option, Some, None, IsSome, refl, sym, ap, subst, ◌∙◌, arith, append-nil, append_assoc}
+-- GC on a lane: its collector's acts, and where they lead.
+use Rattle.std.proofs.Common.{◌≡◌, ◌+◌, inl, inr, ℕ, Bool, true, false, ◌||◌, ◌==◌, List, [], ◌∷◌, ◌++◌, Option, Some, None, IsSome, refl, sym, ap, subst, ◌∙◌, arith, append-nil, append_assoc}
 use Rattle.std.proofs.lemmas.Bool.{eqb-true}
-use Rattle.wire_commands.specs.declared.command.Command.{Command}
 use Rattle.wire_commands.specs.declared.command.Command.TheVariants as commands
 use Rattle.wire_commands.specs.declared.reply.Reply.{Reply}
-use Rattle.store_model.specs.Lanes.{sync, collect, collecting, command_next}
-use Rattle.store_history.specs.declared.act.Act.{Act}
+use Rattle.store_model.specs.Lanes.{collect, collecting, command_next}
 use Rattle.store_history.specs.declared.act.Act.TheVariants as acts
 use Rattle.store_history.specs.declared.act.Answer.{Answer}
 use Rattle.store_history.specs.declared.act.Event.{Event}
-use Rattle.store_history.specs.Acts.{class_of}
 use Rattle.store_history.specs.History.{kind, lane, reply}
-use Rattle.store_history.specs.LaneRun.{Position, next_at, wants, heard_at, heard, Asks}
-use Rattle.store_history.specs.SoFar.{Follows, Leads}
+use Rattle.store_history.specs.LaneRun.{Position, tells, wants, heard_at, heard}
+use Rattle.store_history.specs.SoFar.{Leads}
 use Rattle.store_history.proofs.Collecting.{flag, follows_step, leads_start, leads_gc, leads_close}
 use Rattle.store_history.proofs.Ending.{next_shut, next_collecting}
 use Rattle.store_history.proofs.Growing.{leads_more}
+use Rattle.store_history.proofs.Idling.{heard_idle}
 use Rattle.store_history.proofs.Longer.{of_more}
 use Rattle.core_state.specs.Answers.{IsToldBut}
 use Rattle.core_state.specs.History.{History, then_event}
@@ -23,62 +21,28 @@ use Rattle.lane.specs.declared.acts.Told.{Told}
 use Rattle.lane.specs.Acting.{Did}
 use Rattle.lane.specs.Collecting.{TellsEnd, HasPassed, sweeping_at, HasSwept, Sweeps}
 use Rattle.lane.specs.Doing.{answered, Does}
-use Rattle.lane.specs.Fronts.{act_ahead}
 use Rattle.lane.specs.Ran.{with_events}
-use Rattle.lane.proofs.Doing.{leads_then, or_false, read_on, IsAlone, ahead_plain, does_plain}
-
--- ---- a SYNC's first step
-
-pub heard_sync : (p : Position) (group left : List ℕ) (a : Answer) (r : Reply) → next_at p ≡ sync group left → a.reply ≡ Some r
-    → heard p a ≡ record p { left = left; job = None; is_short = (a.entry).kind == 2; is_spent = a.last || p.is_spent; told = p.told ++ r ∷ [] }
-unfolding heard heard_at
-heard_sync p group left a r is says =
-    ap (λ x. flag a p.collecting (a.entry).kind (heard_at p (a.entry).kind a.reply x)) is
-    ∙ ap (λ (x : Option Reply). flag a p.collecting (a.entry).kind (heard_at p (a.entry).kind x (sync group left))) says
-    ∙ ap (λ (o : Option Bool). flag a o (a.entry).kind (heard_at p (a.entry).kind (Some r) (sync group left))) (next_shut p (sync group left) is refl)
-
-follows_sync : (p : Position) (group left : List ℕ) (v : Event) → p.is_spent ≡ false → next_at p ≡ sync group left → v.act ≡ acts.RemoteList (commands.Sync group) → Follows (class_of v.act) p v
-follows_sync p group left v on is asks = subst (λ c. Follows c p v) (sym (ap class_of asks)) (on, subst (λ x. Asks x v.act) (sym is) asks)
-
-does_sync : (before after : History → Type 0) (k : ℕ) (group : List ℕ) (told : Told) → Did before after k (acts.RemoteList (commands.Sync group)) told → Does before after k (command_next (commands.Sync group)) told
-unfolding command_next
-does_sync before after k group told d = let v = d.event in record {
-  events = v ∷ [];
-  is_short = kind v == 2;
-  history = d.history;
-  lanes = (d.lane_is, tt);
-  leads = λ p left is.
-      let on = read_on p (sync group left) is.next refl is.on in
-      subst (λ b. Leads p (v ∷ []) (answered p left told.reply (kind v == 2) b)) (or_false p (v.answer).last on ∙ d.last)
-      (subst (λ x. Leads p (v ∷ []) x) (heard_sync p group left v.answer told.reply is.next d.tells)
-      (leads_more [] p p v refl (follows_sync p group left v on is.next d.asks)));
-}
-
--- a command of one act
-pub does_alone : (before after : History → Type 0) (k : ℕ) (c : Command) (act : Act) (told : Told) → Did before after k act told → act ≡ act_ahead c → IsAlone c
-    → Does before after k (command_next c) told
-does_alone before after k c act told d is (inl other) = does_plain before after k c act told d (is ∙ ahead_plain c other) other
-does_alone before after k c act told d is (inr (group, same)) =
-    subst (λ x. Does before after k (command_next x) told) (sym same)
-    (does_sync before after k group told (subst (λ a. Did before after k a told) (is ∙ ap act_ahead same) d))
+use Rattle.lane.proofs.Doing.{leads_then, or_false, read_on}
 
 -- ---- what an answer leaves of an open collector
 
 -- one without a reply
-heard_pass : (p : Position) (b : Bool) (a : Answer) → p.collecting ≡ Some b → a.reply ≡ None
+heard_pass : (p : Position) (b : Bool) (a : Answer) → p.pull ≡ None → p.collecting ≡ Some b → a.reply ≡ None
     → heard p a ≡ record p { is_short = wants (a.entry).kind (Some b); is_spent = a.last || p.is_spent }
-unfolding heard heard_at
-heard_pass p b a on none =
-    ap (λ x. flag a p.collecting (a.entry).kind (heard_at p (a.entry).kind a.reply x)) (next_collecting p b on)
+unfolding heard_at
+heard_pass p b a idle on none =
+    heard_idle p a idle
+    ∙ ap (λ x. flag a p.collecting (a.entry).kind (heard_at p (a.entry).kind a.reply x)) (next_collecting p b on)
     ∙ ap (λ (x : Option Reply). flag a p.collecting (a.entry).kind (heard_at p (a.entry).kind x (collecting b))) none
     ∙ ap (λ (o : Option Bool). flag a o (a.entry).kind p) on
 
 -- want of memory
-heard_want : (p : Position) (b : Bool) (a : Answer) (r : Reply) → p.collecting ≡ Some b → a.reply ≡ Some r → (a.entry).kind ≡ 2
+heard_want : (p : Position) (b : Bool) (a : Answer) (r : Reply) → p.pull ≡ None → p.collecting ≡ Some b → a.reply ≡ Some r → (a.entry).kind ≡ 2
     → heard p a ≡ record p { collecting = Some true; is_short = wants 2 (Some b); is_spent = a.last || p.is_spent }
-unfolding heard heard_at
-heard_want p b a r on says two =
-    ap (λ x. flag a p.collecting (a.entry).kind (heard_at p (a.entry).kind a.reply x)) (next_collecting p b on)
+unfolding heard_at
+heard_want p b a r idle on says two =
+    heard_idle p a idle
+    ∙ ap (λ x. flag a p.collecting (a.entry).kind (heard_at p (a.entry).kind a.reply x)) (next_collecting p b on)
     ∙ ap (λ (x : Option Reply). flag a p.collecting (a.entry).kind (heard_at p (a.entry).kind x (collecting b))) says
     ∙ ap (λ (o : Option Bool). flag a o (a.entry).kind (heard_at p (a.entry).kind (Some r) (collecting b))) on
     ∙ ap (λ n. flag a (Some b) n (heard_at p n (Some r) (collecting b))) two
@@ -95,7 +59,7 @@ swept_none before k = record {
   is_short = false;
   history = λ h at. subst (λ es. before (with_events h es)) (sym (append-nil h.events)) at;
   lanes = tt;
-  leads = λ p left. refl;
+  leads = λ p left idle. refl;
 }
 
 some_reply : (o : Option Reply) → IsSome o → (r : Reply) × (o ≡ Some r)
@@ -103,14 +67,14 @@ some_reply None some = cc
 some_reply (Some r) some = (r, refl)
 
 swept_by : (before between after : History → Type 0) (k : ℕ) (is_last now_last cut short : Bool) → (s : HasSwept before between k is_last) → (x : HasPassed between after k is_last now_last None)
-    → ((p : Position) (left : List ℕ) → Leads (sweeping_at p left false false false) (s.events ++ x.event ∷ []) (sweeping_at p left cut short (((x.event).answer).last || is_last))) → HasSwept before after k now_last
+    → ((p : Position) (left : List ℕ) → p.pull ≡ None → Leads (sweeping_at p left false false false) (s.events ++ x.event ∷ []) (sweeping_at p left cut short (((x.event).answer).last || is_last))) → HasSwept before after k now_last
 swept_by before between after k is_last now_last cut short s x led = record {
   events = s.events ++ x.event ∷ [];
   is_cut = cut;
   is_short = short;
   history = λ h at. subst (λ es. after (with_events h es)) (append_assoc h.events s.events (x.event ∷ [])) (x.history (with_events h (h.events ++ s.events)) (s.history h at));
   lanes = of_more k s.events x.event s.lanes x.lane_is;
-  leads = λ p left. subst (λ b. Leads (sweeping_at p left false false false) (s.events ++ x.event ∷ []) (sweeping_at p left cut short b)) (sym x.last) (led p left);
+  leads = λ p left idle. subst (λ b. Leads (sweeping_at p left false false false) (s.events ++ x.event ∷ []) (sweeping_at p left cut short b)) (sym x.last) (led p left idle);
 }
 
 -- one more, behind which the collector is still open
@@ -121,15 +85,15 @@ swept_more before between after k is_last now_last s x = by_reply x.tells
     at : Position → List ℕ → Position
     at p left = sweeping_at p left s.is_cut s.is_short is_last
 
-    heard_led : (p : Position) (left : List ℕ) → Leads (sweeping_at p left false false false) (s.events ++ x.event ∷ []) (heard (at p left) ((x.event).answer))
-    heard_led p left = leads_more s.events (sweeping_at p left false false false) (at p left) x.event (s.leads p left) (follows_step (at p left) s.is_cut x.event refl x.asks)
+    heard_led : (p : Position) (left : List ℕ) → p.pull ≡ None → Leads (sweeping_at p left false false false) (s.events ++ x.event ∷ []) (heard (at p left) ((x.event).answer))
+    heard_led p left idle = leads_more s.events (sweeping_at p left false false false) (at p left) x.event (s.leads p left idle) (follows_step (at p left) s.is_cut x.event idle refl x.asks)
 
     by_reply : TellsEnd x.event None → HasSwept before after k now_last
     by_reply (inl pass) = swept_by before between after k is_last now_last s.is_cut (wants (kind x.event) (Some s.is_cut)) s x
-        (λ p left. subst (λ q. Leads (sweeping_at p left false false false) (s.events ++ x.event ∷ []) q) (heard_pass (at p left) s.is_cut ((x.event).answer) refl pass.1) (heard_led p left))
+        (λ p left idle. subst (λ q. Leads (sweeping_at p left false false false) (s.events ++ x.event ∷ []) q) (heard_pass (at p left) s.is_cut ((x.event).answer) idle refl pass.1) (heard_led p left idle))
     by_reply (inr want) = let r = some_reply (reply x.event) want.1 in
         swept_by before between after k is_last now_last true (wants 2 (Some s.is_cut)) s x
-        (λ p left. subst (λ q. Leads (sweeping_at p left false false false) (s.events ++ x.event ∷ []) q) (heard_want (at p left) s.is_cut ((x.event).answer) r.0 refl r.1 want.0) (heard_led p left))
+        (λ p left idle. subst (λ q. Leads (sweeping_at p left false false false) (s.events ++ x.event ∷ []) q) (heard_want (at p left) s.is_cut ((x.event).answer) r.0 idle refl r.1 want.0) (heard_led p left idle))
 
 -- its end
 pub swept_ends : (before between after : History → Type 0) (k : ℕ) (is_last : Bool) (told : Told) → HasSwept before between k is_last → HasPassed between after k is_last told.last (Some told.reply)
@@ -139,11 +103,11 @@ swept_ends before between after k is_last told s x = record {
   is_short = s.is_cut;
   history = λ h at. subst (λ es. after (with_events h es)) (append_assoc h.events s.events (x.event ∷ [])) (x.history (with_events h (h.events ++ s.events)) (s.history h at));
   lanes = of_more k s.events x.event s.lanes x.lane_is;
-  leads = λ p left shut. let start = sweeping_at p left false false false in
+  leads = λ p left shut idle. let start = sweeping_at p left false false false in
       let q = sweeping_at p left s.is_cut s.is_short is_last in
-      subst (λ o. Leads start (s.events ++ x.event ∷ []) (record p { left = left; job = None; collecting = o; is_short = s.is_cut; is_spent = told.last; told = p.told ++ told.reply ∷ [] })) (sym shut)
-      (subst (λ b. Leads start (s.events ++ x.event ∷ []) (record p { left = left; job = None; collecting = None; is_short = s.is_cut; is_spent = b; told = p.told ++ told.reply ∷ [] })) (sym x.last)
-      (leads_close s.events start q s.is_cut x.event told.reply (s.leads p left) refl x.asks (x.tells).1 (x.tells).0));
+      subst (λ o. Leads start (s.events ++ x.event ∷ []) (record p { left = left; job = None; pull = None; collecting = o; is_short = s.is_cut; is_spent = told.last; told = p.told ++ told.reply ∷ [] })) (sym shut)
+      (subst (λ b. Leads start (s.events ++ x.event ∷ []) (record p { left = left; job = None; pull = None; collecting = None; is_short = s.is_cut; is_spent = b; told = p.told ++ told.reply ∷ [] })) (sym x.last)
+      (leads_close s.events start q s.is_cut x.event told.reply (s.leads p left idle) idle refl x.asks (x.tells).1 (x.tells).0));
 }
 
 -- ---- by what was told
@@ -185,11 +149,11 @@ does_opened before between after k told o s = let v = o.event in record {
   history = λ h at. subst (λ es. after (with_events h es)) (append_assoc h.events (v ∷ []) s.events) (s.history (then_event h v) (o.history h at));
   lanes = (o.lane_is, s.lanes);
   leads = λ p left is.
-      let on = read_on p (collect left) is.next refl is.on in
+      let on = read_on p (collect left) is.idle is.next refl is.on in
       leads_then (v ∷ []) s.events p (sweeping_at p left false false false) (answered p left told.reply s.is_short told.last)
       (subst (λ b. Leads p (v ∷ []) (sweeping_at p left false false b)) (or_false p (v.answer).last on ∙ o.last)
-      (leads_start [] p p left v refl on is.next o.asks o.none o.kind_is))
-      (s.leads p left (next_shut p (collect left) is.next refl));
+      (leads_start [] p p left v refl is.idle on is.next o.asks o.none o.kind_is))
+      (s.leads p left (next_shut p (collect left) is.next refl) is.idle);
 }
 
 -- or its start was told something
@@ -201,7 +165,7 @@ does_told before after k told d = let v = d.event in record {
   history = d.history;
   lanes = (d.lane_is, tt);
   leads = λ p left is.
-      let on = read_on p (collect left) is.next refl is.on in
+      let on = read_on p (collect left) is.idle is.next refl is.on in
       subst (λ b. Leads p (v ∷ []) (answered p left told.reply (kind v == 2) b)) (or_false p (v.answer).last on ∙ d.last)
-      (leads_gc [] p p left v told.reply refl on is.next d.asks d.tells);
+      (leads_gc [] p p left v told.reply refl is.idle on is.next d.asks d.tells);
 }

@@ -1,5 +1,5 @@
 -- What a command does, or a job: its acts, and where they lead.
-use Rattle.std.proofs.Common.{◌≡◌, ◌≢◌, ◌⊎◌, inl, inr, ℕ, ◌-◌, length, Bool, true, false, not, ◌||◌, ◌==◌, List, [], ◌∷◌, ◌++◌, Option, None, Some, refl, sym, ap, subst, ◌∙◌}
+use Rattle.std.proofs.Common.{◌≡◌, ◌≢◌, ℕ, ◌-◌, length, Bool, true, false, not, ◌||◌, ◌==◌, List, [], ◌∷◌, ◌++◌, Option, None, Some, refl, sym, ap, subst, ◌∙◌}
 use Rattle.wire_commands.specs.declared.command.Command.{Command}
 use Rattle.wire_commands.specs.declared.command.Command.TheVariants as commands
 use Rattle.store_model.specs.Job.{Asking}
@@ -8,17 +8,18 @@ use Rattle.wire_commands.specs.Inputs.{front}
 use Rattle.store_model.specs.Lanes.{Next, job_step, plain, collecting, command_next, front_next, lane_next}
 use Rattle.store_history.specs.declared.act.Act.{Act}
 use Rattle.store_history.specs.declared.act.Event.{Event}
-use Rattle.store_history.specs.Acts.{IsWellFormed, act_of_command}
+use Rattle.store_history.specs.Acts.{act_of_command}
 use Rattle.store_history.specs.History.{kind}
-use Rattle.store_history.specs.LaneRun.{Position, next_at, heard, job_stops, may_step}
+use Rattle.store_history.specs.LaneRun.{Position, next_at, heard, job_stops, pull_stops, may_step}
+use Rattle.store_history.specs.Pulling.{Pulling}
 use Rattle.store_history.specs.Seats.{AreOf}
 use Rattle.store_history.specs.SoFar.{Leads}
-use Rattle.store_history.proofs.Ending.{IsCommand, command_is, leads_command, is_formed}
+use Rattle.store_history.proofs.Ending.{IsCommand, command_is, leads_command}
 use Rattle.core_state.specs.History.{History}
 use Rattle.lane.specs.declared.acts.Told.{Told}
 use Rattle.lane.specs.Acting.{Did}
 use Rattle.lane.specs.Doing.{IsStep, IsNext, answered, Does}
-use Rattle.lane.specs.Fronts.{act_ahead, is_job, is_gc, IsJobs}
+use Rattle.lane.specs.Fronts.{is_job, is_gc, IsAlone, IsJobs}
 
 -- ---- events behind others
 
@@ -90,8 +91,9 @@ no_stop p n is read = by_collecting p.collecting is
     by_collecting (Some is_short) is = absurd (false_true (other (collecting is_short) is))
 
 -- where that is next, no answer so far was the last
-pub read_on : (p : Position) (n : Next) → next_at p ≡ n → is_read n ≡ true → may_step p ≡ true → p.is_spent ≡ false
-read_on p n is read on = by_spent p.is_spent (ap (λ b. not p.is_spent || b) (sym (no_stop p n is read)) ∙ on)
+pub read_on : (p : Position) (n : Next) → p.pull ≡ None → next_at p ≡ n → is_read n ≡ true → may_step p ≡ true → p.is_spent ≡ false
+read_on p n idle is read on =
+    by_spent p.is_spent (ap (λ b. not p.is_spent || b) (sym (ap (λ (o : Option Pulling). pull_stops o p.job) idle ∙ no_stop p n is read)) ∙ on)
   where
     by_spent : (b : Bool) → (not b || false) ≡ true → b ≡ false
     by_spent true h = cc
@@ -105,9 +107,9 @@ does_plain before after k c act told d is_act alone = let v = d.event in record 
   history = d.history;
   lanes = (d.lane_is, tt);
   leads = λ p left is.
-      let on = read_on p (plain c left) (is.next ∙ command_is c left alone) refl is.on in
+      let on = read_on p (plain c left) is.idle (is.next ∙ command_is c left alone) refl is.on in
       subst (λ b. Leads p (v ∷ []) (answered p left told.reply (kind v == 2) b)) (or_false p (v.answer).last on ∙ d.last)
-      (leads_command [] p p c left v told.reply refl on (is.next ∙ command_is c left alone) (d.asks ∙ is_act) d.tells);
+      (leads_command [] p p c left v told.reply refl is.idle on (is.next ∙ command_is c left alone) (d.asks ∙ is_act) d.tells);
 }
 
 pub does_job : (before after : History → Type 0) (k : ℕ) (c : Command) (j : Asking) (told : Told) → job_of c ≡ Some j → Does before after k (job_step j) told → Does before after k (command_next c) told
@@ -121,29 +123,20 @@ does_job before after k c j told some d = record {
 
 -- ---- the commands of one act
 
--- the command is plain, or a SYNC
-abbrev pub IsAlone : Command → Type 0
-IsAlone c = IsCommand c ⊎ ((group : List ℕ) × (c ≡ commands.Sync group))
-
 pub command_alone : (c : Command) → c ≢ commands.Bye → is_job c ≡ false → is_gc c ≡ false → IsAlone c
 command_alone commands.Bye ne job gc = absurd (ne refl)
 command_alone (commands.Prune group keep dry) ne job gc = cc
 command_alone commands.Gc ne job gc = cc
 command_alone (commands.Verify snapshot) ne job gc = cc
-command_alone (commands.Sync group) ne job gc = inr (group, refl)
-command_alone c ne job gc = inl tt
+command_alone c ne job gc = tt
 
-pub ahead_other : (c : Command) → ((group : List ℕ) → c ≡ commands.Sync group → ⊥) → act_ahead c ≡ act_of_command c
-ahead_other (commands.Sync group) other = absurd (other group refl)
-ahead_other c other = refl
-
-pub ahead_plain : (c : Command) → IsCommand c → act_ahead c ≡ act_of_command c
-ahead_plain (commands.Sync group) other = absurd other
-ahead_plain c other = refl
-
-pub formed_alone : (c : Command) → IsAlone c → IsWellFormed (act_ahead c)
-formed_alone c (inl other) = subst IsWellFormed (sym (ahead_plain c other)) (is_formed c other)
-formed_alone c (inr (group, is)) = subst (λ x. IsWellFormed (act_ahead x)) (sym is) tt
+pub plain_alone : (c : Command) → IsAlone c → ((group : List ℕ) → c ≡ commands.Sync group → ⊥) → IsCommand c
+plain_alone (commands.Sync group) alone other = absurd (other group refl)
+plain_alone (commands.Prune group keep dry) alone other = absurd alone
+plain_alone commands.Gc alone other = absurd alone
+plain_alone (commands.Verify snapshot) alone other = absurd alone
+plain_alone commands.Bye alone other = absurd alone
+plain_alone c alone other = tt
 
 pub job_by : (c : Command) → is_job c ≡ true → IsJob c
 job_by (commands.Prune group keep dry) is = tt

@@ -2,9 +2,14 @@ pub mod Fronts
 pub mod Chunks
 pub mod Acting
 pub mod Replies
+pub mod Formed
 pub mod Doing
 pub mod Ranks
 pub mod Readers
+pub mod PullRanks
+pub mod Writers
+pub mod Pulls
+pub mod Drops
 pub mod Stepping
 pub mod Collections
 pub mod Sweeping

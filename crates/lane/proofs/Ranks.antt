@@ -1,5 +1,5 @@
 -- How far a job is from its end: each reply brings it nearer.
-use Rattle.std.proofs.Common.{◌≡◌, ◌<◌, ◌≤◌, ◌+◌, ◌*◌, ◌^◌, ◌⊎◌, inl, inr, ℕ, Bool, true, false, ◌||◌, List, [], ◌∷◌, ◌++◌, length, map, reverse, Option, Some, None, Result, Ok, Err, IsTrue, if◌then◌else◌, nat_le, nat_lt, refl, sym, subst, arith}
+use Rattle.std.proofs.Common.{◌≡◌, ◌<◌, ◌≤◌, ◌+◌, ◌-◌, ◌*◌, ◌^◌, ◌⊎◌, inl, inr, ℕ, Bool, true, false, ◌||◌, List, [], ◌∷◌, ◌++◌, length, map, reverse, Option, Some, None, Result, Ok, Err, IsTrue, if◌then◌else◌, nat_le, nat_lt, refl, sym, ap, subst, arith}
 use Rattle.std.specs.List.{zip}
 use Rattle.std.specs.Option.{option_or}
 use Rattle.std.proofs.lemmas.Bool.{ltb-true, leb-true}
@@ -41,7 +41,7 @@ use Rattle.core_state.specs.Replies.{may_answer, answers_part}
 use Rattle.lane.specs.declared.acts.Told.{Told}
 use Rattle.lane.specs.Acting.{IsRefused, MayTell}
 use Rattle.lane.specs.Stepping.{IsActOf, file_rank, rank}
-use Rattle.lane.proofs.Replies.{short_no_answer}
+use Rattle.lane.proofs.Replies.{short_no_answer, tells_step}
 
 -- ---- a PRUNE
 
@@ -245,7 +245,7 @@ want_closes report on = omega arith
 
 part_may : (v : Visit) (row : FileRow) (bytes : List ℕ) (act : Act) (told : Told) → IsActOf (asking (reading v row bytes)) act → MayTell act told
     → IsTrue (answers_part (length bytes) told.reply) ⊎ IsRefused told.reply
-part_may v row bytes act told of tells = by_reply of tells.reply_is
+part_may v row bytes act told of tells = by_reply of (tells_step (reading v row bytes) act told of tells)
   where
     by_reply : IsActOf (asking (reading v row bytes)) act → IsTrue (may_answer act told.reply) ⊎ IsRefused told.reply
         → IsTrue (answers_part (length bytes) told.reply) ⊎ IsRefused told.reply

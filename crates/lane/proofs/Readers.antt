@@ -1,6 +1,7 @@
 -- What an act leaves of a job's reader, and where the job may go on.
 use Rattle.disk_trait.specs.declared.disk.Disk.{Ghosts}
-use Rattle.std.proofs.Common.{◌≡◌, ◌<◌, ◌⊎◌, inl, inr, ℕ, Bool, true, false, ◌||◌, List, [], ◌∷◌, ◌++◌, Option, Some, None, IsTrue, IfSome, refl, sym, ap, subst, ◌∙◌, arith, slice_index_or, if◌then◌else◌}
+use Rattle.std.proofs.Common.{◌≡◌, ◌<◌, ◌+◌, ◌⊎◌, inl, inr, ℕ, Bool, true, false, ◌||◌, ◌==◌, List, [], ◌∷◌, ◌++◌, Option, Some, None, IsTrue, IfSome, refl, sym, ap, subst, ◌∙◌, arith, slice_index_or, if◌then◌else◌}
+use Rattle.std.proofs.lemmas.Bool.{eqb-true}
 use Rattle.wire_commands.specs.declared.command.Command.TheVariants as commands
 use Rattle.wire_commands.specs.declared.reply.Reply.{Reply}
 use Rattle.wire_commands.specs.declared.reply.Reply.TheVariants as replies
@@ -12,6 +13,7 @@ use Rattle.store_types.specs.declared.refusal.Refusal.{Refusal}
 use Rattle.store_types.specs.declared.refusal.Refusal.TheVariants.{SnapshotBusy, NoSnapshot, NoMemory, RemoteFault, DiskFault, Halted}
 use Rattle.store_model.specs.Job.{Asking, grouping, forgetting, opening, listing, reading, checking, closing, aborting, step_of, Job, over, asking, closed}
 use Rattle.store_model.specs.Jobs.{take, take_more}
+use Rattle.store_model.specs.Weave.{first_fault}
 use Rattle.store_model.specs.PruneJob as prune
 use Rattle.store_model.specs.VerifyJob as verify
 use Rattle.store_model.proofs.LaneLemmas.{GoesOn}
@@ -24,12 +26,12 @@ use Rattle.store_history.specs.LaneRun.{is_stopping}
 use Rattle.store_history.proofs.Jobs.{take_begun}
 use Rattle.job_steps.specs.Closes.{leaves_open}
 use Rattle.core_state.specs.declared.kept.Session.{Session}
-use Rattle.core_state.specs.declared.kept.Session.TheVariants.{Idle}
+use Rattle.core_state.specs.declared.kept.Session.TheVariants.{Idle, Reader}
 use Rattle.core_state.specs.declared.state.Core.{Core}
-use Rattle.core_state.specs.Answers.{HasCause, IsAnswered, done, short, failed, halted, fault_after}
+use Rattle.core_state.specs.Answers.{HasCause, IsAnswered, IsCaused, ReachHasCause, done, short, failed, halted, reach_reads, reach_failed, reach_as_any, fault_after}
 use Rattle.core_state.specs.Applies.{ActKeeps}
 use Rattle.core_state.specs.Closing.{closes, closes_by, is_closing, is_reader}
-use Rattle.core_state.specs.Commands.{is_still, is_collectors}
+use Rattle.core_state.specs.Commands.{IsNoRefusal, is_still, is_collectors}
 use Rattle.core_state.specs.Replies.{may_answer, answers_close}
 use Rattle.core_state.specs.Reserved.{CanEnd, HasRoom, Reserved}
 use Rattle.core_state.specs.Unchanged.{LeavesAll, Unchanged}
@@ -39,7 +41,7 @@ use Rattle.core_reader.specs.ReaderActs.{CoreOpens}
 use Rattle.lane.specs.declared.acts.Told.{Told}
 use Rattle.lane.specs.Acting.{HasReply, MayTell, LeavesReserve, IsReading, tells_fault, KeepsReader}
 use Rattle.lane.specs.Stepping.{IsActOf, has_reader, IsStopped, rank, IsNearer, MayGoOn}
-use Rattle.lane.proofs.Acting.{keeps, same_reply}
+use Rattle.lane.proofs.Acting.{caused, keeps, same_reply}
 use Rattle.lane.proofs.Ranks.{ClosesBy, closed_over, less}
 
 false_true : false ≡ true → ⊥
@@ -48,30 +50,49 @@ false_true e = cc
 -- ---- by why it was answered so
 
 -- an act that is told no fault has an entry of no fault
-told_kind : {D E C : Type 0} (d : Ghosts D) (old new : Core D E C) (act : Act) (x : Answer) (r : Reply) → HasCause d old new act x → x.reply ≡ Some r → tells_fault r ≡ false
-    → ((x.entry).kind ≡ 0) ⊎ ((x.entry).kind ≡ 2)
-told_kind d old new act x r (done before is reply told may) tells fine = inl is
-told_kind d old new act x r (short is told) tells fine = inr is
-told_kind d old new act x r (failed before is told first rose) tells fine = absurd (false_true (sym fine ∙ ap tells_fault (same_reply x.reply r _ tells told)))
-told_kind d old new act x r (halted place before is told) tells fine = absurd (false_true (sym fine ∙ ap tells_fault (same_reply x.reply r _ tells told)))
+any_fine : {D E C : Type 0} (d : Ghosts D) (old new : Core D E C) (act : Act) (x : Answer) (r : Reply) → HasCause d old new act x → x.reply ≡ Some r → tells_fault r ≡ false
+    → (x.entry).kind ≡ 5 → ⊥
+any_fine d old new act x r (done before is reply told may) tells fine five = omega (arith, is, five)
+any_fine d old new act x r (short is told) tells fine five = omega (arith, is, five)
+any_fine d old new act x r (failed before is told first rose) tells fine five = false_true (sym fine ∙ ap tells_fault (same_reply x.reply r _ tells told))
+any_fine d old new act x r (halted place before is told) tells fine five = false_true (sym fine ∙ ap tells_fault (same_reply x.reply r _ tells told))
 
-fault_stays : (n kind : ℕ) (o : Option ℕ) → (kind ≡ 0) ⊎ (kind ≡ 2) → fault_after n kind o ≡ o
-fault_stays n kind o (inl is) = ap (λ m. fault_after n m o) is
-fault_stays n kind o (inr is) = ap (λ m. fault_after n m o) is
+told_kind : {D E C : Type 0} (d : Ghosts D) (old new : Core D E C) (act : Act) (x : Answer) (r : Reply) → ReachHasCause d old new act x → x.reply ≡ Some r → tells_fault r ≡ false
+    → (x.entry).kind ≡ 5 → ⊥
+told_kind d old new act x r (reach_reads before is reply told may) tells fine five = omega (arith, is, five)
+told_kind d old new act x r (reach_failed before is told) tells fine five = omega (arith, is, five)
+told_kind d old new act x r (reach_as_any cause) tells fine five = any_fine d old new act x r cause tells fine five
+
+fault_stays : (n kind : ℕ) (o : Option ℕ) → (kind ≡ 5 → ⊥) → fault_after n kind o ≡ o
+fault_stays n kind o other = by_test (kind == 5) refl
+  where
+    by_test : (b : Bool) → (kind == 5) ≡ b → (if b then first_fault n o else o) ≡ o
+    by_test true is = absurd (other (eqb-true kind 5 is))
+    by_test false is = refl
 
 -- then the disk has not failed where it had not before
-still_fine : {D E C : Type 0} (d : Ghosts D) (old new : Core D E C) (k : ℕ) (x : Answer) → IsAnswered d old new k x → ((x.entry).kind ≡ 0) ⊎ ((x.entry).kind ≡ 2) → old.fault ≡ None
-    → new.fault ≡ None
-still_fine d old new k x is kind fine = is.fault ∙ fault_stays _ (x.entry).kind old.fault kind ∙ fine
+pub still_fine : {D E C : Type 0} (d : Ghosts D) (old new : Core D E C) (k : ℕ) (act : Act) (x : Answer) (r : Reply) → ReachHasCause d old new act x → IsAnswered d old new k x
+    → x.reply ≡ Some r → tells_fault r ≡ false → old.fault ≡ None → new.fault ≡ None
+still_fine d old new k act x r cause is tells fine before = is.fault ∙ fault_stays _ (x.entry).kind old.fault (told_kind d old new act x r cause tells fine) ∙ before
+
+as_no_refusal : (r s : Reply) → r ≡ s → IsNoRefusal r → IsNoRefusal s
+as_no_refusal r s is h = subst IsNoRefusal is h
 
 done_no_refusal : (refusal : Refusal) → replies.Done ≡ replies.Refused refusal → ⊥
 done_no_refusal refusal e = cc
 
-done_before : {D E C : Type 0} (d : Ghosts D) (old new : Core D E C) (act : Act) (x : Answer) → HasCause d old new act x → x.reply ≡ Some replies.Done → old.fault ≡ None
-done_before d old new act x (done before is reply told may) tells = before
-done_before d old new act x (short is told) tells = absurd (done_no_refusal NoMemory (same_reply x.reply replies.Done _ tells told))
-done_before d old new act x (failed before is told first rose) tells = absurd (done_no_refusal DiskFault (same_reply x.reply replies.Done _ tells told))
-done_before d old new act x (halted place before is told) tells = absurd (done_no_refusal (Halted place) (same_reply x.reply replies.Done _ tells told))
+-- what is no refusal comes where the disk had not failed, and is none of a fault
+pub done_before : {D E C : Type 0} (d : Ghosts D) (old new : Core D E C) (act : Act) (x : Answer) (r : Reply) → ReachHasCause d old new act x → x.reply ≡ Some r → IsNoRefusal r → old.fault ≡ None
+done_before d old new act x r (reach_reads before is reply told may) tells ok = before
+done_before d old new act x r (reach_failed before is told) tells ok = before
+done_before d old new act x r (reach_as_any (done before is reply told may)) tells ok = before
+done_before d old new act x r (reach_as_any (short is told)) tells ok = absurd (as_no_refusal r (replies.Refused NoMemory) (same_reply x.reply r _ tells told) ok)
+done_before d old new act x r (reach_as_any (failed before is told first rose)) tells ok = absurd (as_no_refusal r (replies.Refused DiskFault) (same_reply x.reply r _ tells told) ok)
+done_before d old new act x r (reach_as_any (halted place before is told)) tells ok = absurd (as_no_refusal r (replies.Refused (Halted place)) (same_reply x.reply r _ tells told) ok)
+
+pub ok_no_fault : (r : Reply) → IsNoRefusal r → tells_fault r ≡ false
+ok_no_fault (replies.Refused refusal) ok = absurd ok
+ok_no_fault r ok = refl
 
 -- ---- the step that closes a session
 
@@ -99,31 +120,38 @@ told_shut d old new k act x r (short is told) tells other ends = absurd (other i
 told_shut d old new k act x r (failed before is told first rose) tells other ends = ap leaves_open (same_reply x.reply r _ tells told)
 told_shut d old new k act x r (halted place before is told) tells other ends = ap leaves_open (same_reply x.reply r _ tells told)
 
+-- such a step reads no remote
+shut_cause : {D E C : Type 0} (d : Ghosts D) (old new : Core D E C) (act : Act) (session : Session) (x : Answer) → IsCaused d old new act x → closes act session ≡ true → HasCause d old new act x
+shut_cause d old new (acts.Plain commands.Abort) session x cause ends = cause
+shut_cause d old new (acts.Plain commands.CloseReader) session x cause ends = cause
+shut_cause d old new act session x cause ends = absurd (false_true ends)
+
 -- ---- what an act leaves of the lane's reader
 
 reads_same : {D E C : Type 0} (old new : Core D E C) (k : ℕ) → (new.parts).sessions.items ≡ (old.parts).sessions.items → is_reader (session_at old.parts k) ≡ true
     → is_reader (session_at new.parts k) ≡ true
 reads_same old new k same is = ap (λ (xs : List Session). is_reader (slice_index_or xs k Idle)) same ∙ is
 
-pub keeps_reader : {D E C : Type 0} (d : Ghosts D) (old new : Core D E C) (k : ℕ) (act : Act) (x : Answer) (told : Told) → HasReply act → HasCause d old new act x → IsAnswered d old new k x
+pub keeps_reader : {D E C : Type 0} (d : Ghosts D) (old new : Core D E C) (k : ℕ) (act : Act) (x : Answer) (told : Told) → HasReply act → IsCaused d old new act x → IsAnswered d old new k x
     → ActKeeps d old new k act x → CoreOpens new k act x → x.reply ≡ Some told.reply → KeepsReader old new k act told
-keeps_reader d old new k act x told replied cause answers kept opened tells = record {
+keeps_reader d old new k act x told replied by answers kept opened tells = let cause = caused d act old new x replied by in record {
   opens = λ snapshot is finished.
       let says = tells ∙ ap (λ r. Some r) finished in
       let opens : x.reply ≡ Some replies.Done → is_reader (session_at new.parts k) ≡ true = subst (λ a. CoreOpens new k a x) is opened in
-      (still_fine d old new k x answers (told_kind d old new act x replies.Done cause says refl) (done_before d old new act x cause says), opens says);
+      (still_fine d old new k act x replies.Done cause answers says refl (done_before d old new act x replies.Done cause says tt), opens says);
   still = λ is fine was. (
-    still_fine d old new k x answers (told_kind d old new act x told.reply cause tells fine) was.0,
+    still_fine d old new k act x told.reply cause answers tells fine was.0,
     reads_same old new k (kept.admin (ap (λ b. b || is_collectors act) is)).0 was.1,
   );
   short = λ want was.
       let says = tells ∙ ap (λ r. Some r) want in
       let same : LeavesAll d old.parts new.parts NoMemory = subst (λ o. IfSome o (Unchanged d old.parts new.parts)) says kept.unchanged in (
-        still_fine d old new k x answers (told_kind d old new act x (replies.Refused NoMemory) cause says refl) was.0,
+        still_fine d old new k act x (replies.Refused NoMemory) cause answers says refl was.0,
         reads_same old new k (same.kept).sessions was.1,
       );
   closing = λ ends. (
-    told_shut d old new k act x told.reply cause tells (kept.memory ends) ends,
+    told_shut d old new k act x told.reply
+        (shut_cause d old new act (session_at old.parts k) x by (closes_fine old.fault act (session_at old.parts k) ends)) tells (kept.memory ends) ends,
     (keeps act old new k x replied kept.reserve).closed ends,
   );
 }

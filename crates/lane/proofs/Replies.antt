@@ -2,6 +2,7 @@
 use Rattle.std.proofs.Common.{◌≡◌, ◌≤◌, ◌⊎◌, inl, inr, ℕ, Bool, true, List, length, IsTrue, refl, subst, arith, nat_le}
 use Rattle.std.proofs.lemmas.Bool.Decides.{nat_tests}
 use Rattle.store_types.specs.declared.names.Keep.{Keep}
+use Rattle.wire_commands.specs.declared.command.Command.{Command}
 use Rattle.wire_commands.specs.declared.command.Command.TheVariants as commands
 use Rattle.wire_commands.specs.declared.reply.Reply.{Reply}
 use Rattle.wire_commands.specs.declared.reply.Reply.TheVariants as replies
@@ -12,9 +13,9 @@ use Rattle.store_model.specs.Job.{Asking, grouping, forgetting, opening, listing
 use Rattle.store_model.specs.JobReplies.{IsReplyTo}
 use Rattle.store_history.specs.declared.act.Act.{Act}
 use Rattle.store_history.specs.declared.act.Act.TheVariants as acts
-use Rattle.store_history.specs.Acts.{act_of_step}
+use Rattle.store_history.specs.Acts.{act_of_command, act_of_step}
 use Rattle.store_history.specs.Begun.{IsBegun}
-use Rattle.core_state.specs.Replies.{may_answer, answers_prune, answers_forget, answers_reader, answers_files, answers_part, answers_entry, answers_close}
+use Rattle.core_state.specs.Replies.{may_answer, may_give, answers_prune, answers_forget, answers_reader, answers_files, answers_part, answers_entry, answers_close}
 use Rattle.lane.specs.declared.acts.Told.{Told}
 use Rattle.lane.specs.Acting.{IsRefused, MayTell}
 use Rattle.lane.specs.Stepping.{IsActOf}
@@ -80,8 +81,33 @@ step_replies j r begun may = absurd begun
 pub short_no_answer : (r : Reply) → IsTrue (may_answer acts.Short r) → ⊥
 short_no_answer r may = cc
 
+-- no step of a job reads the remote
+command_no_read : (c : Command) (r : Reply) → IsTrue (may_give (act_of_command c) r) → ⊥
+command_no_read (commands.Chunk digest blob) r may = cc
+command_no_read (commands.Blob file blob) r may = cc
+command_no_read (commands.Prune group keep dry) r may = cc
+command_no_read c r may = cc
+
+step_no_read : (s : Step) (r : Reply) → IsTrue (may_give (act_of_step s) r) → ⊥
+step_no_read (steps.Command c) r may = command_no_read c r may
+step_no_read (steps.ReadFile name offset) r may = cc
+step_no_read (steps.ReadChunk name entry) r may = cc
+
+short_no_read : (r : Reply) → IsTrue (may_give acts.Short r) → ⊥
+short_no_read r may = cc
+
+-- so it tells what its command's tests may answer, or another refusal
+pub tells_step : (j : Asking) (act : Act) (told : Told) → IsActOf (asking j) act → MayTell act told → IsTrue (may_answer act told.reply) ⊎ IsRefused told.reply
+tells_step j act told of tells = by_reply of tells.reply_is
+  where
+    by_reply : IsActOf (asking j) act → IsTrue (may_answer act told.reply) ⊎ (IsTrue (may_give act told.reply) ⊎ IsRefused told.reply) → IsTrue (may_answer act told.reply) ⊎ IsRefused told.reply
+    by_reply h (inl may) = inl may
+    by_reply h (inr (inr refused)) = inr refused
+    by_reply (inl is) (inr (inl may)) = absurd (step_no_read (step_of j) told.reply (subst (λ a. IsTrue (may_give a told.reply)) is may))
+    by_reply (inr is) (inr (inl may)) = absurd (short_no_read told.reply (subst (λ a. IsTrue (may_give a told.reply)) is.0 may))
+
 pub replies_to : (j : Asking) (act : Act) (told : Told) → IsBegun (asking j) → IsActOf (asking j) act → MayTell act told → IsReplyTo (step_of j) told.reply
-replies_to j act told begun of tells = by_reply of tells.reply_is
+replies_to j act told begun of tells = by_reply of (tells_step j act told of tells)
   where
     by_reply : IsActOf (asking j) act → IsTrue (may_answer act told.reply) ⊎ IsRefused told.reply → IsReplyTo (step_of j) told.reply
     by_reply h (inr refused) = refused_replies (step_of j) told.reply refused

@@ -18,7 +18,7 @@ use Rattle.store_model.specs.Jobs.{take}
 use Rattle.store_model.specs.Lanes.{Next, job_step, plain, sync, collect, collecting, bye, broken, end, front_next, command_next}
 use Rattle.store_history.specs.declared.act.Answer.{Answer}
 use Rattle.store_history.specs.declared.act.Event.{Event}
-use Rattle.store_history.specs.LaneRun.{Position, begin, text, next_at, heard, may_want, EndsSo, Runs}
+use Rattle.store_history.specs.LaneRun.{Position, begin, text, next_at, heard, job_stops, may_want, EndsSo, Runs}
 use Rattle.store_history.specs.SoFar.{Leads}
 use Rattle.store_history.proofs.Collecting.{heard_gc}
 use Rattle.store_history.proofs.Ending.{next_is, heard_plain, heard_broken, short_runs}
@@ -39,7 +39,7 @@ use Rattle.lane.specs.Ran.{with_events, Took, ReadsOut}
 use Rattle.lane.specs.Taking.{TakesInVain}
 use Rattle.lane.specs.Turns.{HasDone}
 use Rattle.lane.proofs.Doing.{of_both, leads_then, step_is_job}
-use Rattle.lane.proofs.Collections.{heard_sync}
+use Rattle.lane.proofs.Pulls.{heard_refused}
 use Rattle.lane.proofs.Entries.{first_true, second_true}
 use Rattle.lane.proofs.Fronts.{part_wants}
 use Rattle.lane.proofs.Stepping.{EndsByWant, want_first}
@@ -53,8 +53,9 @@ at_command : (stands : History → Type 0) (start : Start) (k : ℕ) (left taken
     → IsNext (command_next c (advanced tail).bytes) (position s.input tail.bytes s.is_short s.told)
 at_command stands start k left taken tail size given c s ahead = let p = position s.input tail.bytes s.is_short s.told in record {
   on = refl;
+  idle = refl;
   next = at_next stands start k left taken tail size given s ∙ ahead.next;
-  wants = λ step on. wants_frame p refl refl (ahead.wants (step_is_job c (advanced tail).bytes step));
+  wants = λ step on. wants_frame p refl refl refl (ahead.wants (step_is_job c (advanced tail).bytes step));
 }
 
 -- the position behind it
@@ -96,13 +97,13 @@ command_served before after start k left taken taken' tail tail' size size' give
 }
 
 -- or it is the lane's last
-ends_so : (e : Ending) (p : Position) → IsEndedBy p.is_spent (Some e) → EndsSo e p (next_at p)
-ends_so endings.NoMemory p by = second_true p.is_short p.is_spent by
-ends_so endings.SinkFault p by = tt
-ends_so endings.Clean p by = absurd by
-ends_so (endings.Broken place) p by = absurd by
-ends_so endings.SourceFault p by = absurd by
-ends_so endings.SourceTooLong p by = absurd by
+ends_so : (e : Ending) (p : Position) → p.job ≡ None → IsEndedBy p.is_spent (Some e) → EndsSo e p (next_at p)
+ends_so endings.NoMemory p off by = (second_true p.is_short p.is_spent by, ap job_stops off)
+ends_so endings.SinkFault p off by = tt
+ends_so endings.Clean p off by = absurd by
+ends_so (endings.Broken place) p off by = absurd by
+ends_so endings.SourceFault p off by = absurd by
+ends_so endings.SourceTooLong p off by = absurd by
 
 -- one of the two endings of want of memory and of a sink
 IsShortEnding : Ending → Type 0
@@ -150,11 +151,12 @@ command_stops before after start k left taken taken' tail size size' given given
       runs = λ f vs more. leads_runs f (s.events ++ d.events) vs (begin s.input) p more refl (led_on before after start k left taken tail size given c told s ahead d);
       on = refl;
       off = refl;
+      idle = refl;
       shut = refl;
       size_is = s.size_is ∙ sym same;
       took = calm.took;
       gave = gave_more start.taken taken taken' given given' s.told told.reply (gave_all e) s.gave g.gave;
-      so = ends_so e p g.ended;
+      so = ends_so e p refl g.ended;
       says = calm.says;
       read_out = calm.out;
     }
@@ -164,6 +166,7 @@ command_stops before after start k left taken taken' tail size size' given given
 record IsHeardShort (p q : Position) (r : Reply) : Type 0 where
   pub on : q.is_over ≡ p.is_over
   pub off : q.job ≡ None
+  pub idle : q.pull ≡ None
   pub shut : q.collecting ≡ None
   pub told : q.told ≡ p.told ++ r ∷ []
   pub is_short : q.is_short ≡ true
@@ -174,6 +177,7 @@ over_told p left job r s b shut is flag =
     record {
       on = ap (λ (q : Position). q.is_over) h;
       off = ap (λ (q : Position). q.job) h;
+      idle = ap (λ (q : Position). q.pull) h;
       shut = ap (λ (q : Position). q.collecting) h ∙ shut;
       told = ap (λ (q : Position). q.told) h;
       is_short = ap (λ (q : Position). q.is_short) h ∙ flag;
@@ -181,10 +185,11 @@ over_told p left job r s b shut is flag =
 
 -- it was heard as a reply with this left of the input
 told_short : (p q : Position) (left : List ℕ) (r : Reply) (s b : Bool) → p.collecting ≡ None → s ≡ true
-    → q ≡ record p { left = left; job = None; is_short = s; is_spent = b; told = p.told ++ r ∷ [] } → IsHeardShort p q r
+    → q ≡ record p { left = left; job = None; pull = None; is_short = s; is_spent = b; told = p.told ++ r ∷ [] } → IsHeardShort p q r
 told_short p q left r s b shut flag h = record {
   on = ap (λ (x : Position). x.is_over) h;
   off = ap (λ (x : Position). x.job) h;
+  idle = ap (λ (x : Position). x.pull) h;
   shut = ap (λ (x : Position). x.collecting) h ∙ shut;
   told = ap (λ (x : Position). x.told) h;
   is_short = ap (λ (x : Position). x.is_short) h ∙ flag;
@@ -211,34 +216,37 @@ front_first n inputs.no_command = tt
 not_open : (b : Bool) → None ≡ Some b → ⊥
 not_open b h = cc
 
-heard_short : (p : Position) (a : Answer) (r : Reply) → p.collecting ≡ None → p.job ≡ None → Goes (next_at p) → a.reply ≡ Some r → r ≡ Refused NoMemory → (a.entry).kind ≡ 2
+other_kind : (n : ℕ) → n ≡ 2 → (n == 1) ≡ false
+other_kind n two = ap (λ m. m == 1) two
+
+heard_short : (p : Position) (a : Answer) (r : Reply) → p.pull ≡ None → p.collecting ≡ None → p.job ≡ None → Goes (next_at p) → a.reply ≡ Some r → r ≡ Refused NoMemory → (a.entry).kind ≡ 2
     → IsHeardShort p (heard p a) r
-heard_short p a r shut off goes says want two =
+heard_short p a r idle shut off goes says want two =
     by_next (next_at p) refl goes (subst FirstNext (sym (next_is p (front p.left) shut off refl)) (front_first (p.size - length p.left) (front p.left)))
   where
     flag : ((a.entry).kind == 2) ≡ true
     flag = eq-eqb (a.entry).kind 2 two
 
     by_next : (n : Next) → next_at p ≡ n → Goes n → FirstNext n → IsHeardShort p (heard p a) r
-    by_next (plain c left) is g first = told_short p (heard p a) left r ((a.entry).kind == 2) (a.last || p.is_spent) shut flag (heard_plain p c left a r is says)
-    by_next (sync group left) is g first = told_short p (heard p a) left r ((a.entry).kind == 2) (a.last || p.is_spent) shut flag (heard_sync p group left a r is says)
-    by_next (collect left) is g first = told_short p (heard p a) left r ((a.entry).kind == 2) (a.last || p.is_spent) shut flag (heard_gc p left a r is says)
+    by_next (plain c left) is g first = told_short p (heard p a) left r ((a.entry).kind == 2) (a.last || p.is_spent) shut flag (heard_plain p c left a r idle is says)
+    by_next (sync group left) is g first = told_short p (heard p a) left r ((a.entry).kind == 2) (a.last || p.is_spent) shut flag (heard_refused p group left a r idle is says (other_kind (a.entry).kind two))
+    by_next (collect left) is g first = told_short p (heard p a) left r ((a.entry).kind == 2) (a.last || p.is_spent) shut flag (heard_gc p left a r idle is says)
     by_next (job_step j left) is g first =
-        subst (λ q. IsHeardShort p q r) (sym (heard_job p j left a r is says))
+        subst (λ q. IsHeardShort p q r) (sym (heard_job p j left a r idle is says))
         (over_told p left (take j r) r ((a.entry).kind == 2) (a.last || p.is_spent) shut (ap (take j) want ∙ first ∙ ap over (sym want)) flag)
-    by_next (broken refusal) is g first = told_short p (heard p a) [] r true true shut refl (heard_broken p refusal a r is says two)
+    by_next (broken refusal) is g first = told_short p (heard p a) [] r true true shut refl (heard_broken p refusal a r idle is says two)
     by_next (collecting b) is g first = absurd (not_open b (sym (open_is p ∙ shut) ∙ ap open_at is))
     by_next bye is g first = absurd g
     by_next end is g first = absurd g
 
-short_so : (e : Ending) (o : Option Ending) (q : Position) (is_last : Bool) → e ≡ short_ending o → IsEndedBy is_last o → q.is_short ≡ true → EndsSo e q (next_at q)
-short_so e None q is_last is by short_is = subst (λ x. EndsSo x q (next_at q)) (sym is) (first_true q.is_short q.is_spent short_is)
-short_so e (Some endings.NoMemory) q is_last is by short_is = subst (λ x. EndsSo x q (next_at q)) (sym is) (first_true q.is_short q.is_spent short_is)
-short_so e (Some endings.SinkFault) q is_last is by short_is = subst (λ x. EndsSo x q (next_at q)) (sym is) tt
-short_so e (Some endings.Clean) q is_last is by short_is = absurd by
-short_so e (Some (endings.Broken place)) q is_last is by short_is = absurd by
-short_so e (Some endings.SourceFault) q is_last is by short_is = absurd by
-short_so e (Some endings.SourceTooLong) q is_last is by short_is = absurd by
+short_so : (e : Ending) (o : Option Ending) (q : Position) (is_last : Bool) → e ≡ short_ending o → IsEndedBy is_last o → q.is_short ≡ true → q.job ≡ None → EndsSo e q (next_at q)
+short_so e None q is_last is by short_is off = subst (λ x. EndsSo x q (next_at q)) (sym is) (first_true q.is_short q.is_spent short_is, ap job_stops off)
+short_so e (Some endings.NoMemory) q is_last is by short_is off = subst (λ x. EndsSo x q (next_at q)) (sym is) (first_true q.is_short q.is_spent short_is, ap job_stops off)
+short_so e (Some endings.SinkFault) q is_last is by short_is off = subst (λ x. EndsSo x q (next_at q)) (sym is) tt
+short_so e (Some endings.Clean) q is_last is by short_is off = absurd by
+short_so e (Some (endings.Broken place)) q is_last is by short_is off = absurd by
+short_so e (Some endings.SourceFault) q is_last is by short_is off = absurd by
+short_so e (Some endings.SourceTooLong) q is_last is by short_is off = absurd by
 
 short_one : (e : Ending) (o : Option Ending) (is_last : Bool) → e ≡ short_ending o → IsEndedBy is_last o → IsShortEnding e × (gave_all e ≡ went_on o)
 unfolding IsShortEnding
@@ -259,7 +267,7 @@ short_stops before after start k left left' taken taken' tail size size' given g
     let v = d.event in
     let q = heard p v.answer in
     let all = taken_on start.left left left' s.input piece s.took took in
-    let h = heard_short p v.answer r refl refl (want_goes p (wants_frame p refl refl wants)) d.tells ((answers.tells).want (inl refl)) (d.kind_is (inl refl)) in
+    let h = heard_short p v.answer r refl refl refl (want_goes p refl (wants_frame p refl refl refl wants)) d.tells ((answers.tells).want (inl refl)) (d.kind_is (inl refl)) in
     let one = short_one e answers.stop (answers.told).last answers.ending_is g.ended in
     let calm = quiet e q start.left left' input (s.events ++ v ∷ []) one.0 all in
     record {
@@ -270,16 +278,17 @@ short_stops before after start k left left' taken taken' tail size size' given g
       lanes = of_more k s.events v s.lanes d.lane_is;
       runs = λ f vs told runs. subst (λ es. Runs f (begin input) es told) (sym (append_assoc s.events (v ∷ []) vs))
           (leads_runs f s.events (v ∷ vs) (begin input) p told refl (leads_further s.input tail.bytes piece s.is_short s.told s.events s.leads)
-          (short_runs f p v vs told refl refl refl refl wants d.asks runs));
+          (short_runs f p v vs told refl refl refl refl refl wants d.asks runs));
       on = h.on;
       off = h.off;
+      idle = h.idle;
       shut = h.shut;
       size_is = omega (arith, length-append s.input piece, s.size_is, more);
       took = calm.took;
       gave = subst (λ ts. WritesCounted start.taken taken' 0 given' (text ts) (gave_all e)) (sym h.told)
           (subst (λ b. WritesCounted start.taken taken' 0 given' (text (s.told ++ r ∷ [])) b) (sym one.1)
           (gave_more start.taken taken taken' given given' s.told r (went_on answers.stop) s.gave g.gave));
-      so = short_so e answers.stop q (answers.told).last answers.ending_is g.ended h.is_short;
+      so = short_so e answers.stop q (answers.told).last answers.ending_is g.ended h.is_short h.off;
       says = calm.says;
       read_out = calm.out;
     }

@@ -21,7 +21,8 @@ use Rattle.store_history.specs.declared.act.Event.{Event}
 use Rattle.store_history.specs.Acts.{IsWellFormed, act_of_step}
 use Rattle.store_history.specs.Begun.{IsBegun}
 use Rattle.store_history.specs.History.{kind, reply}
-use Rattle.store_history.specs.LaneRun.{Position, next_at, goes_on, is_stopping, job_stops, may_step}
+use Rattle.store_history.specs.LaneRun.{Position, next_at, goes_on, is_stopping, job_stops, pull_stops, may_step}
+use Rattle.store_history.specs.Pulling.{Pulling}
 use Rattle.store_history.specs.SoFar.{Leads}
 use Rattle.store_history.proofs.Ending.{next_shut}
 use Rattle.store_history.proofs.Jobs.{job_begun, step_formed, at_job, at_job_next, at_job_wants, at_job_steps, leads_job, leads_job_short, leads_step_short}
@@ -88,6 +89,7 @@ told_as p q left r s b same =
 nothing_more : (p q r : Position) → TellsNothing p q → TellsNothing q r → TellsNothing p r
 nothing_more p q r first second = record {
   size = second.size ∙ first.size;
+  pull = second.pull ∙ first.pull;
   collecting = second.collecting ∙ first.collecting;
   told = second.told ∙ first.told;
   is_over = second.is_over ∙ first.is_over;
@@ -99,12 +101,12 @@ at_from p q r left (over x) s b same at = at ∙ told_as p q left x s b same
 at_from p q r left (asking j) s b same at = (at.0, nothing_more p q r same at.1, at.2)
 
 -- where its step led
-here : (p : Position) (left : List ℕ) (job : Job) (s b : Bool) → p.collecting ≡ None → (b ≡ true → IsStopped job) → IsAt p left job s b (at_job p left job s b)
+here : (p : Position) (left : List ℕ) (job : Job) (s b : Bool) → p.pull ≡ None → p.collecting ≡ None → (b ≡ true → IsStopped job) → IsAt p left job s b (at_job p left job s b)
 unfolding goes_on
-here p left (over r) s b shut stops = refl
-here p left (asking j) s b shut stops = (
-  record { on = at_job_steps p left j s b stops; next = at_job_next p left j s b shut; wants = λ step on. at_job_wants p left j s b shut on },
-  record { size = refl; collecting = refl; told = refl; is_over = refl },
+here p left (over r) s b idle shut stops = refl
+here p left (asking j) s b idle shut stops = (
+  record { on = at_job_steps p left j s b idle stops; idle = idle; next = at_job_next p left j s b shut; wants = λ step on. at_job_wants p left j s b idle shut on },
+  record { size = refl; pull = refl; collecting = refl; told = refl; is_over = refl },
   refl,
 )
 
@@ -115,9 +117,10 @@ collects_no_step : (b : Bool) (j : Asking) (left : List ℕ) → collecting b �
 collects_no_step b j left e = cc
 
 -- a step behind which the job's session is not all that is left comes where no answer was the last
-step_on : (p : Position) (j : Asking) (left : List ℕ) → next_at p ≡ job_step j left → is_stopping j ≡ false → may_step p ≡ true → p.is_spent ≡ false
+step_on : (p : Position) (j : Asking) (left : List ℕ) → p.pull ≡ None → next_at p ≡ job_step j left → is_stopping j ≡ false → may_step p ≡ true → p.is_spent ≡ false
 unfolding next_at lane_next
-step_on p j left is goes on = by_spent p.is_spent (ap (λ b. not p.is_spent || b) (sym (by_collecting p.collecting is)) ∙ on)
+step_on p j left idle is goes on =
+    by_spent p.is_spent (ap (λ b. not p.is_spent || b) (sym (ap (λ (o : Option Pulling). pull_stops o p.job) idle ∙ by_collecting p.collecting is)) ∙ on)
   where
     by_spent : (b : Bool) → (not b || false) ≡ true → b ≡ false
     by_spent true h = cc
@@ -140,8 +143,8 @@ step_led : (p : Position) (j : Asking) (left : List ℕ) (v : Event) (r : Reply)
 step_led p j left v r act at of asks says = by_act of
   where
     by_act : IsActOf (asking j) act → Leads p (v ∷ []) (at_job p left (take j r) (kind v == 2) ((v.answer).last || p.is_spent))
-    by_act (inl is) = leads_job [] p p j left v r refl at.on at.next (asks ∙ is) says
-    by_act (inr is) = leads_job_short [] p p j left v r refl (step_on p j left at.next is.1 at.on) at.next (at.wants tt is.1) (asks ∙ is.0) says
+    by_act (inl is) = leads_job [] p p j left v r refl at.idle at.on at.next (asks ∙ is) says
+    by_act (inr is) = leads_job_short [] p p j left v r refl at.idle (step_on p j left at.idle at.next is.1 at.on) at.next (at.wants tt is.1) (asks ∙ is.0) says
 
 same_asking : (i j : Asking) → asking i ≡ asking j → i ≡ j
 same_asking i j e = cc
@@ -168,15 +171,15 @@ stepped_once before after k j new was now act told of d is also stops = record {
             (subst (λ b. Leads p (d.event ∷ []) (at_job p left (take j told.reply) (kind d.event == 2) b))
             (ap (λ b. b || p.is_spent) d.last ∙ ap (λ b. told.last || b) spent ∙ sym also)
             (step_led p j left d.event told.reply act at of d.asks d.tells)),
-        here p left new (kind d.event == 2) now (next_shut p (job_step j left) at.next refl) stops,
+        here p left new (kind d.event == 2) now at.idle (next_shut p (job_step j left) at.next refl) stops,
       ),
     )
 
 -- want of memory behind a reply that was dropped
-dropped_led : (p : Position) (left : List ℕ) (v u : Event) (r : Reply) (job : Job) (s : Bool) → p.collecting ≡ None → GoesOn job → Leads p (v ∷ []) (at_job p left job s false)
+dropped_led : (p : Position) (left : List ℕ) (v u : Event) (r : Reply) (job : Job) (s : Bool) → p.pull ≡ None → p.collecting ≡ None → GoesOn job → Leads p (v ∷ []) (at_job p left job s false)
     → u.act ≡ acts.Short → reply u ≡ Some r → Leads p (v ∷ u ∷ []) (at_job p left (take_more job r) (kind u == 2) ((u.answer).last || false))
-dropped_led p left v u r (over x) s shut goes led asks says = absurd goes
-dropped_led p left v u r (asking i) s shut goes led asks says = leads_step_short (v ∷ []) p p i left s u r led shut (goes_stays i goes) asks says
+dropped_led p left v u r (over x) s idle shut goes led asks says = absurd goes
+dropped_led p left v u r (asking i) s idle shut goes led asks says = leads_step_short (v ∷ []) p p i left s u r led idle shut (goes_stays i goes) asks says
 
 -- the reply was dropped
 stepped_twice : (before between after : History → Type 0) (k : ℕ) (j : Asking) (new : Job) (now : Bool) (act : Act) (told want : Told) → IsActOf (asking j) act → Did before between k act told
@@ -203,8 +206,8 @@ stepped_twice before between after k j new now act told want of d none goes e is
         subst (λ (x : Job). Leads p (d.event ∷ e.event ∷ []) (at_job p left x (kind e.event == 2) now)) (sym is)
             (subst (λ b. Leads p (d.event ∷ e.event ∷ []) (at_job p left (take_more (take j told.reply) want.reply) (kind e.event == 2) b))
             (ap (λ b. b || false) e.last ∙ sym also)
-            (dropped_led p left d.event e.event want.reply (take j told.reply) (kind d.event == 2) shut goes (first p left at spent) e.asks e.tells)),
-        here p left new (kind e.event == 2) now shut stops,
+            (dropped_led p left d.event e.event want.reply (take j told.reply) (kind d.event == 2) at.idle shut goes (first p left at spent) e.asks e.tells)),
+        here p left new (kind e.event == 2) now at.idle shut stops,
       ),
     )
 
@@ -307,7 +310,7 @@ begins before k begun goes = record {
   is_short = false;
   history = λ h at. subst (λ es. before (with_events h es)) (sym (append-nil h.events)) at;
   lanes = tt;
-  leads = λ p left is. (p, (refl, (is, record { size = refl; collecting = refl; told = refl; is_over = refl }, step_on p begun left is.next goes is.on)));
+  leads = λ p left is. (p, (refl, (is, record { size = refl; pull = refl; collecting = refl; told = refl; is_over = refl }, step_on p begun left is.idle is.next goes is.on)));
 }
 
 -- a job that is over was told

@@ -182,6 +182,7 @@ stopped stands start k left left' taken tail size given e words s all took so sa
   runs = λ f vs told. leads_runs f s.events vs (begin s.input) (position s.input tail.bytes s.is_short s.told) told refl s.leads;
   on = refl;
   off = refl;
+  idle = refl;
   shut = refl;
   size_is = s.size_is;
   took = took;

@@ -18,9 +18,9 @@ use Rattle.store_history.specs.declared.act.Act.TheVariants as acts
 use Rattle.store_history.specs.declared.act.Event.{Event}
 use Rattle.store_history.specs.History.{reply, lane, kind}
 use Rattle.core_state.specs.declared.state.Core.{Core}
-use Rattle.core_state.specs.Closing.{is_closing, is_reader}
-use Rattle.core_state.specs.Commands.{is_still}
-use Rattle.core_state.specs.Replies.{may_answer}
+use Rattle.core_state.specs.Closing.{is_closing, is_reader, is_writer}
+use Rattle.core_state.specs.Commands.{IsNoRefusal, is_still, leaves_writer}
+use Rattle.core_state.specs.Replies.{may_answer, may_give}
 use Rattle.core_state.specs.Wanted.{session_at}
 use Rattle.core_state.specs.Reserved.{CanEnd, Reserved}
 use Rattle.core_state.specs.Records.{Reaches}
@@ -40,7 +40,11 @@ HasReply a = Unit {0}
 abbrev pub IsWant : Act → Told → Type 0
 IsWant act told = (act ≡ acts.Short) ⊎ (told.last ≡ true)
 
--- One act: it was entered, and this is its reply.
+abbrev pub IsRefused : Reply → Type 0
+IsRefused (Refused refusal) = Unit {0}
+IsRefused r = ⊥
+
+-- One act: it was entered, and this is its reply. What a read of the remote gave, and nothing else, is of kind 1.
 pub record Did (before after : History → Type 0) (k : ℕ) (act : Act) (told : Told) : Type 0 where
   pub event : Event
   pub asks : event.act ≡ act
@@ -48,15 +52,13 @@ pub record Did (before after : History → Type 0) (k : ℕ) (act : Act) (told :
   pub tells : reply event ≡ Some told.reply
   pub last : (event.answer).last ≡ told.last
   pub kind_is : IsWant act told → kind event ≡ 2
+  pub gave : kind event ≡ 1 → IsTrue (may_give act told.reply)
+  pub other : (kind event ≡ 1 → ⊥) → IsTrue (may_answer act told.reply) ⊎ IsRefused told.reply
   pub history : (h : History) → before h → after (then_event h event)
 
-abbrev pub IsRefused : Reply → Type 0
-IsRefused (Refused refusal) = Unit {0}
-IsRefused r = ⊥
-
--- what an act may tell on any disk: what its command's tests may answer, or another refusal
+-- what an act may tell on any disk and any remote: what its command's tests may answer, what a read of the remote gives, or another refusal
 pub record MayTell (act : Act) (told : Told) : Type 0 where
-  pub reply_is : IsTrue (may_answer act told.reply) ⊎ IsRefused told.reply
+  pub reply_is : IsTrue (may_answer act told.reply) ⊎ (IsTrue (may_give act told.reply) ⊎ IsRefused told.reply)
   pub want : IsWant act told → told.reply ≡ Refused NoMemory
 
 -- what the lane's reserve of entries is after an answer, which may be the last
@@ -83,6 +85,17 @@ pub record KeepsReader {D E C : Type 0} (old new : Core D E C) (k : ℕ) (act : 
   pub still : is_still act ≡ true → tells_fault told.reply ≡ false → IsReading old k → IsReading new k
   pub short : told.reply ≡ Refused NoMemory → IsReading old k → IsReading new k
   pub closing : is_closing old k act ≡ true → (leaves_open told.reply ≡ false) × (CanEnd old k → CanEnd new k)
+
+-- the lane has a writer, and the disk has not failed
+abbrev pub IsWriting : {D E C : Type 0} → Core D E C → ℕ → Type 0
+IsWriting core k = (core.fault ≡ None) × (is_writer (session_at core.parts k) ≡ true)
+
+-- What an act leaves of the lane's writer: the commands of one that are done make it or keep it, and so do a refusal but by a fault of the disk, and
+-- the reads of the remote.
+pub record KeepsWriter {D E C : Type 0} (old new : Core D E C) (k : ℕ) (act : Act) (told : Told) : Type 0 where
+  pub writes : leaves_writer act ≡ true → IsNoRefusal told.reply → IsWriting new k
+  pub refused : IsRefused told.reply → tells_fault told.reply ≡ false → IsWriting old k → IsWriting new k
+  pub still : is_still act ≡ true → tells_fault told.reply ≡ false → IsWriting old k → IsWriting new k
 
 -- ---- its reply
 
@@ -128,10 +141,10 @@ pub record AnswersShort (before after : History → Type 0) (k : ℕ) (taken tak
 
 -- ---- of cores, from each first one and its history
 
-abbrev pub CoreDid : {D E C : Type 0} → Ghosts D → clocks.Ghosts C → Core D E C → Core D E C → ℕ → Act → Told → Type 0
-CoreDid {D} {E} {C} d clock old new k act told =
-    (first : Core D E C) (began : History) → Did (Reaches d clock.readings first began old) (Reaches d clock.readings first began new) k act told
+abbrev pub CoreDid : {D E C : Type 0} → Ghosts D → Ghosts E → clocks.Ghosts C → Core D E C → Core D E C → ℕ → Act → Told → Type 0
+CoreDid {D} {E} {C} d e clock old new k act told =
+    (first : Core D E C) (began : History) → Did (Reaches d e clock.readings first began old) (Reaches d e clock.readings first began new) k act told
 
-abbrev pub CoreAnswersShort : {D E C K : Type 0} → Ghosts D → clocks.Ghosts C → sinks.Ghosts K → Core D E C → Core D E C → ℕ → K → K → ℕ → ℕ → Ending → Type 0
-CoreAnswersShort {D} {E} {C} d clock sink old new k into later given given' ending =
-    (first : Core D E C) (began : History) → AnswersShort (Reaches d clock.readings first began old) (Reaches d clock.readings first began new) k (sink.taken into) (sink.taken later) given given' ending
+abbrev pub CoreAnswersShort : {D E C K : Type 0} → Ghosts D → Ghosts E → clocks.Ghosts C → sinks.Ghosts K → Core D E C → Core D E C → ℕ → K → K → ℕ → ℕ → Ending → Type 0
+CoreAnswersShort {D} {E} {C} d e clock sink old new k into later given given' ending =
+    (first : Core D E C) (began : History) → AnswersShort (Reaches d e clock.readings first began old) (Reaches d e clock.readings first began new) k (sink.taken into) (sink.taken later) given given' ending

@@ -36,10 +36,10 @@ Closes before after k taken taken' given given' last ending =
 
 -- ---- of cores, from each first one and its history
 
-abbrev pub CoreEnds : {D E C : Type 0} → Ghosts D → clocks.Ghosts C → Core D E C → Core D E C → ℕ → Type 0
-CoreEnds {D} {E} {C} d clock old new k =
-    (first : Core D E C) (began : History) → EndsLane (Reaches d clock.readings first began old) (Reaches d clock.readings first began new) k
+abbrev pub CoreEnds : {D E C : Type 0} → Ghosts D → Ghosts E → clocks.Ghosts C → Core D E C → Core D E C → ℕ → Type 0
+CoreEnds {D} {E} {C} d e clock old new k =
+    (first : Core D E C) (began : History) → EndsLane (Reaches d e clock.readings first began old) (Reaches d e clock.readings first began new) k
 
-abbrev pub CoreCloses : {D E C K : Type 0} → Ghosts D → clocks.Ghosts C → sinks.Ghosts K → Core D E C → Core D E C → ℕ → K → K → ℕ → ℕ → Last → Ending → Type 0
-CoreCloses {D} {E} {C} d clock sink old new k into later given given' last ending =
-    (first : Core D E C) (began : History) → Closes (Reaches d clock.readings first began old) (Reaches d clock.readings first began new) k (sink.taken into) (sink.taken later) given given' last ending
+abbrev pub CoreCloses : {D E C K : Type 0} → Ghosts D → Ghosts E → clocks.Ghosts C → sinks.Ghosts K → Core D E C → Core D E C → ℕ → K → K → ℕ → ℕ → Last → Ending → Type 0
+CoreCloses {D} {E} {C} d e clock sink old new k into later given given' last ending =
+    (first : Core D E C) (began : History) → Closes (Reaches d e clock.readings first began old) (Reaches d e clock.readings first began new) k (sink.taken into) (sink.taken later) given given' last ending

@@ -79,7 +79,7 @@ pub record HasSwept (before now : History → Type 0) (k : ℕ) (is_last : Bool)
   pub is_short : Bool
   pub history : (h : History) → before h → now (with_events h (h.events ++ events))
   pub lanes : AreOf k events
-  pub leads : (p : Position) (left : List ℕ) → Leads (sweeping_at p left false false false) events (sweeping_at p left is_cut is_short is_last)
+  pub leads : (p : Position) (left : List ℕ) → p.pull ≡ None → Leads (sweeping_at p left false false false) events (sweeping_at p left is_cut is_short is_last)
 
 -- Acts of the lane's open collector were entered, and its end was told. From where it opened they lead to behind its GC.
 pub record Sweeps (before after : History → Type 0) (k : ℕ) (told : Told) : Type 0 where
@@ -87,14 +87,14 @@ pub record Sweeps (before after : History → Type 0) (k : ℕ) (told : Told) : 
   pub is_short : Bool
   pub history : (h : History) → before h → after (with_events h (h.events ++ events))
   pub lanes : AreOf k events
-  pub leads : (p : Position) (left : List ℕ) → p.collecting ≡ None → Leads (sweeping_at p left false false false) events (answered p left told.reply is_short told.last)
+  pub leads : (p : Position) (left : List ℕ) → p.collecting ≡ None → p.pull ≡ None → Leads (sweeping_at p left false false false) events (answered p left told.reply is_short told.last)
 
 -- ---- of cores, from each first one and its history
 
-abbrev pub CoreHasPassed : {D E C : Type 0} → Ghosts D → clocks.Ghosts C → Core D E C → Core D E C → ℕ → Bool → Bool → Option Reply → Type 0
-CoreHasPassed {D} {E} {C} d clock old new k is_last now_last outcome =
-    (first : Core D E C) (began : History) → HasPassed (Reaches d clock.readings first began old) (Reaches d clock.readings first began new) k is_last now_last outcome
+abbrev pub CoreHasPassed : {D E C : Type 0} → Ghosts D → Ghosts E → clocks.Ghosts C → Core D E C → Core D E C → ℕ → Bool → Bool → Option Reply → Type 0
+CoreHasPassed {D} {E} {C} d e clock old new k is_last now_last outcome =
+    (first : Core D E C) (began : History) → HasPassed (Reaches d e clock.readings first began old) (Reaches d e clock.readings first began new) k is_last now_last outcome
 
-abbrev pub CoreSweeps : {D E C : Type 0} → Ghosts D → clocks.Ghosts C → Core D E C → Core D E C → ℕ → Told → Type 0
-CoreSweeps {D} {E} {C} d clock old new k told =
-    (first : Core D E C) (began : History) → Sweeps (Reaches d clock.readings first began old) (Reaches d clock.readings first began new) k told
+abbrev pub CoreSweeps : {D E C : Type 0} → Ghosts D → Ghosts E → clocks.Ghosts C → Core D E C → Core D E C → ℕ → Told → Type 0
+CoreSweeps {D} {E} {C} d e clock old new k told =
+    (first : Core D E C) (began : History) → Sweeps (Reaches d e clock.readings first began old) (Reaches d e clock.readings first began new) k told

@@ -30,13 +30,14 @@ is_last_step n = false
 -- may be wanting.
 pub record IsNext (n : Next) (p : Position) : Type 0 where
   pub on : may_step p ≡ true
+  pub idle : p.pull ≡ None
   pub next : next_at p ≡ n
   pub wants : IsStep n → is_last_step n ≡ false → may_want_at p ≡ true
 
 -- behind a command, or a whole job, that was told this
 abbrev pub answered : Position → List ℕ → Reply → Bool → Bool → Position
 answered p left r is_short is_spent =
-    record p { left = left; job = None; is_short = is_short; is_spent = is_spent; told = p.told ++ r ∷ [] }
+    record p { left = left; job = None; pull = None; is_short = is_short; is_spent = is_spent; told = p.told ++ r ∷ [] }
 
 -- Acts of the lane were entered, all of a command or of the job of one. Wherever it is next on the lane, with this left behind it,
 -- they lead to where it was told.
@@ -48,6 +49,6 @@ pub record Does (before after : History → Type 0) (k : ℕ) (n : List ℕ → 
   pub leads : (p : Position) (left : List ℕ) → IsNext (n left) p → Leads p events (answered p left told.reply is_short told.last)
 
 -- so a command did between two cores, from each first one and its history
-abbrev pub CoreDoes : {D E C : Type 0} → Ghosts D → clocks.Ghosts C → Core D E C → Core D E C → ℕ → Command → Told → Type 0
-CoreDoes {D} {E} {C} d clock old new k command told =
-    (first : Core D E C) (began : History) → Does (Reaches d clock.readings first began old) (Reaches d clock.readings first began new) k (command_next command) told
+abbrev pub CoreDoes : {D E C : Type 0} → Ghosts D → Ghosts E → clocks.Ghosts C → Core D E C → Core D E C → ℕ → Command → Told → Type 0
+CoreDoes {D} {E} {C} d e clock old new k command told =
+    (first : Core D E C) (began : History) → Does (Reaches d e clock.readings first began old) (Reaches d e clock.readings first began new) k (command_next command) told

@@ -10,9 +10,6 @@ use Rattle.wire_commands.specs.declared.command.Command.TheVariants as commands
 use Rattle.wire_commands.specs.declared.reply.Reply.TheVariants.{Refused}
 use Rattle.store_model.specs.ArchiveSteps.{check_chunk}
 use Rattle.store_model.specs.Lanes.{Next, bye, broken, front_next, command_next}
-use Rattle.store_history.specs.declared.act.Act.{Act}
-use Rattle.store_history.specs.declared.act.Act.TheVariants as acts
-use Rattle.store_history.specs.Acts.{act_of_command}
 use Rattle.store_history.specs.LaneRun.{may_want}
 use Rattle.lane.specs.declared.commands.Ahead.{Ahead}
 use Rattle.lane.specs.declared.commands.Ahead.TheVariants as aheads
@@ -30,10 +27,13 @@ abbrev pub is_gc : Command → Bool
 is_gc commands.Gc = true
 is_gc c = false
 
--- the act for a command that is next: that of a SYNC asks the remote
-abbrev pub act_ahead : Command → Act
-act_ahead (commands.Sync group) = acts.RemoteList (commands.Sync group)
-act_ahead c = act_of_command c
+-- a command of one act, or a SYNC
+abbrev pub IsAlone : Command → Type 0
+IsAlone (commands.Prune group keep dry) = ⊥
+IsAlone (commands.Verify snapshot) = ⊥
+IsAlone commands.Gc = ⊥
+IsAlone commands.Bye = ⊥
+IsAlone c = Unit {0}
 
 -- a job's command
 abbrev pub IsJobs : Command → Type 0

@@ -7,6 +7,7 @@ pub mod Ran
 pub mod Doing
 pub mod Stepping
 pub mod Collecting
+pub mod Pulling
 pub mod Progress
 pub mod Closing
 pub mod Turns

@@ -1,6 +1,8 @@
 -- What a lane's loop keeps.
 use Rattle.std.specs.Prelude.{ℕ, ◌≡◌, ◌≤◌, List, [], Option}
+use Rattle.disk_trait.specs.declared.disk.Disk.{Ghosts}
 use Rattle.core_state.specs.declared.state.Core.{Core}
+use Rattle.core_state.specs.Remotes.{RemoteServes}
 use Rattle.core_state.specs.Reserved.{Reserved}
 use Rattle.core_state.specs.History.{History}
 use Rattle.lane.specs.declared.input.Input.{Input}
@@ -11,9 +13,9 @@ abbrev pub HasBegun : (History → Type 0) → (History → History → Type 0) 
 HasBegun before now k left left' taken taken' input given =
     (h : History) → before h → h.events ≡ [] → HasServed (now h) (record { history = h; left = left; taken = taken }) k left' taken' input.cutter input.taken given
 
--- The lane has what it must have in reserve, no port's count of faults has fallen, and the remote is as it was.
-pub record Keeps {D E C : Type 0} (core : Core D E C) (k source source' sink sink' : ℕ) (remote remote' : Option E) : Type 0 where
+-- The lane has what it must have in reserve, no port's count of faults has fallen, and the remote was read alone.
+pub record Keeps {D E C : Type 0} (e : Ghosts E) (first core : Core D E C) (k source source' sink sink' : ℕ) : Type 0 where
   pub reserved : Reserved core k
   pub source_later : source ≤ source'
   pub sink_later : sink ≤ sink'
-  pub same : remote' ≡ remote
+  pub remote : RemoteServes e first core

@@ -70,8 +70,8 @@ pub record RanAlone (stands : History → Type 0) (h : History) (k : ℕ) (left 
   pub read_out : EndsRead report.ending input events left'
 
 -- so it ran between two cores, from a history of the first that has no events
-abbrev pub CoreRan : {D E C S K : Type 0} → Ghosts D → clocks.Ghosts C → sources.Ghosts S → sinks.Ghosts K → Core D E C → Core D E C → ℕ
+abbrev pub CoreRan : {D E C S K : Type 0} → Ghosts D → Ghosts E → clocks.Ghosts C → sources.Ghosts S → sinks.Ghosts K → Core D E C → Core D E C → ℕ
     → Port S K → Port S K → LaneReport → Type 0
-CoreRan d clock source sink old new k port later report =
+CoreRan d e clock source sink old new k port later report =
     (h : History) → Records clock.readings old h → h.events ≡ []
-    → RanAlone (Reaches d clock.readings old h new) h k (source.left port.source) (source.left later.source) (sink.taken port.sink) (sink.taken later.sink) report
+    → RanAlone (Reaches d e clock.readings old h new) h k (source.left port.source) (source.left later.source) (sink.taken port.sink) (sink.taken later.sink) report

@@ -37,6 +37,7 @@ IsNextAct job (Some act) = IsActOf job act
 -- nothing was told between these positions of a lane
 pub record TellsNothing (p q : Position) : Type 0 where
   pub size : q.size ≡ p.size
+  pub pull : q.pull ≡ p.pull
   pub collecting : q.collecting ≡ p.collecting
   pub told : q.told ≡ p.told
   pub is_over : q.is_over ≡ p.is_over
@@ -107,6 +108,6 @@ pub record StepsOn (before after : History → Type 0) (k : ℕ) (old new : Job)
   pub leads : (p : Position) (left : List ℕ) (j : Asking) → old ≡ asking j → IsNext (job_step j left) p → p.is_spent ≡ was_last
       → (q : Position) × (Leads p events q × IsAt p left new is_short is_last q)
 
-abbrev pub CoreHasStepped : {D E C : Type 0} → Ghosts D → clocks.Ghosts C → Core D E C → Core D E C → ℕ → Job → Job → Bool → Bool → Type 0
-CoreHasStepped {D} {E} {C} d clock old new k job now was_last is_last =
-    (first : Core D E C) (began : History) → StepsOn (Reaches d clock.readings first began old) (Reaches d clock.readings first began new) k job now was_last is_last
+abbrev pub CoreHasStepped : {D E C : Type 0} → Ghosts D → Ghosts E → clocks.Ghosts C → Core D E C → Core D E C → ℕ → Job → Job → Bool → Bool → Type 0
+CoreHasStepped {D} {E} {C} d e clock old new k job now was_last is_last =
+    (first : Core D E C) (began : History) → StepsOn (Reaches d e clock.readings first began old) (Reaches d e clock.readings first began new) k job now was_last is_last

@@ -47,10 +47,10 @@ pub data HasEnded (input : Input) (last : Last) : Type 0 where
 -- ---- of cores and ports
 
 -- from each first core and its history
-abbrev pub CoreGoesOn : {D E C S K : Type 0} → Ghosts D → clocks.Ghosts C → sources.Ghosts S → sinks.Ghosts K → Core D E C → Core D E C → ℕ
+abbrev pub CoreGoesOn : {D E C S K : Type 0} → Ghosts D → Ghosts E → clocks.Ghosts C → sources.Ghosts S → sinks.Ghosts K → Core D E C → Core D E C → ℕ
     → Port S K → Port S K → Progress → Progress → Option Last → Type 0
-CoreGoesOn {D} {E} {C} d clock source sink old new k port later did further outcome =
-    (first : Core D E C) (began : History) → GoesOn (Reaches d clock.readings first began old) (Reaches d clock.readings first began new) k
+CoreGoesOn {D} {E} {C} d e clock source sink old new k port later did further outcome =
+    (first : Core D E C) (began : History) → GoesOn (Reaches d e clock.readings first began old) (Reaches d e clock.readings first began new) k
     (source.left port.source) (source.left later.source) (sink.taken port.sink) (sink.taken later.sink)
     did.input further.input did.given further.given outcome
 

@@ -3,8 +3,9 @@
 ghost use Rattle.std.specs.Prelude.{◌≡◌, ◌<◌};
 ghost use Rattle.wire_commands.specs.HasText.{ReplyHasText};
 ghost use Rattle.store_history.specs.Acts.{IsWellFormed};
+ghost use Rattle.core_state.specs.Remotes.{RemoteServes};
 ghost use Rattle.core_state.specs.Reserved.{HasRoom};
-ghost use Rattle.lane.specs.Acting.{HasReply, IsWant, CoreDid, GivesTo, KeepsReader, LeavesReserve, MayTell};
+ghost use Rattle.lane.specs.Acting.{HasReply, IsWant, CoreDid, GivesTo, KeepsReader, KeepsWriter, LeavesReserve, MayTell};
 ghost use Rattle.lane.specs.Causes.{SinkHasCauses};
 ghost use Rattle.lane.specs.Entries.{HasEntered};
 
@@ -25,7 +26,7 @@ pub struct Told {
 }
 
 /// Does an act that has a reply in any case: neither a collector's nor a lane's end.
-pub fn ask<D: Disk, E, C: Clock>(
+pub fn ask<D: Disk, E: Disk, C: Clock>(
     core: &mut Core<D, E, C>,
     alloc: Global,
     lane: u32,
@@ -35,12 +36,13 @@ pub fn ask<D: Disk, E, C: Clock>(
     requires room { HasRoom core.old lane }
     requires formed { IsWellFormed act }
     requires replied { HasReply act }
-    ensures did { CoreDid D.Disk C.Clock core.old core.new lane act result }
+    ensures did { CoreDid D.Disk E.Disk C.Clock core.old core.new lane act result }
     ensures tells { MayTell act result }
     ensures text { ReplyHasText result.reply }
     ensures room { LeavesReserve core.old core.new lane result.last }
     ensures reader { KeepsReader core.old core.new lane act result }
-    ensures remote { core.new.remote ≡ core.old.remote }
+    ensures writer { KeepsWriter core.old core.new lane act result }
+    ensures remote { RemoteServes E.Disk core.old core.new }
     ensures entered { HasEntered D.Disk core.old core.new lane (IsWant act result) }
 {
     let Answer { reply, last, .. } = apply(core, alloc, lane, act);

@@ -3,6 +3,7 @@
 ghost use Rattle.std.specs.Prelude.{◌≡◌, ◌<◌, IfNone, IfSome, Some, true, false};
 ghost use Rattle.wire_commands.specs.HasText.{ReplyHasText};
 ghost use Rattle.wire_commands.specs.declared.command.Command.TheVariants.{Gc};
+ghost use Rattle.core_state.specs.Remotes.{RemoteServes};
 ghost use Rattle.core_state.specs.Reserved.{Reserved};
 ghost use Rattle.lane.specs.Acting.{LeavesReserve};
 ghost use Rattle.lane.specs.Collecting.{CoreHasPassed, CoreSweeps, IsNearer, IsSet, IsSweeping, LeavesSweep};
@@ -22,7 +23,7 @@ use wire_commands::Reply;
 /// the end, which tells it.
 ///
 /// `is_last` is set where an entry of the lane's reserve held that want.
-fn pass<D: Disk, E, C: Clock>(
+fn pass<D: Disk, E: Disk, C: Clock>(
     core: &mut Core<D, E, C>,
     alloc: Global,
     lane: u32,
@@ -30,13 +31,13 @@ fn pass<D: Disk, E, C: Clock>(
 ) -> Option<Reply>
     requires lane { lane < 64 }
     requires sweeps { IsSweeping core.old lane is_last.old }
-    ensures passed { CoreHasPassed D.Disk C.Clock core.old core.new lane
+    ensures passed { CoreHasPassed D.Disk E.Disk C.Clock core.old core.new lane
         is_last.old is_last.new result }
     ensures text { IfSome result ReplyHasText }
     ensures room { LeavesSweep core.new lane is_last.new result }
     // the next act is nearer to the end
     ensures further { IfNone result (IsNearer core.old.collector core.new.collector) }
-    ensures remote { core.new.remote ≡ core.old.remote }
+    ensures remote { RemoteServes E.Disk core.old core.new }
     ensures entered { HasEntered D.Disk core.old core.new lane (IsSet is_last.old is_last.new) }
 {
     let Answer {
@@ -53,13 +54,13 @@ fn pass<D: Disk, E, C: Clock>(
 }
 
 /// Does all acts of the lane's open collector, and tells what its end replies.
-fn sweep<D: Disk, E, C: Clock>(core: &mut Core<D, E, C>, alloc: Global, lane: u32) -> Told
+fn sweep<D: Disk, E: Disk, C: Clock>(core: &mut Core<D, E, C>, alloc: Global, lane: u32) -> Told
     requires lane { lane < 64 }
     requires sweeps { IsSweeping core.old lane false }
-    ensures swept { CoreSweeps D.Disk C.Clock core.old core.new lane result }
+    ensures swept { CoreSweeps D.Disk E.Disk C.Clock core.old core.new lane result }
     ensures text { ReplyHasText result.reply }
     ensures room { LeavesSweep core.new lane result.last (Some result.reply) }
-    ensures remote { core.new.remote ≡ core.old.remote }
+    ensures remote { RemoteServes E.Disk core.old core.new }
     ensures entered { HasEntered D.Disk core.old core.new lane (result.last ≡ true) }
 {
     let mut last = false;
@@ -74,13 +75,17 @@ fn sweep<D: Disk, E, C: Clock>(core: &mut Core<D, E, C>, alloc: Global, lane: u3
 ///
 /// Where it can't open, its refusal is told. Want of memory for one of the acts is told by the end that follows it; where the
 /// lane's reserve held it, the lane ends then.
-pub fn collect<D: Disk, E, C: Clock>(core: &mut Core<D, E, C>, alloc: Global, lane: u32) -> Told
+pub fn collect<D: Disk, E: Disk, C: Clock>(
+    core: &mut Core<D, E, C>,
+    alloc: Global,
+    lane: u32,
+) -> Told
     requires lane { lane < 64 }
     requires room { Reserved core.old lane }
-    ensures does { CoreDoes D.Disk C.Clock core.old core.new lane Gc result }
+    ensures does { CoreDoes D.Disk E.Disk C.Clock core.old core.new lane Gc result }
     ensures text { ReplyHasText result.reply }
     ensures room { LeavesReserve core.old core.new lane result.last }
-    ensures remote { core.new.remote ≡ core.old.remote }
+    ensures remote { RemoteServes E.Disk core.old core.new }
     ensures entered { HasEntered D.Disk core.old core.new lane (result.last ≡ true) }
 {
     let Answer { reply, last, .. } = apply(core, alloc, lane, Act::Start);

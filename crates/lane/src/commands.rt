@@ -4,7 +4,7 @@ ghost use Rattle.std.specs.Prelude.{◌≡◌, Err};
 ghost use Rattle.wire_frames.specs.Frames.{Tail, cut, too_long};
 ghost use Rattle.store_model.specs.ArchiveSteps.{check_chunk as piece_of};
 ghost use Rattle.store_history.specs.Acts.{check_blob, checked_by, act_of_command};
-ghost use Rattle.lane.specs.Fronts.{IsAhead, IsAheadAs, TestsChunk, act_ahead, ahead_of, is_gc, is_job};
+ghost use Rattle.lane.specs.Fronts.{IsAhead, IsAheadAs, TestsChunk, ahead_of, is_gc, is_job};
 
 use blob_codec::decode;
 use core_state::Act;
@@ -135,15 +135,5 @@ pub fn act_of(command: Command) -> Act
         },
         Command::Prune { group, keep, dry } => Act::JobGroup(Command::Prune { group, keep, dry }),
         command => Act::Plain(command),
-    }
-}
-
-/// The act for a command that is next on a lane, other than BYE and a GC: that of a SYNC asks the remote.
-pub fn act_ahead(command: Command) -> Act
-    ensures { result ≡ act_ahead command }
-{
-    match command {
-        Command::Sync { group } => Act::RemoteList(Command::Sync { group }),
-        command => act_of(command),
     }
 }

@@ -2,6 +2,7 @@
 
 ghost use Rattle.std.specs.Prelude.{◌≡◌, ◌<◌, Option, Some, IfSome};
 ghost use Rattle.wire_commands.specs.HasText.{ReplyHasText};
+ghost use Rattle.core_state.specs.Remotes.{RemoteServes};
 ghost use Rattle.core_state.specs.Reserved.{CanEnd};
 ghost use Rattle.lane.specs.Causes.{EndHasCauses};
 ghost use Rattle.lane.specs.Closing.{CoreCloses, CoreEnds};
@@ -23,11 +24,11 @@ pub struct Last {
 }
 
 /// Ends the lane's session. An end that met a fault of the disk comes again.
-fn end<D: Disk, E, C: Clock>(core: &mut Core<D, E, C>, alloc: Global, lane: u32)
+fn end<D: Disk, E: Disk, C: Clock>(core: &mut Core<D, E, C>, alloc: Global, lane: u32)
     requires lane { lane < 64 }
     requires room { CanEnd core.old lane }
-    ensures ends { CoreEnds D.Disk C.Clock core.old core.new lane }
-    ensures remote { core.new.remote ≡ core.old.remote }
+    ensures ends { CoreEnds D.Disk E.Disk C.Clock core.old core.new lane }
+    ensures remote { RemoteServes E.Disk core.old core.new }
     ensures entered { HasEntered D.Disk core.old core.new lane ⊥ }
 {
     let answer = apply(core, alloc, lane, Act::End);
@@ -37,7 +38,7 @@ fn end<D: Disk, E, C: Clock>(core: &mut Core<D, E, C>, alloc: Global, lane: u32)
 }
 
 /// Ends the lane, and then gives the sink the last reply, where there is one.
-pub fn close<D: Disk, E, C: Clock, K: Sink>(
+pub fn close<D: Disk, E: Disk, C: Clock, K: Sink>(
     core: &mut Core<D, E, C>,
     alloc: Global,
     lane: u32,
@@ -48,9 +49,9 @@ pub fn close<D: Disk, E, C: Clock, K: Sink>(
     requires lane { lane < 64 }
     requires room { CanEnd core.old lane }
     requires text { IfSome last.words ReplyHasText }
-    ensures closes { CoreCloses D.Disk C.Clock K.Sink core.old core.new lane
+    ensures closes { CoreCloses D.Disk E.Disk C.Clock K.Sink core.old core.new lane
         sink.old sink.new given.old given.new last result }
-    ensures remote { core.new.remote ≡ core.old.remote }
+    ensures remote { RemoteServes E.Disk core.old core.new }
     ensures entered { HasEntered D.Disk core.old core.new lane ⊥ }
     ensures causes { EndHasCauses K.Sink sink.old sink.new last.ending result }
     ensures memory { result ≡ Ending.NoMemory → last.ending ≡ Ending.NoMemory }

@@ -5,6 +5,7 @@ ghost use Rattle.wire_commands.specs.HasText.{ReplyHasText};
 ghost use Rattle.store_history.specs.Acts.{act_of_step};
 ghost use Rattle.store_history.specs.Begun.{IsBegun};
 ghost use Rattle.store_model.specs.Jobs.{IsJob};
+ghost use Rattle.core_state.specs.Remotes.{RemoteServes};
 ghost use Rattle.core_state.specs.Reserved.{Reserved};
 ghost use Rattle.lane.specs.Acting.{LeavesReserve};
 ghost use Rattle.lane.specs.Collecting.{IsSet};
@@ -49,7 +50,7 @@ fn next_act(alloc: Global, job: &Job) -> Option<Act>
 /// of its own, whose reply the job takes.
 ///
 /// `is_last` is set where an entry of the lane's reserve held a want of memory.
-fn step<R: Threads + Sync, D: Disk, E, C: Clock>(
+fn step<R: Threads + Sync, D: Disk, E: Disk, C: Clock>(
     core: &mut Core<D, E, C>,
     rt: &R,
     alloc: Global,
@@ -61,12 +62,12 @@ fn step<R: Threads + Sync, D: Disk, E, C: Clock>(
     requires lane { lane < 64 }
     requires next { IsNextAct job.old (Some act) }
     requires on { MayGoOn core.old lane job.old is_last.old }
-    ensures stepped { CoreHasStepped D.Disk C.Clock core.old core.new lane
+    ensures stepped { CoreHasStepped D.Disk E.Disk C.Clock core.old core.new lane
         job.old job.new is_last.old is_last.new }
     ensures goes { MayGoOn core.new lane job.new is_last.new }
     // the next step is nearer to the end
     ensures nearer { IsNearer job.old job.new }
-    ensures remote { core.new.remote ≡ core.old.remote }
+    ensures remote { RemoteServes E.Disk core.old core.new }
     ensures entered { HasEntered D.Disk core.old core.new lane (IsSet is_last.old is_last.new) }
 {
     let told = ask(core, alloc, lane, act);
@@ -83,7 +84,7 @@ fn step<R: Threads + Sync, D: Disk, E, C: Clock>(
 /// Does the job of a PRUNE or a VERIFY, from its command to its report. Its steps are not told. Want of memory for one of them is
 /// entered, and the job takes it for that step's reply. Where the lane's reserve held it, the job's session is closed still,
 /// and the lane ends after its report.
-pub fn do_job<R: Threads + Sync, D: Disk, E, C: Clock>(
+pub fn do_job<R: Threads + Sync, D: Disk, E: Disk, C: Clock>(
     core: &mut Core<D, E, C>,
     rt: &R,
     alloc: Global,
@@ -93,10 +94,10 @@ pub fn do_job<R: Threads + Sync, D: Disk, E, C: Clock>(
     requires lane { lane < 64 }
     requires room { Reserved core.old lane }
     requires job { IsJob command.now }
-    ensures does { CoreDoes D.Disk C.Clock core.old core.new lane command.now result }
+    ensures does { CoreDoes D.Disk E.Disk C.Clock core.old core.new lane command.now result }
     ensures text { ReplyHasText result.reply }
     ensures room { LeavesReserve core.old core.new lane result.last }
-    ensures remote { core.new.remote ≡ core.old.remote }
+    ensures remote { RemoteServes E.Disk core.old core.new }
     ensures entered { HasEntered D.Disk core.old core.new lane (result.last ≡ true) }
 {
     let Ok(mut job) = Job::start(alloc, command) else {

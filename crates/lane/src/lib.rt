@@ -8,6 +8,7 @@ mod ending;
 mod input;
 mod jobs;
 mod port;
+mod pulling;
 mod run;
 
 pub use port::{LaneReport, Port};

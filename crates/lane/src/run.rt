@@ -3,23 +3,25 @@
 ghost use Rattle.std.specs.Prelude.{◌≡◌, ◌≢◌, ◌≤◌, ◌<◌, ◌^◌, true, Some, IfSome, IfNone};
 ghost use Rattle.wire_commands.specs.HasText.{ReplyHasText};
 ghost use Rattle.core_state.specs.Entering.{held_by};
+ghost use Rattle.core_state.specs.Remotes.{RemoteServes};
 ghost use Rattle.core_state.specs.Reserved.{CanEnd, Reserved};
 ghost use Rattle.lane.specs.Acting.{CoreAnswersShort, LeavesReserve};
 ghost use Rattle.lane.specs.Causes.{LaneHasCauses, SinkHasCauses};
 ghost use Rattle.lane.specs.Doing.{CoreDoes};
 ghost use Rattle.lane.specs.Entries.{HasEntered};
-ghost use Rattle.lane.specs.Fronts.{IsCommandAhead};
+ghost use Rattle.lane.specs.Fronts.{IsAlone, IsCommandAhead};
 ghost use Rattle.lane.specs.Ran.{CoreRan};
 ghost use Rattle.lane.specs.Turns.{CoreGoesOn, HasEnded, IsEndedByMemory, IsFurther, LeavesHeld, TurnHasCauses, broken_at};
 ghost use Rattle.wire_frames.specs.Frames.{short, cut};
 
 use crate::acts::{Told, ask};
 use crate::collecting::collect;
-use crate::commands::{Ahead, act_ahead, is_gc, is_job, read_front};
+use crate::commands::{Ahead, act_of, is_gc, is_job, read_front};
 use crate::ending::{Last, close};
 use crate::input::{Input, Taken};
 use crate::jobs::do_job;
 use crate::port::{LaneReport, Port};
+use crate::pulling::pull;
 use core_state::{Act, Core};
 use disk_trait::Disk;
 use port_traits::{Clock, Gate, Sink, Source};
@@ -40,7 +42,7 @@ struct Progress {
 }
 
 /// Serves one command session, from its first byte to its end.
-pub fn run_alone<R: Threads + Sync, D: Disk, E, C: Clock, S: Source, K: Sink, G: Gate>(
+pub fn run_alone<R: Threads + Sync, D: Disk, E: Disk, C: Clock, S: Source, K: Sink, G: Gate>(
     core: &mut Core<D, E, C>,
     rt: &R,
     alloc: Global,
@@ -50,11 +52,11 @@ pub fn run_alone<R: Threads + Sync, D: Disk, E, C: Clock, S: Source, K: Sink, G:
 ) -> LaneReport
     requires lane { lane < 64 }
     requires room { 3 ≤ held_by core.old.journal lane }
-    ensures ran { CoreRan D.Disk C.Clock S.Source K.Sink core.old core.new lane
+    ensures ran { CoreRan D.Disk E.Disk C.Clock S.Source K.Sink core.old core.new lane
         port.old port.new result }
     ensures causes { LaneHasCauses S.Source K.Sink port.old port.new result }
     ensures budget { result.taken ≤ 2 ^ 40 }
-    ensures remote { core.new.remote ≡ core.old.remote }
+    ensures remote { RemoteServes E.Disk core.old core.new }
     ensures entered { HasEntered D.Disk core.old core.new lane (result.ending ≡ Ending.NoMemory) }
 {
     let mut progress = Progress {
@@ -75,7 +77,7 @@ pub fn run_alone<R: Threads + Sync, D: Disk, E, C: Clock, S: Source, K: Sink, G:
 }
 
 /// Answers what stands next, or takes more of the input. Some is how the commands came to an end.
-fn turn<R: Threads + Sync, D: Disk, E, C: Clock, S: Source, K: Sink, G: Gate>(
+fn turn<R: Threads + Sync, D: Disk, E: Disk, C: Clock, S: Source, K: Sink, G: Gate>(
     core: &mut Core<D, E, C>,
     rt: &R,
     alloc: Global,
@@ -86,13 +88,13 @@ fn turn<R: Threads + Sync, D: Disk, E, C: Clock, S: Source, K: Sink, G: Gate>(
 ) -> Option<Last>
     requires lane { lane < 64 }
     requires room { Reserved core.old lane }
-    ensures goes { CoreGoesOn D.Disk C.Clock S.Source K.Sink core.old core.new lane
+    ensures goes { CoreGoesOn D.Disk E.Disk C.Clock S.Source K.Sink core.old core.new lane
         port.old port.new progress.old progress.new result }
     ensures text { IfSome result (λ last. IfSome last.words ReplyHasText) }
     ensures room { LeavesHeld core.new lane result }
     ensures causes { TurnHasCauses S.Source K.Sink port.old port.new progress.new result }
     ensures further { IfNone result (IsFurther progress.old.input progress.new.input) }
-    ensures remote { core.new.remote ≡ core.old.remote }
+    ensures remote { RemoteServes E.Disk core.old core.new }
     ensures entered { HasEntered D.Disk core.old core.new lane (IsEndedByMemory result) }
 {
     match read_front(alloc, &progress.input.cutter) {
@@ -142,7 +144,7 @@ fn ended(input: &Input) -> Last
 }
 
 /// Takes more of the input.
-fn more<D: Disk, E, C: Clock, S: Source, K: Sink>(
+fn more<D: Disk, E: Disk, C: Clock, S: Source, K: Sink>(
     core: &mut Core<D, E, C>,
     alloc: Global,
     lane: u32,
@@ -152,13 +154,13 @@ fn more<D: Disk, E, C: Clock, S: Source, K: Sink>(
     requires lane { lane < 64 }
     requires room { Reserved core.old lane }
     requires part { cut progress.old.input.cutter.bytes ≡ short }
-    ensures goes { CoreGoesOn D.Disk C.Clock S.Source K.Sink core.old core.new lane
+    ensures goes { CoreGoesOn D.Disk E.Disk C.Clock S.Source K.Sink core.old core.new lane
         port.old port.new progress.old progress.new result }
     ensures text { IfSome result (λ last. IfSome last.words ReplyHasText) }
     ensures room { LeavesHeld core.new lane result }
     ensures causes { TurnHasCauses S.Source K.Sink port.old port.new progress.new result }
     ensures further { IfNone result (IsFurther progress.old.input progress.new.input) }
-    ensures remote { core.new.remote ≡ core.old.remote }
+    ensures remote { RemoteServes E.Disk core.old core.new }
     ensures entered { HasEntered D.Disk core.old core.new lane (IsEndedByMemory result) }
 {
     match progress.input.take(&mut port.source) {
@@ -174,7 +176,7 @@ fn more<D: Disk, E, C: Clock, S: Source, K: Sink>(
 }
 
 /// Does a command, gives its reply to the sink, and moves past it. Some is how the commands come to an end.
-fn serve<R: Threads + Sync, D: Disk, E, C: Clock, S: Source, K: Sink, G: Gate>(
+fn serve<R: Threads + Sync, D: Disk, E: Disk, C: Clock, S: Source, K: Sink, G: Gate>(
     core: &mut Core<D, E, C>,
     rt: &R,
     alloc: Global,
@@ -187,13 +189,13 @@ fn serve<R: Threads + Sync, D: Disk, E, C: Clock, S: Source, K: Sink, G: Gate>(
     requires lane { lane < 64 }
     requires room { Reserved core.old lane }
     requires ahead { IsCommandAhead progress.old.input.cutter command }
-    ensures goes { CoreGoesOn D.Disk C.Clock S.Source K.Sink core.old core.new lane
+    ensures goes { CoreGoesOn D.Disk E.Disk C.Clock S.Source K.Sink core.old core.new lane
         port.old port.new progress.old progress.new result }
     ensures text { IfSome result (λ last. IfSome last.words ReplyHasText) }
     ensures room { LeavesHeld core.new lane result }
     ensures causes { TurnHasCauses S.Source K.Sink port.old port.new progress.new result }
     ensures further { IfNone result (IsFurther progress.old.input progress.new.input) }
-    ensures remote { core.new.remote ≡ core.old.remote }
+    ensures remote { RemoteServes E.Disk core.old core.new }
     ensures entered { HasEntered D.Disk core.old core.new lane (IsEndedByMemory result) }
 {
     gate.before(lane, progress.number);
@@ -206,7 +208,7 @@ fn serve<R: Threads + Sync, D: Disk, E, C: Clock, S: Source, K: Sink, G: Gate>(
 }
 
 /// Does a command, or the whole job or collection of one.
-fn do_command<R: Threads + Sync, D: Disk, E, C: Clock>(
+fn do_command<R: Threads + Sync, D: Disk, E: Disk, C: Clock>(
     core: &mut Core<D, E, C>,
     rt: &R,
     alloc: Global,
@@ -216,10 +218,10 @@ fn do_command<R: Threads + Sync, D: Disk, E, C: Clock>(
     requires lane { lane < 64 }
     requires room { Reserved core.old lane }
     requires other { command ≢ Command.Bye }
-    ensures does { CoreDoes D.Disk C.Clock core.old core.new lane command result }
+    ensures does { CoreDoes D.Disk E.Disk C.Clock core.old core.new lane command result }
     ensures text { ReplyHasText result.reply }
     ensures room { LeavesReserve core.old core.new lane result.last }
-    ensures remote { core.new.remote ≡ core.old.remote }
+    ensures remote { RemoteServes E.Disk core.old core.new }
     ensures entered { HasEntered D.Disk core.old core.new lane (result.last ≡ true) }
 {
     if is_job(&command) {
@@ -228,11 +230,33 @@ fn do_command<R: Threads + Sync, D: Disk, E, C: Clock>(
     if is_gc(&command) {
         return collect(core, alloc, lane);
     }
-    ask(core, alloc, lane, act_ahead(command))
+    do_alone(core, alloc, lane, command)
+}
+
+/// Does a SYNC, or a command of one act.
+fn do_alone<D: Disk, E: Disk, C: Clock>(
+    core: &mut Core<D, E, C>,
+    alloc: Global,
+    lane: u32,
+    command: Command,
+) -> Told
+    requires lane { lane < 64 }
+    requires room { Reserved core.old lane }
+    requires alone { IsAlone command }
+    ensures does { CoreDoes D.Disk E.Disk C.Clock core.old core.new lane command result }
+    ensures text { ReplyHasText result.reply }
+    ensures room { LeavesReserve core.old core.new lane result.last }
+    ensures remote { RemoteServes E.Disk core.old core.new }
+    ensures entered { HasEntered D.Disk core.old core.new lane (result.last ≡ true) }
+{
+    match command {
+        Command::Sync { group } => pull(core, alloc, lane, group),
+        command => ask(core, alloc, lane, act_of(command)),
+    }
 }
 
 /// Answers want of memory, which ends the commands.
-fn short<D: Disk, E, C: Clock, K: Sink>(
+fn short<D: Disk, E: Disk, C: Clock, K: Sink>(
     core: &mut Core<D, E, C>,
     alloc: Global,
     lane: u32,
@@ -241,11 +265,11 @@ fn short<D: Disk, E, C: Clock, K: Sink>(
 ) -> Ending
     requires lane { lane < 64 }
     requires room { Reserved core.old lane }
-    ensures answers { CoreAnswersShort D.Disk C.Clock K.Sink core.old core.new lane
+    ensures answers { CoreAnswersShort D.Disk E.Disk C.Clock K.Sink core.old core.new lane
         sink.old sink.new given.old given.new result }
     ensures room { CanEnd core.new lane }
     ensures causes { SinkHasCauses K.Sink sink.old sink.new (Some result) }
-    ensures remote { core.new.remote ≡ core.old.remote }
+    ensures remote { RemoteServes E.Disk core.old core.new }
     ensures entered { HasEntered D.Disk core.old core.new lane (result ≡ Ending.NoMemory) }
 {
     let told = ask(core, alloc, lane, Act::Short);

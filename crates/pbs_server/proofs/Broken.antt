@@ -6,7 +6,7 @@ use Rattle.store_model.specs.declared.ending.Ending.{Ending}
 use Rattle.store_model.specs.declared.ending.Ending.TheVariants as endings
 use Rattle.store_model.specs.Lanes.{Next, job_step, plain, sync, collect, collecting, bye, broken, end}
 use Rattle.store_history.specs.declared.act.Event.{Event}
-use Rattle.store_history.specs.Acts.{Class, stepping, starting, sweeping, wanting, ending, class_of}
+use Rattle.store_history.specs.Acts.{Class, stepping, reaching, starting, sweeping, wanting, ending, class_of}
 use Rattle.store_history.specs.LaneRun.{Position, begin, next_at, heard, heard_as, position_after, EndsSo, Does, Runs, LaneRan}
 use Rattle.store_history.specs.SoFar.{Follows, Leads}
 use Rattle.store_history.proofs.Rules.{goes_on}
@@ -18,6 +18,7 @@ clash e = cc
 
 heard_here : (c : Class) (e : Ending) (p : Position) (v : Event) → Follows c p v → heard_as c e p v.answer ≡ heard p v.answer
 heard_here stepping e p v follows = refl
+heard_here reaching e p v follows = refl
 heard_here starting e p v follows = refl
 heard_here sweeping e p v follows = refl
 heard_here wanting e p v follows = refl

@@ -15,22 +15,22 @@ use Rattle.pbs_server.specs.declared.status.Status.TheVariants as statuses
 use Rattle.pbs_server.specs.Headline.{HasServed, HasNotServed, Leaves, StopsUnserved}
 use Rattle.pbs_server.specs.Statuses.{status_of_opening}
 
-pub leaves_one : {D E S K : Type 0} (d : Ghosts D) (left : S → Option (List ℕ)) (source_faults : S → ℕ) (taken : K → Option (List ℕ)) (sink_faults : K → ℕ)
+pub leaves_one : {D E S K : Type 0} (d : Ghosts D) (e : Ghosts E) (left : S → Option (List ℕ)) (source_faults : S → ℕ) (taken : K → Option (List ℕ)) (sink_faults : K → ℕ)
     (readings : Option Readings) (disk : D) (remote : Option E) (result : Served D E) (old new : Port S K) (reports : List LaneReport) (report : LaneReport)
     → reports ≡ report ∷ []
-    → HasServed d left source_faults taken sink_faults readings disk remote old new report result
-    → Leaves d left source_faults taken sink_faults readings disk remote result (old ∷ []) (new ∷ []) reports
-leaves_one d left source_faults taken sink_faults readings disk remote result old new reports report one served =
-    subst (λ xs. Leaves d left source_faults taken sink_faults readings disk remote result (old ∷ []) (new ∷ []) xs) (sym one) served
+    → HasServed d e left source_faults taken sink_faults readings disk remote old new report result
+    → Leaves d e left source_faults taken sink_faults readings disk remote result (old ∷ []) (new ∷ []) reports
+leaves_one d e left source_faults taken sink_faults readings disk remote result old new reports report one served =
+    subst (λ xs. Leaves d e left source_faults taken sink_faults readings disk remote result (old ∷ []) (new ∷ []) xs) (sym one) served
 
 -- where no session was served, there are no reports
-pub leaves_none : {D E S K : Type 0} (d : Ghosts D) (left : S → Option (List ℕ)) (source_faults : S → ℕ) (taken : K → Option (List ℕ)) (sink_faults : K → ℕ)
+pub leaves_none : {D E S K : Type 0} (d : Ghosts D) (e : Ghosts E) (left : S → Option (List ℕ)) (source_faults : S → ℕ) (taken : K → Option (List ℕ)) (sink_faults : K → ℕ)
     (readings : Option Readings) (disk : D) (remote : Option E) (result : Served D E) (port : Port S K) (reports : List LaneReport)
     → reports ≡ []
     → HasNotServed d disk remote (port ∷ []) (port ∷ []) result
-    → Leaves d left source_faults taken sink_faults readings disk remote result (port ∷ []) (port ∷ []) reports
-leaves_none d left source_faults taken sink_faults readings disk remote result port reports none not_served =
-    subst (λ xs. Leaves d left source_faults taken sink_faults readings disk remote result (port ∷ []) (port ∷ []) xs) (sym none) not_served
+    → Leaves d e left source_faults taken sink_faults readings disk remote result (port ∷ []) (port ∷ []) reports
+leaves_none d e left source_faults taken sink_faults readings disk remote result port reports none not_served =
+    subst (λ xs. Leaves d e left source_faults taken sink_faults readings disk remote result (port ∷ []) (port ∷ []) xs) (sym none) not_served
 
 -- the datastore was not opened
 pub unopened : {D E C P : Type 0} (d : Ghosts D) (disk : D) (remote : Option E) (clock : C) (ports : List P) (e : NotOpened D E C) (result : Served D E)

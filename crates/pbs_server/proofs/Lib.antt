@@ -1,3 +1,4 @@
+pub mod Remotes
 pub mod Woven
 pub mod Statuses
 pub mod Causes

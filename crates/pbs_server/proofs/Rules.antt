@@ -7,7 +7,7 @@ use Rattle.store_files.specs.Order.{moments_rise, fits_entry}
 use Rattle.wire_commands.specs.declared.reply.Reply.{Reply}
 use Rattle.store_model.specs.declared.ending.Ending.{Ending}
 use Rattle.store_history.specs.declared.act.Event.{Event}
-use Rattle.store_history.specs.Acts.{Class, stepping, starting, sweeping, wanting, ending, class_of}
+use Rattle.store_history.specs.Acts.{Class, stepping, reaching, starting, sweeping, wanting, ending, class_of}
 use Rattle.store_history.specs.History.{entries, own, lane, moment, kind}
 use Rattle.store_history.specs.LaneRun.{LaneRan}
 use Rattle.store_history.specs.Seats.{AreOf}
@@ -21,6 +21,11 @@ below_eight : (c : Class) (fault : Option ℕ) (n : ℕ) → FitsKind c fault n 
 below_eight stepping fault n (inl p) = ap (λ x. nat_lt x 8) p.0
 below_eight stepping fault n (inr (inl is)) = ap (λ x. nat_lt x 8) is
 below_eight stepping fault n (inr (inr is)) = ap (λ x. nat_lt x 8) is
+below_eight reaching fault n (inl (inl is, none)) = ap (λ x. nat_lt x 8) is
+below_eight reaching fault n (inl (inr (inl is), none)) = ap (λ x. nat_lt x 8) is
+below_eight reaching fault n (inl (inr (inr is), none)) = ap (λ x. nat_lt x 8) is
+below_eight reaching fault n (inr (inl is)) = ap (λ x. nat_lt x 8) is
+below_eight reaching fault n (inr (inr is)) = ap (λ x. nat_lt x 8) is
 below_eight starting fault n (inl (inl is, none)) = ap (λ x. nat_lt x 8) is
 below_eight starting fault n (inl (inr is, none)) = ap (λ x. nat_lt x 8) is
 below_eight starting fault n (inr (inl is)) = ap (λ x. nat_lt x 8) is
@@ -39,6 +44,11 @@ unfolding KindIs
 kind_fits stepping fault n (inl p) = ap (λ x. x == 6) p.0
 kind_fits stepping fault n (inr (inl is)) = ap (λ x. x == 6) is
 kind_fits stepping fault n (inr (inr is)) = ap (λ x. x == 6) is
+kind_fits reaching fault n (inl (inl is, none)) = ap (λ x. x == 6) is
+kind_fits reaching fault n (inl (inr (inl is), none)) = ap (λ x. x == 6) is
+kind_fits reaching fault n (inl (inr (inr is), none)) = ap (λ x. x == 6) is
+kind_fits reaching fault n (inr (inl is)) = ap (λ x. x == 6) is
+kind_fits reaching fault n (inr (inr is)) = ap (λ x. x == 6) is
 kind_fits starting fault n (inl (inl is, none)) = ap (λ x. x == 6) is
 kind_fits starting fault n (inl (inr is, none)) = ap (λ x. x == 6) is
 kind_fits starting fault n (inr (inl is)) = ap (λ x. x == 6) is

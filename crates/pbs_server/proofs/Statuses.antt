@@ -15,6 +15,9 @@ IsOther s = s ≡ statuses.Usage → ⊥
 memory_other : IsOther statuses.NoMemory
 memory_other e = cc
 
+remote_other : IsOther statuses.RemoteFault
+remote_other e = cc
+
 disk_other : IsOther statuses.DiskFault
 disk_other e = cc
 
@@ -26,19 +29,20 @@ ending_other endings.SinkFault is = cc
 ending_other endings.SourceTooLong is = cc
 ending_other endings.NoMemory is = cc
 
-chosen : (a b w c f : Bool) (s : Status) → IsOther s
-    → IsOther (if a then statuses.NoMemory else if b then statuses.NoMemory else if w then statuses.NoMemory else if c then statuses.DiskFault else if f then statuses.DiskFault else s)
-chosen true b w c f s other is = memory_other is
-chosen false true w c f s other is = memory_other is
-chosen false false true c f s other is = memory_other is
-chosen false false false true f s other is = disk_other is
-chosen false false false false true s other is = disk_other is
-chosen false false false false false s other is = other is
+chosen : (a b w c f g : Bool) (s : Status) → IsOther s
+    → IsOther (if a then statuses.NoMemory else if b then statuses.NoMemory else if w then statuses.NoMemory else if c then statuses.DiskFault else if f then statuses.DiskFault else if g then statuses.RemoteFault else s)
+chosen true b w c f g s other is = memory_other is
+chosen false true w c f g s other is = memory_other is
+chosen false false true c f g s other is = memory_other is
+chosen false false false true f g s other is = disk_other is
+chosen false false false false true g s other is = disk_other is
+chosen false false false false false true s other is = remote_other is
+chosen false false false false false false s other is = other is
 
 -- a session that was served is never answered Usage
 pub served_other : (order : List Entry) (e : Ending) (not_saved : Option DiskError) → status_by order e not_saved ≡ statuses.Usage → ⊥
 served_other order e not_saved is =
-    chosen (has_kind 2 order) (is_short e) (is_wanting not_saved) (has_kind 5 order) (is_failed not_saved) (status_of_ending e) (ending_other e) is
+    chosen (has_kind 2 order) (is_short e) (is_wanting not_saved) (has_kind 5 order) (is_failed not_saved) (has_kind 7 order) (status_of_ending e) (ending_other e) is
 
 -- by the order and the report that are handed back
 pub status_is : (status : Status) (order kept : List Entry) (e : Ending) (told not_saved : Option DiskError)

@@ -5,6 +5,8 @@ use Rattle.std.proofs.Common.{◌≡◌, ◌≤◌, ◌↔◌, ℕ, zero, suc, B
 use Rattle.std.specs.FinMap.{get}
 use Rattle.port_traits.specs.Readings.{Readings}
 use Rattle.disk_trait.specs.Files.{Files}
+use Rattle.std.specs.List.{All}
+use Rattle.store_types.specs.Names.{IsKey}
 use Rattle.store_types.specs.declared.order.Entry.{Entry}
 use Rattle.store_files.specs.Archive.{Snapshot}
 use Rattle.store_files.specs.Folder.{IsDigest, chunk_name}
@@ -18,6 +20,7 @@ use Rattle.store_history.specs.LaneRun.{text, plain_text}
 use Rattle.store_history.proofs.Alone.{served_alone}
 use Rattle.store_history.proofs.Whole.{served_woven}
 use Rattle.store_history.specs.Legal.{IsTimed, moment_after, readings_left}
+use Rattle.store_history.specs.Remote.{IsRemote}
 use Rattle.store_history.specs.Saved.{HoldsBook, saved_book}
 use Rattle.store_history.specs.Sweeping.{swept}
 use Rattle.store_files.specs.Order.{keeps_rules}
@@ -27,7 +30,8 @@ use Rattle.core_state.specs.History.{History, StandsFor, began, world}
 use Rattle.core_state.specs.KeepsTouches.{KeepsTouches, touches_of_history}
 use Rattle.core_state.specs.Chunks.{HoldsOnly}
 use Rattle.core_state.specs.Foreign.{IsForeign}
-use Rattle.core_state.specs.Records.{Records, Reaches}
+use Rattle.core_state.specs.Records.{Records, Reaches, Starts, opened_with}
+use Rattle.core_state.specs.Remotes.{ShowsRemote}
 use Rattle.core_state.specs.Recovers.{Recovers, TellsMoments}
 use Rattle.opening_files.specs.Leaving.{IsFileOf, IsLeaving, Cleans}
 use Rattle.core_opening.specs.Opening.{HasBook, TouchesOpened, RecoversOpened, StandsOpened, opening_of}
@@ -37,6 +41,7 @@ use Rattle.lane.specs.Ran.{RanAlone, with_events}
 use Rattle.pbs_server.specs.Causes.{NoDiskFault}
 use Rattle.pbs_server.specs.Headline.{HasTold, IsPlain, StopsLeave}
 use Rattle.pbs_server.specs.Saving.{EndsSaved, saving_of}
+use Rattle.pbs_server.proofs.Remotes.{list_keys, shown_list, shown_there}
 use Rattle.pbs_server.proofs.Rules.{kept_rules}
 use Rattle.pbs_server.proofs.BookSaved.{five_fails, halted_by, saving_failed}
 
@@ -136,27 +141,27 @@ le_more : (a b c : ℕ) → a ≤ b → b ≤ c → a ≤ c
 le_more a b c first then = omega (arith, first, then)
 
 -- what a session did on any disk, and on an honest one, which was opened at a moment
-pub record HasBoth {D E : Type 0} (d : Ghosts D) (clock : Option Readings) (remote : Option E) (start : ℕ) (disk opened last : D) (left left' taken taken' : Option (List ℕ)) (order : List Entry) (calls : List ℕ)
+pub record HasBoth {D E : Type 0} (d : Ghosts D) (e : Ghosts E) (clock : Option Readings) (remote : Option E) (start : ℕ) (disk opened last : D) (left left' taken taken' : Option (List ℕ)) (order : List Entry) (calls : List ℕ)
     (not_saved : Option DiskError) (report : LaneReport) : Type 0 where
   pub told : HasTold clock left left' taken taken' order calls report
   pub since_is : d.honest disk → told.since ≡ (saved_book (d.content opened)).moment
   pub halted : has_kind 5 order ≡ true → not_saved ≡ None
-  pub plain : (L : List Snapshot) (R : Option (List Snapshot)) → is_some remote ≡ is_some R → d.honest disk → Stands (d.content disk) L → NoClash (chunk_pieces (d.content disk) ++ sent told.events)
+  pub plain : (L : List Snapshot) (R : Option (List Snapshot)) → ShowsRemote e remote R → d.honest disk → Stands (d.content disk) L → NoClash (chunk_pieces (d.content disk) ++ sent told.events)
       → IsPlain (opening_of d disk opened L) R told.since (d.calls last) (d.honest last) told.input told.events told.told order not_saved report (d.content disk) (d.content last)
-  pub stops : (L : List Snapshot) (R : Option (List Snapshot)) → is_some remote ≡ is_some R → d.honest disk → Stands (d.content disk) L → NoClash (chunk_pieces (d.content disk) ++ sent told.events)
+  pub stops : (L : List Snapshot) (R : Option (List Snapshot)) → ShowsRemote e remote R → d.honest disk → Stands (d.content disk) L → NoClash (chunk_pieces (d.content disk) ++ sent told.events)
       → StopsLeave d start last R (opening_of d disk opened L) told.events
 
-pub has_both : {D E C : Type 0} (d : Ghosts D) (readings : C → Option Readings) (clock : C) (disk : D) (remote : Option E) (first core saved : Core D E C)
+pub has_both : {D E C : Type 0} (d : Ghosts D) (e : Ghosts E) (readings : C → Option Readings) (clock : C) (disk : D) (remote : Option E) (first core saved : Core D E C)
     (left left' taken taken' : Option (List ℕ)) (order : List Entry) (calls : List ℕ) (not_saved : Option DiskError) (report : LaneReport) (last : D)
     → TellsMoments d → first.remote ≡ remote → StandsOpened d readings disk clock first → TouchesOpened d readings disk clock first → (recovers : RecoversOpened d readings disk clock first)
     → first.last ≡ (first.upkeep).book.moment → (d.honest disk → HasBook d first)
     → (d.honest disk → Cleans (d.content disk) (d.content (first.parts).disk))
-    → RanAlone (Reaches d readings first (began (opening_at d disk first []) None (readings clock)) core)
+    → RanAlone (Reaches d e readings first (began (opening_at d disk first []) None (readings clock)) core)
     (began (opening_at d disk first []) None (readings clock)) 0 left left' taken taken' report
     → EndsSaved d core saved not_saved
     → order ≡ (saved.journal).entries.items → calls ≡ (saved.journal).calls.items → last ≡ (saved.parts).disk
-    → HasBoth d (readings clock) remote (recovers.opens).start disk (first.parts).disk last left left' taken taken' order calls not_saved report
-has_both d readings clock disk remote first core saved left left' taken taken' order calls not_saved report last moments handed opens touches recovers last_is booked cleaned ran ends order_as calls_as disk_as = record {
+    → HasBoth d e (readings clock) remote (recovers.opens).start disk (first.parts).disk last left left' taken taken' order calls not_saved report
+has_both d e readings clock disk remote first core saved left left' taken taken' order calls not_saved report last moments handed opens touches recovers last_is booked cleaned ran ends order_as calls_as disk_as = record {
   told = record {
     input = ran.input;
     events = ran.events;
@@ -181,20 +186,23 @@ has_both d readings clock disk remote first core saved left left' taken taken' o
       let both : (saved ≡ core) × (not_saved ≡ None) = halted_by core.fault failed ends.halted in
       both.1;
   plain = λ L R there honest stands clear.
-      let beside = ap is_some handed ∙ there in
+      let beside = ap is_some handed ∙ shown_there e remote R there in
       let at = last_at L R beside honest stands in
       let stood = subst (λ o. StandsFor d readings first (began o R (readings clock))) (is_opening L at) (opens L R beside honest stands) in
       let minded = subst (λ o. KeepsTouches d first (began o R (readings clock))) (is_opening L at) (touches L R honest stands) in
+      let starts : Starts d e readings first (opened_with L R (began (opening_at d disk first []) None (readings clock))) = record { stands = stood; touches = minded; remote = subst (λ o. ShowsRemote e o R) (sym handed) there } in
       subst (λ o. IsPlain o R first.last (d.calls last) (d.honest last) ran.input ran.events ran.told order not_saved report (d.content disk) (d.content last)) (sym (is_opening L at))
-      (plain L R at (loaded (d.content disk) L stands) ((ran.stands_for).stands L R stood minded clear) ((ran.stands_for).touches L R stood minded clear)
-      (λ none q own. (ran.stands_for).foreign L R stood minded clear none q own ∙ foreign_cleaned _ _ (cleaned honest) q own));
+      (plain L R at (shown_list e remote R there) (list_keys (d.content disk) L stands) (loaded (d.content disk) L stands) ((ran.stands_for).stands L R starts clear)
+      ((ran.stands_for).touches L R starts clear)
+      (λ none q own. (ran.stands_for).foreign L R starts clear none q own ∙ foreign_cleaned _ _ (cleaned honest) q own));
   stops = λ L R there honest stands clear.
-      let beside = ap is_some handed ∙ there in
+      let beside = ap is_some handed ∙ shown_there e remote R there in
       let at = last_at L R beside honest stands in
       let stood = subst (λ o. StandsFor d readings first (began o R (readings clock))) (is_opening L at) (opens L R beside honest stands) in
       let minded = subst (λ o. KeepsTouches d first (began o R (readings clock))) (is_opening L at) (touches L R honest stands) in
+      let starts : Starts d e readings first (opened_with L R (began (opening_at d disk first []) None (readings clock))) = record { stands = stood; touches = minded; remote = subst (λ o. ShowsRemote e o R) (sym handed) there } in
       let before = subst (λ o. Recovers d (recovers.opens).start first (began o R (readings clock))) (is_opening L at) (recovers.recovers L R stands) in
-      let after = (ends.history).recovers readings (recovers.opens).start (history L R) ((ran.stands_for).stands L R stood minded clear) ((ran.stands_for).recovers moments (recovers.opens).start L R stood minded before clear) in
+      let after = (ends.history).recovers readings (recovers.opens).start (history L R) ((ran.stands_for).stands L R starts clear) ((ran.stands_for).recovers moments (recovers.opens).start L R starts before clear) in
       subst (λ o. StopsLeave d (recovers.opens).start last R o ran.events) (sym (is_opening L at))
       (λ t c from image. after.each t c from (subst (λ x. d.images x t c) disk_as image));
 }
@@ -234,13 +242,13 @@ has_both d readings clock disk remote first core saved left left' taken taken' o
         → KeepsTouches d saved (history L R)
     minded_later L R s m unfailed = (ends.history).touches readings (λ is. unfailed.saving (saving_failed not_saved is)) (history L R) s m
 
-    plain : (L : List Snapshot) (R : Option (List Snapshot)) → first.last ≡ (saved_book (d.content disk)).moment → load (d.content disk) ≡ L
+    plain : (L : List Snapshot) (R : Option (List Snapshot)) → first.last ≡ (saved_book (d.content disk)).moment → IsRemote R → All (λ x. IsKey x.key) L → load (d.content disk) ≡ L
         → StandsFor d readings core (history L R) → KeepsTouches d core (history L R)
         → (core.fault ≡ None → (q : List ℕ) → IsForeign q → get (d.content (core.parts).disk) q ≡ get (d.content disk) q)
         → IsPlain (opening L) R first.last (d.calls last) (d.honest last) ran.input ran.events ran.told order not_saved report (d.content disk) (d.content last)
-    plain L R at loads s m foreign =
+    plain L R at beside keys loads s m foreign =
         let h = history L R in
-        let served = served_alone (opening L) R ran.events ran.input report.ending ran.told s.legal ran.lanes ran.ran in
+        let served = served_alone (opening L) R ran.events ran.input report.ending ran.told beside keys s.legal ran.lanes ran.ran in
         record {
           store = (world h).store;
           woven = subst (λ xs. weave xs R order (ran.input ∷ []) (report.ending ∷ []) ≡ Ok (record { store = (world h).store; replies = plain_text ran.told ∷ [] })) (sym loads)

@@ -1,5 +1,5 @@
 -- Why a session is answered so, on any disk.
-use Rattle.std.specs.Prelude.{◌≡◌, ◌≢◌, ◌^◌, ◌↔◌, ◌⊎◌, ℕ, true, false, List, ◌++◌, length, Option, Some, None}
+use Rattle.std.specs.Prelude.{◌≡◌, ◌≢◌, ◌+◌, ◌-◌, ◌<◌, ◌≤◌, ◌^◌, ◌↔◌, ◌⊎◌, ℕ, true, false, List, ◌++◌, length, Option, Some, None}
 use Rattle.std.specs.List.{All}
 use Rattle.port_traits.specs.Faults.{Rose}
 use Rattle.disk_trait.specs.declared.disk.DiskError.{DiskError}
@@ -12,6 +12,7 @@ use Rattle.store_model.specs.Lanes.{broken}
 use Rattle.store_history.specs.declared.act.Event.{Event}
 use Rattle.store_history.specs.LaneRun.{Position, begin, next_at}
 use Rattle.store_history.specs.SoFar.{Leads}
+use Rattle.core_state.specs.Remotes.{failed_reads}
 use Rattle.lane.specs.declared.port.LaneReport.{LaneReport}
 use Rattle.lane.specs.Entries.{has_kind}
 use Rattle.lane.specs.Ran.{AreEnds}
@@ -19,11 +20,12 @@ use Rattle.pbs_server.specs.declared.status.Status.{Status}
 use Rattle.pbs_server.specs.declared.status.Status.TheVariants as statuses
 
 -- The order of one session: each entry is of lane 0, and has one count of the disk's calls beside it. An entry of kind 5 comes
--- only where the disk's count of faults rose.
-pub record IsOrder (order : List Entry) (calls : List ℕ) (disk disk' : ℕ) : Type 0 where
+-- only where the disk's count of faults rose, and as many of kind 7 at most as the remote's rose by, while this is below its greatest value.
+pub record IsOrder (order : List Entry) (calls : List ℕ) (disk disk' remote remote' : ℕ) : Type 0 where
   pub lanes : All (λ e. e.lane ≡ 0) order
   pub beside : length calls ≡ length order
   pub faults : has_kind 5 order ≡ true → Rose disk disk'
+  pub reads : remote' < 2 ^ 64 - 1 → failed_reads order + remote ≤ remote'
 
 -- What is told of the save of the book: nothing after an entry of a fault of the disk; and the disk is said to have failed in it only where
 -- its count of faults rose.
@@ -36,10 +38,11 @@ pub record NoDiskFault (order : List Entry) (not_saved : Option DiskError) : Typ
   pub acts : has_kind 5 order ≡ false
   pub saving : not_saved ≢ Some disks.Failed
 
--- neither memory was wanting nor did the disk fail, and the book was saved
+-- neither memory was wanting nor did the disk or the remote fail, and the book was saved
 pub record IsCalm (order : List Entry) (not_saved : Option DiskError) : Type 0 where
   pub memory : has_kind 2 order ≡ false
   pub disk : has_kind 5 order ≡ false
+  pub remote : has_kind 7 order ≡ false
   pub saved : not_saved ≡ None
 
 -- The events before the lane's end led to a place of its input at which no command stands.
@@ -60,10 +63,11 @@ HasNotFailed (endings.Broken place) = Unit {0}
 HasNotFailed e = ⊥
 
 -- The causes of the statuses of a session that was served. A fault comes only where the count of that object rose.
-pub record HasCause (status : Status) (order : List Entry) (not_saved : Option DiskError) (report : LaneReport) (input : List ℕ) (events : List Event) (disk disk' source source' sink sink' : ℕ) : Type 0 where
+pub record HasCause (status : Status) (order : List Entry) (not_saved : Option DiskError) (report : LaneReport) (input : List ℕ) (events : List Event) (disk disk' remote remote' source source' sink sink' : ℕ) : Type 0 where
   pub ok : (status ≡ statuses.Ok) ↔ ((report.ending ≡ endings.Clean) × IsCalm order not_saved)
   pub bad_frame : (status ≡ statuses.BadFrame) ↔ (ReachesNoCommand input events × HasNotFailed report.ending × IsCalm order not_saved)
   pub disk_fault : status ≡ statuses.DiskFault → Rose disk disk'
+  pub remote_fault : status ≡ statuses.RemoteFault → Rose remote remote'
   pub source_fault : status ≡ statuses.SourceFault → Rose source source'
   pub sink_fault : status ≡ statuses.SinkFault → Rose sink sink'
   pub no_memory : (status ≡ statuses.NoMemory) ↔ ((has_kind 2 order ≡ true) ⊎ (not_saved ≡ Some disks.NoMemory))

@@ -2,7 +2,7 @@
 use Rattle.disk_trait.specs.declared.disk.Disk.{Ghosts}
 use Rattle.disk_trait.specs.declared.disk.DiskError.{DiskError}
 use Rattle.disk_trait.specs.Disk.{Serves}
-use Rattle.std.specs.Prelude.{◌≡◌, ◌≢◌, ◌≤◌, ◌^◌, ◌⊎◌, ℕ, false, List, [], ◌∷◌, ◌++◌, map, length, Option, Some, None, is_some, IfSome, IsSome, IsTrue, Ok, String, string_bytes}
+use Rattle.std.specs.Prelude.{◌≡◌, ◌≢◌, ◌≤◌, ◌^◌, ◌⊎◌, ℕ, false, List, [], ◌∷◌, ◌++◌, map, length, Option, Some, None, IfSome, IsSome, IsTrue, Ok, String, string_bytes}
 use Rattle.std.specs.declared.alloc.Global.{Global}
 use Rattle.std.specs.FinMap.{get}
 use Rattle.port_traits.specs.Bytes.{WritesCounted}
@@ -27,6 +27,7 @@ use Rattle.store_history.specs.Sweeping.{swept}
 use Rattle.core_state.specs.Chunks.{HoldsOnly}
 use Rattle.core_state.specs.Foreign.{IsForeign}
 use Rattle.core_state.specs.Records.{AreKept}
+use Rattle.core_state.specs.Remotes.{RemoteStays, ShowsRemote, faults_of}
 use Rattle.opening_files.specs.Leaving.{MayClean, Cleans}
 use Rattle.opening_files.specs.Opened.{Opens}
 use Rattle.core_opening.specs.declared.opening.OpenFault.{OpenFault}
@@ -105,7 +106,7 @@ StopsLeave d start disk remote opening events =
     (t : ℕ) (c : Files) → start ≤ t → d.images disk t c → (found : List Snapshot) × StandsFor c found × Reopens remote (opened opening) events t found
 
 -- One session was served.
-pub record HasServed {D E S K : Type 0} (d : Ghosts D) (left : S → Option (List ℕ)) (source_faults : S → ℕ) (taken : K → Option (List ℕ)) (sink_faults : K → ℕ)
+pub record HasServed {D E S K : Type 0} (d : Ghosts D) (e : Ghosts E) (left : S → Option (List ℕ)) (source_faults : S → ℕ) (taken : K → Option (List ℕ)) (sink_faults : K → ℕ)
     (readings : Option Readings) (disk : D) (remote : Option E) (old new : Port S K) (report : LaneReport) (result : Served D E) : Type 0 where
   -- on any disk
   pub told : HasTold readings (left old.source) (left new.source) (taken old.sink) (taken new.sink) (result.order).items ((result.report).calls).items report
@@ -114,23 +115,24 @@ pub record HasServed {D E S K : Type 0} (d : Ghosts D) (left : S → Option (Lis
   pub was_opened : WasOpened d disk opened
   -- the last moment before the first command, whatever an honest disk holds: that of the saved book
   pub since_is : d.honest disk → told.since ≡ (saved_book (d.content opened)).moment
-  -- on an honest disk that stands for any list of snapshots, whatever the remote has, where there is one, and where no two unequal pieces have
-  -- one digest of those in the chunk files at opening and those that the session sent
-  pub plain : (L : List Snapshot) (R : Option (List Snapshot)) → is_some remote ≡ is_some R → d.honest disk → StandsFor (d.content disk) L → NoClash (chunk_pieces (d.content disk) ++ sent told.events)
+  -- on an honest disk that stands for any list of snapshots, beside an honest remote that stands for any list, where there is one, and where no
+  -- two unequal pieces have one digest of those in the chunk files at opening and those that the session sent
+  pub plain : (L : List Snapshot) (R : Option (List Snapshot)) → ShowsRemote e remote R → d.honest disk → StandsFor (d.content disk) L → NoClash (chunk_pieces (d.content disk) ++ sent told.events)
       → IsPlain (opening_of d disk opened L) R told.since (d.calls result.disk) (d.honest result.disk) told.input told.events told.told
       (result.order).items (result.report).not_saved report (d.content disk) (d.content result.disk)
   -- under the same premises, what a crash leaves from that moment of opening on, also as the book was saved
-  pub stops : (L : List Snapshot) (R : Option (List Snapshot)) → is_some remote ≡ is_some R → d.honest disk → StandsFor (d.content disk) L → NoClash (chunk_pieces (d.content disk) ++ sent told.events)
+  pub stops : (L : List Snapshot) (R : Option (List Snapshot)) → ShowsRemote e remote R → d.honest disk → StandsFor (d.content disk) L → NoClash (chunk_pieces (d.content disk) ++ sent told.events)
       → StopsLeave d ((was_opened.opens).start) result.disk R (opening_of d disk opened L) told.events
   -- on any disk
   pub status : result.status ≡ status_by (result.order).items report.ending (result.report).not_saved
   pub causes : HasCauses (source_faults old.source) (source_faults new.source) (sink_faults old.sink) (sink_faults new.sink) report.taken (Some report.ending)
-  pub why : HasCause result.status (result.order).items (result.report).not_saved report told.input told.events (d.faults disk) (d.faults result.disk) (source_faults old.source) (source_faults new.source) (sink_faults old.sink) (sink_faults new.sink)
-  pub order : IsOrder (result.order).items ((result.report).calls).items (d.faults disk) (d.faults result.disk)
+  pub why : HasCause result.status (result.order).items (result.report).not_saved report told.input told.events (d.faults disk) (d.faults result.disk) (faults_of e remote) (faults_of e result.remote) (source_faults old.source) (source_faults new.source) (sink_faults old.sink) (sink_faults new.sink)
+  -- the remote is there where it was, honest where it was; an honest one reads as before, and a crash leaves of it what it left
+  pub stays : RemoteStays e remote result.remote
+  pub order : IsOrder (result.order).items ((result.report).calls).items (d.faults disk) (d.faults result.disk) (faults_of e remote) (faults_of e result.remote)
   pub save : SaveIsTold (result.order).items (result.report).not_saved (d.faults disk) (d.faults result.disk)
   pub budget : report.taken ≤ 2 ^ 40
   pub faults : d.faults disk ≤ d.faults result.disk
-  pub remote_is : result.remote ≡ remote
   pub not_opened : (result.report).not_opened ≡ None
 
 -- Where the run did not come to open the datastore, the disk was not called; else by why it was not opened.
@@ -157,13 +159,13 @@ pub record HasNotServed {D E P : Type 0} (d : Ghosts D) (disk : D) (remote : Opt
   pub left : d.honest disk → result.status ≢ statuses.DiskFault → MayClean (d.content disk) (d.content disk) (d.content result.disk)
 
 -- what was served is told by the reports
-abbrev pub Leaves : {D E S K : Type 0} → Ghosts D → (S → Option (List ℕ)) → (S → ℕ) → (K → Option (List ℕ)) → (K → ℕ)
+abbrev pub Leaves : {D E S K : Type 0} → Ghosts D → Ghosts E → (S → Option (List ℕ)) → (S → ℕ) → (K → Option (List ℕ)) → (K → ℕ)
     → Option Readings → D → Option E → Served D E → List (Port S K) → List (Port S K) → List LaneReport → Type 0
-Leaves d left source_faults taken sink_faults readings disk remote result (old ∷ []) (new ∷ []) (report ∷ []) =
-    HasServed d left source_faults taken sink_faults readings disk remote old new report result
-Leaves d left source_faults taken sink_faults readings disk remote result old new [] =
+Leaves d e left source_faults taken sink_faults readings disk remote result (old ∷ []) (new ∷ []) (report ∷ []) =
+    HasServed d e left source_faults taken sink_faults readings disk remote old new report result
+Leaves d e left source_faults taken sink_faults readings disk remote result old new [] =
     HasNotServed d disk remote old new result
-Leaves d left source_faults taken sink_faults readings disk remote result old new _ = ⊥
+Leaves d e left source_faults taken sink_faults readings disk remote result old new _ = ⊥
 
 -- the words have a reading, and ask for as many sessions as there are ports
 abbrev pub IsAsked : List (List ℕ) → ℕ → Type 0

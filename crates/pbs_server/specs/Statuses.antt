@@ -34,7 +34,8 @@ is_failed (Some disks.Failed) = true
 is_failed _ = false
 
 -- Want of memory comes first: an entry of kind 2, a lane that ended by it, or a book that was not saved for it. Then a fault of the
--- disk: an entry of kind 5, or a book that was not saved for it. Then how the lane ended.
+-- disk: an entry of kind 5, or a book that was not saved for it. Then a read of the remote that failed, an entry of kind 7. Then how the
+-- lane ended.
 abbrev pub status_by : List Entry → Ending → Option DiskError → Status
 status_by order ending not_saved =
     if has_kind 2 order then statuses.NoMemory else
@@ -42,6 +43,7 @@ status_by order ending not_saved =
     if is_wanting not_saved then statuses.NoMemory else
     if has_kind 5 order then statuses.DiskFault else
     if is_failed not_saved then statuses.DiskFault else
+    if has_kind 7 order then statuses.RemoteFault else
     status_of_ending ending
 
 -- by why the datastore was not opened

@@ -90,7 +90,15 @@ fn handed_back<D, E, C: Drop>(
 }
 
 /// Opens the datastore, serves one session on it, and saves the book of touches.
-pub fn serve_alone<R: Threads + Sync, D: Disk, E, C: Clock + Drop, S: Source, K: Sink, G: Gate>(
+pub fn serve_alone<
+    R: Threads + Sync,
+    D: Disk,
+    E: Disk,
+    C: Clock + Drop,
+    S: Source,
+    K: Sink,
+    G: Gate,
+>(
     rt: &R,
     alloc: Global,
     port: &mut Port<S, K>,
@@ -99,7 +107,7 @@ pub fn serve_alone<R: Threads + Sync, D: Disk, E, C: Clock + Drop, S: Source, K:
     clock: C,
     gate: &G,
 ) -> Served<D, E>
-    ensures leaves { Leaves D.Disk S.left S.faults K.taken K.faults (C.readings clock)
+    ensures leaves { Leaves D.Disk E.Disk S.left S.faults K.taken K.faults (C.readings clock)
         disk remote result (port.old ∷ []) (port.new ∷ []) result.report.lanes.items }
     ensures status { result.status ≢ Status.Usage }
     ensures unequal { result.report.unequal ≡ None }

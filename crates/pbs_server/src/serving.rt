@@ -13,7 +13,8 @@ use port_traits::{Clock, Gate, Sink, Source};
 use std::alloc::Global;
 use std::thread::Threads;
 
-/// Does what the words ask for: `run ROOT SESSION` serves one session on the disk. A port is a session's source, and the
+/// Does what the words ask for: `run ROOT [--remote ROOT2] SESSION` serves one session on the disk, beside the remote, if one is
+/// handed in: the words do not say whether there is one. A port is a session's source, and the
 /// sink of its replies. As a session that was served has ended, the book of touches is saved, unless the disk failed. The
 /// disk and the remote are handed back in every case. Nothing is written to the journal. `rt` has the threads that hash a
 /// VERIFY's chunks.
@@ -37,7 +38,7 @@ pub fn serve<
     journal: &mut J,
     gate: &G,
 ) -> Served<D, E>
-    ensures leaves { Leaves D.Disk S.left S.faults K.taken K.faults (C.readings clock)
+    ensures leaves { Leaves D.Disk E.Disk S.left S.faults K.taken K.faults (C.readings clock)
         disk remote result lanes.old lanes.new result.report.lanes.items }
     ensures usage { result.status ≡ Status.Usage ↔ IsMisused words.now (length lanes.old) }
     ensures unequal { result.report.unequal ≡ None }

@@ -129,8 +129,8 @@ fn has_failed(not_saved: Option<DiskError>) -> bool
     matches!(not_saved, Some(DiskError::Failed))
 }
 
-/// The status of a run of one lane: want of memory comes first, then a fault of the disk, then how the lane ended. What the
-/// saving of the book came to counts as what an act came to.
+/// The status of a run of one lane: want of memory comes first, then a fault of the disk, then one of the remote, then how the
+/// lane ended. What the saving of the book came to counts as what an act came to.
 pub fn status_of(order: &[Entry], ending: Ending, not_saved: Option<DiskError>) -> Status
     ensures { result ≡ status_by order.now ending not_saved }
 {
@@ -139,6 +139,9 @@ pub fn status_of(order: &[Entry], ending: Ending, not_saved: Option<DiskError>) 
     }
     if has_entry(order, 5) || has_failed(not_saved) {
         return Status::DiskFault;
+    }
+    if has_entry(order, 7) {
+        return Status::RemoteFault;
     }
     by_ending(ending)
 }

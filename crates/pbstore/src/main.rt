@@ -1,5 +1,5 @@
-//! The program `pbstore`: serves the session that its words name on a datastore folder. The replies to the session in a
-//! file go to the file of its name with `.out` behind it.
+//! The program `pbstore`: serves the session that its words name on a datastore folder, beside another that snapshots may be
+//! pulled from. The replies to the session in a file go to the file of its name with `.out` behind it.
 #![tactic(auto)]
 
 use disk_trait::FileDisk;
@@ -56,6 +56,33 @@ fn ports_of(
     Ok(ports)
 }
 
+/// The datastore folder that snapshots are pulled from.
+fn remote_of(
+    rt: HostRuntime,
+    alloc: Global,
+    root: Option<&str>,
+) -> Result<Option<FileDisk<HostRuntime>>, AllocError> {
+    match root {
+        Some(root) => Ok(Some(FileDisk::new(rt, alloc, root)?)),
+        None => Ok(None),
+    }
+}
+
+/// The root, the remote's, and the sessions of a plan.
+fn parts_of(plan: &Plan) -> (&str, Option<&str>, &[String]) {
+    let Plan::Run {
+        root,
+        remote,
+        sessions,
+        ..
+    } = plan;
+    let remote = match remote {
+        Some(remote) => Some(remote.as_str()),
+        None => None,
+    };
+    (root.as_str(), remote, sessions.as_slice())
+}
+
 /// Makes the real objects that the words name, and serves.
 fn serve_words<R: Threads + Sync>(
     rt: HostRuntime,
@@ -64,14 +91,14 @@ fn serve_words<R: Threads + Sync>(
     words: &[String],
 ) -> Result<Status, AllocError> {
     let plan = plan_words(alloc, words);
-    let (root, sessions): (&str, &[String]) = match &plan {
-        Ok(Plan::Run { root, sessions, .. }) => (root.as_str(), sessions.as_slice()),
-        Err(WordFault::NoReading) => ("", &[]),
+    let (root, remote, sessions): (&str, Option<&str>, &[String]) = match &plan {
+        Ok(plan) => parts_of(plan),
+        Err(WordFault::NoReading) => ("", None, &[]),
         Err(WordFault::NoMemory) => return Ok(Status::NoMemory),
     };
     let mut ports = ports_of(rt, alloc, sessions)?;
     let disk = FileDisk::new(rt, alloc, root)?;
-    let remote = None::<FileDisk<HostRuntime>>;
+    let remote = remote_of(rt, alloc, remote)?;
     let clock = WallClock::new(rt);
     let mut journal = FileSink::over(io::writer(&rt));
     let served = serve(

@@ -1,5 +1,5 @@
 //! The tests of the plain store and of jobs: snapshots that are read, also beside an opening of the core; lanes that are woven,
-//! and prunes and verifies step by step.
+//! pulls among them; and prunes and verifies step by step.
 #![tactic(auto)]
 
 #[cfg(test)]
@@ -10,6 +10,8 @@ mod jobs;
 mod loading;
 #[cfg(test)]
 mod prunes;
+#[cfg(test)]
+mod pulls;
 #[cfg(test)]
 mod reading;
 #[cfg(test)]

@@ -13,6 +13,8 @@ mod memory;
 mod openings;
 mod port_faults;
 mod prunes;
+mod pull_faults;
+mod pulls;
 mod ranges;
 mod restore_faults;
 mod reuse;
@@ -165,13 +167,17 @@ const MANIFEST: &str = "host/a/2020-01-15T06:30:03Z/index.json.blob";
 
 const FINISHED: Files = &[(MANIFEST, 86)];
 
-/// The words `run root session`.
-fn words(alloc: Global) -> Result<Vec<String>, AllocError> {
+fn words_of(alloc: Global, all: &[&str]) -> Result<Vec<String>, AllocError> {
     let mut words = Vec::new(alloc);
-    for word in ["run", "root", "session"] {
+    for word in all {
         words.push(String::from_str(alloc, word)?)?;
     }
     Ok(words)
+}
+
+/// The words `run root session`.
+fn words(alloc: Global) -> Result<Vec<String>, AllocError> {
+    words_of(alloc, &["run", "root", "session"])
 }
 
 /// A source of all these bytes at once.
@@ -183,13 +189,14 @@ fn empty_sink(alloc: Global) -> MemSink {
     MemSink::new(alloc, Vec::new(alloc))
 }
 
-/// Serves a session on a disk by a clock that stands at 1,600,000,000.
-fn run_on<K: Sink, D: Disk + Drop>(
+/// Serves a session on a disk, beside a remote, by a clock that stands at 1,600,000,000.
+fn run_beside<K: Sink, D: Disk + Drop, E: Disk + Drop>(
     rt: &(impl Threads + Sync),
     alloc: Global,
     ports: &mut [Port<MemSource, K>],
     disk: D,
-) -> Result<Served<D, MemoryDisk>, AllocError> {
+    remote: Option<E>,
+) -> Result<Served<D, E>, AllocError> {
     let clock = SetClock::new(Vec::new(alloc), 1_600_000_000);
     let mut journal = empty_sink(alloc);
     let words = words(alloc)?;
@@ -199,11 +206,21 @@ fn run_on<K: Sink, D: Disk + Drop>(
         &words,
         ports,
         disk,
-        None,
+        remote,
         clock,
         &mut journal,
         &FreeGate,
     ))
+}
+
+/// Serves a session on a disk without a remote.
+fn run_on<K: Sink, D: Disk + Drop>(
+    rt: &(impl Threads + Sync),
+    alloc: Global,
+    ports: &mut [Port<MemSource, K>],
+    disk: D,
+) -> Result<Served<D, MemoryDisk>, AllocError> {
+    run_beside(rt, alloc, ports, disk, None)
 }
 
 /// Serves a session of these bytes at once: what it is told, and how it was served.
@@ -248,7 +265,7 @@ struct Left<'a> {
 }
 
 /// The order has entries of these kinds, all of lane 0 at 1,600,000,000, and as many counts of calls.
-fn assert_kinds<D>(rt: &impl Abort, served: &Served<D, MemoryDisk>, kinds: &[u8]) {
+fn assert_kinds<D, E>(rt: &impl Abort, served: &Served<D, E>, kinds: &[u8]) {
     same(rt, served.order.len(), kinds.len());
     same(rt, served.report.calls.len(), kinds.len());
     for (entry, kind) in served.order.iter().zip(kinds) {
@@ -557,6 +574,58 @@ fn words_are_read(rt: HostRuntime) -> Result<(), Fail> {
         plan_words(alloc, &[]).err(),
         Some(WordFault::NoReading),
     );
+    Ok(())
+}
+
+/// Words that name a remote, at each place behind `run`.
+static REMOTE_WORDS: [&[&str]; 3] = [
+    &["run", "--remote", "there", "root", "session"],
+    &["run", "root", "--remote", "there", "session"],
+    &["run", "root", "session", "--remote", "there"],
+];
+
+/// A remote without a name, one that is an option, and one before `run`.
+static NO_WORDS: [&[&str]; 3] = [
+    &["run", "root", "session", "--remote"],
+    &["run", "root", "session", "--remote", "-x"],
+    &["--remote", "there", "run", "root", "session"],
+];
+
+fn try_remote(rt: &impl Abort, alloc: Global, all: &[&str]) -> Result<(), Fail> {
+    let all = words_of(alloc, all)?;
+    let Ok(
+        Plan::Run {
+            root,
+            remote,
+            order,
+            sessions,
+        },
+    ) = plan_words(alloc, &all)
+    else {
+        return Err("no plan".into());
+    };
+    let there = remote.ok_or("no remote")?;
+    same(rt, root.as_str(), "root");
+    same(rt, there.as_str(), "there");
+    same(rt, (order.is_none(), sessions.len()), (true, 1));
+    Ok(())
+}
+
+#[test]
+fn a_remote_is_read(rt: HostRuntime) -> Result<(), Fail> {
+    for all in &REMOTE_WORDS {
+        try_remote(&rt, rt.alloc(), all)?;
+    }
+    Ok(())
+}
+
+#[test]
+fn other_words_are_none(rt: HostRuntime) -> Result<(), Fail> {
+    let alloc = rt.alloc();
+    for all in &NO_WORDS {
+        let plan = plan_words(alloc, &words_of(alloc, all)?);
+        same(&rt, plan.err(), Some(WordFault::NoReading));
+    }
     Ok(())
 }
 

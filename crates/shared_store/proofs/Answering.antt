@@ -3,7 +3,7 @@ use Rattle.disk_trait.specs.declared.disk.Disk.{Ghosts}
 use Rattle.std.proofs.Common.{◌≡◌, ℕ, true, false}
 use Rattle.wire_commands.specs.declared.command.Command.TheVariants.{OpenWriter, Previous, NewFixed, NewDynamic, Append, CloseIndex, Finish, Abort, OpenReader, Download, GetChunk, Range, CloseReader, List as ListAll, Files as FilesOf, Forget, Prune, Group}
 use Rattle.store_history.specs.declared.act.Act.{Act}
-use Rattle.store_history.specs.declared.act.Act.TheVariants.{Plain, JobGroup, Blob, Chunk, ReadFile, ReadChunk, RemoteList, Start, Step, Short, End}
+use Rattle.store_history.specs.declared.act.Act.TheVariants.{Plain, JobGroup, Blob, Chunk, ReadFile, ReadChunk, RemoteList, RemoteFile, RemoteChunk, Start, Step, Short, End}
 use Rattle.store_history.specs.declared.act.Answer.{Answer}
 use Rattle.core_state.specs.declared.state.Core.{Core}
 use Rattle.core_writer.specs.WriterActs.{IsWriters}
@@ -68,9 +68,11 @@ collectors_answer d old new lane Start answer is tells = tells
 collectors_answer d old new lane Step answer is tells = tells
 collectors_answer d old new lane act answer is tells = absurd is
 
--- and those that ask the remote
+-- and those that read the remote
 pub remotes_answer : {D E C : Type 0} (d : Ghosts D) (old new : Core D E C) (lane : ℕ) (act : Act) (answer : Answer) → IsRemotes act → RemoteTells old lane act answer → CoreAnswersBy d old new lane act answer
 remotes_answer d old new lane (RemoteList command) answer is tells = tells
+remotes_answer d old new lane (RemoteFile snapshot name offset) answer is tells = tells
+remotes_answer d old new lane (RemoteChunk digest) answer is tells = tells
 remotes_answer d old new lane act answer is tells = absurd is
 
 -- an OPEN_READER opens a reader

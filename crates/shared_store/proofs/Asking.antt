@@ -1,20 +1,20 @@
 -- Which acts are readers', writers', and on the store as a whole, and what they ask for.
-use Rattle.std.proofs.Common.{◌≡◌, ℕ, true, false, List, Option, None, refl}
+use Rattle.std.proofs.Common.{◌≡◌, ℕ, true, false, List, Option, refl}
 use Rattle.wire_commands.specs.declared.command.Command.TheVariants.{OpenWriter, Previous, NewFixed, NewDynamic, Chunk as ChunkCommand, Append, CloseIndex, Blob as BlobCommand, Finish, Abort, OpenReader, Download, GetChunk, Range, CloseReader, List as ListAll, Files as FilesOf, Forget, Prune, Verify, Sync, Gc, Group, Bye}
 use Rattle.store_history.specs.declared.act.Act.{Act}
-use Rattle.store_history.specs.declared.act.Act.TheVariants.{Plain, JobGroup, Blob, Chunk, ReadFile, ReadChunk, RemoteList, Start, Step, Short, End}
+use Rattle.store_history.specs.declared.act.Act.TheVariants.{Plain, JobGroup, Blob, Chunk, ReadFile, ReadChunk, RemoteList, RemoteFile, RemoteChunk, Start, Step, Short, End}
 use Rattle.store_history.specs.Acts.{IsWellFormed, class_of, stepping}
 use Rattle.core_state.specs.declared.kept.Listed.{Listed}
 use Rattle.core_state.specs.declared.kept.Session.{Session}
 use Rattle.core_state.specs.declared.collector.Collector.{Collector}
-use Rattle.core_state.specs.Commands.{is_admins, is_collectors}
+use Rattle.core_state.specs.Commands.{is_admins, is_collectors, is_remotes}
 use Rattle.core_writer.specs.WriterActs.{IsWriters, asked_of_writer}
 use Rattle.core_reader.specs.ReaderActs.{IsReaders}
 use Rattle.core_reader.specs.Asked.{asked_file}
 use Rattle.core_admin.specs.AdminActs.{IsAdmins, asked_of_admin}
 use Rattle.core_remote.specs.RemoteActs.{IsRemotes}
 use Rattle.core_collect.specs.Acts.{IsCollectors, asked_of_collector}
-use Rattle.shared_store.specs.Asked.{asked, is_readers, is_remotes}
+use Rattle.shared_store.specs.Asked.{asked, is_readers}
 
 -- ---- whose act it is
 
@@ -65,13 +65,37 @@ are_collectors act h = cc
 pub are_remotes : (act : Act) → IsWellFormed act → is_remotes act ≡ true → IsRemotes act
 are_remotes (RemoteList (Sync group)) formed h = tt
 are_remotes (RemoteList _) formed h = absurd formed
+are_remotes (RemoteFile snapshot name offset) formed h = tt
+are_remotes (RemoteChunk digest) formed h = tt
 are_remotes act formed h = cc
 
--- neither an act of a collector, nor one that asks the remote, nor want of memory, nor a lane's end
+-- ---- which acts read no remote
+
+pub readers_alone : (act : Act) → is_readers act ≡ true → is_remotes act ≡ false
+readers_alone (RemoteList command) h = cc
+readers_alone (RemoteFile snapshot name offset) h = cc
+readers_alone (RemoteChunk digest) h = cc
+readers_alone act h = refl
+
+pub admins_alone : (act : Act) → is_admins act ≡ true → is_remotes act ≡ false
+admins_alone (RemoteList command) h = cc
+admins_alone (RemoteFile snapshot name offset) h = cc
+admins_alone (RemoteChunk digest) h = cc
+admins_alone act h = refl
+
+pub collectors_alone : (act : Act) → is_collectors act ≡ true → is_remotes act ≡ false
+collectors_alone (RemoteList command) h = cc
+collectors_alone (RemoteFile snapshot name offset) h = cc
+collectors_alone (RemoteChunk digest) h = cc
+collectors_alone act h = refl
+
+-- neither an act of a collector, nor one that reads the remote, nor want of memory, nor a lane's end
 pub is_step : (act : Act) → is_collectors act ≡ false → is_remotes act ≡ false → (act ≡ Short → ⊥) → (act ≡ End → ⊥) → class_of act ≡ stepping
 is_step Start no_collector no_remote no_short no_end = cc
 is_step Step no_collector no_remote no_short no_end = cc
 is_step (RemoteList command) no_collector no_remote no_short no_end = cc
+is_step (RemoteFile snapshot name offset) no_collector no_remote no_short no_end = cc
+is_step (RemoteChunk digest) no_collector no_remote no_short no_end = cc
 is_step Short no_collector no_remote no_short no_end = absurd (no_short refl)
 is_step End no_collector no_remote no_short no_end = absurd (no_end refl)
 is_step act no_collector no_remote no_short no_end = refl
@@ -111,8 +135,3 @@ admins_ask (Plain (Forget snapshot)) lane collector session catalogue h = refl
 admins_ask (Plain (Group group)) lane collector session catalogue h = refl
 admins_ask (JobGroup (Prune group keep dry)) lane collector session catalogue h = refl
 admins_ask act lane collector session catalogue h = absurd h
-
--- one that asks the remote asks for none
-pub remotes_ask : (act : Act) (lane : ℕ) (collector : Option Collector) (session : Session) (catalogue : List Listed) → IsRemotes act → asked act lane collector session catalogue ≡ None
-remotes_ask (RemoteList command) lane collector session catalogue h = refl
-remotes_ask act lane collector session catalogue h = absurd h

@@ -1,4 +1,4 @@
--- An act that is no reader's needs no chunk, and tells of none that is damaged. And which acts ask for no file.
+-- An act that is no reader's and reads no remote needs no chunk, and tells of none that is damaged. And which acts ask for no file.
 use Rattle.disk_trait.specs.declared.disk.Disk.{Ghosts}
 use Rattle.std.proofs.Common.{◌≡◌, ℕ, true, false, List, Option, None, Some, refl, sym, ap, subst, ◌∙◌}
 use Rattle.disk_trait.specs.Files.{Files}
@@ -10,18 +10,18 @@ use Rattle.wire_commands.specs.declared.command.Command.TheVariants.{GetChunk, R
 use Rattle.wire_commands.specs.declared.reply.Reply.{Reply}
 use Rattle.wire_commands.specs.declared.reply.Reply.TheVariants.{Refused}
 use Rattle.store_history.specs.declared.act.Act.{Act}
-use Rattle.store_history.specs.declared.act.Act.TheVariants.{Plain, JobGroup, ReadChunk, RemoteList, Start, Step, Short, End}
+use Rattle.store_history.specs.declared.act.Act.TheVariants.{Plain, JobGroup, ReadChunk, RemoteList, RemoteFile, RemoteChunk, Start, Step, Short, End}
 use Rattle.store_history.specs.declared.act.Answer.{Answer}
 use Rattle.core_state.specs.declared.kept.Listed.{Listed}
 use Rattle.core_state.specs.declared.kept.Session.{Session}
 use Rattle.core_state.specs.declared.state.Core.{Core}
 use Rattle.core_state.specs.Answers.{HasCause, done, short, failed, halted, EndHasCause, ended, end_failed, StartHasCause, start_opens, start_as_any, StepHasCause, step_passes, step_ends, step_as_any, IsCaused}
+use Rattle.core_state.specs.Commands.{is_remotes}
 use Rattle.core_state.specs.Replies.{may_answer, may_end}
 use Rattle.core_state.specs.Unreadables.{TellsUnreadable}
 use Rattle.core_state.specs.Wanted.{session_at}
 use Rattle.core_state.proofs.Unreadables.{tells_other as none_asked}
 use Rattle.core_reader.specs.Damages.{CoreDamaged, damage_by}
-use Rattle.core_remote.specs.RemoteActs.{IsRemotes}
 use Rattle.shared_store.specs.Asked.{is_readers}
 
 false_true : false ≡ true → ⊥
@@ -60,7 +60,7 @@ module _ {D E C : Type 0} (d : Ghosts D) (old new : Core D E C) (refusal : Refus
   end_untold answer (end_failed before kind is fault risen) e = apart refusal DiskFault tested (λ h. h) (same_reply (Refused DiskFault) (Refused refusal) (sym is ∙ e))
 
   start_untold : (act : Act) (answer : Answer) → StartHasCause d old new act answer → may_answer act (Refused refusal) ≡ false → answer.reply ≡ Some (Refused refusal) → ⊥
-  start_untold act answer (start_opens opens before kind is) never e = none_reply (Refused refusal) (sym is ∙ e)
+  start_untold act answer (start_opens before kind is) never e = none_reply (Refused refusal) (sym is ∙ e)
   start_untold act answer (start_as_any cause) never e = untold act answer cause never e
 
   step_untold : (act : Act) (answer : Answer) → StepHasCause d old new act answer → may_answer act (Refused refusal) ≡ false → may_end (Refused refusal) ≡ false
@@ -73,14 +73,16 @@ module _ {D E C : Type 0} (d : Ghosts D) (old new : Core D E C) (refusal : Refus
   short_untold : (answer : Answer) → answer.reply ≡ Some (Refused NoMemory) → answer.reply ≡ Some (Refused refusal) → ⊥
   short_untold answer is e = apart refusal NoMemory tested (λ h. h) (same_reply (Refused NoMemory) (Refused refusal) (sym is ∙ e))
 
-  untold_by : (act : Act) (answer : Answer) → IsCaused d old new act answer → may_answer act (Refused refusal) ≡ false → may_end (Refused refusal) ≡ false
+  untold_by : (act : Act) (answer : Answer) → is_remotes act ≡ false → IsCaused d old new act answer → may_answer act (Refused refusal) ≡ false → may_end (Refused refusal) ≡ false
       → answer.reply ≡ Some (Refused refusal) → ⊥
-  untold_by End answer cause never none e = end_untold answer cause e
-  untold_by Start answer cause never none e = start_untold Start answer cause never e
-  untold_by (RemoteList command) answer cause never none e = start_untold (RemoteList command) answer cause never e
-  untold_by Step answer cause never none e = step_untold Step answer cause never none e
-  untold_by Short answer cause never none e = short_untold answer cause.1 e
-  untold_by act answer cause never none e = untold act answer cause never e
+  untold_by End answer alone cause never none e = end_untold answer cause e
+  untold_by Start answer alone cause never none e = start_untold Start answer cause never e
+  untold_by Step answer alone cause never none e = step_untold Step answer cause never none e
+  untold_by Short answer alone cause never none e = short_untold answer cause.1 e
+  untold_by (RemoteList command) answer alone cause never none e = cc
+  untold_by (RemoteFile snapshot name offset) answer alone cause never none e = cc
+  untold_by (RemoteChunk digest) answer alone cause never none e = cc
+  untold_by act answer alone cause never none e = untold act answer cause never e
 
 -- ---- damaged chunks
 
@@ -102,9 +104,9 @@ no_damage act session catalogue files other = refl
 some_damage : (digest : Digest32) (found : ChunkFault) → ◌≡◌ {A = Option (Digest32 × ChunkFault)} None (Some (digest, found)) → ⊥
 some_damage digest found e = cc
 
-pub tells_whole : {D E C : Type 0} (d : Ghosts D) (old new : Core D E C) (lane : ℕ) (act : Act) (answer : Answer) → is_readers act ≡ false → IsCaused d old new act answer
+pub tells_whole : {D E C : Type 0} (d : Ghosts D) (old new : Core D E C) (lane : ℕ) (act : Act) (answer : Answer) → is_readers act ≡ false → is_remotes act ≡ false → IsCaused d old new act answer
     → CoreDamaged d old lane act answer
-tells_whole d old new lane act answer other cause = record {
+tells_whole d old new lane act answer other alone cause = record {
   named = λ digest found e. absurd (never digest found e);
   cause = λ digest found e h. absurd (never digest found e);
   damaged = λ digest found k h at.
@@ -112,7 +114,7 @@ tells_whole d old new lane act answer other cause = record {
 }
   where
     never : (digest : Digest32) (found : ChunkFault) → answer.reply ≡ Some (Refused (Damaged digest found)) → ⊥
-    never digest found e = untold_by d old new (Damaged digest found) tt act answer cause (never_damaged act digest found other) refl e
+    never digest found e = untold_by d old new (Damaged digest found) tt act answer alone cause (never_damaged act digest found other) refl e
 
 -- ---- files
 
@@ -125,10 +127,3 @@ end_asks_none d old new disk answer cause = none_asked d disk None _ answer.repl
 pub short_asks_none : {D E C : Type 0} (d : Ghosts D) (old new : Core D E C) (disk : D) (answer : Answer) → answer.reply ≡ Some (Refused NoMemory)
     → TellsUnreadable d disk None (answer.entry).kind answer.reply
 short_asks_none d old new disk answer is = none_asked d disk None _ answer.reply (λ name e. short_untold d old new (Unreadable name) tt answer is e) refl
-
--- nor an act that asks the remote
-pub remotes_ask_none : {D E C : Type 0} (d : Ghosts D) (old new : Core D E C) (disk : D) (act : Act) (answer : Answer) → IsRemotes act → IsCaused d old new act answer
-    → TellsUnreadable d disk None (answer.entry).kind answer.reply
-remotes_ask_none d old new disk (RemoteList command) answer is cause =
-    none_asked d disk None _ answer.reply (λ name e. start_untold d old new (Unreadable name) tt (RemoteList command) answer cause refl e) refl
-remotes_ask_none d old new disk act answer is cause = absurd is

@@ -2,7 +2,7 @@
 use Rattle.std.specs.Prelude.{ℕ, Bool, true, false, List, Option}
 use Rattle.wire_commands.specs.declared.command.Command.TheVariants.{Previous, OpenReader, Download, GetChunk, Range, CloseReader, Files as FilesOf}
 use Rattle.store_history.specs.declared.act.Act.{Act}
-use Rattle.store_history.specs.declared.act.Act.TheVariants.{Plain, ReadFile, ReadChunk, RemoteList, Start, Step}
+use Rattle.store_history.specs.declared.act.Act.TheVariants.{Plain, ReadFile, ReadChunk, Start, Step}
 use Rattle.core_state.specs.declared.collector.Collector.{Collector}
 use Rattle.core_state.specs.declared.kept.Listed.{Listed}
 use Rattle.core_state.specs.declared.kept.Session.{Session}
@@ -21,10 +21,6 @@ is_readers (Plain CloseReader) = true
 is_readers (ReadFile name offset) = true
 is_readers (ReadChunk name entry) = true
 is_readers _ = false
-
-abbrev pub is_remotes : Act → Bool
-is_remotes (RemoteList command) = true
-is_remotes _ = false
 
 -- the file that an act of the lane asks for, beside this collector: one of the base of the lane's writer or of the snapshot of its reader, the manifest of the snapshot whose
 -- files it tells, the file that makes a snapshot damaged, or the index that ended the lane's collector early

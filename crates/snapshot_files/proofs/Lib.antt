@@ -17,6 +17,7 @@ pub mod FoundLemmas
 pub mod Named
 pub mod Listing
 pub mod Ordered
+pub mod GroupKeys
 pub mod Rising
 pub mod Manifests
 pub mod Mapped

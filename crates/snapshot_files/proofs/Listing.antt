@@ -143,7 +143,7 @@ path_begins key =
 abbrev pub has_name : List ℕ → List (List ℕ) → Bool
 has_name name names = list_any (eq_by_cmp text_cmp name) names
 
-same_text : (a b : List ℕ) → eq_by_cmp text_cmp a b ≡ true → a ≡ b
+pub same_text : (a b : List ℕ) → eq_by_cmp text_cmp a b ≡ true → a ≡ b
 same_text a b e = (bytes_eq-Decides a b).0 (sym (is_eq-slice_cmp a b) ∙ e)
 
 -- in its folder

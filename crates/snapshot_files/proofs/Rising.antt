@@ -1,5 +1,5 @@
 -- Two lists that rise and have the same members are one.
-use Rattle.std.proofs.Common.{◌≡◌, ⊎_elim, Bool, true, ◌&&◌, List, [], ◌∷◌, refl, sym, ap, ap₂, subst, ◌∙◌, arith}
+use Rattle.std.proofs.Common.{◌≡◌, ⊎_elim, Bool, true, false, ◌&&◌, if◌then◌else◌, List, [], ◌∷◌, filter, refl, sym, ap, ap₂, subst, ◌∙◌, arith}
 use Rattle.std.specs.Cmp.{IsTotalOrder}
 use Rattle.std.specs.List.{All, AllByRecursion, Contains}
 use Rattle.std.specs.List.Sorted.{IsStrictlySortedBy}
@@ -8,7 +8,7 @@ use Rattle.std.specs.declared.cmp.Ordering.{Ordering}
 use Rattle.std.specs.declared.cmp.Ordering.TheVariants.{Less, Equal, Greater}
 use Rattle.std.proofs.lemmas.Bool.{and_parts, and_from}
 use Rattle.std.proofs.lemmas.Cmp.{tied_itself}
-use Rattle.std.proofs.lemmas.List.Elements.{All-nil, All-cons, All-weaker, All-contains}
+use Rattle.std.proofs.lemmas.List.Elements.{All-nil, All-cons, All-head, All-weaker, All-contains, All-filter}
 use Rattle.std.proofs.lemmas.Map.Keys.{sorted_head, sorted_tail}
 use Rattle.store_model.proofs.Insertions.{Contains-here, Contains-later, Contains-cases}
 
@@ -38,6 +38,21 @@ module _ {K : Type 0} (R : K → K → Ordering) (total : IsTotalOrder R) where
       let first : R x y ≡ Less = is_less (R x y) both.0 in
       All-cons (λ z. R x z ≡ Less) y ys first
       (All-weaker (λ z. R y z ≡ Less) (λ z. R x z ≡ Less) (λ z lt. total.trans x y z first lt) ys (above y ys both.1))
+
+  rises_from : (x : K) (xs : List K) → All (λ y. R x y ≡ Less) xs → rises R xs ≡ true → rises R (x ∷ xs) ≡ true
+  rises_from x [] over h = refl
+  rises_from x (y ∷ ys) over h = and_from (is_lt (R x y)) (rises R (y ∷ ys)) (ap is_lt (All-head (λ z. R x z ≡ Less) y ys over)) h
+
+  -- what passes a test rises still
+  pub rises_filter : (p : K → Bool) (xs : List K) → rises R xs ≡ true → rises R (filter p xs) ≡ true
+  rises_filter p [] h = refl
+  rises_filter p (x ∷ xs) h = by_test (p x) refl (rises_filter p xs (rises_tail x xs h))
+    where
+      by_test : (b : Bool) → p x ≡ b → rises R (filter p xs) ≡ true → rises R (filter p (x ∷ xs)) ≡ true
+      by_test true e rest =
+          ap (λ b. rises R (if b then x ∷ filter p xs else filter p xs)) e
+          ∙ rises_from x (filter p xs) (All-filter p (λ y. R x y ≡ Less) xs (above x xs h)) rest
+      by_test false e rest = ap (λ b. rises R (if b then x ∷ filter p xs else filter p xs)) e ∙ rest
 
   less_itself : (x : K) → R x x ≡ Less → ⊥
   less_itself x e = absurd_equal (sym (tied_itself total x) ∙ e)

@@ -6,3 +6,4 @@ pub mod Parts
 pub mod Reads
 pub mod Scanned
 pub mod Standing
+pub mod Grouped

@@ -6,6 +6,7 @@
 mod entry;
 mod forgetting;
 mod found;
+mod grouping;
 mod index;
 pub mod laws;
 mod parts;
@@ -17,6 +18,7 @@ mod scanning;
 pub use entry::read_entry;
 pub use forgetting::{forget, remove_files};
 pub use found::{Found, read_manifest};
+pub use grouping::keys_in_group;
 pub use index::{IndexPart, lengths_of, read_index};
 pub use parts::read_part;
 pub use path::{FilePath, Stored, manifest_path_of, path_of};

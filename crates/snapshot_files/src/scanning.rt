@@ -19,7 +19,7 @@ use std::alloc::{AllocError, Global};
 use store_types::{Bytes, FileName, LISTED_LIMIT, SnapshotKey};
 
 /// The snapshot whose manifest has this name.
-fn key_of_manifest(alloc: Global, path: &str) -> Result<Option<SnapshotKey>, AllocError>
+pub fn key_of_manifest(alloc: Global, path: &str) -> Result<Option<SnapshotKey>, AllocError>
     ensures value { IfOk result (λ key. key ≡ key_named path.now) }
     ensures grammar { IfOk result (λ key. IfSome key IsKey) }
 {

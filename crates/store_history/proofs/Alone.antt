@@ -1,11 +1,14 @@
 -- A history of one lane alone.
 use Rattle.std.proofs.Common.{ℕ, zero, suc, ◌<◌, List, [], ◌∷◌, Option, refl, sym, subst, arith, slice_index_or}
+use Rattle.std.specs.List.{All}
+use Rattle.store_types.specs.Names.{IsKey}
 use Rattle.store_files.specs.Archive.{Snapshot}
 use Rattle.wire_commands.specs.declared.reply.Reply.{Reply}
 use Rattle.store_model.specs.declared.ending.Ending.{Ending}
 use Rattle.store_history.specs.declared.act.Event.{Event}
 use Rattle.store_history.specs.History.{Opening, opened, own}
 use Rattle.store_history.specs.Legal.{IsLegal}
+use Rattle.store_history.specs.Remote.{IsRemote}
 use Rattle.store_history.specs.LaneRun.{LaneRan}
 use Rattle.store_history.specs.Seats.{AreOf}
 use Rattle.store_history.specs.Woven.{ending_at, IsServed}
@@ -19,6 +22,6 @@ runs_alone h input e told are ran (suc k) lt = absurd (omega arith)
 
 -- where its events are a run of the lane's program, the one lane is served
 pub served_alone : (o : Opening) (R : Option (List Snapshot)) (h : List Event) (input : List ℕ) (e : Ending) (told : List Reply)
-    → IsLegal R (opened o) h → AreOf 0 h → LaneRan input e h told → IsServed o R h (input ∷ []) (e ∷ []) (told ∷ [])
-served_alone o R h input e told legal are ran =
-    record { legal = legal; lanes = of_lanes 0 1 h (omega arith) are; each = refl; runs = λ k lt. runs_alone h input e told are ran k lt }
+    → IsRemote R → All (λ x. IsKey x.key) o.snapshots → IsLegal R (opened o) h → AreOf 0 h → LaneRan input e h told → IsServed o R h (input ∷ []) (e ∷ []) (told ∷ [])
+served_alone o R h input e told remote fine legal are ran =
+    record { legal = legal; remote_is = remote; keys = fine; lanes = of_lanes 0 1 h (omega arith) are; each = refl; runs = λ k lt. runs_alone h input e told are ran k lt }

@@ -14,19 +14,20 @@ use Rattle.wire_commands.specs.declared.reply.Reply.{Reply}
 use Rattle.wire_commands.specs.Inputs.{InputFront, nothing, next, over_limit, no_command, front, cut_front}
 use Rattle.store_model.specs.declared.ending.Ending.{Ending}
 use Rattle.store_model.specs.declared.ending.Ending.TheVariants as endings
-use Rattle.store_model.specs.Job.{Asking}
-use Rattle.store_model.specs.Jobs.{job_of}
+use Rattle.store_model.specs.Job.{Asking, Job, over, asking}
+use Rattle.store_model.specs.Jobs.{job_of, take as job_take}
 use Rattle.store_model.specs.Lanes.{Next, job_step, plain, sync, collect, collecting, bye, broken, end, lane_next, front_next, command_next}
 use Rattle.store_history.specs.declared.act.Act.TheVariants as acts
 use Rattle.store_history.specs.declared.act.Answer.{Answer}
 use Rattle.store_history.specs.declared.act.Event.{Event}
 use Rattle.store_history.specs.Acts.{IsPlain, IsChecked, IsWellFormed, check_blob, act_of_command, class_of}
 use Rattle.store_history.specs.History.{kind, reply}
-use Rattle.store_history.specs.LaneRun.{Position, lane_of, next_at, wants, heard_at, heard, heard_as, last_words, end_faulted, end_heard, position_after, Asks, may_want, EndsSo, Does, Runs}
+use Rattle.store_history.specs.LaneRun.{Position, lane_of, next_at, goes_on, wants, heard_at, heard, heard_as, last_words, end_faulted, end_heard, position_after, Asks, may_want, EndsSo, Does, Runs}
 use Rattle.store_history.specs.SoFar.{goes_further, Follows, Leads}
 use Rattle.store_history.proofs.Checking.{is_checked_chunk}
 use Rattle.store_history.proofs.Events.{command_class}
 use Rattle.store_history.proofs.Growing.{leads_more, heard_at_over}
+use Rattle.store_history.proofs.Idling.{heard_idle, asks_idle, further_idle}
 use Rattle.store_history.proofs.Keeping.{fault_shut}
 use Rattle.store_history.proofs.Placed.{open_at, open_is}
 use Rattle.store_history.proofs.Wanting.{steps_on, wants_frame}
@@ -181,71 +182,74 @@ is_formed (commands.Group group) h = tt
 
 -- ---- one more command
 
-pub heard_plain : (p : Position) (c : Command) (left : List ℕ) (a : Answer) (r : Reply) → next_at p ≡ plain c left → a.reply ≡ Some r
-    → heard p a ≡ record p { left = left; job = None; is_short = (a.entry).kind == 2; is_spent = a.last || p.is_spent; told = p.told ++ r ∷ [] }
-unfolding heard heard_at
-heard_plain p c left a r is says =
+pub heard_plain : (p : Position) (c : Command) (left : List ℕ) (a : Answer) (r : Reply) → p.pull ≡ None → next_at p ≡ plain c left → a.reply ≡ Some r
+    → heard p a ≡ record p { left = left; job = None; pull = None; is_short = (a.entry).kind == 2; is_spent = a.last || p.is_spent; told = p.told ++ r ∷ [] }
+unfolding heard_at
+heard_plain p c left a r idle is says =
     let flag : Option Bool → Position → Position = λ o q. record q { is_short = wants (a.entry).kind o; is_spent = a.last || q.is_spent } in
-    ap (λ x. flag p.collecting (heard_at p (a.entry).kind a.reply x)) is
+    heard_idle p a idle
+    ∙ ap (λ x. flag p.collecting (heard_at p (a.entry).kind a.reply x)) is
     ∙ ap (λ (x : Option Reply). flag p.collecting (heard_at p (a.entry).kind x (plain c left))) says
     ∙ ap (λ (o : Option Bool). flag o (heard_at p (a.entry).kind (Some r) (plain c left))) (next_shut p (plain c left) is refl)
 
 -- what is no command is used up
-pub heard_broken : (p : Position) (refusal : Refusal) (a : Answer) (r : Reply) → next_at p ≡ broken refusal → a.reply ≡ Some r → (a.entry).kind ≡ 2
-    → heard p a ≡ record p { left = []; job = None; is_short = true; is_spent = true; told = p.told ++ r ∷ [] }
-unfolding heard heard_at
-heard_broken p refusal a r is says two =
+pub heard_broken : (p : Position) (refusal : Refusal) (a : Answer) (r : Reply) → p.pull ≡ None → next_at p ≡ broken refusal → a.reply ≡ Some r → (a.entry).kind ≡ 2
+    → heard p a ≡ record p { left = []; job = None; pull = None; is_short = true; is_spent = true; told = p.told ++ r ∷ [] }
+unfolding heard_at
+heard_broken p refusal a r idle is says two =
     let flag : Option Bool → ℕ → Position → Position = λ o n q. record q { is_short = wants n o; is_spent = a.last || q.is_spent } in
-    ap (λ x. flag p.collecting (a.entry).kind (heard_at p (a.entry).kind a.reply x)) is
+    heard_idle p a idle
+    ∙ ap (λ x. flag p.collecting (a.entry).kind (heard_at p (a.entry).kind a.reply x)) is
     ∙ ap (λ (x : Option Reply). flag p.collecting (a.entry).kind (heard_at p (a.entry).kind x (broken refusal))) says
     ∙ ap (λ (o : Option Bool). flag o (a.entry).kind (heard_at p (a.entry).kind (Some r) (broken refusal))) (next_shut p (broken refusal) is refl)
     ∙ ap (λ n. flag None n (heard_at p n (Some r) (broken refusal))) two
-    ∙ ap (λ b. record p { left = []; job = None; is_short = true; is_spent = b; told = p.told ++ r ∷ [] }) (or_true a.last)
+    ∙ ap (λ b. record p { left = []; job = None; pull = None; is_short = true; is_spent = b; told = p.told ++ r ∷ [] }) (or_true a.last)
   where
     or_true : (b : Bool) → (b || true) ≡ true
     or_true true = refl
     or_true false = refl
 
-pub follows_command : (p : Position) (c : Command) (left : List ℕ) (v : Event) → p.is_spent ≡ false → next_at p ≡ plain c left → v.act ≡ act_of_command c
+pub follows_command : (p : Position) (c : Command) (left : List ℕ) (v : Event) → p.pull ≡ None → p.is_spent ≡ false → next_at p ≡ plain c left → v.act ≡ act_of_command c
     → Follows (class_of v.act) p v
-follows_command p c left v on is asks =
-    subst (λ x. Follows x p v) (sym (ap class_of asks ∙ command_class c)) (steps_on p on, subst (λ x. Asks x v.act) (sym is) asks)
+follows_command p c left v idle on is asks =
+    subst (λ x. Follows x p v) (sym (ap class_of asks ∙ command_class c)) (steps_on p on, asks_idle p (next_at p) v.act idle (subst (λ x. Asks x v.act) (sym is) asks))
 
-pub follows_short : (p : Position) (c : Command) (left : List ℕ) (v : Event) → p.is_spent ≡ false → p.job ≡ None → next_at p ≡ plain c left → may_want p.left ≡ true → v.act ≡ acts.Short
+pub follows_short : (p : Position) (c : Command) (left : List ℕ) (v : Event) → p.pull ≡ None → p.is_spent ≡ false → p.job ≡ None → next_at p ≡ plain c left → may_want p.left ≡ true → v.act ≡ acts.Short
     → Follows (class_of v.act) p v
-follows_short p c left v on off is may asks =
-    subst (λ x. Follows x p v) (sym (ap class_of asks)) (on, wants_frame p (next_shut p (plain c left) is refl) off may, ap goes_further is)
+follows_short p c left v idle on off is may asks =
+    subst (λ x. Follows x p v) (sym (ap class_of asks))
+    (on, wants_frame p idle (next_shut p (plain c left) is refl) off may, further_idle p (next_at p) idle (ap goes_further is))
 
 -- the lane went on by a command, which was answered
-pub leads_command : (vs : List Event) (p q : Position) (c : Command) (left : List ℕ) (v : Event) (r : Reply) → Leads p vs q → q.is_spent ≡ false
+pub leads_command : (vs : List Event) (p q : Position) (c : Command) (left : List ℕ) (v : Event) (r : Reply) → Leads p vs q → q.pull ≡ None → q.is_spent ≡ false
     → next_at q ≡ plain c left → v.act ≡ act_of_command c → reply v ≡ Some r
-    → Leads p (vs ++ v ∷ []) (record q { left = left; job = None; is_short = kind v == 2; is_spent = (v.answer).last || q.is_spent; told = q.told ++ r ∷ [] })
-leads_command vs p q c left v r led on is asks says =
-    subst (λ x. Leads p (vs ++ v ∷ []) x) (heard_plain q c left v.answer r is says) (leads_more vs p q v led (follows_command q c left v on is asks))
+    → Leads p (vs ++ v ∷ []) (record q { left = left; job = None; pull = None; is_short = kind v == 2; is_spent = (v.answer).last || q.is_spent; told = q.told ++ r ∷ [] })
+leads_command vs p q c left v r led idle on is asks says =
+    subst (λ x. Leads p (vs ++ v ∷ []) x) (heard_plain q c left v.answer r idle is says) (leads_more vs p q v led (follows_command q c left v idle on is asks))
 
 -- or memory was wanting for it
-pub leads_short : (vs : List Event) (p q : Position) (c : Command) (left : List ℕ) (v : Event) (r : Reply) → Leads p vs q → q.is_spent ≡ false → q.job ≡ None
+pub leads_short : (vs : List Event) (p q : Position) (c : Command) (left : List ℕ) (v : Event) (r : Reply) → Leads p vs q → q.pull ≡ None → q.is_spent ≡ false → q.job ≡ None
     → next_at q ≡ plain c left → may_want q.left ≡ true → v.act ≡ acts.Short → reply v ≡ Some r
-    → Leads p (vs ++ v ∷ []) (record q { left = left; job = None; is_short = kind v == 2; is_spent = (v.answer).last || q.is_spent; told = q.told ++ r ∷ [] })
-leads_short vs p q c left v r led on off is may asks says =
-    subst (λ x. Leads p (vs ++ v ∷ []) x) (heard_plain q c left v.answer r is says) (leads_more vs p q v led (follows_short q c left v on off is may asks))
+    → Leads p (vs ++ v ∷ []) (record q { left = left; job = None; pull = None; is_short = kind v == 2; is_spent = (v.answer).last || q.is_spent; told = q.told ++ r ∷ [] })
+leads_short vs p q c left v r led idle on off is may asks says =
+    subst (λ x. Leads p (vs ++ v ∷ []) x) (heard_plain q c left v.answer r idle is says) (leads_more vs p q v led (follows_short q c left v idle on off is may asks))
 
 -- ---- the last of a lane
 
 -- memory was wanting, for a frame that is no command or not yet known
-pub short_runs : (e : Ending) (q : Position) (v : Event) (vs : List Event) (told : List Reply) → q.is_over ≡ false → q.is_spent ≡ false → q.collecting ≡ None → q.job ≡ None → may_want q.left ≡ true
+pub short_runs : (e : Ending) (q : Position) (v : Event) (vs : List Event) (told : List Reply) → q.is_over ≡ false → q.pull ≡ None → q.is_spent ≡ false → q.collecting ≡ None → q.job ≡ None → may_want q.left ≡ true
     → v.act ≡ acts.Short → Runs e (heard q v.answer) vs told → Runs e q (v ∷ vs) told
 unfolding position_after
-short_runs e q v vs told off on shut idle may asks runs =
-    subst (λ c. (q.is_over ≡ false) × Does c e q v vs × Runs e (heard_as c e q v.answer) vs told) (sym (ap class_of asks)) (off, (on, wants_frame q shut idle may), runs)
+short_runs e q v vs told off apart on shut idle may asks runs =
+    subst (λ c. (q.is_over ≡ false) × Does c e q v vs × Runs e (heard_as c e q v.answer) vs told) (sym (ap class_of asks)) (off, (on, wants_frame q apart shut idle may), runs)
 
 -- the lane's end
-pub end_runs : (e : Ending) (q : Position) (v : Event) → q.is_over ≡ false → q.collecting ≡ None → v.act ≡ acts.End → kind v ≡ 6 → EndsSo e q (next_at q)
+pub end_runs : (e : Ending) (q : Position) (v : Event) → q.is_over ≡ false → q.collecting ≡ None → q.pull ≡ None → v.act ≡ acts.End → kind v ≡ 6 → EndsSo e q (next_at q)
     → Runs e q (v ∷ []) (last_words e q (next_at q)).told
 unfolding position_after
-end_runs e q v off shut asks six so =
+end_runs e q v off shut idle asks six so =
     subst (λ c. (q.is_over ≡ false) × Does c e q v [] × Runs e (heard_as c e q v.answer) [] (last_words e q (next_at q)).told) (sym (ap class_of asks))
-    (off, (so, (λ five. let no : ⊥ = omega arith in absurd no), shut), subst (λ n. Runs e (end_heard e q n (reply v)) [] (last_words e q (next_at q)).told) (sym six) (refl, refl))
+    (off, (so, (λ five. let no : ⊥ = omega arith in absurd no), shut, idle), subst (λ n. Runs e (end_heard e q n (reply v)) [] (last_words e q (next_at q)).told) (sym six) (refl, refl))
 
 faulted_over : (e : Ending) (q : Position) (r : Option Reply) → (end_faulted e q r).is_over ≡ q.is_over
 faulted_over endings.NoMemory q r = by_test (is_none q.job)
@@ -300,27 +304,51 @@ faulted_same endings.SourceTooLong q r shut off ne so = heard_at_same q r (next_
 
 -- and it may end as before
 abbrev RestsAlike : Ending → Position → Type 0
-RestsAlike e q = EndsSo e q (next_at q) × (q.collecting ≡ None)
+RestsAlike e q = EndsSo e q (next_at q) × (q.collecting ≡ None) × (q.pull ≡ None)
 
-same_ends : (e : Ending) (q : Position) (r : Option Reply) → q.collecting ≡ None → q.job ≡ None → e ≢ endings.SinkFault → EndsSo e q (next_at q) → RestsAlike e (end_faulted e q r)
-same_ends e q r shut off ne so =
-    subst (λ x. EndsSo e x (next_at x) × (x.collecting ≡ None)) (sym (faulted_same e q r shut off ne so)) (so, shut)
+same_ends : (e : Ending) (q : Position) (r : Option Reply) → q.collecting ≡ None → q.pull ≡ None → q.job ≡ None → e ≢ endings.SinkFault → EndsSo e q (next_at q) → RestsAlike e (end_faulted e q r)
+same_ends e q r shut idle off ne so =
+    subst (λ x. EndsSo e x (next_at x) × (x.collecting ≡ None) × (x.pull ≡ None)) (sym (faulted_same e q r shut off ne so)) (so, shut, idle)
 
-faulted_ends : (e : Ending) (q : Position) (r : Option Reply) → q.collecting ≡ None → q.job ≡ None → EndsSo e q (next_at q) → RestsAlike e (end_faulted e q r)
-faulted_ends endings.SinkFault q r shut off so = (tt, fault_shut endings.SinkFault q r (open_is q ∙ shut) ∙ shut)
-faulted_ends endings.NoMemory q r shut off so = same_ends endings.NoMemory q r shut off (λ h. cc) so
-faulted_ends endings.Clean q r shut off so = same_ends endings.Clean q r shut off (λ h. cc) so
-faulted_ends (endings.Broken place) q r shut off so = same_ends (endings.Broken place) q r shut off (λ h. cc) so
-faulted_ends endings.SourceFault q r shut off so = same_ends endings.SourceFault q r shut off (λ h. cc) so
-faulted_ends endings.SourceTooLong q r shut off so = same_ends endings.SourceTooLong q r shut off (λ h. cc) so
+-- none is open then either
+pub heard_idles : (q : Position) (r : Option Reply) (x : Next) → q.pull ≡ None → (heard_at q 5 r x).pull ≡ None
+unfolding heard_at goes_on
+heard_idles q (Some r) (job_step j left) idle = by_job (job_take j r)
+  where
+    by_job : (k : Job) → (goes_on q left k).pull ≡ None
+    by_job (over report) = refl
+    by_job (asking i) = idle
+heard_idles q None (job_step j left) idle = idle
+heard_idles q (Some r) (plain c left) idle = refl
+heard_idles q None (plain c left) idle = idle
+heard_idles q (Some r) (sync group left) idle = refl
+heard_idles q None (sync group left) idle = idle
+heard_idles q (Some r) (collect left) idle = refl
+heard_idles q None (collect left) idle = idle
+heard_idles q (Some r) (collecting is_short) idle = refl
+heard_idles q None (collecting is_short) idle = idle
+heard_idles q (Some r) (broken refusal) idle = idle
+heard_idles q None (broken refusal) idle = idle
+heard_idles q (Some r) bye idle = idle
+heard_idles q None bye idle = idle
+heard_idles q (Some r) end idle = idle
+heard_idles q None end idle = idle
+
+faulted_ends : (e : Ending) (q : Position) (r : Option Reply) → q.collecting ≡ None → q.pull ≡ None → q.job ≡ None → EndsSo e q (next_at q) → RestsAlike e (end_faulted e q r)
+faulted_ends endings.SinkFault q r shut idle off so = (tt, fault_shut endings.SinkFault q r (open_is q ∙ shut) ∙ shut, heard_idles q r (next_at q) idle)
+faulted_ends endings.NoMemory q r shut idle off so = same_ends endings.NoMemory q r shut idle off (λ h. cc) so
+faulted_ends endings.Clean q r shut idle off so = same_ends endings.Clean q r shut idle off (λ h. cc) so
+faulted_ends (endings.Broken place) q r shut idle off so = same_ends (endings.Broken place) q r shut idle off (λ h. cc) so
+faulted_ends endings.SourceFault q r shut idle off so = same_ends endings.SourceFault q r shut idle off (λ h. cc) so
+faulted_ends endings.SourceTooLong q r shut idle off so = same_ends endings.SourceTooLong q r shut idle off (λ h. cc) so
 
 -- the end met a fault, and came again
-pub end_again_runs : (e : Ending) (q : Position) (v u : Event) → q.collecting ≡ None → q.job ≡ None → q.is_over ≡ false → v.act ≡ acts.End → kind v ≡ 5 → u.act ≡ acts.End → kind u ≡ 6 → EndsSo e q (next_at q)
+pub end_again_runs : (e : Ending) (q : Position) (v u : Event) → q.collecting ≡ None → q.pull ≡ None → q.job ≡ None → q.is_over ≡ false → v.act ≡ acts.End → kind v ≡ 5 → u.act ≡ acts.End → kind u ≡ 6 → EndsSo e q (next_at q)
     → Runs e q (v ∷ u ∷ []) (last_words e (end_faulted e q (reply v)) (next_at (end_faulted e q (reply v)))).told
 unfolding position_after
-end_again_runs e q v u shut closed off asks five again six so =
+end_again_runs e q v u shut idle closed off asks five again six so =
     let q' = end_faulted e q (reply v) in
-    let rests = faulted_ends e q (reply v) shut closed so in
-    let rest = end_runs e q' u (faulted_over e q (reply v) ∙ off) rests.1 again six rests.0 in
+    let rests = faulted_ends e q (reply v) shut idle closed so in
+    let rest = end_runs e q' u (faulted_over e q (reply v) ∙ off) rests.1 rests.2 again six rests.0 in
     subst (λ c. (q.is_over ≡ false) × Does c e q v (u ∷ []) × Runs e (heard_as c e q v.answer) (u ∷ []) (last_words e q' (next_at q')).told) (sym (ap class_of asks))
-    (off, (so, (λ h. (ap class_of again, six)), shut), subst (λ n. Runs e (end_heard e q n (reply v)) (u ∷ []) (last_words e q' (next_at q')).told) (sym five) rest)
+    (off, (so, (λ h. (ap class_of again, six)), shut, idle), subst (λ n. Runs e (end_heard e q n (reply v)) (u ∷ []) (last_words e q' (next_at q')).told) (sym five) rest)

@@ -1,5 +1,5 @@
 -- An event of a lane moves the run as the definitions say, and leaves the other lanes as they are.
-use Rattle.std.proofs.Common.{◌≡◌, ℕ, zero, suc, ◌-◌, Bool, true, false, List, [], length, Option, Some, None, Result, Ok, Err, refl, sym, ap, subst, ◌∙◌, slice_index_or, slice_set, if◌then◌else◌, is_none}
+use Rattle.std.proofs.Common.{◌≡◌, ℕ, zero, suc, ◌-◌, Bool, true, false, List, [], length, Option, Some, None, Result, Ok, Err, refl, sym, ap, subst, ◌∙◌, slice_index_or, slice_set, if◌then◌else◌, is_none, filter, take, IfSome}
 use Rattle.store_types.specs.declared.order.Entry.{Entry}
 use Rattle.store_types.specs.declared.refusal.Refusal.{Refusal}
 use Rattle.store_types.specs.declared.refusal.Refusal.TheVariants.{NoMemory}
@@ -7,33 +7,40 @@ use Rattle.store_files.specs.Archive.{Snapshot}
 use Rattle.wire_commands.specs.declared.command.Command.{Command}
 use Rattle.wire_commands.specs.declared.command.Command.TheVariants as commands
 use Rattle.wire_commands.specs.declared.reply.Reply.{Reply}
-use Rattle.wire_commands.specs.declared.reply.Reply.TheVariants.{Done, Collected, Refused}
+use Rattle.wire_commands.specs.declared.reply.Reply.TheVariants.{Done, Keys, Collected, Refused}
 use Rattle.wire_commands.specs.Inputs.{InputFront, nothing, next, over_limit, no_command, front}
 use Rattle.store_model.specs.declared.ending.Ending.{Ending}
 use Rattle.store_model.specs.declared.ending.Ending.TheVariants as endings
 use Rattle.store_model.specs.WriterSteps.{put_blob, checked_blob, want_data}
 use Rattle.store_model.specs.ArchiveSteps.{put_chunk, checked_chunk}
-use Rattle.store_model.specs.Store.{ended}
+use Rattle.std.specs.List.{last_or}
+use Rattle.store_model.specs.Stands.{group_limit}
+use Rattle.store_model.specs.Store.{Store, ended, session, want_idle, in_group, keys_in}
 use Rattle.store_model.specs.Steps.{outcome, answered, step}
-use Rattle.store_model.specs.SyncJob.{to_pull, next_snapshot}
-use Rattle.store_types.specs.Chain.Refusing.{◌>>=◌}
+use Rattle.store_types.specs.declared.names.GroupKey.{GroupKey}
+use Rattle.store_types.specs.Names.{group_of}
+use Rattle.store_model.specs.AdminSteps.{group_texts}
+use Rattle.store_model.specs.SyncJob.{is_later, to_pull, next_snapshot}
+use Rattle.store_types.specs.Chain.Refusing.{◌>>=◌, or_else}
 use Rattle.store_model.specs.declared.step.Step.{Step}
 use Rattle.store_model.specs.declared.step.Step.TheVariants as steps
 use Rattle.store_model.specs.Job.{Asking, step_of, Job}
 use Rattle.store_model.specs.Jobs.{job_of, take as job_take}
 use Rattle.store_model.specs.JobSteps.{step_outcome}
 use Rattle.store_model.specs.Lanes.{Collecting, Lane, Run, Next, job_step, plain, sync, collect, collecting, bye, broken, end, with_lane, lane_next, front_next, command_next, next_of}
-use Rattle.store_model.specs.Weave.{with_store, tell, go_on, answer_job, answer, begin_sync, want_collector, open_collector, close_collector, collected, stepped, passed, short, opens, closes, told_fault, fault_refusal, first_fault, faulted, is_cut_off, ends, ended_with, end_session, unread, is_replied, may_leave_unread, entered, known}
+use Rattle.store_model.specs.Weave.{with_store, tell, go_on, answer_job, answer, begin_sync, want_collector, open_collector, close_collector, collected, stepped, passed, short, opens, closes, remote_failed, told_fault, fault_refusal, first_fault, faulted, is_cut_off, ends, ended_with, end_session, unread, is_replied, may_leave_unread, entered, known}
 use Rattle.store_history.specs.declared.act.Act.{Act}
 use Rattle.store_history.specs.declared.act.Act.TheVariants as acts
 use Rattle.store_history.specs.declared.act.Answer.{Answer}
 use Rattle.store_history.specs.declared.act.Event.{Event}
 use Rattle.blob_codec.specs.Blob.{data_of}
-use Rattle.store_types.specs.declared.refusal.Refusal.TheVariants.{BadBlob}
-use Rattle.store_history.specs.Acts.{act_of_command, act_of_step, check_blob, Class, stepping, starting, sweeping, wanting, ending, class_of}
+use Rattle.store_types.specs.declared.refusal.Refusal.TheVariants.{BadBlob, BadName, NoRemote, RemoteFault}
+use Rattle.store_history.specs.Acts.{act_of_command, act_of_step, check_blob, Class, stepping, reaching, starting, sweeping, wanting, ending, class_of}
 use Rattle.store_history.specs.History.{World, open_on, new_collecting, cut_on, halted_on, data_in, act_outcome, moved, EntryKind, kind_of, step_kind, pass_kind, short_kind, start_kind, close_kind, fault_kind, end_kind, remote_kind, no_kind, lane, moment, kind, reply}
-use Rattle.store_history.specs.Legal.{Right, Says, Refuses, OpensCollector, Reports, may_open, collecting_on}
-use Rattle.store_history.specs.LaneRun.{blank, Position, lane_of, next_at, tells, goes_on, used_up, heard_at, heard, heard_as, last_words, end_faulted, end_heard, position_after, Asks, may_want_at, EndsSo, Does}
+use Rattle.store_history.specs.Legal.{Right, Says, Refuses, Reports, may_open, collecting_on}
+use Rattle.store_history.specs.LaneRun.{blank, Position, lane_of, next_at, tells, goes_on, used_up, heard_at, heard_by, heard, heard_as, last_words, end_faulted, end_heard, position_after, pulls_on, Asks, AsksBy, may_want_at, EndsSo, Does}
+use Rattle.store_history.specs.Pulling.{Pulling, sought}
+use Rattle.store_history.specs.Remote.{may_read, ReadsIn}
 use Rattle.store_history.proofs.Checking.{chunk_checked}
 use Rattle.store_history.proofs.Collectors.{some_none, cut_none, cut_some, closed_none, closed_some}
 use Rattle.store_history.proofs.Placed.{run_of, at, lane_is, put_is, keep_is, same_lane, blank_is, tell_is, go_is, next_is, open_at, open_is}
@@ -74,6 +81,10 @@ abbrev pub IsStarting : Class → Type 0
 IsStarting starting = Unit {0}
 IsStarting _ = ⊥
 
+abbrev pub IsReaching : Class → Type 0
+IsReaching reaching = Unit {0}
+IsReaching _ = ⊥
+
 abbrev pub IsSweeping : Class → Type 0
 IsSweeping sweeping = Unit {0}
 IsSweeping _ = ⊥
@@ -90,7 +101,7 @@ ending_is c h = absurd h
 abbrev pub FitsNext : Next → Class → Type 0
 FitsNext (job_step j left) c = IsStepping c
 FitsNext (plain d left) c = IsStepping c
-FitsNext (sync group left) c = IsStarting c
+FitsNext (sync group left) c = IsReaching c
 FitsNext (collect left) c = IsStarting c
 FitsNext (collecting is_short) c = IsSweeping c
 FitsNext _ c = ⊥
@@ -98,7 +109,7 @@ FitsNext _ c = ⊥
 pub asks_class : (n : Next) (a : Act) → Asks n a → FitsNext n (class_of a)
 asks_class (job_step j left) a asks = subst (λ x. IsStepping (class_of x)) (sym asks) (subst IsStepping (sym (step_class (step_of j))) tt)
 asks_class (plain c left) a asks = subst (λ x. IsStepping (class_of x)) (sym asks) (subst IsStepping (sym (command_class c)) tt)
-asks_class (sync group left) a asks = subst (λ x. IsStarting (class_of x)) (sym asks) tt
+asks_class (sync group left) a asks = subst (λ x. IsReaching (class_of x)) (sym asks) tt
 asks_class (collect left) a asks = subst (λ x. IsStarting (class_of x)) (sym asks) tt
 asks_class (collecting is_short) a asks = subst (λ x. IsSweeping (class_of x)) (sym asks) tt
 asks_class bye a asks = absurd asks
@@ -173,6 +184,42 @@ next_plain p h = by_collecting p.collecting
     by_collecting None = lane_plain (lane_of p) h
     by_collecting (Some is_short) = tt
 
+-- ---- the group of a SYNC
+
+-- what it tells of a group's name
+abbrev ReadsOf : Option (List Snapshot) → Option GroupKey → Option Reply → Type 0
+ReadsOf None n r = Unit {0}
+ReadsOf (Some L) n r = IfSome n (λ g. r ≡ Some (Keys (group_texts g L)))
+
+abbrev fine : Result (Unit {0}) Refusal
+fine = Ok tt
+
+reads_of : (o : Option (List Snapshot)) (group : List ℕ) (r : Option Reply) → ReadsIn o (acts.RemoteList (commands.Sync group)) r → ReadsOf o (group_of group) r
+reads_of None group r h = h
+reads_of (Some L) group r h = h
+
+module _ (from : GroupKey → List Snapshot → List Snapshot) where
+  -- where all its tests pass, the group is named and there is a remote
+  pub tests_pass : (idle : Result (Unit {0}) Refusal) (group : Option GroupKey) (R : Option (List Snapshot))
+      → (idle >>= λ _. or_else BadName group >>= λ g. or_else NoRemote R >>= λ snapshots. Ok (from g snapshots)) >>= (λ x. fine) ≡ fine
+      → (idle ≡ fine) × ((g : GroupKey) × (group ≡ Some g)) × ((L : List Snapshot) × (R ≡ Some L))
+  tests_pass (Err refusal) group R h = cc
+  tests_pass (Ok done) None R h = cc
+  tests_pass (Ok done) (Some g) None h = cc
+  tests_pass (Ok tt) (Some g) (Some L) h = (refl, (g, refl), (L, refl))
+
+-- what the remote has of it
+pub keys_told : (R : Option (List Snapshot)) (s : Store) (k : ℕ) (group : List ℕ) (r : Option Reply) → may_read R s k (acts.RemoteList (commands.Sync group)) ≡ Ok tt
+    → ReadsIn R (acts.RemoteList (commands.Sync group)) r → (texts : List (List ℕ)) × (r ≡ Some (Keys texts))
+unfolding to_pull
+keys_told R s k group r may reads =
+    let h = tests_pass (λ g snapshots. filter (is_later (last_or None (take group_limit (keys_in g s.snapshots)))) (in_group g snapshots)) (want_idle (session s k)) (group_of group) R may in
+    by_list R (group_of group) h.1.0 h.2.0 h.1.1 h.2.1 (reads_of R group r reads)
+  where
+    by_list : (o : Option (List Snapshot)) (n : Option GroupKey) (g : GroupKey) (L : List Snapshot) → n ≡ Some g → o ≡ Some L
+        → ReadsOf o n r → (texts : List (List ℕ)) × (r ≡ Some (Keys texts))
+    by_list o n g L named there reads = (group_texts g L, subst (λ (x : Option GroupKey). ReadsOf (Some L) x r) named (subst (λ (x : Option (List Snapshot)). ReadsOf x n r) there reads))
+
 -- ---- by the kind of the entry
 
 module _ (R : Option (List Snapshot)) (w : World) (ps : List Position) (k m : ℕ) where
@@ -185,6 +232,7 @@ module _ (R : Option (List Snapshot)) (w : World) (ps : List Position) (k m : �
   -- the answers of a kind
   pub right_short : (a : Act) (r : Option Reply) (c : Class) → Right R w k m a r c short_kind → r ≡ Some (Refused NoMemory)
   right_short a r stepping h = h.0
+  right_short a r reaching h = h
   right_short a r starting h = h
   right_short a r sweeping h = h.0
   right_short a r wanting h = h
@@ -192,27 +240,44 @@ module _ (R : Option (List Snapshot)) (w : World) (ps : List Position) (k m : �
 
   pub right_fault : (a : Act) (r : Option Reply) (c : Class) → Right R w k m a r c fault_kind → r ≡ Some (Refused (fault_refusal w.fault))
   right_fault a r stepping h = h
+  right_fault a r reaching h = h
   right_fault a r starting h = h
   right_fault a r sweeping h = h
   right_fault a r wanting h = absurd h
   right_fault a r ending h = h.1
 
-  pub right_pass : (a : Act) (r : Option Reply) (c : Class) → Right R w k m a r c pass_kind → (c ≡ sweeping) × (r ≡ None)
-  right_pass a r stepping h = absurd h
-  right_pass a r starting h = absurd h
-  right_pass a r sweeping h = (refl, h.2)
-  right_pass a r wanting h = absurd h
-  right_pass a r ending h = absurd h
+  -- a command and a GC have no pass, and none of these but a read of the remote fails there
+  no_step_pass : (a : Act) (r : Option Reply) (c : Class) → IsStepping c → Right R w k m a r c pass_kind → ⊥
+  no_step_pass a r stepping is h = h
+  no_step_pass a r c is h = absurd is
 
-  pub right_start : (a : Act) (r : Option Reply) (c : Class) → Right R w k m a r c start_kind → (c ≡ starting) × (may_open w k ≡ Ok tt) × (r ≡ None) × OpensCollector a
+  no_start_pass : (a : Act) (r : Option Reply) (c : Class) → IsStarting c → Right R w k m a r c pass_kind → ⊥
+  no_start_pass a r starting is h = h
+  no_start_pass a r c is h = absurd is
+
+  no_step_fails : (a : Act) (r : Option Reply) (c : Class) → IsStepping c → Right R w k m a r c remote_kind → ⊥
+  no_step_fails a r stepping is h = h
+  no_step_fails a r c is h = absurd is
+
+  no_start_fails : (a : Act) (r : Option Reply) (c : Class) → IsStarting c → Right R w k m a r c remote_kind → ⊥
+  no_start_fails a r starting is h = h
+  no_start_fails a r c is h = absurd is
+
+  no_sweep_fails : (a : Act) (r : Option Reply) (c : Class) → IsSweeping c → Right R w k m a r c remote_kind → ⊥
+  no_sweep_fails a r sweeping is h = h
+  no_sweep_fails a r c is h = absurd is
+
+  pub right_start : (a : Act) (r : Option Reply) (c : Class) → Right R w k m a r c start_kind → (c ≡ starting) × (may_open w k ≡ Ok tt) × (r ≡ None)
   right_start a r stepping h = absurd h
-  right_start a r starting h = (refl, h.1, h.2, h.3)
+  right_start a r reaching h = absurd h
+  right_start a r starting h = (refl, h.1, h.2)
   right_start a r sweeping h = absurd h
   right_start a r wanting h = absurd h
   right_start a r ending h = absurd h
 
   pub right_close : (a : Act) (r : Option Reply) (c : Class) → Right R w k m a r c close_kind → (c ≡ sweeping) × Reports (collecting_on w k) r
   right_close a r stepping h = absurd h
+  right_close a r reaching h = absurd h
   right_close a r starting h = absurd h
   right_close a r sweeping h = (refl, h.1)
   right_close a r wanting h = absurd h
@@ -220,20 +285,15 @@ module _ (R : Option (List Snapshot)) (w : World) (ps : List Position) (k m : �
 
   pub right_end : (a : Act) (r : Option Reply) (c : Class) → Right R w k m a r c end_kind → IsEnding c
   right_end a r stepping h = absurd h
+  right_end a r reaching h = absurd h
   right_end a r starting h = absurd h
   right_end a r sweeping h = absurd h
   right_end a r wanting h = absurd h
   right_end a r ending h = tt
 
-  pub right_remote : (a : Act) (r : Option Reply) (c : Class) → Right R w k m a r c remote_kind → ⊥
-  right_remote a r stepping h = h
-  right_remote a r starting h = h
-  right_remote a r sweeping h = h
-  right_remote a r wanting h = h
-  right_remote a r ending h = h
-
   pub right_none : (a : Act) (r : Option Reply) (c : Class) → Right R w k m a r c no_kind → ⊥
   right_none a r stepping h = h
+  right_none a r reaching h = h
   right_none a r starting h = h
   right_none a r sweeping h = h
   right_none a r wanting h = h
@@ -324,24 +384,56 @@ module _ (R : Option (List Snapshot)) (w : World) (ps : List Position) (k m : �
 
   -- ---- kind 1
 
-  all_passed : (a : Act) (n : Next) (r : Option Reply) → FitsNext n sweeping → r ≡ None → Becomes a pass_kind 1 r n (passed run n)
+  sweep_passes : (a : Act) (b : Bool) (r : Option Reply) → r ≡ None → Becomes a pass_kind 1 r (collecting b) (passed run (collecting b))
   unfolding passed moved heard_at
-  all_passed a (collecting is_short) r fits h =
-      ap Some (sym (keep_is R w ps k (heard_at p 1 r (collecting is_short)) (ap (λ (y : Option Reply). lane_of (heard_at p 1 y (collecting is_short))) h)))
-  all_passed a (job_step j left) r fits h = absurd fits
-  all_passed a (plain c left) r fits h = absurd fits
-  all_passed a (collect left) r fits h = absurd fits
-  all_passed a (sync group left) r fits h = absurd fits
-  all_passed a bye r fits h = absurd fits
-  all_passed a (broken refusal) r fits h = absurd fits
-  all_passed a end r fits h = absurd fits
+  sweep_passes a b r h =
+      ap Some (sym (keep_is R w ps k (heard_at p 1 r (collecting b)) (ap (λ (y : Option Reply). lane_of (heard_at p 1 y (collecting b))) h)))
+
+  -- what the remote has of the group was told
+  reach_passes : (a : Act) (group left : List ℕ) (r : Option Reply) → may_read R w.store k (acts.RemoteList (commands.Sync group)) ≡ Ok tt
+      → ReadsIn R (acts.RemoteList (commands.Sync group)) r → Becomes a pass_kind 1 r (sync group left) (passed run (sync group left))
+  unfolding passed moved heard_at sought pulls_on
+  reach_passes a group left r may reads =
+      let told = keys_told R w.store k group r may reads in
+      ap Some (sym (keep_is R w ps k (heard_at p 1 r (sync group left)) (ap (λ (y : Option Reply). lane_of (heard_at p 1 y (sync group left))) told.1)))
+
+  all_passed : (a : Act) (n : Next) (r : Option Reply) → Asks n a → Right R w k m a r (class_of a) pass_kind → Becomes a pass_kind 1 r n (passed run n)
+  all_passed a (collecting is_short) r asks right =
+      sweep_passes a is_short r (subst (λ x. Right R w k m x r (class_of x) pass_kind) asks right).2
+  all_passed a (sync group left) r asks right =
+      let h = subst (λ x. Right R w k m x r (class_of x) pass_kind) asks right in reach_passes a group left r h.1 h.2
+  all_passed a (job_step j left) r asks right = absurd (no_step_pass a r (class_of a) (asks_class (job_step j left) a asks) right)
+  all_passed a (plain c left) r asks right = absurd (no_step_pass a r (class_of a) (asks_class (plain c left) a asks) right)
+  all_passed a (collect left) r asks right = absurd (no_start_pass a r (class_of a) (asks_class (collect left) a asks) right)
+  all_passed a bye r asks right = absurd asks
+  all_passed a (broken refusal) r asks right = absurd asks
+  all_passed a end r asks right = absurd asks
+
+  -- ---- kind 7
+
+  reach_fails : (a : Act) (group left : List ℕ) (r : Option Reply) → r ≡ Some (Refused RemoteFault)
+      → Becomes a remote_kind 7 r (sync group left) (remote_failed run k (sync group left))
+  unfolding remote_failed moved heard_at
+  reach_fails a group left r h =
+      ap Some (told_as w left (Refused RemoteFault) (heard_at p 7 r (sync group left)) refl (ap (λ x. heard_at p 7 x (sync group left)) h))
+
+  all_failed : (a : Act) (n : Next) (r : Option Reply) → Asks n a → Right R w k m a r (class_of a) remote_kind → Becomes a remote_kind 7 r n (remote_failed run k n)
+  all_failed a (sync group left) r asks right =
+      reach_fails a group left r (subst (λ x. Right R w k m x r (class_of x) remote_kind) asks right).2
+  all_failed a (job_step j left) r asks right = absurd (no_step_fails a r (class_of a) (asks_class (job_step j left) a asks) right)
+  all_failed a (plain c left) r asks right = absurd (no_step_fails a r (class_of a) (asks_class (plain c left) a asks) right)
+  all_failed a (collect left) r asks right = absurd (no_start_fails a r (class_of a) (asks_class (collect left) a asks) right)
+  all_failed a (collecting is_short) r asks right = absurd (no_sweep_fails a r (class_of a) (asks_class (collecting is_short) a asks) right)
+  all_failed a bye r asks right = absurd asks
+  all_failed a (broken refusal) r asks right = absurd asks
+  all_failed a end r asks right = absurd asks
 
   -- ---- kind 2
 
   not_cut : (n : Next) → open_at n ≡ collecting_on w k → open_at n ≡ None → cut_on k w.collecting ≡ w.collecting
   not_cut n knows shut = cut_none k w.collecting (sym knows ∙ shut)
 
-  all_short : (a : Act) (n : Next) (r : Option Reply) → Goes n → open_at n ≡ collecting_on w k → IsPlainNext n → r ≡ Some (Refused NoMemory)
+  pub all_short : (a : Act) (n : Next) (r : Option Reply) → Goes n → open_at n ≡ collecting_on w k → IsPlainNext n → r ≡ Some (Refused NoMemory)
       → Becomes a short_kind 2 r n (short run k n)
   unfolding short moved heard_at
   all_short a (job_step j left) r goes knows kept h =
@@ -385,18 +477,15 @@ module _ (R : Option (List Snapshot)) (w : World) (ps : List Position) (k m : �
       ∙ ap Some (put_is R w' ps k q)
       ∙ ap (λ (x : Option Reply). Some (run_of R w' (slice_set ps k (heard_at p 3 x (collect left))))) (sym h)
 
-  no_sync : (a : Act) (group left : List ℕ) → Asks (sync group left) a → OpensCollector a → ⊥
-  no_sync a group left asks opens = subst OpensCollector asks opens
-
-  all_started : (a : Act) (n : Next) (r : Option Reply) → Asks n a → OpensCollector a → FitsNext n starting → may_open w k ≡ Ok tt → r ≡ None → Becomes a start_kind 3 r n (opens run k n)
-  all_started a (collect left) r asks opens fits can h = start_opens a left r can h
-  all_started a (job_step j left) r asks opens fits can h = absurd fits
-  all_started a (plain c left) r asks opens fits can h = absurd fits
-  all_started a (collecting is_short) r asks opens fits can h = absurd fits
-  all_started a (sync group left) r asks opens fits can h = absurd (no_sync a group left asks opens)
-  all_started a bye r asks opens fits can h = absurd fits
-  all_started a (broken refusal) r asks opens fits can h = absurd fits
-  all_started a end r asks opens fits can h = absurd fits
+  all_started : (a : Act) (n : Next) (r : Option Reply) → FitsNext n starting → may_open w k ≡ Ok tt → r ≡ None → Becomes a start_kind 3 r n (opens run k n)
+  all_started a (collect left) r fits can h = start_opens a left r can h
+  all_started a (job_step j left) r fits can h = absurd fits
+  all_started a (plain c left) r fits can h = absurd fits
+  all_started a (collecting is_short) r fits can h = absurd fits
+  all_started a (sync group left) r fits can h = absurd fits
+  all_started a bye r fits can h = absurd fits
+  all_started a (broken refusal) r fits can h = absurd fits
+  all_started a end r fits can h = absurd fits
 
   -- ---- kind 4
 
@@ -446,13 +535,13 @@ module _ (R : Option (List Snapshot)) (w : World) (ps : List Position) (k m : �
   asks_halted (collect left) c fits knows = absurd fits
   asks_halted (collecting is_short) sweeping fits knows = closed_some k w.collecting is_short (sym knows)
   asks_halted (collecting is_short) c fits knows = absurd fits
-  asks_halted (sync group left) starting fits knows = refl
+  asks_halted (sync group left) reaching fits knows = refl
   asks_halted (sync group left) c fits knows = absurd fits
   asks_halted bye c fits knows = absurd fits
   asks_halted (broken refusal) c fits knows = absurd fits
   asks_halted end c fits knows = absurd fits
 
-  end_halted : (n : Next) → open_at n ≡ None → w.collecting ≡ halted_at n
+  pub end_halted : (n : Next) → open_at n ≡ None → w.collecting ≡ halted_at n
   end_halted n shut = ap (λ (o : Option Bool). elim o [ None ↦ w.collecting | Some is_short ↦ None ]) (sym shut)
 
   -- where it is told this
@@ -492,7 +581,7 @@ module _ (R : Option (List Snapshot)) (w : World) (ps : List Position) (k m : �
       sym (keep_is R (record w { fault = f }) ps k (heard_at p 5 r end) (ap (λ y. lane_of (heard_at p 5 y end)) h))
       ∙ ap (λ y. hurt f y (heard_at p 5 r end)) (sym is)
 
-  all_faulted : (e : Ending) (later : List Entry) (a : Act) (n : Next) (r : Option Reply) → halted_on k (class_of a) w.collecting ≡ halted_at n → IsPlainNext n
+  pub all_faulted : (e : Ending) (later : List Entry) (a : Act) (n : Next) (r : Option Reply) → halted_on k (class_of a) w.collecting ≡ halted_at n → IsPlainNext n
       → is_cut_off run k e later ≡ false → r ≡ Some (Refused (fault_refusal w.fault)) → Becomes a fault_kind 5 r n (Some (faulted run k w.events e later n))
   unfolding faulted moved
   all_faulted e later a n r halts kept cut h =
@@ -571,33 +660,34 @@ module _ (R : Option (List Snapshot)) (w : World) (ps : List Position) (k m : �
     abbrev pub e : Ending
     e = slice_index_or es k endings.Clean
 
-    nx : next_of run k ≡ next_at p
+    pub nx : next_of run k ≡ next_at p
     nx = next_is R w ps k knows
 
     -- of what is next
-    at_next : open_at (next_at p) ≡ collecting_on w k
+    pub at_next : open_at (next_at p) ≡ collecting_on w k
     at_next = open_is p ∙ knows
 
-    plainly : IsPlainNext (next_at p)
+    pub plainly : IsPlainNext (next_at p)
     plainly = next_plain p kept
 
     -- the position of the program stands for the one that `weave` has
-    heard_is : (w' : World) (x : Answer) → run_of R w' (slice_set ps k (heard_at p (x.entry).kind x.reply (next_at p))) ≡ run_of R w' (slice_set ps k (heard p x))
+    heard_is : (w' : World) (x : Answer) → p.pull ≡ None → run_of R w' (slice_set ps k (heard_at p (x.entry).kind x.reply (next_at p))) ≡ run_of R w' (slice_set ps k (heard p x))
     unfolding heard
-    heard_is w' x = same_lane R w' ps k (heard_at p (x.entry).kind x.reply (next_at p)) (heard p x) refl
+    heard_is w' x idle =
+        same_lane R w' ps k (heard_at p (x.entry).kind x.reply (next_at p)) (heard p x)
+        (ap (λ (o : Option Pulling). lane_of (heard_by o p (x.entry).kind x.reply)) (sym idle))
 
-    asked : (n : ℕ) (a : Act) (r : Option Reply) → Asks (next_at p) a → (n ≡ 5 → is_cut_off run k e later ≡ false)
+    pub asked : (n : ℕ) (a : Act) (r : Option Reply) → Asks (next_at p) a → (n ≡ 5 → is_cut_off run k e later ≡ false)
         → Right R w k m a r (class_of a) (kind_of n) → Becomes a (kind_of n) n r (next_at p) (enter n)
     unfolding entered
     asked zero a r asks cut right = ap (λ x. stepped run k m x) nx ∙ all_stepped a (next_at p) r asks at_next plainly right
     asked (suc zero) a r asks cut right =
-        let h = right_pass a r (class_of a) right in
-        ap (λ x. passed run x) nx ∙ all_passed a (next_at p) r (subst (FitsNext (next_at p)) h.0 (asks_class (next_at p) a asks)) h.1
+        ap (λ x. passed run x) nx ∙ all_passed a (next_at p) r asks right
     asked (suc (suc zero)) a r asks cut right =
         ap (λ x. short run k x) nx ∙ all_short a (next_at p) r (asks_goes (next_at p) a asks) at_next plainly (right_short a r (class_of a) right)
     asked (suc (suc (suc zero))) a r asks cut right =
         let h = right_start a r (class_of a) right in
-        ap (λ x. opens run k x) nx ∙ all_started a (next_at p) r asks h.3 (subst (FitsNext (next_at p)) h.0 (asks_class (next_at p) a asks)) h.1 h.2
+        ap (λ x. opens run k x) nx ∙ all_started a (next_at p) r (subst (FitsNext (next_at p)) h.0 (asks_class (next_at p) a asks)) h.1 h.2
     asked (suc (suc (suc (suc zero)))) a r asks cut right =
         let h = right_close a r (class_of a) right in
         ap (λ x. closes run k x) nx ∙ all_closed a (next_at p) r (subst (FitsNext (next_at p)) h.0 (asks_class (next_at p) a asks)) at_next h.1
@@ -605,21 +695,22 @@ module _ (R : Option (List Snapshot)) (w : World) (ps : List Position) (k m : �
         ap (λ x. Some (faulted run k w.events e later x)) nx
         ∙ all_faulted e later a (next_at p) r (asks_halted (next_at p) (class_of a) (asks_class (next_at p) a asks) at_next) plainly (cut refl) (right_fault a r (class_of a) right)
     asked (suc (suc (suc (suc (suc (suc zero)))))) a r asks cut right = absurd (asks_ends (next_at p) a asks (right_end a r (class_of a) right))
-    asked (suc (suc (suc (suc (suc (suc (suc zero))))))) a r asks cut right = absurd (right_remote a r (class_of a) right)
+    asked (suc (suc (suc (suc (suc (suc (suc zero))))))) a r asks cut right =
+        ap (λ x. remote_failed run k x) nx ∙ all_failed a (next_at p) r asks right
     asked (suc (suc (suc (suc (suc (suc (suc (suc n)))))))) a r asks cut right = absurd (right_none a r (class_of a) right)
 
-    wanted : (n : ℕ) (r : Option Reply) → may_want_at p ≡ true → Right R w k m acts.Short r wanting (kind_of n) → Becomes acts.Short (kind_of n) n r (next_at p) (enter n)
+    wanted : (n : ℕ) (r : Option Reply) → p.pull ≡ None → may_want_at p ≡ true → Right R w k m acts.Short r wanting (kind_of n) → Becomes acts.Short (kind_of n) n r (next_at p) (enter n)
     unfolding entered
-    wanted (suc (suc zero)) r may right =
-        ap (λ x. short run k x) nx ∙ all_short acts.Short (next_at p) r (want_goes p may) at_next plainly (right_short acts.Short r wanting right)
-    wanted zero r may right = absurd right
-    wanted (suc zero) r may right = absurd right
-    wanted (suc (suc (suc zero))) r may right = absurd right
-    wanted (suc (suc (suc (suc zero)))) r may right = absurd right
-    wanted (suc (suc (suc (suc (suc zero))))) r may right = absurd right
-    wanted (suc (suc (suc (suc (suc (suc zero)))))) r may right = absurd right
-    wanted (suc (suc (suc (suc (suc (suc (suc zero))))))) r may right = absurd right
-    wanted (suc (suc (suc (suc (suc (suc (suc (suc n)))))))) r may right = absurd right
+    wanted (suc (suc zero)) r idle may right =
+        ap (λ x. short run k x) nx ∙ all_short acts.Short (next_at p) r (want_goes p idle may) at_next plainly (right_short acts.Short r wanting right)
+    wanted zero r idle may right = absurd right
+    wanted (suc zero) r idle may right = absurd right
+    wanted (suc (suc (suc zero))) r idle may right = absurd right
+    wanted (suc (suc (suc (suc zero)))) r idle may right = absurd right
+    wanted (suc (suc (suc (suc (suc zero))))) r idle may right = absurd right
+    wanted (suc (suc (suc (suc (suc (suc zero)))))) r idle may right = absurd right
+    wanted (suc (suc (suc (suc (suc (suc (suc zero))))))) r idle may right = absurd right
+    wanted (suc (suc (suc (suc (suc (suc (suc (suc n)))))))) r idle may right = absurd right
 
     -- a lane's end that met a fault, where no collector of the lane is open
     end_faulted_at : (x : Ending) (r : Option Reply) → p.collecting ≡ None → is_cut_off run k x later ≡ false → r ≡ Some (Refused (fault_refusal w.fault))
@@ -657,45 +748,54 @@ module _ (R : Option (List Snapshot)) (w : World) (ps : List Position) (k m : �
     over (suc (suc (suc (suc (suc (suc (suc zero))))))) r shut so cut right = absurd right
     over (suc (suc (suc (suc (suc (suc (suc (suc n)))))))) r shut so cut right = absurd right
 
-    -- an event of the lane moves the run as the definitions say
-    acted : (a : Act) (x : Answer) (v : Event) (vs : List Event) → v.act ≡ a → Does (class_of a) e p v vs
+    asks_here : (v : Event) (a : Act) → p.pull ≡ None → v.act ≡ a → AsksBy p.pull (next_at p) v.act → Asks (next_at p) a
+    asks_here v a idle is asks = subst (λ y. Asks (next_at p) y) is (subst (λ (o : Option Pulling). AsksBy o (next_at p) v.act) idle asks)
+
+    -- an event of the lane moves the run as the definitions say, where no SYNC is open
+    acted : (a : Act) (x : Answer) (v : Event) (vs : List Event) → p.pull ≡ None → v.act ≡ a → Does (class_of a) e p v vs
         → ((x.entry).kind ≡ 5 → is_cut_off run k e later ≡ cuts (class_of a) e p)
         → Right R w k m a x.reply (class_of a) (kind_of (x.entry).kind)
         → enter (x.entry).kind ≡ Some (run_of R (moved R w k m a (kind_of (x.entry).kind)) (slice_set ps k (heard_as (class_of a) e p x)))
-    acted acts.End x v vs is does cut right = over (x.entry).kind x.reply does.2 does.0 cut right
-    acted acts.Short x v vs is does cut right =
-        wanted (x.entry).kind x.reply does.1 right ∙ ap Some (heard_is (moved R w k m acts.Short (kind_of (x.entry).kind)) x)
-    acted acts.Start x v vs is does cut right =
-        asked (x.entry).kind acts.Start x.reply (subst (λ y. Asks (next_at p) y) is does.1) cut right
-        ∙ ap Some (heard_is (moved R w k m acts.Start (kind_of (x.entry).kind)) x)
-    acted (acts.RemoteList c) x v vs is does cut right =
-        asked (x.entry).kind (acts.RemoteList c) x.reply (subst (λ y. Asks (next_at p) y) is does.1) cut right
-        ∙ ap Some (heard_is (moved R w k m (acts.RemoteList c) (kind_of (x.entry).kind)) x)
-    acted acts.Step x v vs is does cut right =
-        asked (x.entry).kind acts.Step x.reply (subst (λ y. Asks (next_at p) y) is does) cut right
-        ∙ ap Some (heard_is (moved R w k m acts.Step (kind_of (x.entry).kind)) x)
-    acted (acts.Plain c) x v vs is does cut right =
-        asked (x.entry).kind (acts.Plain c) x.reply (subst (λ y. Asks (next_at p) y) is does.1) cut right
-        ∙ ap Some (heard_is (moved R w k m (acts.Plain c) (kind_of (x.entry).kind)) x)
-    acted (acts.JobGroup c) x v vs is does cut right =
-        asked (x.entry).kind (acts.JobGroup c) x.reply (subst (λ y. Asks (next_at p) y) is does.1) cut right
-        ∙ ap Some (heard_is (moved R w k m (acts.JobGroup c) (kind_of (x.entry).kind)) x)
-    acted (acts.Blob name checked) x v vs is does cut right =
-        asked (x.entry).kind (acts.Blob name checked) x.reply (subst (λ y. Asks (next_at p) y) is does.1) cut right
-        ∙ ap Some (heard_is (moved R w k m (acts.Blob name checked) (kind_of (x.entry).kind)) x)
-    acted (acts.ReadFile name offset) x v vs is does cut right =
-        asked (x.entry).kind (acts.ReadFile name offset) x.reply (subst (λ y. Asks (next_at p) y) is does.1) cut right
-        ∙ ap Some (heard_is (moved R w k m (acts.ReadFile name offset) (kind_of (x.entry).kind)) x)
-    acted (acts.ReadChunk name entry) x v vs is does cut right =
-        asked (x.entry).kind (acts.ReadChunk name entry) x.reply (subst (λ y. Asks (next_at p) y) is does.1) cut right
-        ∙ ap Some (heard_is (moved R w k m (acts.ReadChunk name entry) (kind_of (x.entry).kind)) x)
-    acted (acts.Chunk digest checked) x v vs is does cut right =
-        asked (x.entry).kind (acts.Chunk digest checked) x.reply (subst (λ y. Asks (next_at p) y) is does.1) cut right
-        ∙ ap Some (heard_is (moved R w k m (acts.Chunk digest checked) (kind_of (x.entry).kind)) x)
+    acted acts.End x v vs idle is does cut right = over (x.entry).kind x.reply does.2 does.0 cut right
+    acted acts.Short x v vs idle is does cut right =
+        wanted (x.entry).kind x.reply idle does.1 right ∙ ap Some (heard_is (moved R w k m acts.Short (kind_of (x.entry).kind)) x idle)
+    acted acts.Start x v vs idle is does cut right =
+        asked (x.entry).kind acts.Start x.reply (asks_here v acts.Start idle is does.1) cut right
+        ∙ ap Some (heard_is (moved R w k m acts.Start (kind_of (x.entry).kind)) x idle)
+    acted (acts.RemoteList c) x v vs idle is does cut right =
+        asked (x.entry).kind (acts.RemoteList c) x.reply (asks_here v (acts.RemoteList c) idle is does.1) cut right
+        ∙ ap Some (heard_is (moved R w k m (acts.RemoteList c) (kind_of (x.entry).kind)) x idle)
+    acted (acts.RemoteFile snapshot name offset) x v vs idle is does cut right =
+        asked (x.entry).kind (acts.RemoteFile snapshot name offset) x.reply (asks_here v (acts.RemoteFile snapshot name offset) idle is does.1) cut right
+        ∙ ap Some (heard_is (moved R w k m (acts.RemoteFile snapshot name offset) (kind_of (x.entry).kind)) x idle)
+    acted (acts.RemoteChunk digest) x v vs idle is does cut right =
+        asked (x.entry).kind (acts.RemoteChunk digest) x.reply (asks_here v (acts.RemoteChunk digest) idle is does.1) cut right
+        ∙ ap Some (heard_is (moved R w k m (acts.RemoteChunk digest) (kind_of (x.entry).kind)) x idle)
+    acted acts.Step x v vs idle is does cut right =
+        asked (x.entry).kind acts.Step x.reply (asks_here v acts.Step idle is does) cut right
+        ∙ ap Some (heard_is (moved R w k m acts.Step (kind_of (x.entry).kind)) x idle)
+    acted (acts.Plain c) x v vs idle is does cut right =
+        asked (x.entry).kind (acts.Plain c) x.reply (asks_here v (acts.Plain c) idle is does.1) cut right
+        ∙ ap Some (heard_is (moved R w k m (acts.Plain c) (kind_of (x.entry).kind)) x idle)
+    acted (acts.JobGroup c) x v vs idle is does cut right =
+        asked (x.entry).kind (acts.JobGroup c) x.reply (asks_here v (acts.JobGroup c) idle is does.1) cut right
+        ∙ ap Some (heard_is (moved R w k m (acts.JobGroup c) (kind_of (x.entry).kind)) x idle)
+    acted (acts.Blob name checked) x v vs idle is does cut right =
+        asked (x.entry).kind (acts.Blob name checked) x.reply (asks_here v (acts.Blob name checked) idle is does.1) cut right
+        ∙ ap Some (heard_is (moved R w k m (acts.Blob name checked) (kind_of (x.entry).kind)) x idle)
+    acted (acts.ReadFile name offset) x v vs idle is does cut right =
+        asked (x.entry).kind (acts.ReadFile name offset) x.reply (asks_here v (acts.ReadFile name offset) idle is does.1) cut right
+        ∙ ap Some (heard_is (moved R w k m (acts.ReadFile name offset) (kind_of (x.entry).kind)) x idle)
+    acted (acts.ReadChunk name entry) x v vs idle is does cut right =
+        asked (x.entry).kind (acts.ReadChunk name entry) x.reply (asks_here v (acts.ReadChunk name entry) idle is does.1) cut right
+        ∙ ap Some (heard_is (moved R w k m (acts.ReadChunk name entry) (kind_of (x.entry).kind)) x idle)
+    acted (acts.Chunk digest checked) x v vs idle is does cut right =
+        asked (x.entry).kind (acts.Chunk digest checked) x.reply (asks_here v (acts.Chunk digest checked) idle is does.1) cut right
+        ∙ ap Some (heard_is (moved R w k m (acts.Chunk digest checked) (kind_of (x.entry).kind)) x idle)
 
-    pub turned : (v : Event) (vs : List Event) → lane v ≡ k → moment v ≡ m → Does (class_of v.act) e p v vs
+    pub turned : (v : Event) (vs : List Event) → p.pull ≡ None → lane v ≡ k → moment v ≡ m → Does (class_of v.act) e p v vs
         → (kind v ≡ 5 → is_cut_off run k e later ≡ cuts (class_of v.act) e p)
         → Right R w k m v.act (reply v) (class_of v.act) (kind_of (kind v))
         → enter (kind v) ≡ Some (run_of R (moved R w k m v.act (kind_of (kind v))) (slice_set ps k (position_after e p v)))
     unfolding position_after
-    turned v vs l t does cut right = acted v.act v.answer v vs refl does cut right
+    turned v vs idle l t does cut right = acted v.act v.answer v vs idle refl does cut right

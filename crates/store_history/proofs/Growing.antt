@@ -17,9 +17,11 @@ use Rattle.store_model.specs.Jobs.{take as job_take}
 use Rattle.store_model.specs.Lanes.{Next, job_step, plain, sync, collect, collecting, bye, broken, end, lane_next, front_next, command_next}
 use Rattle.store_history.specs.declared.act.Answer.{Answer}
 use Rattle.store_history.specs.declared.act.Event.{Event}
-use Rattle.store_history.specs.Acts.{Class, stepping, starting, sweeping, wanting, ending, class_of}
-use Rattle.store_history.specs.LaneRun.{Position, next_at, tells, wants, heard_at, heard, heard_as, goes_on, used_up, position_after, Asks, may_want, job_may_want, may_want_at, Does, Runs}
-use Rattle.store_history.specs.SoFar.{goes_further, Follows, Leads, grown}
+use Rattle.store_history.specs.Acts.{Class, stepping, reaching, starting, sweeping, wanting, ending, class_of}
+use Rattle.store_history.specs.LaneRun.{Position, next_at, tells, wants, heard_at, behind, heard_by, heard, heard_as, goes_on, pulls_on, used_up, position_after, is_behind, Asks, AsksBy, may_want, job_may_want, pull_may_want, may_want_at, Does, Runs}
+use Rattle.store_history.specs.Pulling as pulls
+use Rattle.store_history.specs.Pulling.{Pulling, comparing, SyncJob, sought, take as pull_take}
+use Rattle.store_history.specs.SoFar.{goes_further, further_by, Follows, Leads, grown}
 
 -- ---- a command stays at the front
 
@@ -95,6 +97,11 @@ unfolding goes_on
 job_grown more p left (over report) = refl
 job_grown more p left (asking j) = refl
 
+pulls_grown : (more : List ℕ) (p : Position) (left : List ℕ) (j : SyncJob) → pulls_on (grown more p) (left ++ more) j ≡ grown more (pulls_on p left j)
+unfolding pulls_on
+pulls_grown more p left (pulls.reports report) = refl
+pulls_grown more p left (pulls.asks x) = refl
+
 heard_at_grown : (more : List ℕ) (p : Position) (n : ℕ) (r : Option Reply) (x : Next) → goes_further x ≡ true
     → heard_at (grown more p) n r (next_grown more x) ≡ grown more (heard_at p n r x)
 unfolding heard_at next_grown
@@ -102,7 +109,12 @@ heard_at_grown more p n (Some r) (job_step j left) h = job_grown more p left (jo
 heard_at_grown more p n None (job_step j left) h = refl
 heard_at_grown more p n (Some r) (plain c left) h = refl
 heard_at_grown more p n None (plain c left) h = refl
-heard_at_grown more p n (Some r) (sync group left) h = refl
+heard_at_grown more p n (Some r) (sync group left) h = by_kind (n == 1)
+  where
+    by_kind : (b : Bool) → (if b then pulls_on (grown more p) (p.left ++ more) (sought group r) else tells (grown more p) (left ++ more) r)
+        ≡ grown more (if b then pulls_on p p.left (sought group r) else tells p left r)
+    by_kind true = pulls_grown more p p.left (sought group r)
+    by_kind false = refl
 heard_at_grown more p n None (sync group left) h = refl
 heard_at_grown more p n (Some r) (collect left) h = refl
 heard_at_grown more p n None (collect left) h = by_kind (n == 3)
@@ -123,12 +135,60 @@ heard_at_grown more p n r bye h = cc
 heard_at_grown more p n r (broken refusal) h = cc
 heard_at_grown more p n r end h = cc
 
-heard_stays : (more : List ℕ) (p : Position) (a : Answer) → goes_further (next_at p) ≡ true → heard (grown more p) a ≡ grown more (heard p a)
+sought_grown : (more : List ℕ) (p : Position) (group : List ℕ) (remote : List (List ℕ)) (n : Next) → is_behind (comparing group remote) n ≡ true
+    → behind (grown more p) (comparing group remote) (next_grown more n) ≡ behind p (comparing group remote) n ++ more
+unfolding next_grown
+sought_grown more p group remote (sync name left) h = refl
+sought_grown more p group remote (job_step j left) h = cc
+sought_grown more p group remote (plain c left) h = cc
+sought_grown more p group remote (collect left) h = cc
+sought_grown more p group remote (collecting is_short) h = cc
+sought_grown more p group remote bye h = cc
+sought_grown more p group remote (broken refusal) h = cc
+sought_grown more p group remote end h = cc
+
+sync_further : (group : List ℕ) (remote : List (List ℕ)) (n : Next) → is_behind (comparing group remote) n ≡ true → goes_further n ≡ true
+sync_further group remote (sync name left) h = refl
+sync_further group remote (job_step j left) h = cc
+sync_further group remote (plain c left) h = cc
+sync_further group remote (collect left) h = cc
+sync_further group remote (collecting is_short) h = cc
+sync_further group remote bye h = cc
+sync_further group remote (broken refusal) h = cc
+sync_further group remote end h = cc
+
+behind_grown : (more : List ℕ) (p : Position) (x : Pulling) → is_behind x (next_at p) ≡ true
+    → behind (grown more p) x (next_at (grown more p)) ≡ behind p x (next_at p) ++ more
+behind_grown more p (comparing group remote) h =
+    ap (behind (grown more p) (comparing group remote)) (next_stays more p (sync_further group remote (next_at p) h))
+    ∙ sought_grown more p group remote (next_at p) h
+behind_grown more p (pulls.seeking group) h = refl
+behind_grown more p (pulls.starting c) h = refl
+behind_grown more p (pulls.reading_manifest c bytes) h = refl
+behind_grown more p (pulls.reading_file c s name bytes) h = refl
+behind_grown more p (pulls.opening c s y) h = refl
+behind_grown more p (pulls.reading_chunk c s y e later) h = refl
+behind_grown more p (pulls.sending_chunk c s y e later blob) h = refl
+behind_grown more p (pulls.appending c s y e later) h = refl
+behind_grown more p (pulls.closing_index c s y) h = refl
+behind_grown more p (pulls.sending_blob c s name bytes) h = refl
+behind_grown more p (pulls.sending_manifest c s) h = refl
+behind_grown more p (pulls.finishing c) h = refl
+behind_grown more p (pulls.rejecting path) h = refl
+behind_grown more p (pulls.aborting first) h = refl
+
+heard_by_grown : (more : List ℕ) (o : Option Pulling) (p : Position) (n : ℕ) (r : Option Reply) → further_by o (next_at p) ≡ true
+    → heard_by o (grown more p) n r ≡ grown more (heard_by o p n r)
+heard_by_grown more None p n r h = ap (λ x. heard_at (grown more p) n r x) (next_stays more p h) ∙ heard_at_grown more p n r (next_at p) h
+heard_by_grown more (Some x) p n (Some r) h =
+    ap (λ left. pulls_on (grown more p) left (pull_take x r)) (behind_grown more p x h) ∙ pulls_grown more p (behind p x (next_at p)) (pull_take x r)
+heard_by_grown more (Some x) p n None h = refl
+
+heard_stays : (more : List ℕ) (p : Position) (a : Answer) → further_by p.pull (next_at p) ≡ true → heard (grown more p) a ≡ grown more (heard p a)
 unfolding heard
 heard_stays more p a h =
     let flag : Position → Position = λ q. record q { is_short = wants (a.entry).kind p.collecting; is_spent = a.last || q.is_spent } in
-    ap (λ x. flag (heard_at (grown more p) (a.entry).kind a.reply x)) (next_stays more p h)
-    ∙ ap flag (heard_at_grown more p (a.entry).kind a.reply (next_at p) h)
+    ap flag (heard_by_grown more p.pull p (a.entry).kind a.reply h)
 
 asks_grown : (more : List ℕ) (x : Next) (v : Event) → Asks x v.act → Asks (next_grown more x) v.act
 unfolding next_grown
@@ -140,6 +200,32 @@ asks_grown more (collecting is_short) v h = h
 asks_grown more bye v h = h
 asks_grown more (broken refusal) v h = h
 asks_grown more end v h = h
+
+-- of a SYNC that is open too
+behind_stays : (more : List ℕ) (x : Pulling) (n : Next) → is_behind x n ≡ true → is_behind x (next_grown more n) ≡ true
+unfolding next_grown
+behind_stays more (comparing group remote) (sync name left) h = refl
+behind_stays more (comparing group remote) (job_step j left) h = cc
+behind_stays more (comparing group remote) (plain c left) h = cc
+behind_stays more (comparing group remote) (collect left) h = cc
+behind_stays more (comparing group remote) (collecting is_short) h = cc
+behind_stays more (comparing group remote) bye h = cc
+behind_stays more (comparing group remote) (broken refusal) h = cc
+behind_stays more (comparing group remote) end h = cc
+behind_stays more (pulls.seeking group) n h = refl
+behind_stays more (pulls.starting c) n h = refl
+behind_stays more (pulls.reading_manifest c bytes) n h = refl
+behind_stays more (pulls.reading_file c s name bytes) n h = refl
+behind_stays more (pulls.opening c s y) n h = refl
+behind_stays more (pulls.reading_chunk c s y e later) n h = refl
+behind_stays more (pulls.sending_chunk c s y e later blob) n h = refl
+behind_stays more (pulls.appending c s y e later) n h = refl
+behind_stays more (pulls.closing_index c s y) n h = refl
+behind_stays more (pulls.sending_blob c s name bytes) n h = refl
+behind_stays more (pulls.sending_manifest c s) n h = refl
+behind_stays more (pulls.finishing c) n h = refl
+behind_stays more (pulls.rejecting path) n h = refl
+behind_stays more (pulls.aborting first) n h = refl
 
 pub asks_further : (x : Next) (v : Event) → Asks x v.act → goes_further x ≡ true
 asks_further (job_step j left) v h = refl
@@ -162,10 +248,42 @@ further_grown more bye = refl
 further_grown more (broken refusal) = refl
 further_grown more end = refl
 
-is_further : (c : Class) (p : Position) (v : Event) → Follows c p v → goes_further (next_at p) ≡ true
-is_further stepping p v h = asks_further (next_at p) v h.1
-is_further starting p v h = asks_further (next_at p) v h.1
-is_further sweeping p v h = asks_further (next_at p) v h
+-- the SYNC's command is next still, where it is until the first step
+behind_at_grown : (more : List ℕ) (p : Position) (x : Pulling) → is_behind x (next_at p) ≡ true → is_behind x (next_at (grown more p)) ≡ true
+behind_at_grown more p (comparing group remote) h =
+    ap (is_behind (comparing group remote)) (next_stays more p (sync_further group remote (next_at p) h)) ∙ behind_stays more (comparing group remote) (next_at p) h
+behind_at_grown more p (pulls.seeking group) h = refl
+behind_at_grown more p (pulls.starting c) h = refl
+behind_at_grown more p (pulls.reading_manifest c bytes) h = refl
+behind_at_grown more p (pulls.reading_file c s name bytes) h = refl
+behind_at_grown more p (pulls.opening c s y) h = refl
+behind_at_grown more p (pulls.reading_chunk c s y e later) h = refl
+behind_at_grown more p (pulls.sending_chunk c s y e later blob) h = refl
+behind_at_grown more p (pulls.appending c s y e later) h = refl
+behind_at_grown more p (pulls.closing_index c s y) h = refl
+behind_at_grown more p (pulls.sending_blob c s name bytes) h = refl
+behind_at_grown more p (pulls.sending_manifest c s) h = refl
+behind_at_grown more p (pulls.finishing c) h = refl
+behind_at_grown more p (pulls.rejecting path) h = refl
+behind_at_grown more p (pulls.aborting first) h = refl
+
+further_by_grown : (more : List ℕ) (o : Option Pulling) (p : Position) → further_by o (next_at p) ≡ true → further_by o (next_at (grown more p)) ≡ true
+further_by_grown more None p h = ap goes_further (next_stays more p h) ∙ further_grown more (next_at p) ∙ h
+further_by_grown more (Some x) p h = behind_at_grown more p x h
+
+asks_by_further : (o : Option Pulling) (n : Next) (v : Event) → AsksBy o n v.act → further_by o n ≡ true
+asks_by_further None n v h = asks_further n v h
+asks_by_further (Some x) n v h = h.1
+
+asks_by_grown : (more : List ℕ) (o : Option Pulling) (p : Position) (v : Event) → AsksBy o (next_at p) v.act → AsksBy o (next_at (grown more p)) v.act
+asks_by_grown more None p v h = subst (λ x. Asks x v.act) (sym (next_stays more p (asks_further (next_at p) v h))) (asks_grown more (next_at p) v h)
+asks_by_grown more (Some x) p v h = (h.0, behind_at_grown more p x h.1)
+
+is_further : (c : Class) (p : Position) (v : Event) → Follows c p v → further_by p.pull (next_at p) ≡ true
+is_further stepping p v h = asks_by_further p.pull (next_at p) v h.1
+is_further reaching p v h = asks_by_further p.pull (next_at p) v h.1
+is_further starting p v h = asks_by_further p.pull (next_at p) v h.1
+is_further sweeping p v h = asks_by_further p.pull (next_at p) v h
 is_further wanting p v h = h.2
 is_further ending p v h = absurd h
 
@@ -190,18 +308,20 @@ want_at_grown more p h = by_collecting p.collecting h
     by_job None h = want_grown more p.left h
     by_job (Some j) h = h
 
-    by_collecting : (o : Option Bool) → (is_none o && job_may_want p.job p.left) ≡ true → (is_none o && job_may_want p.job (p.left ++ more)) ≡ true
-    by_collecting None h = by_job p.job h
+    by_pull : (o : Option Pulling) → pull_may_want o p.job p.left ≡ true → pull_may_want o p.job (p.left ++ more) ≡ true
+    by_pull None h = by_job p.job h
+    by_pull (Some x) h = h
+
+    by_collecting : (o : Option Bool) → (is_none o && pull_may_want p.pull p.job p.left) ≡ true → (is_none o && pull_may_want p.pull p.job (p.left ++ more)) ≡ true
+    by_collecting None h = by_pull p.pull h
     by_collecting (Some is_short) h = cc
 
 follows_grown : (c : Class) (more : List ℕ) (p : Position) (v : Event) → Follows c p v → Follows c (grown more p) v
-follows_grown starting more p v h =
-    (h.0, subst (λ x. Asks x v.act) (sym (next_stays more p (asks_further (next_at p) v h.1))) (asks_grown more (next_at p) v h.1))
-follows_grown sweeping more p v h = subst (λ x. Asks x v.act) (sym (next_stays more p (asks_further (next_at p) v h))) (asks_grown more (next_at p) v h)
-follows_grown stepping more p v h =
-    (h.0, subst (λ x. Asks x v.act) (sym (next_stays more p (asks_further (next_at p) v h.1))) (asks_grown more (next_at p) v h.1))
-follows_grown wanting more p v h =
-    (h.0, want_at_grown more p h.1, ap goes_further (next_stays more p h.2) ∙ further_grown more (next_at p) ∙ h.2)
+follows_grown stepping more p v h = (h.0, asks_by_grown more p.pull p v h.1)
+follows_grown reaching more p v h = (h.0, asks_by_grown more p.pull p v h.1)
+follows_grown starting more p v h = (h.0, asks_by_grown more p.pull p v h.1)
+follows_grown sweeping more p v h = asks_by_grown more p.pull p v h
+follows_grown wanting more p v h = (h.0, want_at_grown more p h.1, further_by_grown more p.pull p h.2)
 follows_grown ending more p v h = h
 
 -- what was done so far, where more of the input was taken
@@ -225,6 +345,16 @@ unfolding goes_on
 goes_on_over p left (over report) = refl
 goes_on_over p left (asking j) = refl
 
+pulls_on_over : (p : Position) (left : List ℕ) (j : SyncJob) → (pulls_on p left j).is_over ≡ p.is_over
+unfolding pulls_on
+pulls_on_over p left (pulls.reports report) = refl
+pulls_on_over p left (pulls.asks x) = refl
+
+pub pulls_on_spent : (p : Position) (left : List ℕ) (j : SyncJob) → (pulls_on p left j).is_spent ≡ p.is_spent
+unfolding pulls_on
+pulls_on_spent p left (pulls.reports report) = refl
+pulls_on_spent p left (pulls.asks x) = refl
+
 pub goes_on_spent : (p : Position) (left : List ℕ) (j : Job) → (goes_on p left j).is_spent ≡ p.is_spent
 unfolding goes_on
 goes_on_spent p left (over report) = refl
@@ -235,7 +365,11 @@ pub heard_at_over : (p : Position) (n : ℕ) (r : Option Reply) (x : Next) → (
 unfolding heard_at
 heard_at_over p n (Some r) (job_step j left) = goes_on_over p left (job_take j r)
 heard_at_over p n (Some r) (plain c left) = refl
-heard_at_over p n (Some r) (sync group left) = refl
+heard_at_over p n (Some r) (sync group left) = by_kind (n == 1)
+  where
+    by_kind : (b : Bool) → (if b then pulls_on p p.left (sought group r) else tells p left r).is_over ≡ p.is_over
+    by_kind true = pulls_on_over p p.left (sought group r)
+    by_kind false = refl
 heard_at_over p n (Some r) (collect left) = refl
 heard_at_over p n (Some r) (collecting is_short) = by_kind (n == 2)
   where
@@ -267,7 +401,11 @@ pub heard_at_spent : (p : Position) (n : ℕ) (r : Option Reply) (x : Next) → 
 unfolding heard_at
 heard_at_spent p n (Some r) (job_step j left) ne = goes_on_spent p left (job_take j r)
 heard_at_spent p n (Some r) (plain c left) ne = refl
-heard_at_spent p n (Some r) (sync group left) ne = refl
+heard_at_spent p n (Some r) (sync group left) ne = by_kind (n == 1)
+  where
+    by_kind : (b : Bool) → (if b then pulls_on p p.left (sought group r) else tells p left r).is_spent ≡ p.is_spent
+    by_kind true = pulls_on_spent p p.left (sought group r)
+    by_kind false = refl
 heard_at_spent p n (Some r) (collect left) ne = refl
 heard_at_spent p n (Some r) (collecting is_short) ne = by_kind (n == 2)
   where
@@ -294,12 +432,23 @@ heard_at_spent p n None (broken refusal) ne = refl
 heard_at_spent p n None bye ne = refl
 heard_at_spent p n None end ne = refl
 
+heard_by_over : (o : Option Pulling) (p : Position) (n : ℕ) (r : Option Reply) → (heard_by o p n r).is_over ≡ p.is_over
+heard_by_over None p n r = heard_at_over p n r (next_at p)
+heard_by_over (Some x) p n (Some r) = pulls_on_over p (behind p x (next_at p)) (pull_take x r)
+heard_by_over (Some x) p n None = refl
+
+pub heard_by_spent : (o : Option Pulling) (p : Position) (n : ℕ) (r : Option Reply) → (n ≡ 2 → ⊥) → (heard_by o p n r).is_spent ≡ p.is_spent
+heard_by_spent None p n r ne = heard_at_spent p n r (next_at p) ne
+heard_by_spent (Some x) p n (Some r) ne = pulls_on_spent p (behind p x (next_at p)) (pull_take x r)
+heard_by_spent (Some x) p n None ne = refl
+
 pub heard_over : (p : Position) (a : Answer) → (heard p a).is_over ≡ p.is_over
 unfolding heard
-heard_over p a = heard_at_over p (a.entry).kind a.reply (next_at p)
+heard_over p a = heard_by_over p.pull p (a.entry).kind a.reply
 
 follows_does : (c : Class) (e : Ending) (p : Position) (v : Event) (vs : List Event) → Follows c p v → Does c e p v vs
 follows_does stepping e p v vs h = h
+follows_does reaching e p v vs h = h
 follows_does starting e p v vs h = h
 follows_does sweeping e p v vs h = h
 follows_does wanting e p v vs h = (h.0, h.1)

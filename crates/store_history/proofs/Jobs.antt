@@ -16,7 +16,7 @@ use Rattle.wire_commands.specs.declared.rows.FileRow.{FileRow}
 use Rattle.wire_commands.specs.declared.rows.FileFault.{FileFault}
 use Rattle.wire_commands.specs.declared.rows.FileFault.TheVariants as faults
 use Rattle.store_model.specs.Job.{Visit, Asking, grouping, forgetting, opening, listing, reading, checking, closing, step_of, Job, over, asking, stopped, closed}
-use Rattle.store_model.specs.Jobs.{job_of, IsJob, IsPrune, take as job_take}
+use Rattle.store_model.specs.Jobs.{job_of, IsJob, take as job_take}
 use Rattle.store_model.specs.PruneJob as prune
 use Rattle.store_model.specs.VerifyJob as verify
 use Rattle.store_model.specs.Lanes.{job_step}
@@ -26,11 +26,13 @@ use Rattle.store_history.specs.declared.act.Event.{Event}
 use Rattle.store_history.specs.Acts.{IsWellFormed, act_of_step, class_of}
 use Rattle.store_history.specs.Begun.{IsBegun}
 use Rattle.store_history.specs.History.{kind, reply}
-use Rattle.store_history.specs.LaneRun.{Position, next_at, goes_on, wants, heard_at, heard, Asks, is_stopping, may_want_at, may_step}
+use Rattle.store_history.specs.LaneRun.{Position, next_at, goes_on, wants, heard_at, heard, Asks, is_stopping, may_want_at, pull_stops, may_step}
+use Rattle.store_history.specs.Pulling.{Pulling}
 use Rattle.store_history.specs.SoFar.{goes_further, Follows, Leads}
 use Rattle.store_history.proofs.Ending.{next_shut, next_open}
 use Rattle.store_history.proofs.Events.{step_class}
 use Rattle.store_history.proofs.Growing.{goes_on_spent, leads_more}
+use Rattle.store_history.proofs.Idling.{heard_idle, asks_idle, further_idle}
 use Rattle.store_history.proofs.Wanting.{wants_open}
 
 -- ---- the acts of its steps
@@ -168,12 +170,13 @@ step_formed j h = absurd h
 abbrev pub at_job : Position → List ℕ → Job → Bool → Bool → Position
 at_job p left j is_short is_spent = record (goes_on p left j) { is_short = is_short; is_spent = is_spent }
 
-pub heard_job : (p : Position) (j : Asking) (left : List ℕ) (a : Answer) (r : Reply) → next_at p ≡ job_step j left → a.reply ≡ Some r
+pub heard_job : (p : Position) (j : Asking) (left : List ℕ) (a : Answer) (r : Reply) → p.pull ≡ None → next_at p ≡ job_step j left → a.reply ≡ Some r
     → heard p a ≡ at_job p left (job_take j r) ((a.entry).kind == 2) (a.last || p.is_spent)
-unfolding heard heard_at
-heard_job p j left a r is says =
+unfolding heard_at
+heard_job p j left a r idle is says =
     let flag : Option Bool → Position → Position = λ o q. record q { is_short = wants (a.entry).kind o; is_spent = a.last || q.is_spent } in
-    ap (λ x. flag p.collecting (heard_at p (a.entry).kind a.reply x)) is
+    heard_idle p a idle
+    ∙ ap (λ x. flag p.collecting (heard_at p (a.entry).kind a.reply x)) is
     ∙ ap (λ (x : Option Reply). flag p.collecting (heard_at p (a.entry).kind x (job_step j left))) says
     ∙ ap (λ (o : Option Bool). flag o (goes_on p left (job_take j r))) (next_shut p (job_step j left) is refl)
     ∙ ap (λ b. at_job p left (job_take j r) ((a.entry).kind == 2) (a.last || b)) (goes_on_spent p left (job_take j r))
@@ -183,14 +186,14 @@ pub at_job_next : (p : Position) (left : List ℕ) (j : Asking) (s b : Bool) →
 unfolding goes_on
 at_job_next p left j s b shut = next_open (at_job p left (asking j) s b) j shut refl
 
-pub at_job_wants : (p : Position) (left : List ℕ) (j : Asking) (s b : Bool) → p.collecting ≡ None → is_stopping j ≡ false → may_want_at (at_job p left (asking j) s b) ≡ true
+pub at_job_wants : (p : Position) (left : List ℕ) (j : Asking) (s b : Bool) → p.pull ≡ None → p.collecting ≡ None → is_stopping j ≡ false → may_want_at (at_job p left (asking j) s b) ≡ true
 unfolding goes_on
-at_job_wants p left j s b shut on = wants_open (at_job p left (asking j) s b) j shut refl on
+at_job_wants p left j s b idle shut on = wants_open (at_job p left (asking j) s b) j idle shut refl on
 
 -- its next step may come where no answer was the last, or where it is stopping
-pub at_job_steps : (p : Position) (left : List ℕ) (j : Asking) (s b : Bool) → (b ≡ true → is_stopping j ≡ true) → may_step (at_job p left (asking j) s b) ≡ true
+pub at_job_steps : (p : Position) (left : List ℕ) (j : Asking) (s b : Bool) → p.pull ≡ None → (b ≡ true → is_stopping j ≡ true) → may_step (at_job p left (asking j) s b) ≡ true
 unfolding goes_on
-at_job_steps p left j s b stops = by_last b stops
+at_job_steps p left j s b idle stops = ap (λ (o : Option Pulling). not b || pull_stops o (Some j)) idle ∙ by_last b stops
   where
     by_last : (b : Bool) → (b ≡ true → is_stopping j ≡ true) → (not b || is_stopping j) ≡ true
     by_last true stops = stops refl
@@ -204,44 +207,49 @@ at_job_again p left j s b (asking k) t c = refl
 
 -- where it is over, the lane was told its report
 pub at_job_over : (p : Position) (left : List ℕ) (r : Reply) (s b : Bool)
-    → at_job p left (over r) s b ≡ record p { left = left; job = None; is_short = s; is_spent = b; told = p.told ++ r ∷ [] }
+    → at_job p left (over r) s b ≡ record p { left = left; job = None; pull = None; is_short = s; is_spent = b; told = p.told ++ r ∷ [] }
 unfolding goes_on
 at_job_over p left r s b = refl
 
-pub follows_job : (p : Position) (j : Asking) (left : List ℕ) (v : Event) → may_step p ≡ true → next_at p ≡ job_step j left
+pub follows_job : (p : Position) (j : Asking) (left : List ℕ) (v : Event) → p.pull ≡ None → may_step p ≡ true → next_at p ≡ job_step j left
     → v.act ≡ act_of_step (step_of j) → Follows (class_of v.act) p v
-follows_job p j left v on is asks =
-    subst (λ x. Follows x p v) (sym (ap class_of asks ∙ step_class (step_of j))) (on, subst (λ x. Asks x v.act) (sym is) asks)
+follows_job p j left v idle on is asks =
+    subst (λ x. Follows x p v) (sym (ap class_of asks ∙ step_class (step_of j))) (on, asks_idle p (next_at p) v.act idle (subst (λ x. Asks x v.act) (sym is) asks))
 
-pub follows_job_short : (p : Position) (j : Asking) (left : List ℕ) (v : Event) → p.is_spent ≡ false → next_at p ≡ job_step j left → may_want_at p ≡ true → v.act ≡ acts.Short
+pub follows_job_short : (p : Position) (j : Asking) (left : List ℕ) (v : Event) → p.pull ≡ None → p.is_spent ≡ false → next_at p ≡ job_step j left → may_want_at p ≡ true → v.act ≡ acts.Short
     → Follows (class_of v.act) p v
-follows_job_short p j left v on is may asks = subst (λ x. Follows x p v) (sym (ap class_of asks)) (on, may, ap goes_further is)
+follows_job_short p j left v idle on is may asks =
+    subst (λ x. Follows x p v) (sym (ap class_of asks)) (on, may, further_idle p (next_at p) idle (ap goes_further is))
 
 -- the lane went on by a step of its job, which was answered
-pub leads_job : (vs : List Event) (p q : Position) (j : Asking) (left : List ℕ) (v : Event) (r : Reply) → Leads p vs q → may_step q ≡ true
+pub leads_job : (vs : List Event) (p q : Position) (j : Asking) (left : List ℕ) (v : Event) (r : Reply) → Leads p vs q → q.pull ≡ None → may_step q ≡ true
     → next_at q ≡ job_step j left → v.act ≡ act_of_step (step_of j) → reply v ≡ Some r
     → Leads p (vs ++ v ∷ []) (at_job q left (job_take j r) (kind v == 2) ((v.answer).last || q.is_spent))
-leads_job vs p q j left v r led on is asks says =
-    subst (λ x. Leads p (vs ++ v ∷ []) x) (heard_job q j left v.answer r is says) (leads_more vs p q v led (follows_job q j left v on is asks))
+leads_job vs p q j left v r led idle on is asks says =
+    subst (λ x. Leads p (vs ++ v ∷ []) x) (heard_job q j left v.answer r idle is says) (leads_more vs p q v led (follows_job q j left v idle on is asks))
 
 -- or memory was wanting for it
-pub leads_job_short : (vs : List Event) (p q : Position) (j : Asking) (left : List ℕ) (v : Event) (r : Reply) → Leads p vs q → q.is_spent ≡ false
+pub leads_job_short : (vs : List Event) (p q : Position) (j : Asking) (left : List ℕ) (v : Event) (r : Reply) → Leads p vs q → q.pull ≡ None → q.is_spent ≡ false
     → next_at q ≡ job_step j left → may_want_at q ≡ true → v.act ≡ acts.Short → reply v ≡ Some r
     → Leads p (vs ++ v ∷ []) (at_job q left (job_take j r) (kind v == 2) ((v.answer).last || q.is_spent))
-leads_job_short vs p q j left v r led on is may asks says =
-    subst (λ x. Leads p (vs ++ v ∷ []) x) (heard_job q j left v.answer r is says) (leads_more vs p q v led (follows_job_short q j left v on is may asks))
+leads_job_short vs p q j left v r led idle on is may asks says =
+    subst (λ x. Leads p (vs ++ v ∷ []) x) (heard_job q j left v.answer r idle is says) (leads_more vs p q v led (follows_job_short q j left v idle on is may asks))
+
+at_job_idle : (p : Position) (left : List ℕ) (j : Asking) (s b : Bool) → p.pull ≡ None → (at_job p left (asking j) s b).pull ≡ None
+unfolding goes_on
+at_job_idle p left j s b idle = idle
 
 -- so from one step of the job to the next
 pub leads_step : (vs : List Event) (p q : Position) (j : Asking) (left : List ℕ) (s b : Bool) (v : Event) (r : Reply) → Leads p vs (at_job q left (asking j) s b)
-    → q.collecting ≡ None → (b ≡ true → is_stopping j ≡ true) → v.act ≡ act_of_step (step_of j) → reply v ≡ Some r
+    → q.pull ≡ None → q.collecting ≡ None → (b ≡ true → is_stopping j ≡ true) → v.act ≡ act_of_step (step_of j) → reply v ≡ Some r
     → Leads p (vs ++ v ∷ []) (at_job q left (job_take j r) (kind v == 2) ((v.answer).last || b))
-leads_step vs p q j left s b v r led shut stops asks says =
+leads_step vs p q j left s b v r led idle shut stops asks says =
     subst (λ x. Leads p (vs ++ v ∷ []) x) (at_job_again q left j s b (job_take j r) (kind v == 2) ((v.answer).last || b))
-    (leads_job vs p (at_job q left (asking j) s b) j left v r led (at_job_steps q left j s b stops) (at_job_next q left j s b shut) asks says)
+    (leads_job vs p (at_job q left (asking j) s b) j left v r led (at_job_idle q left j s b idle) (at_job_steps q left j s b idle stops) (at_job_next q left j s b shut) asks says)
 
 pub leads_step_short : (vs : List Event) (p q : Position) (j : Asking) (left : List ℕ) (s : Bool) (v : Event) (r : Reply) → Leads p vs (at_job q left (asking j) s false)
-    → q.collecting ≡ None → is_stopping j ≡ false → v.act ≡ acts.Short → reply v ≡ Some r
+    → q.pull ≡ None → q.collecting ≡ None → is_stopping j ≡ false → v.act ≡ acts.Short → reply v ≡ Some r
     → Leads p (vs ++ v ∷ []) (at_job q left (job_take j r) (kind v == 2) ((v.answer).last || false))
-leads_step_short vs p q j left s v r led shut on asks says =
+leads_step_short vs p q j left s v r led idle shut on asks says =
     subst (λ x. Leads p (vs ++ v ∷ []) x) (at_job_again q left j s false (job_take j r) (kind v == 2) ((v.answer).last || false))
-    (leads_job_short vs p (at_job q left (asking j) s false) j left v r led refl (at_job_next q left j s false shut) (at_job_wants q left j s false shut on) asks says)
+    (leads_job_short vs p (at_job q left (asking j) s false) j left v r led (at_job_idle q left j s false idle) refl (at_job_next q left j s false shut) (at_job_wants q left j s false idle shut on) asks says)

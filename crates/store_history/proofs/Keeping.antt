@@ -17,12 +17,14 @@ use Rattle.store_history.specs.declared.act.Act.{Act}
 use Rattle.store_history.specs.declared.act.Act.TheVariants as acts
 use Rattle.store_history.specs.declared.act.Answer.{Answer}
 use Rattle.store_history.specs.declared.act.Event.{Event}
-use Rattle.store_history.specs.Acts.{Class, stepping, starting, sweeping, wanting, ending, class_of}
+use Rattle.store_history.specs.Acts.{Class, stepping, reaching, starting, sweeping, wanting, ending, class_of}
 use Rattle.store_history.specs.History.{World, open_on, act_outcome, moved, EntryKind, kind_of, step_kind, pass_kind, short_kind, start_kind, close_kind, fault_kind, end_kind, remote_kind, no_kind}
-use Rattle.store_history.specs.Legal.{Right, OpensCollector, Reports, collecting_on}
-use Rattle.store_history.specs.LaneRun.{Position, next_at, tells, goes_on, used_up, heard_at, heard, heard_as, last_words, end_faulted, end_heard, Asks, Does}
+use Rattle.store_history.specs.Legal.{Right, Reports, collecting_on}
+use Rattle.store_history.specs.LaneRun.{Position, next_at, tells, goes_on, pulls_on, used_up, heard_at, behind, heard_pulling, heard_by, heard, heard_as, last_words, end_faulted, end_heard, Asks, AsksBy, Does}
+use Rattle.store_history.specs.Pulling as pulling
+use Rattle.store_history.specs.Pulling.{Pulling, SyncJob, sought, take as pull_take}
 use Rattle.store_history.proofs.Collectors.{some_none, open_new, cut_none, cut_some, closed_none, closed_some, halted_none, other_none, new_other, cut_other, closed_other, halted_other, may_open_none}
-use Rattle.store_history.proofs.Events.{IsStepping, FitsNext, asks_class, IsPlainNext, next_plain, right_start, right_close, report_is}
+use Rattle.store_history.proofs.Events.{IsStepping, IsReaching, FitsNext, asks_class, IsPlainNext, next_plain, right_start, right_close, report_is}
 use Rattle.store_history.proofs.Placed.{open_at, open_is}
 use Rattle.store_history.proofs.Plainly.{IsPlainReply, IsPlainJob, ArePlain, says_plainly, take_plainly}
 use Rattle.store_history.proofs.Wanting.{want_shut}
@@ -34,6 +36,11 @@ unfolding goes_on
 goes_shut p left (over report) = refl
 goes_shut p left (asking j) = refl
 
+pulls_shut : (p : Position) (left : List ℕ) (j : SyncJob) → (pulls_on p left j).collecting ≡ p.collecting
+unfolding pulls_on
+pulls_shut p left (pulling.reports report) = refl
+pulls_shut p left (pulling.asks x) = refl
+
 pub heard_shut : (p : Position) (n : ℕ) (r : Option Reply) (x : Next) → open_at x ≡ None → ((left : List ℕ) → x ≡ collect left → (n == 3) ≡ false)
     → (heard_at p n r x).collecting ≡ p.collecting
 unfolding heard_at
@@ -41,7 +48,11 @@ heard_shut p n (Some r) (job_step j left) shut starts = goes_shut p left (job_ta
 heard_shut p n None (job_step j left) shut starts = refl
 heard_shut p n (Some r) (plain c left) shut starts = refl
 heard_shut p n None (plain c left) shut starts = refl
-heard_shut p n (Some r) (sync group left) shut starts = refl
+heard_shut p n (Some r) (sync group left) shut starts = by_kind (n == 1)
+  where
+    by_kind : (b : Bool) → (if b then pulls_on p p.left (sought group r) else tells p left r).collecting ≡ p.collecting
+    by_kind true = pulls_shut p p.left (sought group r)
+    by_kind false = refl
 heard_shut p n None (sync group left) shut starts = refl
 heard_shut p n (Some r) (collect left) shut starts = refl
 heard_shut p n None (collect left) shut starts =
@@ -89,13 +100,22 @@ abbrev AnswersPlainly : Next → Option Reply → Type 0
 AnswersPlainly (job_step j left) (Some r) = IsPlainReply r
 AnswersPlainly _ _ = Unit {0}
 
+pub pulls_plain : (p : Position) (left : List ℕ) (j : SyncJob) → ArePlain p.job → ArePlain (pulls_on p left j).job
+unfolding pulls_on
+pulls_plain p left (pulling.reports report) h = tt
+pulls_plain p left (pulling.asks x) h = h
+
 heard_plain : (p : Position) (n : ℕ) (r : Option Reply) (x : Next) → ArePlain p.job → IsPlainNext x → AnswersPlainly x r → ArePlain (heard_at p n r x).job
 unfolding heard_at
 heard_plain p n (Some r) (job_step j left) h kept plainly = goes_plain p left (job_take j r) (take_plainly j r kept plainly)
 heard_plain p n None (job_step j left) h kept plainly = h
 heard_plain p n (Some r) (plain c left) h kept plainly = tt
 heard_plain p n None (plain c left) h kept plainly = h
-heard_plain p n (Some r) (sync group left) h kept plainly = tt
+heard_plain p n (Some r) (sync group left) h kept plainly = by_kind (n == 1)
+  where
+    by_kind : (b : Bool) → ArePlain (if b then pulls_on p p.left (sought group r) else tells p left r).job
+    by_kind true = pulls_plain p p.left (sought group r) h
+    by_kind false = tt
 heard_plain p n None (sync group left) h kept plainly = h
 heard_plain p n (Some r) (collect left) h kept plainly = tt
 heard_plain p n None (collect left) h kept plainly = by_kind (n == 3)
@@ -181,20 +201,41 @@ plain_no_collect c left l e = cc
 sync_no_collect : (group left l : List ℕ) → sync group left ≡ collect l → ⊥
 sync_no_collect group left l e = cc
 
-no_start : (a : Act) → IsStepping (class_of a) → OpensCollector a → ⊥
-no_start acts.Start h opens = h
-no_start a h opens = opens
+-- only the start of a collector opens one
+abbrev pub NoStart : Class → Type 0
+NoStart starting = ⊥
+NoStart c = Unit {0}
 
-sync_no_start : (a : Act) (group left : List ℕ) → Asks (sync group left) a → OpensCollector a → ⊥
-sync_no_start a group left asks opens = subst OpensCollector asks opens
+no_start : (R : Option (List Snapshot)) (w : World) (k m : ℕ) (a : Act) (r : Option Reply) (c : Class) → NoStart c → Right R w k m a r c start_kind → ⊥
+no_start R w k m a r stepping none h = h
+no_start R w k m a r reaching none h = h
+no_start R w k m a r starting none h = none
+no_start R w k m a r sweeping none h = h
+no_start R w k m a r wanting none h = h
+no_start R w k m a r ending none h = h
+
+step_no_start : (c : Class) → IsStepping c → NoStart c
+step_no_start stepping h = tt
+step_no_start c h = absurd h
+
+reach_no_start : (c : Class) → IsReaching c → NoStart c
+reach_no_start reaching h = tt
+reach_no_start c h = absurd h
 
 heard_opens : (p : Position) (left : List ℕ) (r : Option Reply) → r ≡ None → (heard_at p 3 r (collect left)).collecting ≡ Some false
 unfolding heard_at
 heard_opens p left r is = ap (λ (x : Option Reply). (heard_at p 3 x (collect left)).collecting) is
 
-heard_same : (p : Position) (x : Answer) → (heard p x).collecting ≡ (heard_at p (x.entry).kind x.reply (next_at p)).collecting
+heard_same : (p : Position) (x : Answer) → p.pull ≡ None → (heard p x).collecting ≡ (heard_at p (x.entry).kind x.reply (next_at p)).collecting
 unfolding heard
-heard_same p x = refl
+heard_same p x idle = ap (λ (o : Option Pulling). (heard_by o p (x.entry).kind x.reply).collecting) idle
+
+pulling_shut : (p : Position) (y : Pulling) (r : Option Reply) → (heard_pulling p y r).collecting ≡ p.collecting
+pulling_shut p y (Some r) = pulls_shut p (behind p y (next_at p)) (pull_take y r)
+pulling_shut p y None = refl
+
+asks_here : (p : Position) (v : Event) (a : Act) → p.pull ≡ None → v.act ≡ a → AsksBy p.pull (next_at p) v.act → Asks (next_at p) a
+asks_here p v a idle is asks = subst (λ y. Asks (next_at p) y) is (subst (λ (o : Option Pulling). AsksBy o (next_at p) v.act) idle asks)
 
 module _ (R : Option (List Snapshot)) (w : World) (k m : ℕ) where
   -- the collectors of other lanes are as before
@@ -217,13 +258,13 @@ module _ (R : Option (List Snapshot)) (w : World) (k m : ℕ) where
   others_keep j a r no_kind ne right = refl
 
   -- where the lane's is not open, it is not after all acts but a start of one
-  stays_shut : (a : Act) (r : Option Reply) (kind : EntryKind) → Right R w k m a r (class_of a) kind → (OpensCollector a → ⊥)
+  stays_shut : (a : Act) (r : Option Reply) (kind : EntryKind) → Right R w k m a r (class_of a) kind → NoStart (class_of a)
       → open_on k w.collecting ≡ None → open_on k (moved R w k m a kind).collecting ≡ None
   unfolding moved
   stays_shut a r step_kind right starts shut = shut
   stays_shut a r pass_kind right starts shut = shut
   stays_shut a r short_kind right starts shut = ap (λ c. open_on k c) (cut_none k w.collecting shut) ∙ shut
-  stays_shut a r start_kind right starts shut = absurd (starts (right_start R w [] k m a r (class_of a) right).3)
+  stays_shut a r start_kind right starts shut = absurd (no_start R w k m a r (class_of a) starts right)
   stays_shut a r close_kind right starts shut = refl
   stays_shut a r fault_kind right starts shut = ap (λ c. open_on k c) (halted_none k (class_of a) w.collecting shut) ∙ shut
   stays_shut a r end_kind right starts shut = ap (λ c. open_on k c) (closed_none k w.collecting shut) ∙ shut
@@ -272,10 +313,10 @@ module _ (R : Option (List Snapshot)) (w : World) (k m : ℕ) where
       → Right R w k m a r (class_of a) (kind_of n) → (heard_at p n r x).collecting ≡ open_on k (moved R w k m a (kind_of n)).collecting
   asked_keeps p n a r (job_step j left) at agrees asks right =
       heard_shut p n r (job_step j left) refl (λ l e. absurd (job_no_collect j left l e)) ∙ sym at
-      ∙ sym (stays_shut a r (kind_of n) right (λ h. no_start a (asks_class (job_step j left) a asks) h) (sym agrees ∙ sym at))
+      ∙ sym (stays_shut a r (kind_of n) right (step_no_start (class_of a) (asks_class (job_step j left) a asks)) (sym agrees ∙ sym at))
   asked_keeps p n a r (plain c left) at agrees asks right =
       heard_shut p n r (plain c left) refl (λ l e. absurd (plain_no_collect c left l e)) ∙ sym at
-      ∙ sym (stays_shut a r (kind_of n) right (λ h. no_start a (asks_class (plain c left) a asks) h) (sym agrees ∙ sym at))
+      ∙ sym (stays_shut a r (kind_of n) right (step_no_start (class_of a) (asks_class (plain c left) a asks)) (sym agrees ∙ sym at))
   asked_keeps p n a r (collect left) at agrees asks right =
       start_keeps p left n r (sym at) (sym agrees ∙ sym at) (subst (λ y. Right R w k m y r (class_of y) (kind_of n)) asks right)
       ∙ ap (λ y. open_on k (moved R w k m y (kind_of n)).collecting) (sym asks)
@@ -284,7 +325,7 @@ module _ (R : Option (List Snapshot)) (w : World) (k m : ℕ) where
       ∙ ap (λ y. open_on k (moved R w k m y (kind_of n)).collecting) (sym asks)
   asked_keeps p n a r (sync group left) at agrees asks right =
       heard_shut p n r (sync group left) refl (λ l e. absurd (sync_no_collect group left l e)) ∙ sym at
-      ∙ sym (stays_shut a r (kind_of n) right (λ h. sync_no_start a group left asks h) (sym agrees ∙ sym at))
+      ∙ sym (stays_shut a r (kind_of n) right (reach_no_start (class_of a) (asks_class (sync group left) a asks)) (sym agrees ∙ sym at))
   asked_keeps p n a r bye at agrees asks right = absurd asks
   asked_keeps p n a r (broken refusal) at agrees asks right = absurd asks
   asked_keeps p n a r end at agrees asks right = absurd asks
@@ -322,30 +363,44 @@ module _ (R : Option (List Snapshot)) (w : World) (k m : ℕ) where
   end_keeps e p (suc (suc (suc (suc (suc (suc (suc (suc n)))))))) r off shut right = absurd right
 
   -- the lane's position knows of its collector again
-  pub own_keeps : (e : Ending) (p : Position) (a : Act) (x : Answer) (v : Event) (vs : List Event) → v.act ≡ a → Does (class_of a) e p v vs
+  pub own_keeps : (e : Ending) (p : Position) (a : Act) (x : Answer) (v : Event) (vs : List Event) → p.pull ≡ None → v.act ≡ a → Does (class_of a) e p v vs
       → p.collecting ≡ open_on k w.collecting → Right R w k m a x.reply (class_of a) (kind_of (x.entry).kind)
       → (heard_as (class_of a) e p x).collecting ≡ open_on k (moved R w k m a (kind_of (x.entry).kind)).collecting
-  own_keeps e p acts.End x v vs is does agrees right = end_keeps e p (x.entry).kind x.reply does.2 (sym agrees ∙ does.2) right
-  own_keeps e p acts.Short x v vs is does agrees right =
-      let off = want_shut p does.1 in heard_same p x ∙ wanted_keeps p (x.entry).kind x.reply off (sym agrees ∙ off) right
-  own_keeps e p acts.Start x v vs is does agrees right =
-      heard_same p x ∙ asked_keeps p (x.entry).kind acts.Start x.reply (next_at p) (open_is p) agrees (subst (λ y. Asks (next_at p) y) is does.1) right
-  own_keeps e p (acts.RemoteList c) x v vs is does agrees right =
-      heard_same p x ∙ asked_keeps p (x.entry).kind (acts.RemoteList c) x.reply (next_at p) (open_is p) agrees (subst (λ y. Asks (next_at p) y) is does.1) right
-  own_keeps e p acts.Step x v vs is does agrees right =
-      heard_same p x ∙ asked_keeps p (x.entry).kind acts.Step x.reply (next_at p) (open_is p) agrees (subst (λ y. Asks (next_at p) y) is does) right
-  own_keeps e p (acts.Plain c) x v vs is does agrees right =
-      heard_same p x ∙ asked_keeps p (x.entry).kind (acts.Plain c) x.reply (next_at p) (open_is p) agrees (subst (λ y. Asks (next_at p) y) is does.1) right
-  own_keeps e p (acts.JobGroup c) x v vs is does agrees right =
-      heard_same p x ∙ asked_keeps p (x.entry).kind (acts.JobGroup c) x.reply (next_at p) (open_is p) agrees (subst (λ y. Asks (next_at p) y) is does.1) right
-  own_keeps e p (acts.Blob name checked) x v vs is does agrees right =
-      heard_same p x ∙ asked_keeps p (x.entry).kind (acts.Blob name checked) x.reply (next_at p) (open_is p) agrees (subst (λ y. Asks (next_at p) y) is does.1) right
-  own_keeps e p (acts.ReadFile name offset) x v vs is does agrees right =
-      heard_same p x ∙ asked_keeps p (x.entry).kind (acts.ReadFile name offset) x.reply (next_at p) (open_is p) agrees (subst (λ y. Asks (next_at p) y) is does.1) right
-  own_keeps e p (acts.ReadChunk name entry) x v vs is does agrees right =
-      heard_same p x ∙ asked_keeps p (x.entry).kind (acts.ReadChunk name entry) x.reply (next_at p) (open_is p) agrees (subst (λ y. Asks (next_at p) y) is does.1) right
-  own_keeps e p (acts.Chunk digest checked) x v vs is does agrees right =
-      heard_same p x ∙ asked_keeps p (x.entry).kind (acts.Chunk digest checked) x.reply (next_at p) (open_is p) agrees (subst (λ y. Asks (next_at p) y) is does.1) right
+  own_keeps e p acts.End x v vs idle is does agrees right = end_keeps e p (x.entry).kind x.reply does.2 (sym agrees ∙ does.2) right
+  own_keeps e p acts.Short x v vs idle is does agrees right =
+      let off = want_shut p does.1 in heard_same p x idle ∙ wanted_keeps p (x.entry).kind x.reply off (sym agrees ∙ off) right
+  own_keeps e p acts.Start x v vs idle is does agrees right =
+      heard_same p x idle ∙ asked_keeps p (x.entry).kind acts.Start x.reply (next_at p) (open_is p) agrees (asks_here p v acts.Start idle is does.1) right
+  own_keeps e p (acts.RemoteList c) x v vs idle is does agrees right =
+      heard_same p x idle ∙ asked_keeps p (x.entry).kind (acts.RemoteList c) x.reply (next_at p) (open_is p) agrees (asks_here p v (acts.RemoteList c) idle is does.1) right
+  own_keeps e p (acts.RemoteFile snapshot name offset) x v vs idle is does agrees right =
+      heard_same p x idle ∙ asked_keeps p (x.entry).kind (acts.RemoteFile snapshot name offset) x.reply (next_at p) (open_is p) agrees (asks_here p v (acts.RemoteFile snapshot name offset) idle is does.1) right
+  own_keeps e p (acts.RemoteChunk digest) x v vs idle is does agrees right =
+      heard_same p x idle ∙ asked_keeps p (x.entry).kind (acts.RemoteChunk digest) x.reply (next_at p) (open_is p) agrees (asks_here p v (acts.RemoteChunk digest) idle is does.1) right
+  own_keeps e p acts.Step x v vs idle is does agrees right =
+      heard_same p x idle ∙ asked_keeps p (x.entry).kind acts.Step x.reply (next_at p) (open_is p) agrees (asks_here p v acts.Step idle is does) right
+  own_keeps e p (acts.Plain c) x v vs idle is does agrees right =
+      heard_same p x idle ∙ asked_keeps p (x.entry).kind (acts.Plain c) x.reply (next_at p) (open_is p) agrees (asks_here p v (acts.Plain c) idle is does.1) right
+  own_keeps e p (acts.JobGroup c) x v vs idle is does agrees right =
+      heard_same p x idle ∙ asked_keeps p (x.entry).kind (acts.JobGroup c) x.reply (next_at p) (open_is p) agrees (asks_here p v (acts.JobGroup c) idle is does.1) right
+  own_keeps e p (acts.Blob name checked) x v vs idle is does agrees right =
+      heard_same p x idle ∙ asked_keeps p (x.entry).kind (acts.Blob name checked) x.reply (next_at p) (open_is p) agrees (asks_here p v (acts.Blob name checked) idle is does.1) right
+  own_keeps e p (acts.ReadFile name offset) x v vs idle is does agrees right =
+      heard_same p x idle ∙ asked_keeps p (x.entry).kind (acts.ReadFile name offset) x.reply (next_at p) (open_is p) agrees (asks_here p v (acts.ReadFile name offset) idle is does.1) right
+  own_keeps e p (acts.ReadChunk name entry) x v vs idle is does agrees right =
+      heard_same p x idle ∙ asked_keeps p (x.entry).kind (acts.ReadChunk name entry) x.reply (next_at p) (open_is p) agrees (asks_here p v (acts.ReadChunk name entry) idle is does.1) right
+  own_keeps e p (acts.Chunk digest checked) x v vs idle is does agrees right =
+      heard_same p x idle ∙ asked_keeps p (x.entry).kind (acts.Chunk digest checked) x.reply (next_at p) (open_is p) agrees (asks_here p v (acts.Chunk digest checked) idle is does.1) right
+
+  -- an act of an open SYNC leaves the collectors
+  pub pull_keeps : (e : Ending) (p : Position) (y : Pulling) (a : Act) (x : Answer) (c : Class) → c ≡ class_of a → NoStart c → (c ≡ sweeping → ⊥) → (c ≡ ending → ⊥) → p.pull ≡ Some y → p.collecting ≡ None
+      → p.collecting ≡ open_on k w.collecting → Right R w k m a x.reply c (kind_of (x.entry).kind)
+      → (heard p x).collecting ≡ open_on k (moved R w k m a (kind_of (x.entry).kind)).collecting
+  unfolding heard
+  pull_keeps e p y a x c class starts no_sweep no_end going off agrees right =
+      ap (λ (o : Option Pulling). (heard_by o p (x.entry).kind x.reply).collecting) going
+      ∙ pulling_shut p y x.reply ∙ off
+      ∙ sym (stays_shut a x.reply (kind_of (x.entry).kind) (subst (λ d. Right R w k m a x.reply d (kind_of (x.entry).kind)) class right) (subst NoStart class starts) (sym agrees ∙ off))
 
   -- ---- and its job
 
@@ -367,17 +422,19 @@ module _ (R : Option (List Snapshot)) (w : World) (k m : ℕ) where
   answers (broken refusal) a r n fits h = tt
   answers end a r n fits h = tt
 
-  asked_plain : (p : Position) (a : Act) (x : Answer) → ArePlain p.job → Asks (next_at p) a → Right R w k m a x.reply (class_of a) (kind_of (x.entry).kind) → ArePlain (heard p x).job
+  asked_plain : (p : Position) (a : Act) (x : Answer) → p.pull ≡ None → ArePlain p.job → Asks (next_at p) a → Right R w k m a x.reply (class_of a) (kind_of (x.entry).kind) → ArePlain (heard p x).job
   unfolding heard
-  asked_plain p a x kept asks right =
-      heard_plain p (x.entry).kind x.reply (next_at p) kept (next_plain p kept)
-      (answers (next_at p) a x.reply (kind_of (x.entry).kind) (asks_class (next_at p) a asks) right)
+  asked_plain p a x idle kept asks right =
+      subst (λ (o : Option Pulling). ArePlain (heard_by o p (x.entry).kind x.reply).job) (sym idle)
+      (heard_plain p (x.entry).kind x.reply (next_at p) kept (next_plain p kept)
+      (answers (next_at p) a x.reply (kind_of (x.entry).kind) (asks_class (next_at p) a asks) right))
 
-  wanted_plain : (p : Position) (x : Answer) (n : EntryKind) → ArePlain p.job → Right R w k m acts.Short x.reply wanting n → ArePlain (heard p x).job
+  wanted_plain : (p : Position) (x : Answer) (n : EntryKind) → p.pull ≡ None → ArePlain p.job → Right R w k m acts.Short x.reply wanting n → ArePlain (heard p x).job
   unfolding heard
-  wanted_plain p x short_kind kept right =
-      heard_plain p (x.entry).kind x.reply (next_at p) kept (next_plain p kept) (refused_answers (next_at p) x.reply NoMemory right)
-  wanted_plain p x n kept right = absurd right
+  wanted_plain p x short_kind idle kept right =
+      subst (λ (o : Option Pulling). ArePlain (heard_by o p (x.entry).kind x.reply).job) (sym idle)
+      (heard_plain p (x.entry).kind x.reply (next_at p) kept (next_plain p kept) (refused_answers (next_at p) x.reply NoMemory right))
+  wanted_plain p x n idle kept right = absurd right
 
   end_plain : (e : Ending) (p : Position) (n : ℕ) (r : Option Reply) → ArePlain p.job → Right R w k m acts.End r ending (kind_of n) → ArePlain (end_heard e p n r).job
   end_plain e p zero r kept right = absurd right
@@ -391,20 +448,29 @@ module _ (R : Option (List Snapshot)) (w : World) (k m : ℕ) where
   end_plain e p (suc (suc (suc (suc (suc (suc (suc zero))))))) r kept right = absurd right
   end_plain e p (suc (suc (suc (suc (suc (suc (suc (suc n)))))))) r kept right = absurd right
 
-  pub own_plain : (e : Ending) (p : Position) (a : Act) (x : Answer) (v : Event) (vs : List Event) → v.act ≡ a → Does (class_of a) e p v vs
+  pub own_plain : (e : Ending) (p : Position) (a : Act) (x : Answer) (v : Event) (vs : List Event) → p.pull ≡ None → v.act ≡ a → Does (class_of a) e p v vs
       → ArePlain p.job → Right R w k m a x.reply (class_of a) (kind_of (x.entry).kind) → ArePlain (heard_as (class_of a) e p x).job
-  own_plain e p acts.End x v vs is does kept right = end_plain e p (x.entry).kind x.reply kept right
-  own_plain e p acts.Short x v vs is does kept right = wanted_plain p x (kind_of (x.entry).kind) kept right
-  own_plain e p acts.Start x v vs is does kept right = asked_plain p acts.Start x kept (subst (λ y. Asks (next_at p) y) is does.1) right
-  own_plain e p (acts.RemoteList c) x v vs is does kept right =
-      asked_plain p (acts.RemoteList c) x kept (subst (λ y. Asks (next_at p) y) is does.1) right
-  own_plain e p acts.Step x v vs is does kept right = asked_plain p acts.Step x kept (subst (λ y. Asks (next_at p) y) is does) right
-  own_plain e p (acts.Plain c) x v vs is does kept right = asked_plain p (acts.Plain c) x kept (subst (λ y. Asks (next_at p) y) is does.1) right
-  own_plain e p (acts.JobGroup c) x v vs is does kept right = asked_plain p (acts.JobGroup c) x kept (subst (λ y. Asks (next_at p) y) is does.1) right
-  own_plain e p (acts.Blob name checked) x v vs is does kept right = asked_plain p (acts.Blob name checked) x kept (subst (λ y. Asks (next_at p) y) is does.1) right
-  own_plain e p (acts.ReadFile name offset) x v vs is does kept right =
-      asked_plain p (acts.ReadFile name offset) x kept (subst (λ y. Asks (next_at p) y) is does.1) right
-  own_plain e p (acts.ReadChunk name entry) x v vs is does kept right =
-      asked_plain p (acts.ReadChunk name entry) x kept (subst (λ y. Asks (next_at p) y) is does.1) right
-  own_plain e p (acts.Chunk digest checked) x v vs is does kept right =
-      asked_plain p (acts.Chunk digest checked) x kept (subst (λ y. Asks (next_at p) y) is does.1) right
+  own_plain e p acts.End x v vs idle is does kept right = end_plain e p (x.entry).kind x.reply kept right
+  own_plain e p acts.Short x v vs idle is does kept right = wanted_plain p x (kind_of (x.entry).kind) idle kept right
+  own_plain e p acts.Start x v vs idle is does kept right =
+      asked_plain p acts.Start x idle kept (asks_here p v acts.Start idle is does.1) right
+  own_plain e p (acts.RemoteList c) x v vs idle is does kept right =
+      asked_plain p (acts.RemoteList c) x idle kept (asks_here p v (acts.RemoteList c) idle is does.1) right
+  own_plain e p (acts.RemoteFile snapshot name offset) x v vs idle is does kept right =
+      asked_plain p (acts.RemoteFile snapshot name offset) x idle kept (asks_here p v (acts.RemoteFile snapshot name offset) idle is does.1) right
+  own_plain e p (acts.RemoteChunk digest) x v vs idle is does kept right =
+      asked_plain p (acts.RemoteChunk digest) x idle kept (asks_here p v (acts.RemoteChunk digest) idle is does.1) right
+  own_plain e p acts.Step x v vs idle is does kept right =
+      asked_plain p acts.Step x idle kept (asks_here p v acts.Step idle is does) right
+  own_plain e p (acts.Plain c) x v vs idle is does kept right =
+      asked_plain p (acts.Plain c) x idle kept (asks_here p v (acts.Plain c) idle is does.1) right
+  own_plain e p (acts.JobGroup c) x v vs idle is does kept right =
+      asked_plain p (acts.JobGroup c) x idle kept (asks_here p v (acts.JobGroup c) idle is does.1) right
+  own_plain e p (acts.Blob name checked) x v vs idle is does kept right =
+      asked_plain p (acts.Blob name checked) x idle kept (asks_here p v (acts.Blob name checked) idle is does.1) right
+  own_plain e p (acts.ReadFile name offset) x v vs idle is does kept right =
+      asked_plain p (acts.ReadFile name offset) x idle kept (asks_here p v (acts.ReadFile name offset) idle is does.1) right
+  own_plain e p (acts.ReadChunk name entry) x v vs idle is does kept right =
+      asked_plain p (acts.ReadChunk name entry) x idle kept (asks_here p v (acts.ReadChunk name entry) idle is does.1) right
+  own_plain e p (acts.Chunk digest checked) x v vs idle is does kept right =
+      asked_plain p (acts.Chunk digest checked) x idle kept (asks_here p v (acts.Chunk digest checked) idle is does.1) right

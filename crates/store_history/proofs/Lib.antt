@@ -6,9 +6,19 @@ pub mod Checking
 pub mod Digests
 pub mod Events
 pub mod Keeping
+pub mod Found
+pub mod Indexes
+pub mod Listed
+pub mod Sending
+pub mod Meaning
+pub mod Beside
+pub mod Keyed
+pub mod Reaching
+pub mod Opening
 pub mod Whole
 pub mod Rules
 pub mod Picking
+pub mod Idling
 pub mod Growing
 pub mod Longer
 pub mod Ending
@@ -17,6 +27,7 @@ pub mod Collecting
 pub mod Prefixes
 pub mod Alone
 pub mod Lasting
+pub mod Apart
 pub mod LastTouches
 pub mod SweptLonger
 pub mod Naming

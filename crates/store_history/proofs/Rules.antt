@@ -9,12 +9,12 @@ use Rattle.wire_commands.specs.declared.reply.Reply.{Reply}
 use Rattle.store_model.specs.declared.ending.Ending.{Ending}
 use Rattle.store_history.specs.declared.act.Act.{Act}
 use Rattle.store_history.specs.declared.act.Event.{Event}
-use Rattle.store_history.specs.Acts.{Class, stepping, starting, sweeping, wanting, ending, class_of}
+use Rattle.store_history.specs.Acts.{Class, stepping, reaching, starting, sweeping, wanting, ending, class_of}
 use Rattle.store_history.specs.History.{Opening, World, opened, kind_of, entry, lane, moment, kind, reply, entries, own, after}
 use Rattle.store_history.specs.Legal.{Right, IsLegal}
 use Rattle.store_history.specs.LaneRun.{Position, LaneRan, begin, next_at, last_words, heard, heard_as, end_heard, position_after, Does, EndFollows, Runs}
 use Rattle.store_history.specs.Woven.{AreLanes, ending_at, IsServed, FitsRules}
-use Rattle.store_history.proofs.Events.{IsEnding, right_end, right_remote, right_none}
+use Rattle.store_history.proofs.Events.{IsEnding, right_end, right_none}
 use Rattle.store_history.proofs.Growing.{heard_over}
 
 clash : true ≡ false → ⊥
@@ -33,7 +33,7 @@ right_kind R w k m (suc (suc (suc zero))) a r h = refl
 right_kind R w k m (suc (suc (suc (suc zero)))) a r h = refl
 right_kind R w k m (suc (suc (suc (suc (suc zero))))) a r h = refl
 right_kind R w k m (suc (suc (suc (suc (suc (suc zero)))))) a r h = refl
-right_kind R w k m (suc (suc (suc (suc (suc (suc (suc zero))))))) a r h = absurd (right_remote R w [] k m a r (class_of a) h)
+right_kind R w k m (suc (suc (suc (suc (suc (suc (suc zero))))))) a r h = refl
 right_kind R w k m (suc (suc (suc (suc (suc (suc (suc (suc n)))))))) a r h = absurd (right_none R w [] k m a r (class_of a) h)
 
 all_fit : (R : Option (List Snapshot)) (lanes : ℕ) (w : World) (h : List Event) → IsLegal R w h → AreLanes lanes h → list_all (fits_entry lanes) (entries h) ≡ true
@@ -99,6 +99,7 @@ kind_is : (R : Option (List Snapshot)) (w : World) (k m n : ℕ) (a : Act) (r : 
 unfolding KindIs
 kind_is R w k m n a r ending h = end_kinds R w k m n a r h
 kind_is R w k m n a r stepping h = other_kinds R w k m n a r stepping (λ x. x) h
+kind_is R w k m n a r reaching h = other_kinds R w k m n a r reaching (λ x. x) h
 kind_is R w k m n a r starting h = other_kinds R w k m n a r starting (λ x. x) h
 kind_is R w k m n a r sweeping h = other_kinds R w k m n a r sweeping (λ x. x) h
 kind_is R w k m n a r wanting h = other_kinds R w k m n a r wanting (λ x. x) h

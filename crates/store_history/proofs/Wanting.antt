@@ -14,7 +14,8 @@ use Rattle.wire_commands.specs.CommandText.{nothing_more, one_text, text_and_off
 use Rattle.wire_commands.specs.Inputs.{front, cut_front, body_front}
 use Rattle.store_model.specs.Job.{Asking}
 use Rattle.store_model.specs.Lanes.{Next, job_step, collecting, bye, end, front_next, command_next, lane_next}
-use Rattle.store_history.specs.LaneRun.{Position, next_at, may_want, is_stopping, job_may_want, may_want_at, job_stops, may_step}
+use Rattle.store_history.specs.LaneRun.{Position, next_at, may_want, is_stopping, job_may_want, pull_may_want, may_want_at, job_stops, pull_stops, may_step}
+use Rattle.store_history.specs.Pulling.{Pulling, is_ending}
 
 -- ---- a body of at least two bytes is no BYE
 
@@ -136,9 +137,14 @@ front_goes m (b ∷ bytes) h =
     subst (λ t. Goes (front_next m (cut_front (if t then short else cut_body (from_le_bytes w32 (take 4 (b ∷ bytes))) (drop 4 (b ∷ bytes)))))) (sym held)
     (behind_goes m (from_le_bytes w32 (take 4 (b ∷ bytes))) (drop 4 (b ∷ bytes)) two)
 
-pub want_goes : (p : Position) → may_want_at p ≡ true → Goes (next_at p)
-unfolding next_at lane_next may_want_at
-want_goes p h = by_collecting p.collecting h
+-- where no SYNC is open
+idle_want : (p : Position) → p.pull ≡ None → may_want_at p ≡ (is_none p.collecting && job_may_want p.job p.left)
+unfolding may_want_at
+idle_want p idle = ap (λ (o : Option Pulling). is_none p.collecting && pull_may_want o p.job p.left) idle
+
+pub want_goes : (p : Position) → p.pull ≡ None → may_want_at p ≡ true → Goes (next_at p)
+unfolding next_at lane_next
+want_goes p idle h = by_collecting p.collecting (sym (idle_want p idle) ∙ h)
   where
     by_job : (o : Option Asking) → job_may_want o p.left ≡ true
         → Goes (elim o [ None ↦ front_next (p.size - length p.left) (front p.left) | Some j ↦ job_step j p.left ])
@@ -158,29 +164,33 @@ pub want_shut : (p : Position) → may_want_at p ≡ true → p.collecting ≡ N
 unfolding may_want_at
 want_shut p h = by_collecting p.collecting h
   where
-    by_collecting : (c : Option Bool) → (is_none c && job_may_want p.job p.left) ≡ true → c ≡ None
+    by_collecting : (c : Option Bool) → (is_none c && pull_may_want p.pull p.job p.left) ≡ true → c ≡ None
     by_collecting None h = refl
     by_collecting (Some is_short) h = cc
 
 -- where it may be wanting for a frame
-pub wants_frame : (p : Position) → p.collecting ≡ None → p.job ≡ None → may_want p.left ≡ true → may_want_at p ≡ true
-unfolding may_want_at
-wants_frame p shut off may = ap (λ c. is_none c && job_may_want p.job p.left) shut ∙ ap (λ o. job_may_want o p.left) off ∙ may
+pub wants_frame : (p : Position) → p.pull ≡ None → p.collecting ≡ None → p.job ≡ None → may_want p.left ≡ true → may_want_at p ≡ true
+wants_frame p idle shut off may = idle_want p idle ∙ ap (λ c. is_none c && job_may_want p.job p.left) shut ∙ ap (λ o. job_may_want o p.left) off ∙ may
 
 -- and where a job is open that goes on
-pub wants_open : (p : Position) (j : Asking) → p.collecting ≡ None → p.job ≡ Some j → is_stopping j ≡ false → may_want_at p ≡ true
+pub wants_open : (p : Position) (j : Asking) → p.pull ≡ None → p.collecting ≡ None → p.job ≡ Some j → is_stopping j ≡ false → may_want_at p ≡ true
+wants_open p j idle shut is on = idle_want p idle ∙ ap (λ c. is_none c && job_may_want p.job p.left) shut ∙ ap (λ o. job_may_want o p.left) is ∙ ap not on
+
+-- and where a SYNC is open that is not ending its writer
+pub wants_pulling : (p : Position) (x : Pulling) → p.collecting ≡ None → p.pull ≡ Some x → is_ending x ≡ false → may_want_at p ≡ true
 unfolding may_want_at
-wants_open p j shut is on = ap (λ c. is_none c && job_may_want p.job p.left) shut ∙ ap (λ o. job_may_want o p.left) is ∙ ap not on
+wants_pulling p x shut is on =
+    ap (λ c. is_none c && pull_may_want p.pull p.job p.left) shut ∙ ap (λ (o : Option Pulling). pull_may_want o p.job p.left) is ∙ ap not on
 
 -- ---- a step
 
 -- it may come where no answer was the last
 pub steps_on : (p : Position) → p.is_spent ≡ false → may_step p ≡ true
-steps_on p on = ap (λ b. not b || job_stops p.job) on
+steps_on p on = ap (λ b. not b || pull_stops p.pull p.job) on
 
 -- and where a job closes its session
-pub steps_stopping : (p : Position) (j : Asking) → p.job ≡ Some j → is_stopping j ≡ true → may_step p ≡ true
-steps_stopping p j is stops = ap (λ o. not p.is_spent || job_stops o) is ∙ ap (λ b. not p.is_spent || b) stops ∙ or_true (not p.is_spent)
+pub steps_stopping : (p : Position) (j : Asking) → p.pull ≡ None → p.job ≡ Some j → is_stopping j ≡ true → may_step p ≡ true
+steps_stopping p j idle is stops = ap (λ (o : Option Pulling). not p.is_spent || pull_stops o p.job) idle ∙ ap (λ o. not p.is_spent || job_stops o) is ∙ ap (λ b. not p.is_spent || b) stops ∙ or_true (not p.is_spent)
   where
     or_true : (b : Bool) → (b || true) ≡ true
     or_true true = refl

@@ -1,5 +1,5 @@
 -- A legal history whose lanes run their programs is what `weave` gives.
-use Rattle.std.proofs.Common.{◌≡◌, ◌≢◌, ℕ, suc, ◌+◌, ◌<◌, Bool, true, false, List, [], ◌∷◌, map, length, cond, Option, Some, None, Ok, Err, Result, refl, sym, ap, subst, ◌∙◌, arith, ◌==◌, ◌&&◌, ◌||◌, not, is_none, is_some, slice_index_or, slice_set}
+use Rattle.std.proofs.Common.{◌≡◌, ◌≢◌, ◌⊎◌, inl, inr, ℕ, suc, ◌+◌, ◌<◌, Bool, true, false, List, [], ◌∷◌, map, length, cond, Option, Some, None, Ok, Err, Result, refl, sym, ap, subst, ◌∙◌, arith, ◌==◌, ◌&&◌, ◌||◌, not, is_none, is_some, slice_index_or, slice_set}
 use Rattle.std.specs.List.{find}
 use Rattle.std.proofs.lemmas.Bool.{eq-eqb, eqb-true}
 use Rattle.std.proofs.Math.ListN.{get_or-map}
@@ -11,23 +11,44 @@ use Rattle.store_model.specs.declared.ending.Ending.{Ending}
 use Rattle.store_model.specs.declared.ending.Ending.TheVariants as endings
 use Rattle.store_model.specs.Lanes.{Run, Next, job_step, plain, sync, collect, collecting, bye, broken, end, collects, lane_next, new_lane, new_run}
 use Rattle.store_model.proofs.LaneLemmas.{is_act, lane_no_act}
+use Rattle.store_model.specs.Store.{Store, session, want_idle}
 use Rattle.store_model.specs.Weave.{is_cut_off, is_end, run_from, known, misfit, Misfit, entered, weave, woven, woven_of, Woven}
 use Rattle.store_history.specs.declared.act.Event.{Event}
-use Rattle.store_history.specs.Acts.{Class, stepping, starting, sweeping, wanting, ending, class_of}
+use Rattle.store_history.specs.Acts.{Class, stepping, reaching, starting, sweeping, wanting, ending, class_of}
+use Rattle.store_history.specs.declared.act.Answer.{Answer}
 use Rattle.store_history.specs.History.{Opening, World, opened, open_on, kind_of, entry, lane, moment, kind, reply, entries, own, after, after_all}
 use Rattle.store_history.specs.Legal.{Right, IsRight, IsLegal}
-use Rattle.store_history.specs.LaneRun.{text, plain_text, Position, begin, lane_of, next_at, wants, heard_at, heard, heard_as, position_after, job_stops, Does, EndFollows, Runs}
+use Rattle.store_history.specs.LaneRun.{text, plain_text, Position, begin, lane_of, next_at, wants, behind, heard_by, heard_pulling, heard, heard_as, position_after, job_stops, pull_stops, may_step, AsksBy, Does, EndFollows, Runs}
+use Rattle.store_history.specs.Pulling.{Pulling, take}
+use Rattle.store_history.specs.Remote.{IsRemote}
 use Rattle.store_history.specs.Woven.{AreLanes, ending_at, IsServed, IsWoven}
 use Rattle.store_history.proofs.Collectors.{collects_is}
-use Rattle.store_history.proofs.Placed.{run_of, at, lane_is}
+use Rattle.store_history.proofs.Apart.{moved_apart}
+use Rattle.store_history.proofs.Beside.{Beside, BesideBy, IsOther, asks_no_other}
+use Rattle.store_history.proofs.Keyed.{HasKeys, keys_opened, moved_keyed}
+use Rattle.store_history.proofs.Opening.{turned_idle}
+use Rattle.store_history.proofs.Placed.{run_of, at, lane_is, open_at, open_is}
+use Rattle.store_history.proofs.Reaching.{Turns, reached}
 use Rattle.store_history.proofs.Plainly.{ArePlain}
 use Rattle.store_model.specs.Job.{Asking}
-use Rattle.store_history.proofs.Events.{IsEnding, FitsNext, asks_class, ending_is, right_end, cuts, turned}
-use Rattle.store_history.proofs.Growing.{heard_at_spent}
-use Rattle.store_history.proofs.Keeping.{others_keep, own_keeps, own_plain}
+use Rattle.store_history.proofs.Events.{IsEnding, FitsNext, asks_class, ending_is, right_end, cuts}
+use Rattle.store_history.proofs.Growing.{heard_by_spent}
+use Rattle.store_history.proofs.Keeping.{NoStart, others_keep, own_keeps, own_plain, pull_keeps, pulls_plain}
 
 clash : true ≡ false → ⊥
 clash h = cc
+
+some_job : (j : Asking) → Some j ≡ None → ⊥
+some_job j h = cc
+
+-- what is heard of an act that is no lane's end
+heard_other : (c : Class) (e : Ending) (p : Position) (a : Answer) → (c ≡ ending → ⊥) → heard_as c e p a ≡ heard p a
+heard_other ending e p a other = absurd (other refl)
+heard_other stepping e p a other = refl
+heard_other reaching e p a other = refl
+heard_other starting e p a other = refl
+heard_other sweeping e p a other = refl
+heard_other wanting e p a other = refl
 
 -- ---- a lane's own events
 
@@ -78,7 +99,7 @@ told_first q (v ∷ vs) told off runs right = by_test (kind v == 6) refl
     by_test true is =
         let c = ending_is (class_of v.act) (right (eqb-true (kind v) 6 is)) in
         let does : Does ending endings.NoMemory q v vs = subst (λ x. Does x endings.NoMemory q v vs) c runs.1 in
-        absurd (clash (sym does.0 ∙ off))
+        absurd (clash (sym (does.0).0 ∙ off))
     by_test false is = is
 
 end_follows : (vs : List Event) → EndFollows vs → is_end (head_entry vs) ≡ true
@@ -108,27 +129,39 @@ not_short : (p : Position) (v : Event) → p.collecting ≡ None → p.is_spent 
 unfolding heard
 not_short p v shut on last is =
     ap (λ b. b || (heard p v.answer).is_spent) (ap (λ (o : Option Bool). wants (kind v) o) shut ∙ ap (λ n. n == 2) is)
-    ∙ ap (λ b. b || (heard_at p (kind v) (reply v) (next_at p)).is_spent) (not_last (v.answer).last last) ∙ stays_on
+    ∙ ap (λ b. b || (heard_by p.pull p (kind v) (reply v)).is_spent) (not_last (v.answer).last last) ∙ stays_on
   where
     not_last : (b : Bool) → (b ≡ true → kind v ≡ 2) → b ≡ false
     not_last true h = let no : ⊥ = omega (arith, h refl, is) in absurd no
     not_last false h = refl
 
-    stays_on : (heard_at p (kind v) (reply v) (next_at p)).is_spent ≡ false
-    stays_on = heard_at_spent p (kind v) (reply v) (next_at p) (λ two. let no : ⊥ = omega (arith, two, is) in absurd no) ∙ on
+    stays_on : (heard_by p.pull p (kind v) (reply v)).is_spent ≡ false
+    stays_on = heard_by_spent p.pull p (kind v) (reply v) (λ two. let no : ⊥ = omega (arith, two, is) in absurd no) ∙ on
 
--- where no job is open and no collector, an act that is no lane's end comes only where no answer was the last
-on_here : (c : Class) (e : Ending) (p : Position) (v : Event) (vs : List Event) → Does c e p v vs → c ≡ class_of v.act → (c ≡ ending → ⊥) → p.collecting ≡ None → p.job ≡ None
-    → p.is_spent ≡ false
-on_here stepping e p v vs does is other shut idle = by_spent p.is_spent (ap (λ o. not p.is_spent || job_stops o) (sym idle) ∙ does.0)
+-- an answer after which want of memory may close no more than a job's session came before no last one
+may_on : (p : Position) (b : Bool) → pull_stops p.pull p.job ≡ b → b ≡ false → may_step p ≡ true → p.is_spent ≡ false
+may_on p b stops off may = by_spent p.is_spent (ap (λ t. not p.is_spent || t) (sym (stops ∙ off)) ∙ may)
   where
-    by_spent : (b : Bool) → (not b || false) ≡ true → b ≡ false
+    by_spent : (c : Bool) → (not c || false) ≡ true → c ≡ false
     by_spent true h = cc
     by_spent false h = refl
-on_here starting e p v vs does is other shut idle = does.0
-on_here sweeping e p v vs does is other shut idle = absurd (shut_sweeps p (subst (FitsNext (next_at p)) (sym is) (asks_class (next_at p) v.act does)) shut)
-on_here wanting e p v vs does is other shut idle = does.0
-on_here ending e p v vs does is other shut idle = absurd (other refl)
+
+-- where no job is open and no collector, an act that is no lane's end comes only where no answer was the last
+on_here : (c : Class) (e : Ending) (p : Position) (v : Event) (vs : List Event) → Does c e p v vs → c ≡ class_of v.act → (c ≡ ending → ⊥) → p.collecting ≡ None → pull_stops p.pull p.job ≡ false
+    → (p.pull ≡ None ⊎ (x : Pulling) × (p.pull ≡ Some x)) → p.is_spent ≡ false
+on_here stepping e p v vs does is other shut idle how = may_on p false idle refl does.0
+on_here reaching e p v vs does is other shut idle how = does.0
+on_here starting e p v vs does is other shut idle how = does.0
+on_here sweeping e p v vs does is other shut idle (inl none) =
+    absurd (shut_sweeps p (subst (FitsNext (next_at p)) (sym is) (asks_class (next_at p) v.act (subst (λ (o : Option Pulling). AsksBy o (next_at p) v.act) none does))) shut)
+on_here sweeping e p v vs does is other shut idle (inr some) =
+    absurd (asks_no_other some.0 (subst IsOther (is ∙ ap class_of (subst (λ (o : Option Pulling). AsksBy o (next_at p) v.act) some.1 does).0) tt))
+on_here wanting e p v vs does is other shut idle how = does.0
+on_here ending e p v vs does is other shut idle how = absurd (other refl)
+
+how_pull : (p : Position) (o : Option Pulling) → p.pull ≡ o → p.pull ≡ None ⊎ (x : Pulling) × (p.pull ≡ Some x)
+how_pull p None is = inl is
+how_pull p (Some x) is = inr (x, is)
 
 shut_ends : (a b : Bool) → b ≡ true → (a && not false && b) ≡ a
 shut_ends true b h = h
@@ -139,61 +172,164 @@ open_goes true b = refl
 open_goes false b = refl
 
 -- which end a fault leaves untold, by the lane and its collector as `weave` has them
-module _ (R : Option (List Snapshot)) (w : World) (ps : List Position) (k : ℕ) (knows : (at ps k).collecting ≡ open_on k w.collecting) where
-  cut_at : (vs : List Event) → is_cut_off (run_of R w ps) k endings.NoMemory (entries vs)
-      ≡ (is_none (at ps k).job && not (is_some (at ps k).collecting) && is_end (head_entry (own k vs)))
+module _ (R : Option (List Snapshot)) (w : World) (qs : List Position) (k : ℕ) (knows : (at qs k).collecting ≡ open_on k w.collecting) where
+  abbrev e_is_end : List Event → Bool
+  e_is_end vs = is_end (head_entry (own k vs))
+
+  cut_at : (vs : List Event) → is_cut_off (run_of R w qs) k endings.NoMemory (entries vs)
+      ≡ (is_none (at qs k).job && not (is_some (at qs k).collecting) && e_is_end vs)
   cut_at vs =
-      ap (λ l. is_none l.job && not (collects k w.collecting) && is_end (find (λ e. e.lane == k) (entries vs))) (lane_is R w ps k)
-      ∙ ap (λ b. is_none (at ps k).job && not b && is_end (find (λ e. e.lane == k) (entries vs))) (collects_is k w.collecting ∙ ap is_some (sym knows))
-      ∙ ap (λ o. is_none (at ps k).job && not (is_some (at ps k).collecting) && is_end o) (find_own k vs)
+      ap (λ l. is_none l.job && not (collects k w.collecting) && is_end (find (λ e. e.lane == k) (entries vs))) (lane_is R w qs k)
+      ∙ ap (λ b. is_none (at qs k).job && not b && is_end (find (λ e. e.lane == k) (entries vs))) (collects_is k w.collecting ∙ ap is_some (sym knows))
+      ∙ ap (λ o. is_none (at qs k).job && not (is_some (at qs k).collecting) && is_end o) (find_own k vs)
 
-  -- where the collector is open it is told
-  told_first_at : (v : Event) (vs : List Event) (told : List Reply) → kind v ≡ 5 → ((v.answer).last ≡ true → kind v ≡ 2)
-      → ((at ps k).collecting ≡ None → (at ps k).job ≡ None → (at ps k).is_spent ≡ false) → Runs endings.NoMemory (heard (at ps k) v.answer) (own k vs) told → EndsRight (own k vs)
-      → (is_none (at ps k).job && not (is_some (at ps k).collecting) && is_end (head_entry (own k vs))) ≡ false
-  told_first_at v vs told is last on runs right = by_collecting (at ps k).collecting refl
+  -- where the collector or the job is open it is told, and so is one that no end follows
+  told_by : (vs : List Event) → ((at qs k).collecting ≡ None → (at qs k).job ≡ None → e_is_end vs ≡ false)
+      → (is_none (at qs k).job && not (is_some (at qs k).collecting) && e_is_end vs) ≡ false
+  told_by vs no_end = by_collecting (at qs k).collecting refl
     where
-      -- a job that is open is told of the fault
-      by_job : (o : Option Asking) → (at ps k).job ≡ o → (at ps k).collecting ≡ None → (is_none o && not false && is_end (head_entry (own k vs))) ≡ false
+      by_job : (o : Option Asking) → (at qs k).job ≡ o → (at qs k).collecting ≡ None → (is_none o && not false && e_is_end vs) ≡ false
       by_job (Some j) busy shut = refl
-      by_job None idle shut =
-          told_first (heard (at ps k) v.answer) (own k vs) told (not_short (at ps k) v shut (on shut idle) last is) runs right
+      by_job None idle shut = no_end shut idle
 
-      by_collecting : (o : Option Bool) → (at ps k).collecting ≡ o → (is_none (at ps k).job && not (is_some o) && is_end (head_entry (own k vs))) ≡ false
-      by_collecting None shut = by_job (at ps k).job refl shut
-      by_collecting (Some b) on = open_goes (is_none (at ps k).job) (is_end (head_entry (own k vs)))
+      by_collecting : (o : Option Bool) → (at qs k).collecting ≡ o → (is_none (at qs k).job && not (is_some o) && e_is_end vs) ≡ false
+      by_collecting None shut = by_job (at qs k).job refl shut
+      by_collecting (Some b) on = open_goes (is_none (at qs k).job) (e_is_end vs)
 
-  cut_is : (c : Class) (e : Ending) (v : Event) (vs : List Event) (told : List Reply) → c ≡ class_of v.act → ((v.answer).last ≡ true → kind v ≡ 2)
-      → Does c e (at ps k) v (own k vs) → kind v ≡ 5 → Runs e (heard_as c e (at ps k) v.answer) (own k vs) told → EndsRight (own k vs) → is_cut_off (run_of R w ps) k e (entries vs) ≡ cuts c e (at ps k)
-  cut_is ending endings.NoMemory v vs told class last does is runs right =
-      cut_at vs
-      ∙ ap (λ (o : Option Bool). is_none (at ps k).job && not (is_some o) && is_end (head_entry (own k vs))) does.2
-      ∙ shut_ends (is_none (at ps k).job) (is_end (head_entry (own k vs))) (end_follows (own k vs) (does.1 is))
-  cut_is stepping endings.NoMemory v vs told class last does is runs right =
-      cut_at vs ∙ told_first_at v vs told is last (on_here stepping endings.NoMemory (at ps k) v (own k vs) does class (λ h. cc)) runs right
-  cut_is starting endings.NoMemory v vs told class last does is runs right =
-      cut_at vs ∙ told_first_at v vs told is last (on_here starting endings.NoMemory (at ps k) v (own k vs) does class (λ h. cc)) runs right
-  cut_is sweeping endings.NoMemory v vs told class last does is runs right =
-      cut_at vs ∙ told_first_at v vs told is last (on_here sweeping endings.NoMemory (at ps k) v (own k vs) does class (λ h. cc)) runs right
-  cut_is wanting endings.NoMemory v vs told class last does is runs right =
-      cut_at vs ∙ told_first_at v vs told is last (on_here wanting endings.NoMemory (at ps k) v (own k vs) does class (λ h. cc)) runs right
-  cut_is c e v vs told class last does is runs right = refl
+  -- the lane's own position p stands beside
+  module _ (p : Position) (alike : p.collecting ≡ (at qs k).collecting) where
+    no_end_first : (c : Class) (v : Event) (vs : List Event) (told : List Reply) → c ≡ class_of v.act → (c ≡ ending → ⊥) → ((v.answer).last ≡ true → kind v ≡ 2)
+        → pull_stops p.pull p.job ≡ false ⊎ ((at qs k).job ≡ None → ⊥)
+        → Does c endings.NoMemory p v (own k vs) → kind v ≡ 5 → Runs endings.NoMemory (heard p v.answer) (own k vs) told → EndsRight (own k vs)
+        → (at qs k).collecting ≡ None → (at qs k).job ≡ None → e_is_end vs ≡ false
+    no_end_first c v vs told class other last (inr busy) does is runs right shut idle = absurd (busy idle)
+    no_end_first c v vs told class other last (inl stops) does is runs right shut idle =
+        let on = on_here c endings.NoMemory p v (own k vs) does class other (alike ∙ shut) stops (how_pull p p.pull refl) in
+        told_first (heard p v.answer) (own k vs) told (not_short p v (alike ∙ shut) on last is) runs right
+
+    -- an act that is no lane's end
+    told_here : (c : Class) (e : Ending) (v : Event) (vs : List Event) (told : List Reply) → c ≡ class_of v.act → (c ≡ ending → ⊥) → ((v.answer).last ≡ true → kind v ≡ 2)
+        → pull_stops p.pull p.job ≡ false ⊎ ((at qs k).job ≡ None → ⊥)
+        → Does c e p v (own k vs) → kind v ≡ 5 → Runs e (heard p v.answer) (own k vs) told → EndsRight (own k vs) → is_cut_off (run_of R w qs) k e (entries vs) ≡ false
+    told_here c endings.NoMemory v vs told class other last stops does is runs right =
+        cut_at vs ∙ told_by vs (no_end_first c v vs told class other last stops does is runs right)
+    told_here c endings.Clean v vs told class other last stops does is runs right = refl
+    told_here c (endings.Broken place) v vs told class other last stops does is runs right = refl
+    told_here c endings.SourceFault v vs told class other last stops does is runs right = refl
+    told_here c endings.SourceTooLong v vs told class other last stops does is runs right = refl
+    told_here c endings.SinkFault v vs told class other last stops does is runs right = refl
+
+    -- the lane's end
+    end_cut : (e : Ending) (v : Event) (vs : List Event) → p ≡ at qs k → Does ending e p v (own k vs) → kind v ≡ 5 → is_cut_off (run_of R w qs) k e (entries vs) ≡ cuts ending e p
+    end_cut endings.NoMemory v vs same does is =
+        cut_at vs
+        ∙ ap (λ (o : Option Bool). is_none (at qs k).job && not (is_some o) && e_is_end vs) (sym alike ∙ does.2)
+        ∙ shut_ends (is_none (at qs k).job) (e_is_end vs) (end_follows (own k vs) (does.1 is))
+        ∙ ap (λ (y : Position). is_none y.job) (sym same)
+    end_cut endings.Clean v vs same does is = refl
+    end_cut (endings.Broken place) v vs same does is = refl
+    end_cut endings.SourceFault v vs same does is = refl
+    end_cut endings.SourceTooLong v vs same does is = refl
+    end_cut endings.SinkFault v vs same does is = refl
+
+    -- a job that is open is told
+    stops_or : p ≡ at qs k → p.pull ≡ None → pull_stops p.pull p.job ≡ false ⊎ ((at qs k).job ≡ None → ⊥)
+    stops_or same idle = by_job p.job refl
+      where
+        by_job : (o : Option Asking) → p.job ≡ o → pull_stops p.pull p.job ≡ false ⊎ ((at qs k).job ≡ None → ⊥)
+        by_job None is = inl (ap (λ (x : Option Pulling). pull_stops x p.job) idle ∙ ap job_stops is)
+        by_job (Some j) is = inr (λ none. some_job j (sym is ∙ ap (λ (y : Position). y.job) same ∙ none))
+
+    -- where no SYNC is open
+    cut_idle : (c : Class) (e : Ending) (v : Event) (vs : List Event) (told : List Reply) → p ≡ at qs k → p.pull ≡ None → c ≡ class_of v.act → ((v.answer).last ≡ true → kind v ≡ 2)
+        → Does c e p v (own k vs) → Runs e (heard_as c e p v.answer) (own k vs) told → EndsRight (own k vs) → kind v ≡ 5 → is_cut_off (run_of R w qs) k e (entries vs) ≡ cuts c e p
+    cut_idle ending e v vs told same idle class last does runs right is = end_cut e v vs same does is
+    cut_idle stepping e v vs told same idle class last does runs right is = told_here stepping e v vs told class (λ h. cc) last (stops_or same idle) does is runs right
+    cut_idle reaching e v vs told same idle class last does runs right is = told_here reaching e v vs told class (λ h. cc) last (stops_or same idle) does is runs right
+    cut_idle starting e v vs told same idle class last does runs right is = told_here starting e v vs told class (λ h. cc) last (stops_or same idle) does is runs right
+    cut_idle sweeping e v vs told same idle class last does runs right is = told_here sweeping e v vs told class (λ h. cc) last (stops_or same idle) does is runs right
+    cut_idle wanting e v vs told same idle class last does runs right is = told_here wanting e v vs told class (λ h. cc) last (stops_or same idle) does is runs right
+
+-- ---- a lane beside the one that `weave` has
+
+collects_alike : (R : Option (List Snapshot)) (s : Store) (k : ℕ) (p q : Position) (o : Option Pulling) → BesideBy R s k p o q → p.collecting ≡ q.collecting
+collects_alike R s k p q None is = ap (λ (y : Position). y.collecting) (sym is)
+collects_alike R s k p q (Some x) (inl b) = ap (λ (y : Position). y.collecting) (sym b.is)
+collects_alike R s k p q (Some x) (inr b) = ap (λ (y : Position). y.collecting) (sym b.is)
+
+told_alike : (R : Option (List Snapshot)) (s : Store) (k : ℕ) (p q : Position) (o : Option Pulling) → BesideBy R s k p o q → q.told ≡ p.told
+told_alike R s k p q None is = ap (λ (y : Position). y.told) is
+told_alike R s k p q (Some x) (inl b) = ap (λ (y : Position). y.told) b.is
+told_alike R s k p q (Some x) (inr b) = ap (λ (y : Position). y.told) b.is
+
+-- another lane's act leaves it so
+beside_stays : (R : Option (List Snapshot)) (s s' : Store) (k : ℕ) (p q : Position) (o : Option Pulling) → session s' k ≡ session s k → BesideBy R s k p o q → BesideBy R s' k p o q
+beside_stays R s s' k p q None same is = is
+beside_stays R s s' k p q (Some x) same (inl b) =
+    inl (record {
+      group = b.group;
+      remote = b.remote;
+      left = b.left;
+      key = b.key;
+      list = b.list;
+      state = b.state;
+      is = b.is;
+      next = b.next;
+      there = b.there;
+      named = b.named;
+      texts = b.texts;
+      idle = ap want_idle same ∙ b.idle;
+    })
+beside_stays R s s' k p q (Some x) same (inr b) = inr b
+
+-- no collector of a lane is open beside its SYNC
+sync_shut : (R : Option (List Snapshot)) (s : Store) (k : ℕ) (p q : Position) (x : Pulling) → BesideBy R s k p (Some x) q → p.collecting ≡ None
+unfolding next_at
+sync_shut R s k p q x (inl b) = sym (open_is p) ∙ ap open_at b.next
+sync_shut R s k p q x (inr b) = b.shut
+
+-- an act of an open SYNC
+sync_class : (p : Position) (x : Pulling) (c : Class) (e : Ending) (v : Event) (vs : List Event) → p.pull ≡ Some x → c ≡ class_of v.act → Does c e p v vs
+    → NoStart c × (c ≡ sweeping → ⊥) × (c ≡ ending → ⊥)
+sync_class p x stepping e v vs going class does = (tt, λ h. cc, λ h. cc)
+sync_class p x reaching e v vs going class does = (tt, λ h. cc, λ h. cc)
+sync_class p x wanting e v vs going class does = (tt, λ h. cc, λ h. cc)
+sync_class p x starting e v vs going class does =
+    absurd (asks_no_other x (subst IsOther (class ∙ ap class_of (subst (λ (o : Option Pulling). AsksBy o (next_at p) v.act) going does.1).0) tt))
+sync_class p x sweeping e v vs going class does =
+    absurd (asks_no_other x (subst IsOther (class ∙ ap class_of (subst (λ (o : Option Pulling). AsksBy o (next_at p) v.act) going does).0) tt))
+sync_class p x ending e v vs going class does = absurd (none_going (sym does.3 ∙ going))
+  where
+    none_going : {y : Pulling} → None ≡ Some y → ⊥
+    none_going h = cc
+
+-- what a SYNC hears leaves the lane's job
+sync_plain : (p : Position) (x : Pulling) (a : Answer) → p.pull ≡ Some x → ArePlain p.job → ArePlain (heard p a).job
+unfolding heard
+sync_plain p x a going h = subst (λ (o : Option Pulling). ArePlain (heard_by o p (a.entry).kind a.reply).job) (sym going) (by_reply a.reply)
+  where
+    by_reply : (r : Option Reply) → ArePlain (heard_pulling p x r).job
+    by_reply None = h
+    by_reply (Some y) = pulls_plain p (behind p x (next_at p)) (take x y) h
 
 -- ---- the induction
 
 AllRun : List Ending → List Position → List Event → (ℕ → List Reply) → Type 0
 AllRun es ps h told = (k : ℕ) → k < length ps → Runs (ending_at es k) (at ps k) (own k h) (told k)
 
--- each position knows of its lane's collector, and no job is to report one
-AllKnow : World → List Position → Type 0
-AllKnow w ps = (k : ℕ) → k < length ps → ((at ps k).collecting ≡ open_on k w.collecting) × ArePlain (at ps k).job
+-- each position knows of its lane's collector, no job is to report one, and the lane that `weave` has is beside it
+abbrev Knows : Option (List Snapshot) → World → List Position → List Position → ℕ → Type 0
+Knows R w ps qs k = ((at ps k).collecting ≡ open_on k w.collecting) × ArePlain (at ps k).job × Beside R w.store k (at ps k) (at qs k)
 
-Weaves : Option (List Snapshot) → List Ending → World → List Position → List Event → (ℕ → List Reply) → Type 0
-Weaves R es w ps h told =
-    (qs : List Position) × (run_from (known es) (run_of R w ps) w.events (entries h) ≡ Ok (run_of R (after_all R w h) qs))
-    × (length qs ≡ length ps) × ((k : ℕ) → k < length ps → (at qs k).told ≡ told k)
+AllKnow : Option (List Snapshot) → World → List Position → List Position → Type 0
+AllKnow R w ps qs = (k : ℕ) → k < length ps → Knows R w ps qs k
 
-module _ (R : Option (List Snapshot)) (es : List Ending) (told : ℕ → List Reply) where
+Weaves : Option (List Snapshot) → List Ending → World → List Position → List Position → List Event → (ℕ → List Reply) → Type 0
+Weaves R es w ps qs h told =
+    (rs : List Position) × (run_from (known es) (run_of R w qs) w.events (entries h) ≡ Ok (run_of R (after_all R w h) rs))
+    × (length rs ≡ length ps) × ((k : ℕ) → k < length ps → (at rs k).told ≡ told k)
+
+module _ (R : Option (List Snapshot)) (remote : IsRemote R) (es : List Ending) (told : ℕ → List Reply) where
   -- the run goes on by one event
   one_more : (w : World) (ps : List Position) (v : Event) (vs : List Event) (w' : World) (ps' qs : List Position)
       → entered (known es) (run_of R w ps) w.events (entry v) (entries vs) ≡ Some (run_of R w' ps')
@@ -224,54 +360,119 @@ module _ (R : Option (List Snapshot)) (es : List Ending) (told : ℕ → List Re
           (subst (λ xs. Runs (ending_at es j) (at ps j) xs (told j)) (own_other j v vs is)
           (runs j (subst (λ n. j < n) (length-set ps (lane v) (next ps v)) lt)))
 
-  -- and each position knows of its collector again
-  know_next : (w : World) (ps : List Position) (v : Event) (vs : List Event) → lane v < length ps → IsRight R w v → AllKnow w ps
-      → Does (class_of v.act) (ending_at es (lane v)) (at ps (lane v)) v (own (lane v) vs) → AllKnow (after R w v) (slice_set ps (lane v) (next ps v))
-  unfolding AllKnow after position_after
-  know_next w ps v vs inside right knows does j lt = by_test (lane v == j) refl
+  module _ (w : World) (ps qs : List Position) (v : Event) (vs : List Event) (right : IsRight R w v) (named : HasKeys w.store) (here : Knows R w ps qs (lane v))
+      (does : Does (class_of v.act) (ending_at es (lane v)) (at ps (lane v)) v (own (lane v) vs))
+      (rest : Runs (ending_at es (lane v)) (next ps v) (own (lane v) vs) (told (lane v))) (ends : EndsRight (own (lane v) vs)) where
+    abbrev p : Position
+    p = at ps (lane v)
+
+    alike : p.collecting ≡ (at qs (lane v)).collecting
+    alike = collects_alike R w.store (lane v) p (at qs (lane v)) p.pull here.2
+
+    knows : (at qs (lane v)).collecting ≡ open_on (lane v) w.collecting
+    knows = sym alike ∙ here.0
+
+    runs_heard : Runs (ending_at es (lane v)) (heard_as (class_of v.act) (ending_at es (lane v)) p v.answer) (own (lane v) vs) (told (lane v))
+    unfolding position_after
+    runs_heard = rest
+
+    -- the lane's event moves the run
+    turn_by : (o : Option Pulling) → p.pull ≡ o → BesideBy R w.store (lane v) p o (at qs (lane v))
+        → Turns R w qs (lane v) (moment v) es (entries vs) knows v.act (kind v) (next ps v)
+    unfolding position_after
+    turn_by None idle same =
+        turned_idle R w qs (lane v) (moment v) es (entries vs) knows p idle same remote (class_of v.act) v (own (lane v) vs) refl refl refl does here.1
+        (λ five. cut_idle R w qs (lane v) knows p alike (class_of v.act) (ending_at es (lane v)) v vs (told (lane v)) (sym same) idle refl right.last does runs_heard ends five)
+        right.says
+    turn_by (Some x) going beside =
+        reached R w qs (lane v) (moment v) es (entries vs) knows p x going remote named (class_of v.act) (ending_at es (lane v)) v (own (lane v) vs) beside refl does right.says
+        (λ five. told_here R w qs (lane v) knows p alike (class_of v.act) (ending_at es (lane v)) v vs (told (lane v)) refl (sync_class p x (class_of v.act) (ending_at es (lane v)) v (own (lane v) vs) going refl does).2
+        right.last (stops_by x going beside) does five (heard_runs (class_of v.act) refl (sync_class p x (class_of v.act) (ending_at es (lane v)) v (own (lane v) vs) going refl does).2 runs_heard) ends)
+      where
+        stops_by : (y : Pulling) → p.pull ≡ Some y → BesideBy R w.store (lane v) p (Some y) (at qs (lane v)) → pull_stops p.pull p.job ≡ false ⊎ ((at qs (lane v)).job ≡ None → ⊥)
+        stops_by y is (inl b) = inl (ap (λ (o : Option Pulling). pull_stops o p.job) (is ∙ ap Some b.state))
+        stops_by y is (inr b) = inr (λ none. some_job b.job (ap (λ (z : Position). z.job) (sym b.is) ∙ none))
+
+        heard_runs : (c : Class) → c ≡ class_of v.act → (c ≡ ending → ⊥) → Runs (ending_at es (lane v)) (heard_as c (ending_at es (lane v)) p v.answer) (own (lane v) vs) (told (lane v))
+            → Runs (ending_at es (lane v)) (heard p v.answer) (own (lane v) vs) (told (lane v))
+        heard_runs ending is other h = absurd (other refl)
+        heard_runs stepping is other h = h
+        heard_runs reaching is other h = h
+        heard_runs starting is other h = h
+        heard_runs sweeping is other h = h
+        heard_runs wanting is other h = h
+
+    turn : Turns R w qs (lane v) (moment v) es (entries vs) knows v.act (kind v) (next ps v)
+    turn = turn_by p.pull refl here.2
+
+    -- and its position knows of its collector again
+    collects_next : (o : Option Pulling) → p.pull ≡ o → (next ps v).collecting ≡ open_on (lane v) (after R w v).collecting
+    unfolding position_after after
+    collects_next None idle =
+        own_keeps R w (lane v) (moment v) (ending_at es (lane v)) p v.act v.answer v (own (lane v) vs) idle refl does here.0 right.says
+    collects_next (Some x) going =
+        let is = sync_class p x (class_of v.act) (ending_at es (lane v)) v (own (lane v) vs) going refl does in
+        ap (λ (y : Position). y.collecting) (heard_other (class_of v.act) (ending_at es (lane v)) p v.answer is.2)
+        ∙ pull_keeps R w (lane v) (moment v) (ending_at es (lane v)) p x v.act v.answer (class_of v.act) refl is.0 is.1 is.2 going
+        (sync_shut R w.store (lane v) p (at qs (lane v)) x (subst (λ (o : Option Pulling). BesideBy R w.store (lane v) p o (at qs (lane v))) going here.2)) here.0 right.says
+
+    plain_next : (o : Option Pulling) → p.pull ≡ o → ArePlain (next ps v).job
+    unfolding position_after
+    plain_next None idle =
+        own_plain R w (lane v) (moment v) (ending_at es (lane v)) p v.act v.answer v (own (lane v) vs) idle refl does here.1 right.says
+    plain_next (Some x) going =
+        let is = sync_class p x (class_of v.act) (ending_at es (lane v)) v (own (lane v) vs) going refl does in
+        subst (λ (y : Position). ArePlain y.job) (sym (heard_other (class_of v.act) (ending_at es (lane v)) p v.answer is.2)) (sync_plain p x v.answer going here.1)
+
+  -- each position knows of its collector again
+  know_next : (w : World) (ps qs : List Position) (v : Event) (vs : List Event) → lane v < length ps → lane v < length qs → (right : IsRight R w v) → HasKeys w.store → AllKnow R w ps qs
+      → (q' : Position) → (next ps v).collecting ≡ open_on (lane v) (after R w v).collecting → ArePlain (next ps v).job → Beside R (after R w v).store (lane v) (next ps v) q'
+      → AllKnow R (after R w v) (slice_set ps (lane v) (next ps v)) (slice_set qs (lane v) q')
+  unfolding AllKnow after
+  know_next w ps qs v vs inside also right named knows q' collects plainly beside j lt = by_test (lane v == j) refl
     where
-      same : at (slice_set ps (lane v) (next ps v)) (lane v) ≡ next ps v
-      same = get_or-set_same ps (lane v) (next ps v) (begin []) inside
+      here : Knows R (after R w v) (slice_set ps (lane v) (next ps v)) (slice_set qs (lane v) q') (lane v)
+      here =
+          subst (λ (x : Position). (x.collecting ≡ open_on (lane v) (after R w v).collecting) × ArePlain x.job × Beside R (after R w v).store (lane v) x (at (slice_set qs (lane v) q') (lane v)))
+          (sym (get_or-set_same ps (lane v) (next ps v) (begin []) inside))
+          (subst (λ (y : Position). ((next ps v).collecting ≡ open_on (lane v) (after R w v).collecting) × ArePlain (next ps v).job × Beside R (after R w v).store (lane v) (next ps v) y)
+          (sym (get_or-set_same qs (lane v) q' (begin []) also)) (collects, plainly, beside))
 
-      by_test : (b : Bool) → (lane v == j) ≡ b
-          → ((at (slice_set ps (lane v) (next ps v)) j).collecting ≡ open_on j (after R w v).collecting) × ArePlain (at (slice_set ps (lane v) (next ps v)) j).job
-      by_test true is =
-          subst (λ i. ((at (slice_set ps (lane v) (next ps v)) i).collecting ≡ open_on i (after R w v).collecting) × ArePlain (at (slice_set ps (lane v) (next ps v)) i).job) (eqb-true (lane v) j is) (
-            ap (λ x. x.collecting) same
-                ∙ own_keeps R w (lane v) (moment v) (ending_at es (lane v)) (at ps (lane v)) v.act v.answer v (own (lane v) vs) refl does (knows (lane v) inside).0 right.says,
-            subst (λ x. ArePlain x.job) (sym same)
-                (own_plain R w (lane v) (moment v) (ending_at es (lane v)) (at ps (lane v)) v.act v.answer v (own (lane v) vs) refl does (knows (lane v) inside).1 right.says),
-          )
+      by_test : (b : Bool) → (lane v == j) ≡ b → Knows R (after R w v) (slice_set ps (lane v) (next ps v)) (slice_set qs (lane v) q') j
+      by_test true is = subst (Knows R (after R w v) (slice_set ps (lane v) (next ps v)) (slice_set qs (lane v) q')) (eqb-true (lane v) j is) here
       by_test false is =
-          let other = get_or-set_other ps (lane v) j (next ps v) (begin []) (not_same j v is) in
-          let before = knows j (subst (λ n. j < n) (length-set ps (lane v) (next ps v)) lt) in (
-            ap (λ x. x.collecting) other ∙ before.0
-                ∙ sym (others_keep R w (lane v) (moment v) j v.act (reply v) (kind_of (kind v)) (not_same j v is) right.says),
-            subst (λ x. ArePlain x.job) (sym other) before.1,
-          )
+          let before = knows j (subst (λ n. j < n) (length-set ps (lane v) (next ps v)) lt) in
+          subst (λ (x : Position). (x.collecting ≡ open_on j (after R w v).collecting) × ArePlain x.job × Beside R (after R w v).store j x (at (slice_set qs (lane v) q') j))
+          (sym (get_or-set_other ps (lane v) j (next ps v) (begin []) (not_same j v is)))
+          (subst (λ (y : Position). ((at ps j).collecting ≡ open_on j (after R w v).collecting) × ArePlain (at ps j).job × Beside R (after R w v).store j (at ps j) y)
+          (sym (get_or-set_other qs (lane v) j q' (begin []) (not_same j v is))) (
+            before.0 ∙ sym (others_keep R w (lane v) (moment v) j v.act (reply v) (kind_of (kind v)) (not_same j v is) right.says),
+            before.1,
+            beside_stays R w.store (after R w v).store j (at ps j) (at qs j) (at ps j).pull (moved_apart R w (lane v) (moment v) j v.act (kind_of (kind v)) (not_same j v is)) before.2,
+          ))
 
-  entered_is : (w : World) (ps : List Position) (v : Event) (vs : List Event) → IsRight R w v
-      → ((at ps (lane v)).collecting ≡ open_on (lane v) w.collecting) × ArePlain (at ps (lane v)).job
-      → Does (class_of v.act) (ending_at es (lane v)) (at ps (lane v)) v (own (lane v) vs)
-      → Runs (ending_at es (lane v)) (next ps v) (own (lane v) vs) (told (lane v)) → EndsRight (own (lane v) vs)
-      → entered (known es) (run_of R w ps) w.events (entry v) (entries vs) ≡ Some (run_of R (after R w v) (slice_set ps (lane v) (next ps v)))
-  unfolding after position_after
-  entered_is w ps v vs right knows does rest ends =
-      turned R w ps (lane v) (moment v) es (entries vs) knows.0 knows.1 v (own (lane v) vs) refl refl does
-      (λ is. cut_is R w ps (lane v) knows.0 (class_of v.act) (ending_at es (lane v)) v vs (told (lane v)) refl right.last does is rest ends)
-      right.says
+  keyed_next : (w : World) (v : Event) → HasKeys w.store → HasKeys (after R w v).store
+  unfolding after
+  keyed_next w v named = moved_keyed R w (lane v) (moment v) v.act (kind_of (kind v)) named
 
-  weaves : (h : List Event) (w : World) (ps : List Position) → IsLegal R w h → AreLanes (length ps) h → AllKnow w ps → AllRun es ps h told → Weaves R es w ps h told
+  weaves : (h : List Event) (w : World) (ps qs : List Position) → IsLegal R w h → AreLanes (length ps) h → length qs ≡ length ps → HasKeys w.store → AllKnow R w ps qs → AllRun es ps h told
+      → Weaves R es w ps qs h told
   unfolding AllKnow AllRun Weaves run_from after_all after
-  weaves [] w ps legal lanes knows runs = (ps, refl, refl, λ k lt. (runs k lt).1)
-  weaves (v ∷ vs) w ps legal lanes knows runs =
+  weaves [] w ps qs legal lanes same named knows runs =
+      (qs, refl, same, λ k lt. told_alike R w.store k (at ps k) (at qs k) (at ps k).pull (knows k lt).2 ∙ (runs k lt).1)
+  weaves (v ∷ vs) w ps qs legal lanes same named knows runs =
       let run : Runs (ending_at es (lane v)) (at ps (lane v)) (v ∷ own (lane v) vs) (told (lane v)) = subst (λ xs. Runs (ending_at es (lane v)) (at ps (lane v)) xs (told (lane v))) (own_here v vs) (runs (lane v) lanes.0) in
+      let here = knows (lane v) lanes.0 in
+      let ends = legal_own R (after R w v) (lane v) vs legal.1 in
+      let t = turn w ps qs v vs legal.0 named here run.1 run.2 ends in
       let len : length (slice_set ps (lane v) (next ps v)) ≡ length ps = length-set ps (lane v) (next ps v) in
-      let ih = weaves vs (after R w v) (slice_set ps (lane v) (next ps v)) legal.1 (subst (λ n. AreLanes n vs) (sym len) lanes.1)
-      (know_next w ps v vs lanes.0 legal.0 knows run.1) (runs_next ps v vs lanes.0 runs run.2) in
-      let first = entered_is w ps v vs legal.0 (knows (lane v) lanes.0) run.1 run.2 (legal_own R (after R w v) (lane v) vs legal.1) in (
+      let also : length (slice_set qs (lane v) t.0) ≡ length (slice_set ps (lane v) (next ps v)) = length-set qs (lane v) t.0 ∙ same ∙ sym len in
+      let ih = weaves vs (after R w v) (slice_set ps (lane v) (next ps v)) (slice_set qs (lane v) t.0) legal.1 (subst (λ n. AreLanes n vs) (sym len) lanes.1) also (keyed_next w v named)
+      (know_next w ps qs v vs lanes.0 (subst (λ n. lane v < n) (sym same) lanes.0) legal.0 named knows t.0
+      (collects_next w ps qs v vs legal.0 named here run.1 run.2 ends (at ps (lane v)).pull refl) (plain_next w ps qs v vs legal.0 named here run.1 run.2 ends (at ps (lane v)).pull refl) t.2)
+      (runs_next ps v vs lanes.0 runs run.2) in (
         ih.0,
-        one_more w ps v vs (after R w v) (slice_set ps (lane v) (next ps v)) ih.0 first ih.1,
+        one_more w qs v vs (after R w v) (slice_set qs (lane v) t.0) ih.0 t.1 ih.1,
         ih.2 ∙ len,
         λ k lt. ih.3 k (subst (λ n. k < n) (sym len) lt),
       )
@@ -321,9 +522,9 @@ unfolding AllKnow AllRun Weaves woven_by
 served_woven o R h inputs es told s =
     let ps = map begin inputs in
     let len : length ps ≡ length inputs = length-map inputs begin in
-    let all = weaves R es (λ k. slice_index_or told k []) h (opened o) ps s.legal
-    (subst (λ n. AreLanes n h) (sym len) s.lanes)
-    (λ k lt. (ap (λ x. x.collecting) (begun_at inputs k), subst (λ x. ArePlain x.job) (sym (begun_at inputs k)) tt))
+    let all = weaves R s.remote_is es (λ k. slice_index_or told k []) h (opened o) ps ps s.legal
+    (subst (λ n. AreLanes n h) (sym len) s.lanes) refl (keys_opened o.snapshots s.keys)
+    (λ k lt. subst (λ (x : Position). (x.collecting ≡ None) × ArePlain x.job × BesideBy R (opened o).store k x x.pull x) (sym (begun_at inputs k)) (refl, tt, refl))
     (λ k lt. subst (λ x. Runs (ending_at es k) x (own k h) (slice_index_or told k [])) (sym (begun_at inputs k)) (s.runs k (subst (λ n. k < n) len lt))) in
     weave_is R o.snapshots (entries h) inputs es
     ∙ ap (λ r. woven_by (run_from (known es) r 0 (entries h))) (run_begun R o inputs)

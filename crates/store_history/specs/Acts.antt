@@ -1,8 +1,9 @@
 -- The acts of a lane.
-use Rattle.std.specs.Prelude.{ℕ, ◌≡◌, List, Result, Ok, Err, IsOk}
+use Rattle.std.specs.Prelude.{ℕ, ◌≡◌, List, Result, Ok, Err, IsOk, IsSome}
 use Rattle.store_types.specs.declared.refusal.Refusal.{Refusal}
 use Rattle.store_types.specs.declared.refusal.Refusal.TheVariants.{BadBlob, WrongSize, WrongDigest}
 use Rattle.store_types.specs.declared.names.Digest32.{Digest32}
+use Rattle.store_types.specs.Names.{key_of}
 use Rattle.blob_codec.specs.Blob.{data_of}
 use Rattle.store_model.specs.ArchiveSteps.{check_chunk}
 use Rattle.store_model.specs.Jobs.{IsPrune, IsSync}
@@ -66,6 +67,8 @@ IsWellFormed (acts.Chunk digest checked) = IsCheckedChunk digest checked
 IsWellFormed (acts.ReadFile name offset) = Unit {0}
 IsWellFormed (acts.ReadChunk name entry) = Unit {0}
 IsWellFormed (acts.RemoteList c) = IsSync c
+IsWellFormed (acts.RemoteFile snapshot name offset) = IsSome (key_of snapshot)
+IsWellFormed (acts.RemoteChunk digest) = Unit {0}
 IsWellFormed acts.Start = Unit {0}
 IsWellFormed acts.Step = Unit {0}
 IsWellFormed acts.Short = Unit {0}
@@ -97,7 +100,9 @@ act_of_step (steps.ReadChunk name entry) = acts.ReadChunk name entry
 pub data Class : Type 0 where
   -- a command, or a step of a job
   stepping : Class
-  -- the start of a collector, or of a SYNC
+  -- a read of the remote
+  reaching : Class
+  -- the start of a collector
   starting : Class
   -- a mark, a visit, or the end of a collector
   sweeping : Class
@@ -107,7 +112,9 @@ pub data Class : Type 0 where
   ending : Class
 
 abbrev pub class_of : Act → Class
-class_of (acts.RemoteList c) = starting
+class_of (acts.RemoteList c) = reaching
+class_of (acts.RemoteFile snapshot name offset) = reaching
+class_of (acts.RemoteChunk digest) = reaching
 class_of acts.Start = starting
 class_of acts.Step = sweeping
 class_of acts.Short = wanting

@@ -4,23 +4,22 @@ use Rattle.store_types.specs.Times.{last_moment}
 use Rattle.store_types.specs.declared.refusal.SessionState.{SessionState}
 use Rattle.store_types.specs.declared.refusal.SessionState.TheVariants as states
 use Rattle.store_types.specs.declared.refusal.Refusal.{Refusal}
-use Rattle.store_types.specs.declared.refusal.Refusal.TheVariants.{NoMemory, WrongState}
+use Rattle.store_types.specs.declared.refusal.Refusal.TheVariants.{NoMemory, RemoteFault, WrongState}
 use Rattle.port_traits.specs.Readings.{Readings, reading_at, readings_after}
 use Rattle.store_files.specs.Archive.{Snapshot}
 use Rattle.wire_commands.specs.declared.reply.Reply.{Reply}
 use Rattle.wire_commands.specs.declared.reply.Reply.TheVariants.{Collected, Refused}
 use Rattle.wire_commands.specs.declared.command.Command.TheVariants as commands
 use Rattle.store_model.specs.Store.{Session, none, writer, reader, session, lane_count}
-use Rattle.store_types.specs.Chain.Refusing.{◌>>=◌}
-use Rattle.store_model.specs.SyncJob.{to_pull}
 use Rattle.store_model.specs.Steps.{answered}
 use Rattle.store_model.specs.Lanes.{Run}
 use Rattle.store_model.specs.Weave.{want_collector, fault_refusal}
 use Rattle.store_history.specs.declared.act.Act.{Act}
 use Rattle.store_history.specs.declared.act.Act.TheVariants as acts
 use Rattle.store_history.specs.declared.act.Event.{Event}
-use Rattle.store_history.specs.Acts.{IsWellFormed, Class, stepping, starting, sweeping, wanting, ending, class_of}
-use Rattle.store_history.specs.History.{World, open_on, act_outcome, after, lane, moment, kind, reply, EntryKind, kind_of, step_kind, pass_kind, short_kind, start_kind, close_kind, fault_kind, end_kind}
+use Rattle.store_history.specs.Acts.{IsWellFormed, Class, stepping, reaching, starting, sweeping, wanting, ending, class_of}
+use Rattle.store_history.specs.History.{World, open_on, act_outcome, after, lane, moment, kind, reply, EntryKind, kind_of, step_kind, pass_kind, short_kind, start_kind, close_kind, fault_kind, end_kind, remote_kind}
+use Rattle.store_history.specs.Remote.{may_read, ReadsIn}
 
 abbrev pub Says : Option (List Snapshot) → World → ℕ → ℕ → Act → Option Reply → Type 0
 Says remote w k m a r = r ≡ Some (answered w.store (act_outcome remote w k m a)).1
@@ -49,16 +48,6 @@ abbrev pub Refuses : Result (Unit {0}) Refusal → Option Reply → Type 0
 Refuses (Ok may) r = ⊥
 Refuses (Err refusal) r = r ≡ Some (Refused refusal)
 
--- a collector or a SYNC may start on the lane, or what refuses it
-abbrev pub may_start : Option (List Snapshot) → World → ℕ → Act → Result (Unit {0}) Refusal
-may_start remote w k (acts.RemoteList (commands.Sync group)) = to_pull remote w.store k group >>= λ snapshots. Ok tt
-may_start remote w k a = may_open w k
-
--- the act opens a collector
-abbrev pub OpensCollector : Act → Type 0
-OpensCollector acts.Start = Unit {0}
-OpensCollector a = ⊥
-
 -- the lane's collector, as far as it has come
 abbrev pub collecting_on : World → ℕ → Option Bool
 collecting_on w k = open_on k w.collecting
@@ -82,10 +71,15 @@ abbrev pub Right : Option (List Snapshot) → World → ℕ → ℕ → Act → 
 Right remote w k m a r stepping step_kind = (w.fault ≡ None) × Says remote w k m a r
 -- a command or a step that memory was wanting for: none that ends a session
 Right remote w k m a r stepping short_kind = (r ≡ Some (Refused NoMemory)) × (IsClosing w k a → ⊥)
--- a GC or a SYNC that is refused, that memory was wanting for, or whose collector opens, without a reply
-Right remote w k m a r starting step_kind = (w.fault ≡ None) × Refuses (may_start remote w k a) r
+-- a read of the remote that is refused, that memory was wanting for, that gave what the remote has, or that failed
+Right remote w k m a r reaching step_kind = (w.fault ≡ None) × Refuses (may_read remote w.store k a) r
+Right remote w k m a r reaching short_kind = r ≡ Some (Refused NoMemory)
+Right remote w k m a r reaching pass_kind = (w.fault ≡ None) × (may_read remote w.store k a ≡ Ok tt) × ReadsIn remote a r
+Right remote w k m a r reaching remote_kind = (w.fault ≡ None) × (may_read remote w.store k a ≡ Ok tt) × (r ≡ Some (Refused RemoteFault))
+-- a GC that is refused, that memory was wanting for, or whose collector opens, without a reply
+Right remote w k m a r starting step_kind = (w.fault ≡ None) × Refuses (may_open w k) r
 Right remote w k m a r starting short_kind = r ≡ Some (Refused NoMemory)
-Right remote w k m a r starting start_kind = (w.fault ≡ None) × (may_open w k ≡ Ok tt) × (r ≡ None) × OpensCollector a
+Right remote w k m a r starting start_kind = (w.fault ≡ None) × (may_open w k ≡ Ok tt) × (r ≡ None)
 -- a collector's act where the lane's is not open
 Right remote w k m a r sweeping step_kind =
     (w.fault ≡ None) × (collecting_on w k ≡ None) × (r ≡ Some (Refused (WrongState (state_of (session w.store k)))))
@@ -102,8 +96,9 @@ Right remote w k m a r wanting fault_kind = ⊥
 Right remote w k m a r ending short_kind = ⊥
 -- a lane's end that met the first fault: it is not refused for an earlier one
 Right remote w k m a r ending fault_kind = (w.fault ≡ None) × (r ≡ Some (Refused (fault_refusal w.fault)))
--- a command, a step or a collector's act that met the first fault, or is refused for it
+-- a command, a step, a read or a collector's act that met the first fault, or is refused for it
 Right remote w k m a r stepping fault_kind = r ≡ Some (Refused (fault_refusal w.fault))
+Right remote w k m a r reaching fault_kind = r ≡ Some (Refused (fault_refusal w.fault))
 Right remote w k m a r starting fault_kind = r ≡ Some (Refused (fault_refusal w.fault))
 Right remote w k m a r sweeping fault_kind = r ≡ Some (Refused (fault_refusal w.fault))
 -- a lane's end, after a fault too

@@ -1,5 +1,7 @@
 pub mod Acts
 pub mod History
+pub mod Remote
+pub mod Pulling
 pub mod Legal
 pub mod LaneRun
 pub mod Begun

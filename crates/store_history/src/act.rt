@@ -33,6 +33,17 @@ pub enum Act {
     },
     /// The first step of a SYNC, which carries the job's command: what the remote has of its group.
     RemoteList(Command),
+    /// A part of a file of one of the remote's snapshots, from an offset in bytes.
+    RemoteFile {
+        /// The snapshot, as its text.
+        snapshot: Bytes,
+        name: FileName,
+        offset: u64,
+    },
+    /// The remote's chunk with this digest, which is checked.
+    RemoteChunk {
+        digest: Digest32,
+    },
     /// The lane's collector opens.
     Start,
     /// The next act of the lane's collector: a mark, a visit, or its end.

@@ -36,7 +36,7 @@ use Rattle.store_history.specs.declared.act.Act.{Act}
 use Rattle.store_history.specs.declared.act.Act.TheVariants as acts
 use Rattle.store_model.specs.Weave.{fault_refusal}
 use Rattle.store_history.specs.declared.act.Event.{Event}
-use Rattle.store_history.specs.Acts.{IsPlain, IsCheckedChunk, IsWellFormed, stepping, starting, sweeping, wanting, ending, class_of}
+use Rattle.store_history.specs.Acts.{IsPlain, IsCheckedChunk, IsWellFormed, stepping, reaching, starting, sweeping, wanting, ending, class_of}
 use Rattle.store_history.specs.History.{World, data_in, act_outcome, moved, after, lane, moment, kind, reply, EntryKind, kind_of, step_kind, short_kind, fault_kind, end_kind}
 use Rattle.store_history.specs.Legal.{Right, IsRight}
 use Rattle.store_history.proofs.Checking.{checked_digest}
@@ -480,6 +480,8 @@ act_does R w k m (acts.Chunk digest checked) formed = chunk_does w.store k m dig
 act_does R w k m (acts.ReadFile name offset) formed = reads_part w.store k m name offset
 act_does R w k m (acts.ReadChunk name entry) formed = reads_entry w.store k m name entry
 act_does R w k m (acts.RemoteList c) formed = tt
+act_does R w k m (acts.RemoteFile snapshot name offset) formed = tt
+act_does R w k m (acts.RemoteChunk digest) formed = tt
 act_does R w k m acts.Start formed = tt
 act_does R w k m acts.Step formed = tt
 act_does R w k m acts.Short formed = tt
@@ -518,10 +520,21 @@ module _ (R : Option (List Snapshot)) (w : World) (k m : ℕ) (r : Option Reply)
   starting_moves end_kind right = absurd right
   starting_moves n right = still w.store m _ _ _ (quiet_act acts.Start None refl)
 
-  remote_moves : (c : Command) (n : EntryKind) → Right R w k m (acts.RemoteList c) r starting n → MovesBy (acts.RemoteList c) n
+  list_moves : (c : Command) (n : EntryKind) → Right R w k m (acts.RemoteList c) r reaching n → MovesBy (acts.RemoteList c) n
   unfolding moved act_outcome
-  remote_moves c end_kind right = absurd right
-  remote_moves c n right = still w.store m _ _ _ (quiet_act (acts.RemoteList c) None refl)
+  list_moves c end_kind right = absurd right
+  list_moves c n right = still w.store m _ _ _ (quiet_act (acts.RemoteList c) None refl)
+
+  file_moves : (snapshot name : List ℕ) (offset : ℕ) (n : EntryKind) → Right R w k m (acts.RemoteFile snapshot name offset) r reaching n
+      → MovesBy (acts.RemoteFile snapshot name offset) n
+  unfolding moved act_outcome
+  file_moves snapshot name offset end_kind right = absurd right
+  file_moves snapshot name offset n right = still w.store m _ _ _ (quiet_act (acts.RemoteFile snapshot name offset) None refl)
+
+  chunk_moves : (digest : Digest32) (n : EntryKind) → Right R w k m (acts.RemoteChunk digest) r reaching n → MovesBy (acts.RemoteChunk digest) n
+  unfolding moved act_outcome
+  chunk_moves digest end_kind right = absurd right
+  chunk_moves digest n right = still w.store m _ _ _ (quiet_act (acts.RemoteChunk digest) None refl)
 
   sweeping_moves : (n : EntryKind) → Right R w k m acts.Step r sweeping n → MovesBy acts.Step n
   unfolding moved act_outcome
@@ -541,7 +554,9 @@ module _ (R : Option (List Snapshot)) (w : World) (k m : ℕ) (r : Option Reply)
 
   act_moves : (a : Act) → IsWellFormed a → (n : EntryKind) → Right R w k m a r (class_of a) n → MovesBy a n
   act_moves acts.Start formed n right = starting_moves n right
-  act_moves (acts.RemoteList c) formed n right = remote_moves c n right
+  act_moves (acts.RemoteList c) formed n right = list_moves c n right
+  act_moves (acts.RemoteFile snapshot name offset) formed n right = file_moves snapshot name offset n right
+  act_moves (acts.RemoteChunk digest) formed n right = chunk_moves digest n right
   act_moves acts.Step formed n right = sweeping_moves n right
   act_moves acts.Short formed n right = wanting_moves n right
   act_moves acts.End formed n right = ending_moves n right

@@ -45,10 +45,9 @@ starts R w s v b none is =
     starts_by w s v b (class_of v.act) (kind_of (kind v)) none
     (open_same (after R w v).collecting (swept_by w s v (class_of v.act) (kind_of (kind v))) b is)
 
--- a SYNC opens no collector
+-- it is the start of a collector
 start_act : (R : Option (List Snapshot)) (w : World) (k m : ℕ) (a : Act) (r : Option Reply) (n : EntryKind) → Right R w k m a r (class_of a) n → IsStart (class_of a) n → a ≡ acts.Start
 start_act R w k m acts.Start r n right is = refl
-start_act R w k m (acts.RemoteList c) r start_kind right is = absurd right.3
 start_act R w k m a r n right is = absurd is
 
 start_three : (n : ℕ) → IsStart starting (kind_of n) → n ≡ 3

@@ -10,7 +10,7 @@ use Rattle.atime_book.specs.Touches.{cutoff_of}
 use Rattle.store_history.specs.declared.act.Act.{Act}
 use Rattle.store_history.specs.declared.act.Act.TheVariants.{Chunk, Start, Step}
 use Rattle.store_history.specs.declared.act.Event.{Event}
-use Rattle.store_history.specs.History.{World, Opening, opened, after, after_all, lane, moment, kind, reply}
+use Rattle.store_history.specs.History.{World, Opening, opened, after, lane, moment, kind, reply}
 use Rattle.store_history.specs.Legal.{IsLegal}
 use Rattle.store_history.specs.LastTouches.{LastTouches, touches_at_opening}
 use Rattle.store_history.specs.Sweeping.{Sweep, Swept, swept_at, chunks, oldest_in, is_over, taken_by, touched_after, swept_after, swept_all, world, swept, used_among, pending_among, report_of, IsSwept}

@@ -1,7 +1,9 @@
 //! A growth is refused, as `rt try --test --fail-alloc N` does.
 
-use super::frames::{DONE, ROOT_SENT};
-use super::listings::FORGET;
+use super::frames::{BASE, DONE, NO_BASE, OPEN_LATER, ROOT_SENT};
+use super::listings::{FORGET, ONE_KEY};
+use super::pulls::{LONG_ARCHIVES, long_remote};
+use super::syncs::SYNC;
 use super::talks::talk_of;
 use super::verifies::VERIFIED_LAST;
 use super::*;
@@ -146,5 +148,55 @@ fn a_verify_lacks_memory(rt: HostRuntime) -> Result<(), Fail> {
         same(&rt, verified == SHORT || verified == SHORT_AND_DONE, true);
     }
     println!(rt; "status {}", served.status.number())?;
+    Ok(())
+}
+
+/// The entries of the SYNC's steps in its writer are those behind the third, up to the thirteenth: where memory was wanting for one, an
+/// ABORT is the next.
+fn was_aborted(rt: &impl Abort, order: &[Entry]) -> bool {
+    let mut was_short = false;
+    let mut is_short = false;
+    for (place, entry) in order.iter().enumerate() {
+        same(rt, is_short && entry.kind != 0, false);
+        is_short = entry.kind == 2 && 2 < place && place < 13;
+        was_short = was_short || is_short;
+    }
+    was_short
+}
+
+/// The SYNC of an archive, and a writer of a later snapshot: a SYNC that lacked memory leaves no writer, and nothing of its snapshot. The
+/// status is printed, and how many entries the order has.
+#[test]
+fn a_pull_lacks_memory(rt: HostRuntime) -> Result<(), Fail> {
+    let alloc = rt.alloc();
+    // what is handed in takes memory too
+    let Ok(talk) = talk_of(alloc, &[&[(SYNC, ONE_KEY), (OPEN_LATER, BASE)]]) else {
+        return Ok(());
+    };
+    let Ok(remote) = long_remote(alloc, &LONG_ARCHIVES[1]) else {
+        return Ok(());
+    };
+    let Ok(source) = source_of(alloc, &talk.sent) else {
+        return Ok(());
+    };
+    let sink = empty_sink(alloc);
+    let mut ports: Ports<MemSink> = [Port { source, sink }];
+    let disk = MemoryDisk::new(alloc);
+    let Ok(served) = run_beside(&rt, alloc, &mut ports, disk, Some(remote)) else {
+        return Ok(());
+    };
+    let told = told_to(&ports)?;
+    if served.status == Status::Ok {
+        same(&rt, told, talk.told.as_slice());
+    }
+    if was_aborted(&rt, &served.order) {
+        let (reply, later) = told.split_at(told.len().min(5));
+        same(&rt, reply, SHORT);
+        same(&rt, later.is_empty() || later == NO_BASE, true);
+    }
+    let remote = served.remote.ok_or("no remote")?;
+    same(&rt, remote.faults(), 0);
+    let entries = served.order.len();
+    println!(rt; "status {}, {entries} entries", served.status.number())?;
     Ok(())
 }

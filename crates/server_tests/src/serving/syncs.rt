@@ -3,9 +3,10 @@
 use super::frames::*;
 use super::talks::Steps;
 
-const SYNC: &[u8] = b"\x08\0\0\0#\x06host/a";
+/// A SYNC of `host/a`.
+pub const SYNC: &[u8] = b"\x08\0\0\0#\x06host/a";
 
-const NO_REMOTE: &[u8] = b"\x01\0\0\0\x1d";
+pub const NO_REMOTE: &[u8] = b"\x01\0\0\0\x1d";
 
 /// Behind `ROOT_SENT`. A SYNC is refused in this order, and leaves the session as it is.
 static SYNCED: Steps = &[

@@ -60,7 +60,7 @@ const DE_FILE: &str =
     ".chunks/959a/959a45d44e6fcf58361ed004681556fe50129f2109e817dec098c00c9e5d2578";
 
 /// A file of the datastore, with what then stands there, or nothing.
-type Change = (&'static str, Option<&'static [u8]>);
+pub type Change = (&'static str, Option<&'static [u8]>);
 
 /// What changes behind a backup, what a VERIFY then tells, and how many entries its order has: of the steps, one of OPEN_READER, one of
 /// FILES, one of each file and of each chunk, one of CLOSE_READER; and of the lane's end.
@@ -85,10 +85,10 @@ const DE_IS_DAMAGED: &[u8] =
     b">\0\0\0\0\x03\x02\0\0\0\0\0\0\0\x05\0\0\0\0\0\0\0\x01\x09root.didx\x17\x95\x9aE\xd4No\xcfX6\x1e\xd0\x04h\x15V\xfeP\x12\x9f!\x09\xe8\x17\xde\xc0\x98\xc0\x0c\x9e]%x";
 
 /// The blob of `12345678`.
-const SHORTER: &[u8] = b"B\xab8\x07\xbe\x83p\xa1\xaf\xda\xe0\x9a12345678";
+pub const SHORTER: &[u8] = b"B\xab8\x07\xbe\x83p\xa1\xaf\xda\xe0\x9a12345678";
 
 /// The manifest of a snapshot of another group, which lists the same files.
-const OF_ANOTHER_GROUP: &[u8] =
+pub const OF_ANOTHER_GROUP: &[u8] =
     b"B\xab8\x07\xbe\x83p\xa1\xb7J\xf2\x83{\"backup-id\":\"b\",\"backup-time\":1579069803,\"backup-type\":\"host\",\"files\":[{\"crypt-mode\":\"none\",\"csum\":\"69dcb4830c28203c26a1dade2d893d7f1d13cdba5eb39e348b008f3a5a0fb688\",\"filename\":\"a.conf.blob\",\"size\":21},{\"crypt-mode\":\"none\",\"csum\":\"da464aae3d9f63d06f308710062b5db41996b1e36990b92ecc693440e6660151\",\"filename\":\"root.didx\",\"size\":5}]}";
 
 /// The blob: another size, another checksum; no blob, a blob of another CRC, and no bytes, each of them listed so; the blob of nothing.
@@ -264,7 +264,7 @@ static LATER_FIXED: [Row; 3] = [
     ),
 ];
 
-fn change(disk: &mut MemoryDisk, alloc: Global, changes: &[Change]) -> Result<(), Fail> {
+pub fn change(disk: &mut MemoryDisk, alloc: Global, changes: &[Change]) -> Result<(), Fail> {
     for (name, contents) in changes {
         let Some(bytes) = contents else {
             let _ = disk.remove(name)?;
@@ -348,7 +348,7 @@ fn fixed_archives_are_verified(rt: HostRuntime) -> Result<(), Fail> {
 
 /// A blob of 4,194,304 bytes, which one read gives, and one of a byte more: its header, how many zeros are behind it, the snapshot's
 /// manifest, and how many entries the order of its VERIFY has.
-static LARGE_BLOBS: [(&[u8], usize, &[u8], usize); 2] = [
+pub static LARGE_BLOBS: [(&[u8], usize, &[u8], usize); 2] = [
     (
         b"B\xab8\x07\xbe\x83p\xa1\xbc_\xec\x91",
         4_194_292,
@@ -365,15 +365,24 @@ static LARGE_BLOBS: [(&[u8], usize, &[u8], usize); 2] = [
 
 const TWO_FILES: &[u8] = b"\x13\0\0\0\0\x02\0\0\0\0\0\0\0\0\0\0\0\0\0\0\0\0\0";
 
+pub fn large_file(
+    alloc: Global,
+    row: &(&[u8], usize, &[u8], usize),
+) -> Result<Vec<u8>, AllocError> {
+    let (header, zeros, _, _) = row;
+    let mut file = header.to_vec(alloc)?;
+    let len = file.len().saturating_add(*zeros);
+    file.resize(len, 0)?;
+    Ok(file)
+}
+
 fn try_parts(
     rt: &(impl Abort + Threads + Sync),
     alloc: Global,
     row: &(&[u8], usize, &[u8], usize),
 ) -> Result<(), Fail> {
-    let (header, zeros, manifest, entries) = row;
-    let mut file = header.to_vec(alloc)?;
-    let len = file.len().saturating_add(*zeros);
-    file.resize(len, 0)?;
+    let (_, _, manifest, entries) = row;
+    let file = large_file(alloc, row)?;
     let mut disk = MemoryDisk::new(alloc);
     disk.put(alloc, "host/a/2020-01-15T06:30:03Z/a.blob", &file)?;
     disk.put(alloc, MANIFEST, manifest)?;

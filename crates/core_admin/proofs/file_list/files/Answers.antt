@@ -163,7 +163,7 @@ returns-clause-does g c =
 pub returns-clause-leaves : goal.returns-clause-leaves
 returns-clause-leaves g c =
     read_leaves g.D.Disk c.args.parts.now _ c.args._at (Plain (commands.Files c.args.snapshot.now)) _ _ c.rows_read.ensures.reads (record { catalogue = refl; sessions = refl; locks = refl })
-    (record { plain = tt; change = refl; listed = refl; goes_on = refl }) (λ quiet. absurd (no_end quiet))
+    (record { plain = tt; change = refl; listed = refl; goes_on = refl; writes = λ writes. cc }) (λ quiet. absurd (no_end quiet))
 
 pub returns-clause-by_kept : goal.returns-clause-by_kept
 returns-clause-by_kept g c =

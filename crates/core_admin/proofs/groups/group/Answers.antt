@@ -6,9 +6,8 @@ use Rattle.wire_commands.specs.declared.reply.Reply.TheVariants.{Keys}
 use Rattle.store_history.specs.declared.act.Act.TheVariants.{Plain}
 use Rattle.core_state.specs.Replies.{reply_told}
 use Rattle.core_state.proofs.Commanding.{read_does, reads_none, refused_does, same_kept}
-use Rattle.core_state.proofs.Texts.{bad_name_has_text}
+use Rattle.core_state.proofs.Texts.{bad_name_has_text, keys_has_text}
 use Rattle.core_admin.specs.Listings.{texts_in}
-use Rattle.core_admin.proofs.RowTexts.{keys_has_text}
 use Rattle.core_admin.proofs.Told.{group_answers, group_keys, group_refused, group_refuses}
 use Rattle.core_admin.proofs.groups.group.Goals as goal
 

@@ -9,9 +9,8 @@ use Rattle.store_history.specs.declared.act.Act.TheVariants.{JobGroup}
 use Rattle.core_state.specs.Replies.{answers_prune, reply_told}
 use Rattle.core_state.specs.Wanted.{session_at}
 use Rattle.core_state.proofs.Commanding.{busy_by_state, read_does, reads_none, refused_does, same_kept}
-use Rattle.core_state.proofs.Texts.{bad_name_has_text, too_many_has_text}
+use Rattle.core_state.proofs.Texts.{bad_name_has_text, keys_has_text, too_many_has_text}
 use Rattle.core_admin.specs.Listings.{prune_told, texts_in}
-use Rattle.core_admin.proofs.RowTexts.{keys_has_text}
 use Rattle.core_state.proofs.ByKept.{told_stopped}
 use Rattle.core_admin.proofs.Told.{prune_answers, prune_busy, prune_keys, prune_many, prune_refuses, prune_unnamed}
 use Rattle.core_admin.proofs.groups.prune_group.Goals as goal

@@ -22,7 +22,7 @@ loop-lane-preserved g c =
     let place = was.place in
     let pushed = c.push_reserved.ensures.len in
     let holds = c.push_reserved.ensures.capacity in
-    let more = played_more g.D.Disk g.C.Clock c.args.core.now c.loop-lane.core c.apply.new.core c.loop-lane.yielded c.loop-lane.answers.items lane act c.apply.result lt
+    let more = played_more g.D.Disk g.E.Disk g.C.Clock c.args.core.now c.loop-lane.core c.apply.new.core c.loop-lane.yielded c.loop-lane.answers.items lane act c.apply.result lt
     c.apply.ensures.applies c.apply.ensures.keeps was.played in
     record {
       can_next = tt;
@@ -32,5 +32,5 @@ loop-lane-preserved g c =
       room = omega (arith, size, room, one);
       place = omega (arith, size, place, pushed, holds);
       whole = stays_whole c.loop-lane.core c.apply.new.core lane act c.apply.result lt some keeps was.whole;
-      played = subst (λ answers. HasPlayed g.D.Disk g.C.Clock c.args.core.now c.apply.new.core (c.loop-lane.yielded ++ (lane, act) ∷ []) answers) (sym c.push_reserved.ensures.items) more;
+      played = subst (λ answers. HasPlayed g.D.Disk g.E.Disk g.C.Clock c.args.core.now c.apply.new.core (c.loop-lane.yielded ++ (lane, act) ∷ []) answers) (sym c.push_reserved.ensures.items) more;
     }

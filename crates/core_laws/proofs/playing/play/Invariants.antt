@@ -12,5 +12,5 @@ invariant-loop-lane g l = record {
   room : length (into_iter_items l.lane-iterator) ≤ (l.core.journal).spare;
   place : vec_len l.answers + length (into_iter_items l.lane-iterator) ≤ vec_capacity l.answers;
   whole : AllWhole l.core;
-  played : HasPlayed g.D.Disk g.C.Clock l.fn.core l.core l.yielded l.answers.items;
+  played : HasPlayed g.D.Disk g.E.Disk g.C.Clock l.fn.core l.core l.yielded l.answers.items;
 }

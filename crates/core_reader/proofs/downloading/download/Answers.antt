@@ -88,7 +88,7 @@ returns-in_default-clause-does g c =
 pub returns-in_default-clause-leaves : goal.returns-in_default-clause-leaves
 returns-in_default-clause-leaves g c =
     read_leaves g.D.Disk c.args.parts.now _ c.args.at (Plain (Download c.args.file.now c.args.offset)) c.in_ok-part.part _ c.read_part.ensures.reads (record { catalogue = refl; sessions = refl; locks = refl })
-    (record { plain = part_plain _ c.in_ok-part.ensures.kind; change = refl; listed = refl; goes_on = refl }) (λ e. cc)
+    (record { plain = part_plain _ c.in_ok-part.ensures.kind; change = refl; listed = refl; goes_on = refl; writes = λ writes. cc }) (λ e. cc)
 
 pub returns-in_default-clause-unreadable : goal.returns-in_default-clause-unreadable
 returns-in_default-clause-unreadable g c =

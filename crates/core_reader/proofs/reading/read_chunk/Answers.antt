@@ -241,7 +241,7 @@ returns-clause-leaves g c =
     let old = c.args.parts.now in
     read_leaves d old _ c.args.at (ReadChunk c.args.name.now c.args.entry) (Data c.in_ok-bytes.bytes) _
     (reads_then d old.disk c.read_entry.new.disk c.read_bytes.new.disk _ _ ⊥ c.read_entry.ensures.reads c.read_bytes.ensures.reads (λ never. absurd never)) (record { catalogue = refl; sessions = refl; locks = refl })
-    (record { plain = tt; change = refl; listed = refl; goes_on = refl }) (λ e. cc)
+    (record { plain = tt; change = refl; listed = refl; goes_on = refl; writes = λ writes. cc }) (λ e. cc)
 
 pub returns-clause-by_disk : goal.returns-clause-by_disk
 returns-clause-by_disk g c = λ honest.

@@ -86,7 +86,7 @@ returns-clause-does g c =
 pub returns-clause-leaves : goal.returns-clause-leaves
 returns-clause-leaves g c =
     read_leaves g.D.Disk c.args.parts.now _ c.args.at (ReadFile c.args.name.now c.args.offset) c.in_ok-part.part _ c.read_part.ensures.reads (record { catalogue = refl; sessions = refl; locks = refl })
-    (record { plain = part_plain _ c.in_ok-part.ensures.kind; change = refl; listed = refl; goes_on = refl }) (λ e. cc)
+    (record { plain = part_plain _ c.in_ok-part.ensures.kind; change = refl; listed = refl; goes_on = refl; writes = λ writes. cc }) (λ e. cc)
 
 pub returns-clause-by_disk : goal.returns-clause-by_disk
 returns-clause-by_disk g c =

@@ -1,32 +1,54 @@
-use Rattle.core_state.proofs.Applying.{start_refused_applies, start_refused_keeps}
-use Rattle.core_remote.proofs.RemoteLemmas.{refused_tells, remotes_start, stop_applies, stop_keeps, stop_tells}
+use Rattle.core_remote.proofs.Told.{done_applies, done_gives, done_keeps, done_tells, refused_applies, refused_gives, refused_keeps, refused_tells}
 use Rattle.core_remote.proofs.act.remote_act.Goals as goal
 
--- ---- refused before it is done
+-- ---- refused before it is begun
 
 pub returns-in-Answered-clause-applies : goal.returns-in-Answered-clause-applies
 returns-in-Answered-clause-applies g c =
-    start_refused_applies g.D.Disk g.C.Clock c.args.core.now c.begin.new.core c.args.lane c.args.act c.in-Answered.answer (remotes_start c.args.act c.requires.kind) c.requires.lane
-    c.in-Answered.ensures.begun c.in-Answered.ensures.text
+    refused_applies g.D.Disk g.E.Disk g.C.Clock c.args.core.now c.begin.new.core c.args.lane c.args.act c.in-Answered.answer c.requires.kind c.in-Answered.ensures.begun c.requires.lane c.requires.formed c.in-Answered.ensures.text
 
 pub returns-in-Answered-clause-keeps : goal.returns-in-Answered-clause-keeps
 returns-in-Answered-clause-keeps g c =
-    start_refused_keeps g.D.Disk g.C.Clock c.args.core.now c.begin.new.core c.args.lane c.args.act c.in-Answered.answer (remotes_start c.args.act c.requires.kind) c.in-Answered.ensures.begun
+    refused_keeps g.D.Disk g.E.Disk g.C.Clock c.args.core.now c.begin.new.core c.args.lane c.args.act c.in-Answered.answer c.requires.kind c.in-Answered.ensures.begun
 
 pub returns-in-Answered-clause-by_kept : goal.returns-in-Answered-clause-by_kept
 returns-in-Answered-clause-by_kept g c =
-    refused_tells g.D.Disk g.C.Clock c.args.core.now c.begin.new.core c.args.lane c.args.act c.in-Answered.answer c.requires.kind c.in-Answered.ensures.begun
+    refused_tells g.D.Disk g.E.Disk g.C.Clock c.args.core.now c.begin.new.core c.args.lane c.args.act c.in-Answered.answer c.requires.kind c.in-Answered.ensures.begun
 
--- ---- it stops
+pub returns-in-Answered-clause-by_remote : goal.returns-in-Answered-clause-by_remote
+returns-in-Answered-clause-by_remote g c =
+    refused_gives g.D.Disk g.E.Disk g.C.Clock c.args.core.now c.begin.new.core c.args.lane c.args.act c.in-Answered.answer c.requires.kind c.in-Answered.ensures.begun
+
+-- ---- it was begun
 
 pub returns-in-At-clause-applies : goal.returns-in-At-clause-applies
 returns-in-At-clause-applies g c =
-    stop_applies g.D.Disk g.C.Clock c.args.core.now c.begin.new.core c.settle.new.core c.args.lane c.in-At.at c.settle.result c.requires.lane c.in-At.ensures.begun c.args.act c.perform-stop.result c.requires.kind c.in-At.ensures.filled c.perform-stop.ensures.stops c.perform-stop.ensures.text c.settle.ensures
+    let e = c.settle_read.ensures in
+    done_applies g.D.Disk g.E.Disk g.C.Clock c.args.core.now c.settle_read.new.core c.args.lane c.args.act c.settle_read.result c.requires.kind c.begin.new.core c.in-At.at c.requires.lane c.requires.formed
+    c.in-At.ensures.begun c.in-At.ensures.filled c.reach-ended.new.remote c.reach-ended.result c.reach-ended.ensures.tells c.reach-ended.ensures.stays c.reach-ended.ensures.failed c.reach-ended.ensures.gives
+    c.reach-ended.ensures.kind c.reach-ended.ensures.text
+    (record { parts = e.parts; remote = e.remote; clock = e.clock; fault = e.fault; last = e.last; upkeep = e.upkeep; collector = e.collector; entries = e.entries; calls = e.calls; entry = e.entry; reply_is = e.reply_is; place = e.place; is_held = e.is_held; room = e.room; last_held = e.last_held })
 
 pub returns-in-At-clause-keeps : goal.returns-in-At-clause-keeps
 returns-in-At-clause-keeps g c =
-    stop_keeps g.D.Disk g.C.Clock c.args.core.now c.begin.new.core c.settle.new.core c.args.lane c.in-At.at c.settle.result c.requires.lane c.in-At.ensures.begun c.args.act c.perform-stop.result c.requires.kind c.in-At.ensures.filled c.perform-stop.ensures.stops c.settle.ensures
+    let e = c.settle_read.ensures in
+    done_keeps g.D.Disk g.E.Disk g.C.Clock c.args.core.now c.settle_read.new.core c.args.lane c.args.act c.settle_read.result c.requires.kind c.begin.new.core c.in-At.at c.requires.lane c.requires.formed
+    c.in-At.ensures.begun c.in-At.ensures.filled c.reach-ended.new.remote c.reach-ended.result c.reach-ended.ensures.tells c.reach-ended.ensures.stays c.reach-ended.ensures.failed c.reach-ended.ensures.gives
+    c.reach-ended.ensures.kind c.reach-ended.ensures.text
+    (record { parts = e.parts; remote = e.remote; clock = e.clock; fault = e.fault; last = e.last; upkeep = e.upkeep; collector = e.collector; entries = e.entries; calls = e.calls; entry = e.entry; reply_is = e.reply_is; place = e.place; is_held = e.is_held; room = e.room; last_held = e.last_held })
 
 pub returns-in-At-clause-by_kept : goal.returns-in-At-clause-by_kept
 returns-in-At-clause-by_kept g c =
-    stop_tells g.D.Disk g.C.Clock c.args.core.now c.begin.new.core c.settle.new.core c.args.lane c.in-At.at c.settle.result c.requires.lane c.in-At.ensures.begun c.args.act c.perform-stop.result c.requires.kind c.in-At.ensures.filled c.perform-stop.ensures.stops c.settle.ensures
+    let e = c.settle_read.ensures in
+    done_tells g.D.Disk g.E.Disk g.C.Clock c.args.core.now c.settle_read.new.core c.args.lane c.args.act c.settle_read.result c.requires.kind c.begin.new.core c.in-At.at c.requires.lane c.requires.formed
+    c.in-At.ensures.begun c.in-At.ensures.filled c.reach-ended.new.remote c.reach-ended.result c.reach-ended.ensures.tells c.reach-ended.ensures.stays c.reach-ended.ensures.failed c.reach-ended.ensures.gives
+    c.reach-ended.ensures.kind c.reach-ended.ensures.text
+    (record { parts = e.parts; remote = e.remote; clock = e.clock; fault = e.fault; last = e.last; upkeep = e.upkeep; collector = e.collector; entries = e.entries; calls = e.calls; entry = e.entry; reply_is = e.reply_is; place = e.place; is_held = e.is_held; room = e.room; last_held = e.last_held })
+
+pub returns-in-At-clause-by_remote : goal.returns-in-At-clause-by_remote
+returns-in-At-clause-by_remote g c =
+    let e = c.settle_read.ensures in
+    done_gives g.D.Disk g.E.Disk g.C.Clock c.args.core.now c.settle_read.new.core c.args.lane c.args.act c.settle_read.result c.requires.kind c.begin.new.core c.in-At.at c.requires.lane c.requires.formed
+    c.in-At.ensures.begun c.in-At.ensures.filled c.reach-ended.new.remote c.reach-ended.result c.reach-ended.ensures.tells c.reach-ended.ensures.stays c.reach-ended.ensures.failed c.reach-ended.ensures.gives
+    c.reach-ended.ensures.kind c.reach-ended.ensures.text
+    (record { parts = e.parts; remote = e.remote; clock = e.clock; fault = e.fault; last = e.last; upkeep = e.upkeep; collector = e.collector; entries = e.entries; calls = e.calls; entry = e.entry; reply_is = e.reply_is; place = e.place; is_held = e.is_held; room = e.room; last_held = e.last_held })

@@ -1,14 +1,18 @@
 use Rattle.std.proofs.Common.{◌≡◌, ◌<◌, ◌∙◌, ap, refl, sym, subst, length, if◌then◌else◌, set, Ok, Err, arith}
+use Rattle.std.proofs.lemmas.List.{get_or-set_same}
 use Rattle.wire_commands.specs.declared.reply.Reply.TheVariants.{Done}
 use Rattle.store_history.specs.declared.act.Act.TheVariants.{Chunk}
 use Rattle.store_history.specs.Acts.{IsCheckedChunk}
 use Rattle.store_history.specs.History.{data_in}
 use Rattle.store_files.specs.Folder.{chunk_name}
 use Rattle.core_state.specs.Changes.{IsFirm, LeavesChange, after, stays, stores}
+use Rattle.core_state.specs.declared.kept.Session.TheVariants.{Idle}
+use Rattle.core_state.specs.Closing.{is_writer}
 use Rattle.core_state.specs.Named.{is_named}
 use Rattle.core_state.proofs.Commanding.{changed_leaves, failed_does, failed_leaves, is_writing, reads_none, refused_does, refused_leaves, same_kept, unwritten_does, unwritten_leaves, writer_shown, writes_does, writes_leaves}
 use Rattle.core_state.proofs.NamedLemmas.{list_all-set, list_all-at}
 use Rattle.core_state.proofs.Texts.{done_has_text}
+use Rattle.core_uploads.specs.Noted.{with_blob_noted}
 use Rattle.core_uploads.proofs.ChunkLemmas.{not_writing, unchecked}
 use Rattle.core_uploads.proofs.ChunkStep.{adds_taken, chunk_change, chunk_due, knows, may_note, named_taken, takes}
 use Rattle.core_uploads.proofs.KeepLemmas.{found_stays, found_writer}
@@ -55,7 +59,7 @@ returns-then-knows-clause-leaves g c = let d = g.D.Disk in
     changed_leaves d old old c.args.at (Chunk c.args.digest.now c.args.checked) Done refl tt
     (chunk_change _ _ c.args.digest.now c.args.checked c.in-Ok.bytes c.knows.result old.catalogue.items (is_writing _ _ c.in_ok-w.ensures.value) c.in-Ok.is c.knows.ensures.value
     ∙ ap (λ b. if b then stays else stores (chunk_name c.args.digest.now.0) c.in-Ok.bytes) c.if-knows.true)
-    refl refl (λ ends. absurd (false_true ends))
+    refl refl (λ ends. absurd (false_true ends)) (λ _. ap is_writer (is_writing _ _ c.in_ok-w.ensures.value))
 
 -- ---- it is put
 
@@ -115,6 +119,8 @@ returns-clause-does g c = let d = g.D.Disk in
 pub returns-clause-leaves : goal.returns-clause-leaves
 returns-clause-leaves g c = let d = g.D.Disk in
     let old = c.args.parts.now in
+    let within : c.args.at.lane < length old.sessions.items = omega (arith, old.lanes, old.sessions.ok.0, c.requires.lane) in
+    let is = found_writer old.sessions.items c.args.at.lane c.index_mut-session.result.now _ within c.index_mut-session.ensures.value c.in_ok-w.ensures.value in
     let puts = c.take_chunk.ensures.puts in
     let bytes : c.as_slice.result.now ≡ c.in-Ok.bytes = c.as_slice.ensures in
     let was = c.in-Ok.is ∙ ap (λ b. Ok b) (sym c.as_slice.ensures) in
@@ -127,3 +133,7 @@ returns-clause-leaves g c = let d = g.D.Disk in
     refl (λ admin. absurd (false_true admin))
     (adds_taken d old c.take_chunk.new.disk c.args.digest.now c.args.checked c.as_slice.result.now c.take_chunk.ensures.bytes was c.requires.checked c.in_ok-take_chunk.ensures.puts.put)
     (λ ends. absurd (false_true ends))
+    (λ _.
+    ap is_writer
+    (get_or-set_same old.sessions.items c.args.at.lane c.take_chunk.new.session Idle within ∙ c.in_ok-take_chunk.ensures.ok
+    ∙ ap (with_blob_noted c.args.digest.now c.as_slice.result.now) is))

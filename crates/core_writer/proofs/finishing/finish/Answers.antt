@@ -15,6 +15,7 @@ use Rattle.core_state.proofs.Texts.{no_file_has_text, done_has_text}
 use Rattle.core_writer.specs.Finished.{manifest_in}
 use Rattle.core_writer.proofs.FinishLemmas.{not_writing, tests_refuse, tests_there, tests_done, finish_change, finish_done, finish_adds, named_closed, settled_by}
 use Rattle.core_writer.proofs.Stopping.{early_does, err_as, idle_set, session_found}
+use Rattle.core_writer.proofs.TouchLemmas.{false_true}
 use Rattle.core_writer.proofs.finishing.finish.Goals as goal
 
 pub returns-in_err-writer-clause-does : goal.returns-in_err-writer-clause-does
@@ -79,7 +80,7 @@ returns-clause-leaves g c = let d = g.D.Disk in
     (c.close.ensures.catalogue ∙ ap (closed c.args.at.number c.index_mut-session.result.now) c.reserve.ensures.items ∙ ap (λ x. closed c.args.at.number x old.catalogue.items) (sym session))
     (not_still (Plain Finish) refl)
     (finish_adds d old _ c.args.at.lane _ _ c.requires (ap manifest_in here ∙ told) c.in_ok-finish.ensures.installed)
-    (λ _. idle_set old c.args.at.lane _ c.requires c.close.ensures.session)
+    (λ _. idle_set old c.args.at.lane _ c.requires c.close.ensures.session) (λ writes. absurd (false_true writes))
 
 pub invariant_of-parts-2-clause-named : goal.invariant_of-parts-2-clause-named
 invariant_of-parts-2-clause-named g c =

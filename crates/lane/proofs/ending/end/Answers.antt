@@ -2,6 +2,7 @@ use Rattle.core_state.specs.Records.{Reaches}
 use Rattle.core_state.proofs.Reaching.{reaches_more}
 use Rattle.lane.proofs.Closings.{ends_here, ends_again}
 use Rattle.lane.proofs.Entries.{one_entered, more_entered}
+use Rattle.core_state.proofs.RemoteLemmas.{serves_then}
 use Rattle.core_state.proofs.Reserves.{can_end_room}
 use Rattle.lane.proofs.ending.end.Goals as goal
 
@@ -9,10 +10,10 @@ pub returns-then-answer-eq5-clause-ends : goal.returns-then-answer-eq5-clause-en
 returns-then-answer-eq5-clause-ends g c = let d = g.D.Disk in
     let clock = g.C.Clock in
     λ first began.
-    ends_again (Reaches d clock.readings first began c.args.core.now) (Reaches d clock.readings first began c.apply-answer.new.core)
-    (Reaches d clock.readings first began c.apply.new.core) c.args.lane c.apply-answer.result c.apply.result _ _
-    (reaches_more d clock first began _ _ _ _ _ c.requires.lane c.apply-answer.ensures.applies c.apply-answer.ensures.keeps)
-    (reaches_more d clock first began _ _ _ _ _ c.requires.lane c.apply.ensures.applies c.apply.ensures.keeps) (λ h x. (x.records).kept)
+    ends_again (Reaches d g.E.Disk clock.readings first began c.args.core.now) (Reaches d g.E.Disk clock.readings first began c.apply-answer.new.core)
+    (Reaches d g.E.Disk clock.readings first began c.apply.new.core) c.args.lane c.apply-answer.result c.apply.result _ _
+    (reaches_more d g.E.Disk clock first began _ _ _ _ _ c.requires.lane c.apply-answer.ensures.applies c.apply-answer.ensures.keeps)
+    (reaches_more d g.E.Disk clock first began _ _ _ _ _ c.requires.lane c.apply.ensures.applies c.apply.ensures.keeps) (λ h x. (x.records).kept)
     ((c.apply-answer.ensures.applies).answers).lane_is ((c.apply.ensures.applies).answers).lane_is c.if-answer-eq5.true (c.apply.ensures.applies).told
 
 pub apply-answer-requires-clause-room : goal.apply-answer-requires-clause-room
@@ -24,10 +25,17 @@ apply-requires-clause-room g c = can_end_room c.apply-answer.new.core c.args.lan
 pub returns-clause-ends : goal.returns-clause-ends
 returns-clause-ends g c = let d = g.D.Disk in
     λ first began.
-    ends_here (Reaches d g.C.Clock.readings first began c.args.core.now) (Reaches d g.C.Clock.readings first began c.apply-answer.new.core)
+    ends_here (Reaches d g.E.Disk g.C.Clock.readings first began c.args.core.now) (Reaches d g.E.Disk g.C.Clock.readings first began c.apply-answer.new.core)
     c.args.lane c.apply-answer.result (d.calls c.apply-answer.new.core.parts.disk)
-    (reaches_more d g.C.Clock first began _ _ _ _ _ c.requires.lane c.apply-answer.ensures.applies c.apply-answer.ensures.keeps)
+    (reaches_more d g.E.Disk g.C.Clock first began _ _ _ _ _ c.requires.lane c.apply-answer.ensures.applies c.apply-answer.ensures.keeps)
     ((c.apply-answer.ensures.applies).answers).lane_is c.if-answer-eq5.false (c.apply-answer.ensures.applies).told
+
+pub returns-then-answer-eq5-clause-remote : goal.returns-then-answer-eq5-clause-remote
+returns-then-answer-eq5-clause-remote g c =
+    serves_then g.E.Disk c.args.core.now c.apply-answer.new.core c.apply.new.core (c.apply-answer.ensures.applies).remote (c.apply.ensures.applies).remote
+
+pub returns-clause-remote : goal.returns-clause-remote
+returns-clause-remote g c = (c.apply-answer.ensures.applies).remote
 
 pub returns-then-answer-eq5-clause-entered : goal.returns-then-answer-eq5-clause-entered
 returns-then-answer-eq5-clause-entered g c = let d = g.D.Disk in

@@ -1,4 +1,5 @@
-use Rattle.std.proofs.Common.{◌≡◌, true, refl, ◌∙◌}
+use Rattle.std.proofs.Common.{◌≡◌, true}
+use Rattle.core_state.proofs.RemoteLemmas.{serves_none, serves_then}
 use Rattle.lane.proofs.Entries.{none_entered, more_entered}
 use Rattle.lane.proofs.Readers.{first_on, on_leaves}
 use Rattle.lane.proofs.Stepping.{stepped_on, job_some, job_short, job_told, job_begins, job_is_begun, job_reads_none}
@@ -13,7 +14,7 @@ pub loop-act-init : goal.loop-act-init
 loop-act-init g c = let begun = job_is_begun c.args.command.now c.in-Ok.job c.requires.job c.in-Ok.ensures in (
   λ first began begun is. job_begins _ c.args.lane c.args.command.now c.in-Ok.job c.in-Ok.ensures begun is,
   first_on c.args.core.now c.args.lane c.in-Ok.job begun (λ reads. absurd (job_reads_none c.args.command.now c.in-Ok.job c.requires.job c.in-Ok.ensures reads)) c.requires.room,
-  refl,
+  serves_none g.E.Disk c.args.core.now,
   none_entered g.D.Disk c.args.core.now c.args.lane _ (λ is. cc),
 )
 
@@ -23,7 +24,7 @@ loop-act-preserved g c =
     let did = c.step.ensures in (
       λ first began begun is. stepped_on _ _ _ c.args.lane begun c.loop-act.job _ c.loop-act.last _ c.in-Some.act c.in-Some.ensures (before.0 first began begun is) (did.stepped first began),
       did.goes,
-      did.remote ∙ before.2,
+      serves_then g.E.Disk c.args.core.now c.loop-act.core c.step.new.core before.2 did.remote,
       more_entered g.D.Disk c.args.core.now c.loop-act.core c.step.new.core c.args.lane (c.loop-act.last ≡ true) _ _ before.3 did.entered (want_before c.loop-act.last _),
     )
 

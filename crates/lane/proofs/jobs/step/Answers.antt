@@ -1,8 +1,9 @@
-use Rattle.std.proofs.Common.{◌||◌, inl, inr, IsSome, IfSome, refl, sym, subst, ◌∙◌}
+use Rattle.std.proofs.Common.{◌||◌, inl, inr, IsSome, IfSome, refl, sym, subst}
 use Rattle.store_model.specs.Job.{Job, next}
 use Rattle.store_model.specs.JobReplies.{IsReplyTo}
 use Rattle.store_model.specs.Jobs.{take_more}
 use Rattle.store_history.specs.declared.act.Act.TheVariants as acts
+use Rattle.core_state.proofs.RemoteLemmas.{serves_then}
 use Rattle.lane.proofs.Entries.{entered_as, more_entered}
 use Rattle.lane.proofs.Readers.{goes_on_by, nearer_by, on_room, short_of}
 use Rattle.lane.proofs.Stepping.{act_asked, act_formed, act_replied, dropped, dropped_is, dropped_nearer, steps_once, steps_twice, take_form, taken_short}
@@ -96,7 +97,7 @@ returns-clause-nearer g c =
     (taken_short c.take-2.result _ _ _ _ c.take-2.ensures.ok c.take-2.ensures.err want_is)
 
 pub returns-clause-remote : goal.returns-clause-remote
-returns-clause-remote g c = c.ask-short.ensures.remote ∙ c.ask-told.ensures.remote
+returns-clause-remote g c = serves_then g.E.Disk c.args.core.now c.ask-told.new.core c.ask-short.new.core c.ask-told.ensures.remote c.ask-short.ensures.remote
 
 pub returns-clause-entered : goal.returns-clause-entered
 returns-clause-entered g c =

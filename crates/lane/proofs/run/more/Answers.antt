@@ -2,6 +2,7 @@ use Rattle.std.proofs.Common.{Some, None, sym, subst, arith}
 use Rattle.store_model.specs.declared.ending.Ending.TheVariants as endings
 use Rattle.lane.specs.declared.ending.Last.{Last}
 use Rattle.lane.specs.Causes.{HasCauses}
+use Rattle.core_state.proofs.RemoteLemmas.{serves_none}
 use Rattle.lane.proofs.Turning.{took_more, ended_stops, source_stops, full_stops}
 use Rattle.lane.proofs.Serving.{short_piece, as_last}
 use Rattle.lane.proofs.Caused.{causes_later}
@@ -32,6 +33,18 @@ returns-in-NoMemory-clause-causes g c =
     subst (λ (l : Last). HasCauses (g.S.Source.faults c.args.port.now.source) (g.S.Source.faults c.take.new.source) (g.K.Sink.faults c.args.port.now.sink) (g.K.Sink.faults c.short-ending.new.sink) c.take.new.self.taken (Some l.ending))
     (sym c.untold-in-NoMemory.ensures)
     (causes_later _ _ _ _ _ _ _ _ c.in-NoMemory.ensures.cause (omega arith) (c.short-ending.ensures.causes (g.S.Source.faults c.take.new.source) c.take.new.self.taken))
+
+pub returns-in-More-clause-remote : goal.returns-in-More-clause-remote
+returns-in-More-clause-remote g c = serves_none g.E.Disk c.args.core.now
+
+pub returns-in-End-clause-remote : goal.returns-in-End-clause-remote
+returns-in-End-clause-remote g c = serves_none g.E.Disk c.args.core.now
+
+pub returns-in-Fault-clause-remote : goal.returns-in-Fault-clause-remote
+returns-in-Fault-clause-remote g c = serves_none g.E.Disk c.args.core.now
+
+pub returns-in-TooLong-clause-remote : goal.returns-in-TooLong-clause-remote
+returns-in-TooLong-clause-remote g c = serves_none g.E.Disk c.args.core.now
 
 pub returns-in-More-clause-entered : goal.returns-in-More-clause-entered
 returns-in-More-clause-entered g c = none_entered g.D.Disk c.args.core.now c.args.lane _ no_ending

@@ -1,6 +1,7 @@
-use Rattle.std.proofs.Common.{◌≡◌, Some, inl, inr, refl, ap, ◌∙◌, arith}
+use Rattle.std.proofs.Common.{◌≡◌, Some, inl, inr, ap, arith}
 use Rattle.store_model.specs.declared.ending.Ending.TheVariants as endings
 use Rattle.core_state.proofs.Reaching.{reaches_first}
+use Rattle.core_state.proofs.RemoteLemmas.{serves_none, serves_then}
 use Rattle.core_state.proofs.Reserves.{whole_reserved}
 use Rattle.lane.specs.Progress.{Start}
 use Rattle.lane.proofs.Turning.{starts}
@@ -10,8 +11,8 @@ use Rattle.lane.proofs.run.run_alone.Goals as goal
 
 pub loop-last-init : goal.loop-last-init
 loop-last-init g c = (
-  λ h r none. starts _ h _ _ _ _ _ (reaches_first g.D.Disk g.C.Clock.readings c.args.core.now h r) none c.new.ensures.cutter c.new.ensures.taken,
-  record { reserved = whole_reserved c.args.core.now c.args.lane c.requires.room; source_later = omega arith; sink_later = omega arith; same = refl },
+  λ h r none. starts _ h _ _ _ _ _ (reaches_first g.D.Disk g.E.Disk g.C.Clock.readings c.args.core.now h r) none c.new.ensures.cutter c.new.ensures.taken,
+  record { reserved = whole_reserved c.args.core.now c.args.lane c.requires.room; source_later = omega arith; sink_later = omega arith; remote = serves_none g.E.Disk c.args.core.now },
   none_entered g.D.Disk c.args.core.now c.args.lane ⊥ (λ f. f),
 )
 
@@ -24,6 +25,11 @@ pub returns-in-Some-clause-causes : goal.returns-in-Some-clause-causes
 returns-in-Some-clause-causes g c =
     let kept = c.loop-last.invariant.1 in
     c.close-ending.ensures.causes _ _ _ _ (causes_later _ _ _ _ _ _ _ _ kept.source_later kept.sink_later c.in-Some.ensures.causes)
+
+pub returns-in-Some-clause-remote : goal.returns-in-Some-clause-remote
+returns-in-Some-clause-remote g c =
+    serves_then g.E.Disk c.args.core.now c.turn.new.core c.close-ending.new.core
+    (serves_then g.E.Disk c.args.core.now c.loop-last.core c.turn.new.core c.loop-last.invariant.1.remote c.in-Some.ensures.remote) c.close-ending.ensures.remote
 
 pub returns-in-Some-clause-entered : goal.returns-in-Some-clause-entered
 returns-in-Some-clause-entered g c =
@@ -40,7 +46,7 @@ loop-last-preserved g c =
         reserved = did.room;
         source_later = omega (arith, before.1.source_later, did.causes.source_later);
         sink_later = omega (arith, before.1.sink_later, did.causes.sink_later);
-        same = did.remote ∙ before.1.same;
+        remote = serves_then g.E.Disk c.args.core.now c.loop-last.core c.turn.new.core before.1.remote did.remote;
       },
       more_entered g.D.Disk c.args.core.now c.loop-last.core c.turn.new.core c.args.lane ⊥ _ ⊥ before.2 did.entered (λ f. absurd f),
     )

@@ -2,6 +2,7 @@ use Rattle.std.proofs.Common.{◌≡◌, Some, sym, subst}
 use Rattle.store_model.specs.declared.ending.Ending.TheVariants as endings
 use Rattle.lane.specs.declared.ending.Last.{Last}
 use Rattle.lane.specs.Causes.{HasCauses}
+use Rattle.core_state.proofs.RemoteLemmas.{serves_none}
 use Rattle.core_state.proofs.Texts.{done_has_text}
 use Rattle.lane.proofs.Turning.{bye_stops, broken_stops}
 use Rattle.lane.proofs.Serving.{short_here, as_last}
@@ -26,6 +27,12 @@ pub returns-in-NoMemory-clause-causes : goal.returns-in-NoMemory-clause-causes
 returns-in-NoMemory-clause-causes g c =
     subst (λ (l : Last). HasCauses (g.S.Source.faults c.args.port.now.source) (g.S.Source.faults c.args.port.now.source) (g.K.Sink.faults c.args.port.now.sink) (g.K.Sink.faults c.short-ending.new.sink) c.args.progress.now.input.taken (Some l.ending))
     (sym c.untold.ensures) (c.short-ending.ensures.causes (g.S.Source.faults c.args.port.now.source) c.args.progress.now.input.taken)
+
+pub returns-in-Bye-clause-remote : goal.returns-in-Bye-clause-remote
+returns-in-Bye-clause-remote g c = serves_none g.E.Disk c.args.core.now
+
+pub returns-in-Broken-clause-remote : goal.returns-in-Broken-clause-remote
+returns-in-Broken-clause-remote g c = serves_none g.E.Disk c.args.core.now
 
 pub returns-in-Bye-clause-entered : goal.returns-in-Bye-clause-entered
 returns-in-Bye-clause-entered g c = none_entered g.D.Disk c.args.core.now c.args.lane _ clean

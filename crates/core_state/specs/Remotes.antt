@@ -1,0 +1,70 @@
+-- What the core says of its remote: reads change nothing of what it stands for, and those that fail are told.
+use Rattle.std.specs.Prelude.{◌+◌, ◌-◌, ◌^◌, ◌<◌, ◌≤◌, ◌↔◌, ℕ, ◌==◌, List, filter, length, Option, Some, None, Result, Ok, Err}
+use Rattle.disk_trait.specs.Effects.{LeavesSame, SameContent}
+use Rattle.disk_trait.specs.declared.disk.Disk.{Ghosts}
+use Rattle.store_types.specs.declared.order.Entry.{Entry}
+use Rattle.store_types.specs.declared.refusal.Refusal.TheVariants as refusals
+use Rattle.store_files.specs.Archive.{Snapshot}
+use Rattle.store_model.specs.Stands.{StandsFor as Stands}
+use Rattle.wire_commands.specs.declared.reply.Reply.{Reply}
+use Rattle.wire_commands.specs.declared.reply.Reply.TheVariants.{Refused}
+use Rattle.store_history.specs.declared.act.Answer.{Answer}
+use Rattle.core_state.specs.declared.state.Core.{Core}
+use Rattle.core_state.specs.declared.stop.RemoteStop.{RemoteStop}
+use Rattle.core_state.specs.declared.stop.RemoteStop.TheVariants as stops
+use Rattle.core_state.specs.Settles.{IsEntered}
+
+-- ---- what it has
+
+-- An honest remote stands for these snapshots, or there is none.
+abbrev pub ShowsRemote : {E : Type 0} → Ghosts E → Option E → Option (List Snapshot) → Type 0
+ShowsRemote e None None = Unit {0}
+ShowsRemote e (Some remote) (Some snapshots) = e.honest remote × Stands (e.content remote) snapshots
+ShowsRemote e _ _ = ⊥
+
+-- ---- what it was read
+
+-- It is honest where it was, an honest one reads as before, a crash leaves of it what it left, and its count of faults never falls.
+pub record IsRead {E : Type 0} (e : Ghosts E) (old new : E) : Type 0 where
+  pub kept : e.honest old ↔ e.honest new
+  pub same : SameContent e old new
+  pub crash : LeavesSame e old new
+  pub count : e.faults old ≤ e.faults new
+
+-- it is there where it was
+abbrev pub RemoteStays : {E : Type 0} → Ghosts E → Option E → Option E → Type 0
+RemoteStays e None None = Unit {0}
+RemoteStays e (Some old) (Some new) = IsRead e old new
+RemoteStays e _ _ = ⊥
+
+abbrev pub faults_of : {E : Type 0} → Ghosts E → Option E → ℕ
+faults_of e None = 0
+faults_of e (Some remote) = e.faults remote
+
+-- how many entries of an order are reads of the remote that failed
+abbrev pub failed_reads : List Entry → ℕ
+failed_reads order = length (filter (λ x. x.kind == 7) order)
+
+-- As many of these are entered at most as the remote's count of faults rose by, while it is below its greatest value.
+pub record RemoteServes {D E C : Type 0} (e : Ghosts E) (old new : Core D E C) : Type 0 where
+  pub stays : RemoteStays e old.remote new.remote
+  pub failed : faults_of e new.remote < 2 ^ 64 - 1
+      → failed_reads (new.journal).entries.items + faults_of e old.remote ≤ failed_reads (old.journal).entries.items + faults_of e new.remote
+
+-- ---- how a read of it is entered
+
+-- What it gave has kind 1, a refusal of what it has too. A refusal without a read has kind 0, and a read that failed 7.
+abbrev pub kind_by : Result Reply RemoteStop → ℕ
+kind_by (Ok reply) = 1
+kind_by (Err (stops.Refused refusal)) = 0
+kind_by (Err stops.NoMemory) = 2
+kind_by (Err stops.Failed) = 7
+
+abbrev pub reply_by : Result Reply RemoteStop → Reply
+reply_by (Ok reply) = reply
+reply_by (Err (stops.Refused refusal)) = Refused refusal
+reply_by (Err stops.NoMemory) = Refused refusals.NoMemory
+reply_by (Err stops.Failed) = Refused refusals.RemoteFault
+
+abbrev pub SettlesRead : {D E C : Type 0} → Ghosts D → Core D E C → Core D E C → ℕ → ℕ → Result Reply RemoteStop → Answer → Type 0
+SettlesRead d old new lane moment ended answer = IsEntered d old new lane moment (kind_by ended) (Some (reply_by ended)) answer

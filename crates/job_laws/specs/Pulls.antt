@@ -1,0 +1,143 @@
+-- What holds of a SYNC, as the machine that its lane runs (`Pulling`).
+use Rattle.std.specs.Prelude.{◌≡◌, ◌≤◌, ◌<◌, ◌⊎◌, ◌↔◌, ⊤, ℕ, Bool, true, false, List, [], ◌∷◌, ◌++◌, length, Some, None, IfSome, Ok, IsErr}
+use Rattle.std.specs.List.{All, AllPairs, flat_map, fold}
+use Rattle.store_types.specs.declared.names.Digest32.{Digest32}
+use Rattle.store_types.specs.declared.refusal.Refusal.{Refusal}
+use Rattle.store_types.specs.declared.refusal.Refusal.TheVariants.{NoMemory, Unreadable}
+use Rattle.store_types.specs.FileNames.{manifest_name}
+use Rattle.store_types.specs.Names.{IsKey}
+use Rattle.blob_codec.specs.Blob.{data_of}
+use Rattle.store_files.specs.Archive.{Snapshot}
+use Rattle.wire_commands.specs.declared.command.Command.{Command}
+use Rattle.wire_commands.specs.declared.command.Command.TheVariants.{Chunk, Sync}
+use Rattle.wire_commands.specs.declared.reply.Reply.{Reply}
+use Rattle.wire_commands.specs.declared.reply.Reply.TheVariants.{Part, Refused}
+use Rattle.store_model.specs.AdminSteps.{group as group_here}
+use Rattle.store_model.specs.Job.{Job, over, asking, step_of}
+use Rattle.store_model.specs.Jobs.{take_more as job_takes}
+use Rattle.store_model.specs.Load.{read_manifest}
+use Rattle.store_model.specs.Store.{Store}
+use Rattle.store_model.specs.SyncJob.{commands_of, next_snapshot, to_pull}
+use Rattle.store_history.specs.declared.act.Act.TheVariants.{RemoteList}
+use Rattle.store_history.specs.Acts.{Class, stepping, reaching, class_of, act_of_step}
+use Rattle.store_history.specs.Pulling.{Pulling, seeking, reading_manifest, reading_file, rejecting, SyncJob, reports, asks, act_of, index_in, is_index, path_of, take_more}
+use Rattle.store_history.specs.Remote.{IsList, Reads}
+
+abbrev pub is_refusal : Reply → Bool
+is_refusal (Refused refusal) = true
+is_refusal reply = false
+
+-- the SYNC of a group behind these replies
+abbrev pub pull_after : List ℕ → List Reply → SyncJob
+pull_after group replies = fold take_more (asks (seeking group)) replies
+
+-- ---- beside a remote that stands for a list
+
+-- a read of the remote is refused, or replied what the list gives; of the reply to a step nothing is asked
+abbrev pub IsToldBy : List Snapshot → SyncJob → Reply → Type 0
+IsToldBy L (reports report) reply = ⊤
+IsToldBy L (asks x) reply = class_of (act_of x) ≡ reaching → (is_refusal reply ≡ true) ⊎ Reads L (act_of x) (Some reply)
+
+abbrev pub AreToldBy : List Snapshot → SyncJob → List Reply → Type 0
+AreToldBy L pull [] = ⊤
+AreToldBy L pull (r ∷ rs) = IsToldBy L pull r × AreToldBy L (take_more pull r) rs
+
+-- The job that knows the list reads nothing. Of the replies it takes those to steps; and the refusal of a read, as that of the step that it asks then.
+abbrev pub replies_by : Class → Reply → List Reply
+replies_by reaching (Refused refusal) = Refused refusal ∷ []
+replies_by reaching reply = []
+replies_by class reply = reply ∷ []
+
+abbrev pub reply_to_job : SyncJob → Reply → List Reply
+reply_to_job (reports report) reply = []
+reply_to_job (asks x) reply = replies_by (class_of (act_of x)) reply
+
+abbrev pub replies_to_job : SyncJob → List Reply → List Reply
+replies_to_job pull [] = []
+replies_to_job pull (r ∷ rs) = reply_to_job pull r ++ replies_to_job (take_more pull r) rs
+
+-- Both are over with one report; or both go on, and a step that the SYNC asks is the job's.
+abbrev pub IsAlike : SyncJob → Job → Type 0
+IsAlike (reports report) (over reply) = report ≡ reply
+IsAlike (asks x) (asking j) = class_of (act_of x) ≡ stepping → act_of x ≡ act_of_step (step_of j)
+IsAlike pull job = ⊥
+
+-- A SYNC is told what the list has of its group, and then what the store has of it. From there on it is alike to the job that pulls these
+-- snapshots: those of the list's that are later than the newest here, the oldest first. That is so behind replies to reads that the list gives, or that
+-- refuse, and any to steps.
+abbrev pub PullsByTheList : Type 0
+PullsByTheList =
+    (L : List Snapshot) (s : Store) (lane : ℕ) (group : List ℕ) (snapshots : List Snapshot) (there here : Reply) (rs : List Reply)
+    → IsList L → All (λ x. IsKey x.key) s.snapshots → to_pull (Some L) s lane group ≡ Ok snapshots
+    → Reads L (RemoteList (Sync group)) (Some there) → group_here s group ≡ Ok (s, here)
+    → (let begun = pull_after group (there ∷ here ∷ []) in
+    AreToldBy L begun rs → IsAlike (fold take_more begun rs) (fold job_takes (next_snapshot [] snapshots) (replies_to_job begun rs)))
+
+-- ---- beside any remote
+
+-- the bytes are no manifest, or list more files than a snapshot may have beside it
+abbrev pub IsNoManifest : List ℕ → Type 0
+IsNoManifest bytes = IfSome (read_manifest bytes) (λ m. 63 < length m.files)
+
+-- the bytes are no index of this name, or no blob
+abbrev pub DoesNotDecodeBy : Bool → List ℕ → List ℕ → Type 0
+DoesNotDecodeBy true name bytes = index_in name bytes ≡ None
+DoesNotDecodeBy false name bytes = IsErr (data_of bytes)
+
+-- as the name says
+abbrev pub DoesNotDecode : List ℕ → List ℕ → Type 0
+DoesNotDecode name bytes = DoesNotDecodeBy (is_index name) name bytes
+
+-- The reply has the last part of the file that was asked for, and the whole is none. This is its full name.
+abbrev pub EndsBad : Pulling → Reply → List ℕ → Type 0
+EndsBad (reading_manifest c bytes) (Part total more) path = (total ≤ length (bytes ++ more)) × IsNoManifest (bytes ++ more) × (path ≡ path_of c manifest_name)
+EndsBad (reading_file c s name bytes) (Part total more) path = (total ≤ length (bytes ++ more)) × DoesNotDecode name (bytes ++ more) × (path ≡ path_of c name)
+EndsBad x reply path = ⊥
+
+-- with the last of these replies such a file was read
+pub record HasReadBad (group : List ℕ) (replies : List Reply) (path : List ℕ) : Type 0 where
+  pub before : List Reply
+  pub last : Reply
+  pub state : Pulling
+  pub are : replies ≡ before ++ last ∷ []
+  pub asked : pull_after group before ≡ asks state
+  pub bad : EndsBad state last path
+
+-- What the reply gives the SYNC to report is the refusal that it is. But where the writer is ended for a file that is none, it is that file's name,
+-- whatever is replied, unless memory is wanting.
+abbrev pub IsCause : Pulling → Reply → Refusal → Type 0
+IsCause (rejecting path) (Refused NoMemory) refusal = refusal ≡ NoMemory
+IsCause (rejecting path) reply refusal = refusal ≡ Unreadable path
+IsCause state reply refusal = reply ≡ Refused refusal
+
+-- No reply before this one is a refusal, nor was a file read before that is none, unless by the one just before; and it gives this refusal.
+pub record IsFirstRefusal (group : List ℕ) (replies : List Reply) (refusal : Refusal) : Type 0 where
+  pub before : List Reply
+  pub reply : Reply
+  pub later : List Reply
+  pub state : Pulling
+  pub are : replies ≡ before ++ reply ∷ later
+  pub asked : pull_after group before ≡ asks state
+  pub fine : All (λ r. is_refusal r ≡ false) before
+  pub cause : IsCause state reply refusal
+  pub bad : (path : List ℕ) → state ≡ rejecting path → HasReadBad group before path
+
+-- A SYNC that is over reports a refusal exactly where it is the first so.
+abbrev pub FirstRefusalIsTold : Type 0
+FirstRefusalIsTold =
+    (group : List ℕ) (replies : List Reply) (report : Reply) (refusal : Refusal) → pull_after group replies ≡ reports report
+    → (report ≡ Refused refusal) ↔ IsFirstRefusal group replies refusal
+
+-- ---- what is sent
+
+-- of a CHUNK its digest
+abbrev pub digest_sent : Command → List Digest32
+digest_sent (Chunk digest blob) = digest ∷ []
+digest_sent command = []
+
+abbrev pub digests_sent : List Command → List Digest32
+digests_sent commands = flat_map digest_sent commands
+
+-- Of the commands with which a snapshot is pulled no two CHUNKs have one digest.
+abbrev pub ChunksAreSentOnce : Type 0
+ChunksAreSentOnce = (x : Snapshot) → AllPairs (λ d e. d ≡ e → ⊥) (digests_sent (commands_of x))

@@ -1,0 +1,117 @@
+//! A SYNC: all its steps and reads of the remote, from its command to its report.
+
+ghost use Rattle.std.specs.Prelude.{◌≡◌, ◌<◌, Some, true};
+ghost use Rattle.wire_commands.specs.HasText.{ReplyHasText};
+ghost use Rattle.wire_commands.specs.declared.command.Command.TheVariants.{Sync};
+ghost use Rattle.core_state.specs.Remotes.{RemoteServes};
+ghost use Rattle.core_state.specs.Reserved.{Reserved};
+ghost use Rattle.lane.specs.Acting.{LeavesReserve};
+ghost use Rattle.lane.specs.Collecting.{IsSet};
+ghost use Rattle.lane.specs.Doing.{CoreDoes};
+ghost use Rattle.lane.specs.Entries.{HasEntered};
+ghost use Rattle.lane.specs.Pulling.{CorePullsOn, IsNearer, IsNextAct, MayGoOn};
+ghost use Rattle.pull_steps.specs.Asked.{act_of_ask};
+
+use crate::acts::{Told, ask};
+use crate::commands::act_of;
+use core_state::{Act, Core};
+use disk_trait::Disk;
+use port_traits::Clock;
+use pull_steps::{Ask, Pull};
+use std::alloc::Global;
+use store_types::Bytes;
+use wire_commands::Command;
+
+/// The act for what a SYNC asks.
+fn act_of_ask(ask: Ask) -> Act
+    ensures { result ≡ act_of_ask ask }
+{
+    match ask {
+        Ask::Command(command) => act_of(command),
+        Ask::List { group } => Act::RemoteList(Command::Sync { group }),
+        Ask::File {
+            snapshot,
+            name,
+            offset,
+        } => Act::RemoteFile {
+            snapshot,
+            name,
+            offset,
+        },
+        Ask::Chunk { digest } => Act::RemoteChunk { digest },
+    }
+}
+
+/// The act for what a SYNC asks next, or want of memory for it. None is where it is over.
+fn next_act(alloc: Global, job: &Pull) -> Option<Act>
+    ensures { IsNextAct job.now result }
+{
+    match job.next(alloc) {
+        Ok(ask) => Some(act_of_ask(ask?)),
+        Err(_) => Some(Act::Short),
+    }
+}
+
+/// Does the act for what the SYNC asks next, and gives it the reply. Where memory is wanting for this, it is entered as an act
+/// of its own, whose reply the SYNC takes.
+///
+/// `is_last` is set where an entry of the lane's reserve held a want of memory.
+fn step<D: Disk, E: Disk, C: Clock>(
+    core: &mut Core<D, E, C>,
+    alloc: Global,
+    lane: u32,
+    job: &mut Pull,
+    is_last: &mut bool,
+    act: Act,
+)
+    requires lane { lane < 64 }
+    requires next { IsNextAct job.old (Some act) }
+    requires on { MayGoOn core.old lane job.old is_last.old }
+    ensures pulls { CorePullsOn D.Disk E.Disk C.Clock core.old core.new lane
+        job.old job.new is_last.old is_last.new }
+    ensures goes { MayGoOn core.new lane job.new is_last.new }
+    // what is next is nearer to the end
+    ensures nearer { IsNearer job.old job.new }
+    ensures remote { RemoteServes E.Disk core.old core.new }
+    ensures entered { HasEntered D.Disk core.old core.new lane (IsSet is_last.old is_last.new) }
+{
+    let told = ask(core, alloc, lane, act);
+    *is_last = told.last | *is_last;
+    let Err(_) = job.take(alloc, told.reply) else {
+        return;
+    };
+    let short = ask(core, alloc, lane, Act::Short);
+    *is_last = short.last | *is_last;
+    // a refusal is taken without memory
+    let _ = job.take(alloc, short.reply);
+}
+
+/// Does a SYNC of a group, from its command to its report. Its steps are not told. Want of memory for one of them is entered,
+/// and the SYNC takes it for that step's reply. Where the lane's reserve held it, its writer is ended still, and the lane ends
+/// after its report.
+pub fn pull<D: Disk, E: Disk, C: Clock>(
+    core: &mut Core<D, E, C>,
+    alloc: Global,
+    lane: u32,
+    group: Bytes,
+) -> Told
+    requires lane { lane < 64 }
+    requires room { Reserved core.old lane }
+    ensures does { CoreDoes D.Disk E.Disk C.Clock core.old core.new lane (Sync group) result }
+    ensures text { ReplyHasText result.reply }
+    ensures room { LeavesReserve core.old core.new lane result.last }
+    ensures remote { RemoteServes E.Disk core.old core.new }
+    ensures entered { HasEntered D.Disk core.old core.new lane (result.last ≡ true) }
+{
+    let Ok(mut job) = Pull::start(alloc, group.as_slice()) else {
+        return ask(core, alloc, lane, Act::Short);
+    };
+    let mut last = false;
+    while let Some(act) = next_act(alloc, &job) {
+        step(core, alloc, lane, &mut job, &mut last, act);
+    }
+    Told {
+        reply: job.report(),
+        last,
+    }
+}

@@ -1,0 +1,9 @@
+pub mod Texts
+pub mod Ends
+pub mod Chosen
+pub mod Sent
+pub mod Placed
+pub mod Entered
+pub mod Parts
+pub mod Steps
+pub mod Replies

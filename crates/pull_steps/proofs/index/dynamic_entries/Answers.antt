@@ -1,0 +1,18 @@
+use Rattle.std.proofs.Common.{◌<◌, sym, length, ◌∙◌, arith}
+use Rattle.pull_steps.proofs.Entered.{dynamic_done, dynamic_more, dynamic_none}
+use Rattle.pull_steps.proofs.index.dynamic_entries.Goals as goal
+
+pub loop-i-preserved : goal.loop-i-preserved
+loop-i-preserved c =
+    let x = c.args.view.now in
+    let lt : c.loop-i.i < length x.entries = omega (arith, c.len-i-end.ensures) in
+    record {
+      made = dynamic_more x c.loop-i.i c.loop-i.entries.items _ _ lt c.push_reserved.ensures.items c.digest.ensures c.span.ensures.start ∙ c.loop-i.invariant.made;
+      long = omega arith;
+      room = omega arith;
+    }
+
+pub returns : goal.returns
+returns c =
+    let x = c.args.view.now in
+    sym (dynamic_done x c.loop-i.i c.loop-i.entries.items (omega (arith, c.len-i-end.ensures))) ∙ c.loop-i.invariant.made ∙ dynamic_none x 0

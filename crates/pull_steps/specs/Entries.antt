@@ -1,0 +1,63 @@
+-- The entries of an index that a SYNC sends.
+use Rattle.std.specs.Prelude.{◌≡◌, ℕ, ◌+◌, ◌<◌, List, ◌∷◌, drop, length, Option, Some, None, Result, OnOk, OnErr}
+use Rattle.store_types.specs.declared.append.AppendEntry.{AppendEntry}
+use Rattle.wire_commands.specs.declared.reply.Reply.{Reply}
+use Rattle.store_history.specs.Pulling as model
+use Rattle.store_history.specs.Pulling.{SyncJob}
+use Rattle.pull_steps.specs.declared.ask.Ask.{Ask}
+use Rattle.pull_steps.specs.declared.stages.AtEntry.{AtEntry}
+use Rattle.pull_steps.specs.declared.stages.Sending.{Sending}
+use Rattle.pull_steps.specs.Asked.{AsksNext}
+use Rattle.pull_steps.specs.States.{asks_at, course_at, entries_at, index_at, reading_at, shown_course, shown_index, shown_stock, stock_at}
+
+-- ---- from an entry on
+
+abbrev pub chunk_from : Sending → List AppendEntry → SyncJob
+chunk_from s entries =
+    model.next_chunk (shown_course s.course) (shown_stock s.stock) (shown_index s.index) entries
+
+abbrev pub append_from : Sending → List AppendEntry → SyncJob
+append_from s entries =
+    model.next_append (shown_course s.course) (shown_stock s.stock) (shown_index s.index) entries
+
+-- the first entry from a place on whose chunk was not sent: there the next chunk is read, and else the entries are
+-- appended
+abbrev pub from_place : Sending → Option ℕ → SyncJob
+from_place s None = append_from s s.index.entries.items
+from_place s (Some place) =
+    asks_at (λ e later. model.reading_chunk (shown_course s.course) (shown_stock s.stock) (shown_index s.index) e later)
+    (drop place s.index.entries.items)
+
+abbrev pub IsWithin : ℕ → Option ℕ → Type 0
+IsWithin count None = Unit {0}
+IsWithin count (Some place) = place < count
+
+pub record IsFirstUnsent (s : Sending) (from : ℕ) (place : Option ℕ) : Type 0 where
+  pub next : chunk_from s (drop from s.index.entries.items) ≡ from_place s place
+  pub within : IsWithin (length s.index.entries.items) place
+
+-- ---- at an entry
+
+-- what it asks is this
+abbrev pub AsksAt : SyncJob → Ask → Type 0
+AsksAt job asked = AsksNext job (Some asked)
+
+-- behind the entry's chunk, and behind the entries of an APPEND
+abbrev pub chunk_behind : AtEntry → SyncJob
+chunk_behind a = chunk_from a.sending (drop (a.place + 1) (a.sending).index.entries.items)
+
+abbrev pub appended_behind : AtEntry → SyncJob
+appended_behind a = append_from a.sending (drop (a.place + model.batch) (a.sending).index.entries.items)
+
+-- the reply to the read of its chunk was taken
+abbrev pub chunk_told_at : AtEntry → Reply → SyncJob
+chunk_told_at a reply = model.take_more (reading_at a) reply
+
+-- its blob counts as sent, or memory is wanting and nothing has changed
+pub record NotesChunk {E : Type 0} (old new : AtEntry) (blob : List ℕ) (result : Result (Unit {0}) E) : Type 0 where
+  pub err : OnErr result (stock_at new ≡ stock_at old)
+  pub place : new.place ≡ old.place
+  pub course : course_at new ≡ course_at old
+  pub index : index_at new ≡ index_at old
+  pub sent : (e : AppendEntry) (later : List AppendEntry) → entries_at old ≡ e ∷ later →
+      OnOk result (stock_at new ≡ model.with_chunk e blob (stock_at old))

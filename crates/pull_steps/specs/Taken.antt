@@ -1,0 +1,56 @@
+-- What a SYNC takes of the replies.
+use Rattle.std.specs.Prelude.{Bool, true, false, List, [], ◌∷◌, ⊤}
+use Rattle.store_types.specs.declared.refusal.Refusal.TheVariants.{RemoteFault, NoMemory}
+use Rattle.wire_commands.specs.declared.reply.Reply.{Reply}
+use Rattle.wire_commands.specs.declared.reply.Reply.TheVariants.{Part, Data, Refused}
+use Rattle.wire_commands.specs.HasText.{ReplyHasText}
+use Rattle.store_model.specs.JobReplies.{IsWithinGroup}
+use Rattle.store_history.specs.Pulling as model
+use Rattle.store_history.specs.Pulling.{SyncJob, reports, asks, take_more}
+use Rattle.pull_steps.specs.Asked.{IsAsking}
+
+-- ---- the reads, whose replies are taken only where there is memory
+
+abbrev pub IsPart : Reply → Type 0
+IsPart (Part total more) = Unit {0}
+IsPart reply = ⊥
+
+abbrev pub IsData : Reply → Type 0
+IsData (Data blob) = Unit {0}
+IsData reply = ⊥
+
+-- a part of a file, or a chunk, was read
+abbrev pub IsReadOf : SyncJob → Reply → Type 0
+IsReadOf (asks (model.reading_manifest c bytes)) reply = IsPart reply
+IsReadOf (asks (model.reading_file c s name bytes)) reply = IsPart reply
+IsReadOf (asks (model.reading_chunk c s x e later)) reply = IsData reply
+IsReadOf job reply = ⊥
+
+-- ---- the replies
+
+-- one that a step of it may have; a group has no more snapshots than a reply may list
+abbrev pub IsReplyTo : SyncJob → Reply → Type 0
+IsReplyTo (asks (model.seeking group)) reply = IsWithinGroup reply × ReplyHasText reply
+IsReplyTo job reply = IsAsking job × ReplyHasText reply
+
+abbrev pub AreReplies : SyncJob → List Reply → Type 0
+AreReplies job [] = ⊤
+AreReplies job (r ∷ rs) = IsReplyTo job r × AreReplies (take_more job r) rs
+
+-- ---- the ends
+
+-- a reply that ends the job: a refusal, or one that is none of the step's
+abbrev pub ended_by : Reply → SyncJob
+ended_by (Refused refusal) = model.stops refusal
+ended_by reply = reports reply
+
+-- memory was wanting
+abbrev pub is_short : Reply → Bool
+is_short (Refused NoMemory) = true
+is_short reply = false
+
+-- the step has done nothing
+abbrev pub is_unread : Reply → Bool
+is_unread (Refused NoMemory) = true
+is_unread (Refused RemoteFault) = true
+is_unread reply = false

@@ -1,0 +1,201 @@
+-- An event of a lane that has no SYNC open: where it opens one, the lane is beside the one that `weave` has.
+use Rattle.std.proofs.Common.{◌≡◌, ℕ, Bool, true, false, List, [], Option, Some, None, refl, sym, ap, subst, ◌∙◌, ◌||◌, ◌==◌, is_none, slice_index_or, slice_set, if◌then◌else◌}
+use Rattle.std.proofs.lemmas.Bool.{eqb-true}
+use Rattle.store_types.specs.declared.order.Entry.{Entry}
+use Rattle.store_files.specs.Archive.{Snapshot}
+use Rattle.wire_commands.specs.declared.command.Command.TheVariants as commands
+use Rattle.wire_commands.specs.declared.reply.Reply.{Reply}
+use Rattle.wire_commands.specs.declared.reply.Reply.TheVariants.{Done, Refused}
+use Rattle.store_model.specs.declared.ending.Ending.{Ending}
+use Rattle.store_model.specs.declared.ending.Ending.TheVariants as endings
+use Rattle.store_model.specs.Job.{Job, over, asking}
+use Rattle.store_model.specs.Jobs.{take as job_take}
+use Rattle.store_model.specs.Lanes.{Next, job_step, plain, sync, collect, collecting, bye, broken, end}
+use Rattle.store_model.specs.Store.{Store}
+use Rattle.store_model.specs.Weave.{entered, is_cut_off, is_replied, known}
+use Rattle.store_history.specs.declared.act.Act.{Act}
+use Rattle.store_history.specs.declared.act.Act.TheVariants as acts
+use Rattle.store_history.specs.declared.act.Event.{Event}
+use Rattle.store_history.specs.Acts.{Class, stepping, reaching, starting, sweeping, wanting, ending, class_of}
+use Rattle.store_history.specs.History.{World, open_on, moved, kind_of, lane, moment, kind, reply}
+use Rattle.store_history.specs.Legal.{Right}
+use Rattle.store_history.specs.LaneRun.{Position, next_at, tells, used_up, goes_on, pulls_on, heard_at, heard, heard_as, last_words, end_faulted, end_heard, position_after, wants, Asks, AsksBy, Does}
+use Rattle.store_history.specs.Pulling.{Pulling, sought}
+use Rattle.store_history.specs.Remote.{IsRemote}
+use Rattle.store_history.proofs.Beside.{BesideBy, bare}
+use Rattle.store_history.proofs.Ending.{heard_idles}
+use Rattle.store_history.proofs.Events.{cuts, noted, turned}
+use Rattle.store_history.proofs.Idling.{flagged, heard_idle}
+use Rattle.store_history.proofs.Placed.{run_of, at, same_lane}
+use Rattle.store_history.proofs.Plainly.{ArePlain}
+use Rattle.store_history.proofs.Reaching.{Turns, begun_here}
+
+-- ---- which answer opens a SYNC
+
+abbrev opens_sync : ℕ → Next → Bool
+opens_sync n (sync group left) = n == 1
+opens_sync n x = false
+
+sync_of : (n : ℕ) (x : Next) → opens_sync n x ≡ true → (group : List ℕ) × (left : List ℕ) × (x ≡ sync group left) × (n ≡ 1)
+sync_of n (sync group left) h = (group, left, refl, eqb-true n 1 h)
+sync_of n (job_step j left) h = cc
+sync_of n (plain c left) h = cc
+sync_of n (collect left) h = cc
+sync_of n (collecting is_short) h = cc
+sync_of n bye h = cc
+sync_of n (broken refusal) h = cc
+sync_of n end h = cc
+
+goes_idle : (p : Position) (left : List ℕ) (k : Job) → p.pull ≡ None → (goes_on p left k).pull ≡ None
+unfolding goes_on
+goes_idle p left (over report) idle = refl
+goes_idle p left (asking j) idle = idle
+
+-- no other does
+stays_idle : (p : Position) (n : ℕ) (r : Option Reply) (x : Next) → p.pull ≡ None → opens_sync n x ≡ false → (heard_at p n r x).pull ≡ None
+unfolding heard_at
+stays_idle p n (Some r) (job_step j left) idle h = goes_idle p left (job_take j r) idle
+stays_idle p n None (job_step j left) idle h = idle
+stays_idle p n (Some r) (plain c left) idle h = refl
+stays_idle p n None (plain c left) idle h = idle
+stays_idle p n (Some r) (sync group left) idle h =
+    ap (λ b. (if b then pulls_on p p.left (sought group r) else tells p left r).pull) h
+stays_idle p n None (sync group left) idle h = idle
+stays_idle p n (Some r) (collect left) idle h = refl
+stays_idle p n None (collect left) idle h = by_kind (n == 3)
+  where
+    by_kind : (b : Bool) → (if b then record p { left = left; collecting = Some false } else p).pull ≡ None
+    by_kind true = idle
+    by_kind false = idle
+stays_idle p n (Some r) (collecting is_short) idle h = by_kind (n == 2)
+  where
+    by_kind : (b : Bool) → (if b then record p { collecting = Some true } else tells (record p { collecting = None }) p.left r).pull ≡ None
+    by_kind true = idle
+    by_kind false = refl
+stays_idle p n None (collecting is_short) idle h = idle
+stays_idle p n (Some r) (broken refusal) idle h = by_kind (n == 2)
+  where
+    by_kind : (b : Bool) → (if b then used_up p r else p).pull ≡ None
+    by_kind true = refl
+    by_kind false = idle
+stays_idle p n None (broken refusal) idle h = idle
+stays_idle p n (Some r) bye idle h = idle
+stays_idle p n None bye idle h = idle
+stays_idle p n (Some r) end idle h = idle
+stays_idle p n None end idle h = idle
+
+words_idle : (e : Ending) (p : Position) (x : Next) → p.pull ≡ None → (last_words e p x).pull ≡ None
+unfolding last_words
+words_idle e p bye idle = by_test (is_replied e)
+  where
+    by_test : (b : Bool) → (if b then tells p [] Done else p).pull ≡ None
+    by_test true = refl
+    by_test false = idle
+words_idle e p (broken refusal) idle = by_test (is_replied e)
+  where
+    by_test : (b : Bool) → (if b then tells p [] (Refused refusal) else p).pull ≡ None
+    by_test true = refl
+    by_test false = idle
+words_idle e p (job_step j left) idle = idle
+words_idle e p (plain c left) idle = idle
+words_idle e p (sync group left) idle = idle
+words_idle e p (collect left) idle = idle
+words_idle e p (collecting is_short) idle = idle
+words_idle e p end idle = idle
+
+faulted_idle : (e : Ending) (p : Position) (r : Option Reply) → p.pull ≡ None → (end_faulted e p r).pull ≡ None
+faulted_idle endings.NoMemory p r idle = by_test (is_none p.job)
+  where
+    by_test : (b : Bool) → (if b then p else heard_at p 5 r (next_at p)).pull ≡ None
+    by_test true = idle
+    by_test false = heard_idles p r (next_at p) idle
+faulted_idle endings.Clean p r idle = heard_idles p r (next_at p) idle
+faulted_idle (endings.Broken place) p r idle = heard_idles p r (next_at p) idle
+faulted_idle endings.SourceFault p r idle = heard_idles p r (next_at p) idle
+faulted_idle endings.SourceTooLong p r idle = heard_idles p r (next_at p) idle
+faulted_idle endings.SinkFault p r idle = heard_idles p r (next_at p) idle
+
+over_idle : (e : Ending) (p : Position) (n : ℕ) (r : Option Reply) → p.pull ≡ None → (end_heard e p n r).pull ≡ None
+over_idle e p n r idle = by_test (n == 5)
+  where
+    by_test : (b : Bool) → (if b then end_faulted e p r else record (last_words e p (next_at p)) { is_over = true }).pull ≡ None
+    by_test true = faulted_idle e p r idle
+    by_test false = words_idle e p (next_at p) idle
+
+-- where a SYNC is next its list is asked
+asked_list : (n : Next) (a : Act) (group left : List ℕ) → n ≡ sync group left → Asks n a → a ≡ acts.RemoteList (commands.Sync group)
+asked_list n a group left is h = subst (λ x. Asks x a) is h
+
+-- ---- where none is opened it is the lane itself
+
+itself : (R : Option (List Snapshot)) (s : Store) (k : ℕ) (p : Position) → p.pull ≡ None → BesideBy R s k p p.pull (bare p)
+itself R s k p idle = subst (λ (o : Option Pulling). BesideBy R s k p o (bare p)) (sym idle) (ap (λ (o : Option Pulling). record p { pull = o }) (sym idle))
+
+module _ (R : Option (List Snapshot)) (w : World) (qs : List Position) (k m : ℕ) (es : List Ending) (later : List Entry)
+    (knows : (at qs k).collecting ≡ open_on k w.collecting) (p : Position) (idle : p.pull ≡ None) (same : at qs k ≡ p) (remote : IsRemote R) where
+  abbrev e : Ending
+  e = slice_index_or es k endings.Clean
+
+  -- the act that opened one read the remote
+  begins_by : (c : Class) (v : Event) (vs : List Event) (group left : List ℕ) → c ≡ class_of v.act → (c ≡ ending → ⊥) → Does c e p v vs → next_at p ≡ sync group left
+      → Right R w k m v.act (reply v) c (kind_of (kind v)) → kind v ≡ 1 → Right R w k m (acts.RemoteList (commands.Sync group)) (reply v) reaching (kind_of (kind v))
+  begins_by reaching v vs group left class other does next right one =
+      subst (λ a. Right R w k m a (reply v) reaching (kind_of (kind v))) (asked_list (next_at p) v.act group left next (subst (λ (o : Option Pulling). AsksBy o (next_at p) v.act) idle does.1)) right
+  begins_by stepping v vs group left class other does next right one =
+      absurd (subst (λ n. Right R w k m v.act (reply v) stepping (kind_of n)) one right)
+  begins_by wanting v vs group left class other does next right one =
+      absurd (subst (λ n. Right R w k m v.act (reply v) wanting (kind_of n)) one right)
+  begins_by starting v vs group left class other does next right one =
+      absurd (subst (λ n. Right R w k m v.act (reply v) starting (kind_of n)) one right)
+  begins_by sweeping v vs group left class other does next right one =
+      let is = asked_list (next_at p) v.act group left next (subst (λ (o : Option Pulling). AsksBy o (next_at p) v.act) idle does) in
+      absurd (no_sweep (class ∙ ap class_of is))
+    where
+      no_sweep : (let c : Class = sweeping in c) ≡ reaching → ⊥
+      no_sweep h = cc
+  begins_by ending v vs group left class other does next right one = absurd (other refl)
+
+  -- an answer that was heard
+  heard_beside : (c : Class) (v : Event) (vs : List Event) → c ≡ class_of v.act → (c ≡ ending → ⊥) → Does c e p v vs → Right R w k m v.act (reply v) c (kind_of (kind v))
+      → BesideBy R (moved R w k m v.act (kind_of (kind v))).store k (heard p v.answer) (heard p v.answer).pull (bare (heard p v.answer))
+  unfolding moved
+  heard_beside c v vs class other does right =
+      subst (λ (p' : Position). BesideBy R (moved R w k m v.act (kind_of (kind v))).store k p' p'.pull (bare p')) (sym (heard_idle p v.answer idle))
+      (by_test (opens_sync (kind v) (next_at p)) refl)
+    where
+      by_test : (b : Bool) → opens_sync (kind v) (next_at p) ≡ b
+          → BesideBy R (moved R w k m v.act (kind_of (kind v))).store k (flagged p v.answer (heard_at p (kind v) (reply v) (next_at p))) (heard_at p (kind v) (reply v) (next_at p)).pull
+          (bare (flagged p v.answer (heard_at p (kind v) (reply v) (next_at p))))
+      by_test false is =
+          itself R (moved R w k m v.act (kind_of (kind v))).store k (flagged p v.answer (heard_at p (kind v) (reply v) (next_at p))) (stays_idle p (kind v) (reply v) (next_at p) idle is)
+      by_test true is =
+          let x = sync_of (kind v) (next_at p) is in
+          subst (λ (s : Store). BesideBy R s k (flagged p v.answer (heard_at p (kind v) (reply v) (next_at p))) (heard_at p (kind v) (reply v) (next_at p)).pull (bare (flagged p v.answer (heard_at p (kind v) (reply v) (next_at p)))))
+          (sym (ap (λ n. (moved R w k m v.act (kind_of n)).store) x.3))
+          (subst (λ (y : Next). BesideBy R w.store k (flagged p v.answer (heard_at p (kind v) (reply v) y)) (heard_at p (kind v) (reply v) y).pull (bare (flagged p v.answer (heard_at p (kind v) (reply v) y)))) (sym x.2)
+          (begun_here R w qs k m es later knows p idle same remote v x.0 x.1 (reply v) (kind v) x.2 (begins_by c v vs x.0 x.1 class other does x.2 right x.3) x.3
+          (wants (kind v) p.collecting) ((v.answer).last || (heard_at p (kind v) (reply v) (sync x.0 x.1)).is_spent)))
+
+  -- an event of the lane
+  pub turned_idle : (c : Class) (v : Event) (vs : List Event) → c ≡ class_of v.act → lane v ≡ k → moment v ≡ m → Does c e p v vs → ArePlain p.job
+      → (kind v ≡ 5 → is_cut_off (run_of R w qs) k e later ≡ cuts c e p)
+      → Right R w k m v.act (reply v) c (kind_of (kind v)) → Turns R w qs k m es later knows v.act (kind v) (position_after e p v)
+  unfolding position_after
+  turned_idle c v vs class l t does kept cut right = (
+    bare (position_after e p v),
+    subst (λ (y : Position). y.pull ≡ None → Does (class_of v.act) e y v vs → (kind v ≡ 5 → is_cut_off (run_of R w qs) k e later ≡ cuts (class_of v.act) e y) → ArePlain y.job
+        → entered (known es) (run_of R w qs) w.events (noted R w qs k m (kind v)) later ≡ Some (run_of R (moved R w k m v.act (kind_of (kind v))) (slice_set qs k (position_after e y v)))) same
+        (λ i d u n. turned R w qs k m es later knows n v vs i l t d u (subst (λ y. Right R w k m v.act (reply v) y (kind_of (kind v))) class right))
+        idle (subst (λ y. Does y e p v vs) class does) (subst (λ y. kind v ≡ 5 → is_cut_off (run_of R w qs) k e later ≡ cuts y e p) class cut) kept
+        ∙ ap Some (same_lane R (moved R w k m v.act (kind_of (kind v))) qs k (position_after e p v) (bare (position_after e p v)) refl),
+    subst (λ y. BesideBy R (moved R w k m v.act (kind_of (kind v))).store k (heard_as y e p v.answer) (heard_as y e p v.answer).pull (bare (heard_as y e p v.answer))) class (by_class c class does right),
+  )
+    where
+      by_class : (d : Class) → d ≡ class_of v.act → Does d e p v vs → Right R w k m v.act (reply v) d (kind_of (kind v))
+          → BesideBy R (moved R w k m v.act (kind_of (kind v))).store k (heard_as d e p v.answer) (heard_as d e p v.answer).pull (bare (heard_as d e p v.answer))
+      by_class ending is does right = itself R (moved R w k m v.act (kind_of (kind v))).store k (end_heard e p (kind v) (reply v)) (over_idle e p (kind v) (reply v) idle)
+      by_class stepping is does right = heard_beside stepping v vs is (λ h. cc) does right
+      by_class reaching is does right = heard_beside reaching v vs is (λ h. cc) does right
+      by_class starting is does right = heard_beside starting v vs is (λ h. cc) does right
+      by_class sweeping is does right = heard_beside sweeping v vs is (λ h. cc) does right
+      by_class wanting is does right = heard_beside wanting v vs is (λ h. cc) does right
