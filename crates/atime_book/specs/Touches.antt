@@ -1,14 +1,31 @@
 -- What the book knows of chunks, and what changes it.
-use Rattle.std.specs.Prelude.{◌≡◌, ℕ, ◌-◌, Bool, false, ◌&&◌, List, [], ◌∷◌, nat_lt, if◌then◌else◌, Option, Some, None, IfSome, IsSome, IsTrue, length, map, min, max, ◌≤◌}
-use Rattle.std.specs.List.{All}
+use Rattle.std.specs.Prelude.{◌≡◌, ℕ, ◌-◌, Bool, false, ◌&&◌, List, [], ◌∷◌, ◌++◌, nat_lt, if◌then◌else◌, Option, Some, None, IfSome, IsSome, IsTrue, Vec, length, map, min, max, ◌≤◌, codes}
+use Rattle.std.specs.declared.alloc.Global.{Global}
+use Rattle.std.specs.Int.{w64, to_le_bytes}
+use Rattle.std.specs.List.{All, flat_map}
 use Rattle.std.specs.Str.{bytes_eq}
 use Rattle.store_types.specs.Times.{last_moment}
 use Rattle.store_types.specs.declared.names.Digest32.{Digest32}
-use Rattle.store_files.specs.Book.{Touch, Book, digests_rise}
+use Rattle.store_files.specs.Book.{Touch, Book, digests_rise, touch_text, book_of}
 
 -- an ordered map's entries as touches
 abbrev pub touches_of : List (Digest32 × ℕ) → List Touch
 touches_of entries = map (λ e. record { digest = (e.0).0; moment = e.1 }) entries
+
+-- each digest has 32 bytes
+abbrev pub HaveDigests : List Touch → Type 0
+HaveDigests touches = All (λ t. length t.digest ≡ 32) touches
+
+-- the file's bytes before the chunks, and those of the chunks
+abbrev pub head_text : ℕ → ℕ → List ℕ
+head_text moment count = codes "PBSBOOK1" ++ to_le_bytes w64 moment ++ to_le_bytes w64 count
+
+abbrev pub touches_text : List (Digest32 × ℕ) → List ℕ
+touches_text entries = flat_map touch_text (touches_of entries)
+
+-- they are put behind what is there
+abbrev pub AddsTouches : List (Digest32 × ℕ) → List ℕ → List ℕ → Type 0
+AddsTouches entries old new = new ≡ old ++ touches_text entries
 
 -- the last touch of a chunk
 abbrev pub last_in : List Touch → List ℕ → Option ℕ
@@ -50,6 +67,10 @@ pub record SweptAt (old new : Book) (digest : List ℕ) (taken : Bool) : Type 0 
 abbrev pub as_of : ℕ → Book → Book
 as_of moment book = record book { moment = moment }
 
+-- the book at that moment is read from the text
+abbrev pub ReadsAt : Book → ℕ → Vec ℕ Global → Type 0
+ReadsAt book moment text = book_of text.items ≡ Some (as_of moment book)
+
 -- no chunk was touched after the moment
 abbrev pub NoneAfter : Book → ℕ → Type 0
 NoneAfter book moment = (digest : List ℕ) → IfSome (last_of book digest) (λ when. when ≤ moment)
@@ -65,7 +86,7 @@ IsEarly book = NoneAfter book book.moment
 
 -- Each chunk stands once: its digest, of 32 bytes, is above the one before it, and what is found at it is its touch.
 pub record IsInOrder (book : Book) : Type 0 where
-  pub digests : All (λ t. length t.digest ≡ 32) book.touches
+  pub digests : HaveDigests book.touches
   pub rise : IsTrue (digests_rise book.touches)
   pub found : All (λ t. last_of book t.digest ≡ Some t.moment) book.touches
 

@@ -4,11 +4,9 @@
 //! the digest and its last touch; then the SHA-256 of all bytes before it. Numbers are u64, little-endian.
 #![tactic(auto)]
 
-ghost use Rattle.std.specs.Prelude.{◌≡◌, ◌≤◌, [], ◌++◌, true, All, length, IsOk, IsSome, IfSome, IfOk, OnOk, OnErr, Some, None, codes};
-ghost use Rattle.std.specs.Int.{w64, to_le_bytes};
-ghost use Rattle.std.specs.List.{flat_map};
-ghost use Rattle.store_files.specs.Book.{FitsBook, touch_text, signed_text, book_text, book_of};
-ghost use Rattle.atime_book.specs.Touches.{touches_of, cutoff_of, empty, last_of, is_stale, IsInOrder, TouchedAt, TouchesKnown, SweptAt, IsAt, IsEarly, as_of};
+ghost use Rattle.std.specs.Prelude.{◌≡◌, [], true, IsOk, IsSome, IfSome, IfOk, OnOk, OnErr};
+ghost use Rattle.store_files.specs.Book.{FitsBook, signed_text, book_text, book_of};
+ghost use Rattle.atime_book.specs.Touches.{touches_of, AddsTouches, head_text, HaveDigests, cutoff_of, empty, last_of, is_stale, IsInOrder, TouchedAt, TouchesKnown, SweptAt, IsAt, ReadsAt, IsEarly, as_of};
 
 mod counts;
 mod laws;
@@ -148,7 +146,7 @@ impl Book {
     pub fn text(&self, alloc: Global, moment: u64) -> Result<Vec<u8>, AllocError>
         ensures text { IfOk result (λ text. text.items ≡ book_text (as_of moment self.now)) }
         ensures fits { IsAt self.now moment → OnOk result (FitsBook (as_of moment self.now)) }
-        ensures read_again { IsAt self.now moment → IfOk result (λ text. book_of text.items ≡ Some (as_of moment self.now)) }
+        ensures read_again { IsAt self.now moment → IfOk result (ReadsAt self.now moment) }
     {
         self.written(alloc, moment)
     }
@@ -202,7 +200,7 @@ impl Book {
 }
 
 fn head(alloc: Global, moment: u64, count: u64) -> Result<Vec<u8>, AllocError>
-    ensures { IfOk result (λ text. text.items ≡ codes "PBSBOOK1" ++ to_le_bytes w64 moment ++ to_le_bytes w64 count) }
+    ensures { IfOk result (λ text. text.items ≡ head_text moment count) }
 {
     let mut text = Vec::from_slice(alloc, &MAGIC)?;
     text.extend_from_slice(&moment.to_le_bytes())?;
@@ -211,8 +209,8 @@ fn head(alloc: Global, moment: u64, count: u64) -> Result<Vec<u8>, AllocError>
 }
 
 fn push_touches(text: &mut Vec<u8>, touches: &BTreeMap<Digest32, u64>) -> Result<(), AllocError>
-    ensures text { OnOk result (text.new.items ≡ text.old.items ++ flat_map touch_text (touches_of touches.now.entries)) }
-    ensures digests { OnOk result (All (λ t. length t.digest ≡ 32) (touches_of touches.now.entries)) }
+    ensures text { OnOk result (AddsTouches touches.now.entries text.old.items text.new.items) }
+    ensures digests { OnOk result (HaveDigests (touches_of touches.now.entries)) }
 {
     for (digest, touched) in touches {
         text.extend_from_slice(&digest.0)?;

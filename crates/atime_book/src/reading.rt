@@ -3,8 +3,7 @@
 ghost use Rattle.std.specs.Prelude.{◌≡◌, ◌≤◌, length, slice_range, IfOk, option_map};
 ghost use Rattle.std.specs.Int.{w64, from_le_bytes};
 ghost use Rattle.store_files.specs.Book.{touch_of as touch_in};
-ghost use Rattle.atime_book.specs.Touches.{touches_of};
-ghost use Rattle.atime_book.specs.Reading.{above, passed, touches_at};
+ghost use Rattle.atime_book.specs.Reading.{above, TellsTouches};
 
 use std::alloc::{AllocError, Global};
 use std::collections::BTreeMap;
@@ -26,7 +25,7 @@ pub fn touches_in(
     bytes: &[u8],
     moment: u64,
 ) -> Result<Option<BTreeMap<Digest32, u64>>, AllocError>
-    ensures { IfOk result (λ found. option_map (λ m. touches_of m.entries) found ≡ passed moment (touches_at bytes.now)) }
+    ensures { IfOk result (TellsTouches moment bytes.now) }
 {
     let mut touches = BTreeMap::new(alloc);
     let mut before = None;

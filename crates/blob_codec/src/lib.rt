@@ -8,7 +8,7 @@
 
 ghost use Rattle.std.specs.Prelude.{◌≡◌, ◌↔◌, ℕ, List, take, drop, Ok, Err, IsOk, IfOk, IfErr, MatchResult};
 ghost use Rattle.std.specs.Int.{w32, from_le_bytes};
-ghost use Rattle.blob_codec.specs.Blob.{blob, data_of, data_under, data_behind, FitsBlob};
+ghost use Rattle.blob_codec.specs.Blob.{blob, data_under, data_behind, FitsBlob, Decodes, DecodesVec};
 
 pub mod laws;
 
@@ -51,7 +51,7 @@ pub fn encode(alloc: Global, data: &[u8]) -> Result<Result<Vec<u8>, BadBlob>, Al
 /// The data of the blob, lent from its bytes, or the first cause for which they are none, in the
 /// order of `BadBlob`. It takes no memory and copies nothing.
 pub fn decode(bytes: &[u8]) -> Result<&[u8], BadBlob>
-    ensures { MatchResult result (λ d. data_of bytes.now ≡ Ok d.now) (λ e. data_of bytes.now ≡ Err e) }
+    ensures { Decodes bytes.now result }
 {
     if bytes.len() < HEADER_SIZE {
         return Err(BadBlob::Short);
@@ -69,7 +69,7 @@ pub fn decode(bytes: &[u8]) -> Result<&[u8], BadBlob>
 /// The data of the blob, in the memory that held the blob, or the first cause, as by `decode`. It
 /// takes no memory, and copies the data once, to where the blob began.
 pub fn decode_vec(bytes: Vec<u8>) -> Result<Vec<u8>, BadBlob>
-    ensures { MatchResult result (λ d. data_of bytes.items ≡ Ok d.items) (λ e. data_of bytes.items ≡ Err e) }
+    ensures { DecodesVec bytes.items result }
 {
     let length = decode(&bytes)?.len();
     let mut data = bytes;

@@ -12,6 +12,7 @@ use Rattle.core_state.specs.declared.parts.Parts.{Parts}
 use Rattle.core_state.specs.declared.stop.Stop.{Stop}
 use Rattle.core_state.specs.Commands.{ActDoes, ActLeaves}
 use Rattle.core_state.specs.Unreadables.{Asked}
+use Rattle.core_admin.specs.AnsweredBy.{ActAnswersBy}
 use Rattle.core_admin.specs.FilesTold.{asked_files}
 
 abbrev pub IsAdmins : Act → Type 0
@@ -27,10 +28,13 @@ abbrev pub asked_of_admin : Act → List Listed → Option Asked
 asked_of_admin (Plain (Files snapshot)) catalogue = asked_files snapshot catalogue
 asked_of_admin act catalogue = None
 
--- ---- the two of the first step of a PRUNE, which changes nothing
+-- ---- the first step of a PRUNE, which changes nothing
 
 abbrev pub PruneDoes : {D : Type 0} → Ghosts D → Parts D → Place → List ℕ → Keep → Bool → Result Reply Stop → Type 0
 PruneDoes d parts at group keep dry result = ActDoes d parts parts at (JobGroup (Prune group keep dry)) result
 
 abbrev pub PruneLeaves : {D : Type 0} → Ghosts D → Parts D → Place → List ℕ → Keep → Bool → Result Reply Stop → Type 0
 PruneLeaves d parts at group keep dry result = ActLeaves d parts parts at (JobGroup (Prune group keep dry)) result
+
+abbrev pub PruneAnswersBy : {D : Type 0} → Ghosts D → Parts D → Place → List ℕ → Keep → Bool → Result Reply Stop → Type 0
+PruneAnswersBy d parts at group keep dry result = ActAnswersBy d parts at (JobGroup (Prune group keep dry)) result

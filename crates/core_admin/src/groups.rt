@@ -2,12 +2,12 @@
 
 ghost use Rattle.std.specs.Prelude.{◌≡◌, ◌<◌, ◌≤◌, length, IfOk, IsTrue};
 ghost use Rattle.std.specs.List.{All, list_all};
-ghost use Rattle.wire_commands.specs.declared.command.Command.TheVariants.{Group, Prune};
+ghost use Rattle.wire_commands.specs.declared.command.Command.TheVariants.{Group};
 ghost use Rattle.store_model.specs.AdminSteps.{counts_fit as fit_counts};
-ghost use Rattle.store_history.specs.declared.act.Act.TheVariants.{JobGroup, Plain};
+ghost use Rattle.store_history.specs.declared.act.Act.TheVariants.{Plain};
 ghost use Rattle.core_state.specs.Commands.{PlainDoes, PlainLeaves};
 ghost use Rattle.core_state.specs.Named.{is_named_snapshot};
-ghost use Rattle.core_admin.specs.AdminActs.{PruneDoes, PruneLeaves};
+ghost use Rattle.core_admin.specs.AdminActs.{PruneAnswersBy, PruneDoes, PruneLeaves};
 ghost use Rattle.core_admin.specs.AnsweredBy.{ActAnswersBy};
 ghost use Rattle.core_admin.specs.Listings.{IsShort, texts_in as texts_of_kept};
 
@@ -90,7 +90,7 @@ pub fn prune_group<D: Disk>(
     ensures does { PruneDoes D.Disk parts.now at name.now keep.now _dry result }
     ensures leaves { PruneLeaves D.Disk parts.now at name.now keep.now _dry result }
     // on any disk
-    ensures by_kept { ActAnswersBy D.Disk parts.now at (JobGroup (Prune name.now keep.now _dry)) result }
+    ensures by_kept { PruneAnswersBy D.Disk parts.now at name.now keep.now _dry result }
 {
     parts.idle(at.lane)?;
     let Ok(group) = GroupKey::parse(alloc, name)? else {

@@ -24,6 +24,7 @@ use Rattle.snapshot_files.proofs.Archives.{archive_read, blob_no_dynamic, blob_n
 use Rattle.snapshot_files.proofs.Indexed.{at_nothing, at_text, index_is, no_index}
 use Rattle.gc_plan.specs.declared.IndexAt.{IndexAt}
 use Rattle.store_history.specs.Sweeping.{digests_of}
+use Rattle.store_history.proofs.Found.{each_named}
 use Rattle.core_state.specs.declared.kept.Kept.{Kept}
 use Rattle.core_state.specs.declared.kept.Listed.{Listed}
 use Rattle.core_state.specs.Found.{kept_named, path_in, path_of_kept}
@@ -34,7 +35,7 @@ use Rattle.core_state.proofs.Found.{IsThere, is_there, kept_is, not_there, there
 use Rattle.core_collect.specs.Marking.{Reads, digests_read, path_at}
 use Rattle.core_collect.specs.declared.marking.Unread.{Unread}
 use Rattle.core_collect.specs.declared.marking.Unread.TheVariants as unreads
-use Rattle.core_collect.proofs.Lists.{each_like, each_named}
+use Rattle.core_collect.proofs.Lists.{each_like}
 
 -- ---- an index of the plain store
 

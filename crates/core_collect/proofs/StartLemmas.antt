@@ -24,6 +24,7 @@ use Rattle.gc_plan.specs.declared.IndexAt.{IndexAt}
 use Rattle.backup_session.specs.Shown.{shown}
 use Rattle.store_history.specs.Sweeping.{Unmarked, digests_of, earlier, new_sweep, oldest_in, unmarked_of}
 use Rattle.store_history.specs.Sweeping as sweeps
+use Rattle.store_history.proofs.Found.{each_file, each_named}
 use Rattle.core_state.specs.declared.collector.Collector.{Collector}
 use Rattle.core_state.specs.declared.kept.Kept.{Kept}
 use Rattle.core_state.specs.declared.kept.Listed.{Listed}
@@ -42,7 +43,7 @@ use Rattle.core_state.specs.Shown.{files_named, shown_file, shown_files, shown_s
 use Rattle.core_state.specs.Sweeps.{FitsRemoved, HasNumber, ShowsSweep, digests_in, kept_at, left_at, left_in, left_of_kept, unmarked_by, visits_by}
 use Rattle.core_state.specs.Wanted.{want_idle}
 use Rattle.core_collect.specs.Starting.{GivesCollector, IsNewCollector, MayOpen, earlier_of, first_unreadable, indexes_in, indexes_of, oldest_kept, start_told, unreadable_of}
-use Rattle.core_collect.proofs.Lists.{each_file, each_named, each_numbered}
+use Rattle.core_collect.proofs.Lists.{each_numbered}
 
 -- ---- the oldest writer
 

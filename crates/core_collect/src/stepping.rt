@@ -33,7 +33,8 @@ fn collect<D: Disk>(
     at: Place,
 ) -> Result<Option<GcReport>, Stop>
     requires { collector.old.ended ≡ None }
-    ensures { CollectDoes D.Disk parts.old parts.new upkeep.old upkeep.new collector.old collector.new at result }
+    ensures { CollectDoes D.Disk parts.old parts.new upkeep.old upkeep.new
+        collector.old collector.new at result }
 {
     if collector.plan.is_over() {
         let report = end(
@@ -78,7 +79,8 @@ fn pass<D: Disk>(
 ) -> Result<Option<GcReport>, Stop>
     requires lane { at.lane < 64 }
     requires uncut { is_cut at.lane collector.old ≡ false }
-    ensures { PassDoes D.Disk parts.old parts.new upkeep.old upkeep.new collector.old collector.new at result }
+    ensures { PassDoes D.Disk parts.old parts.new upkeep.old upkeep.new
+        collector.old collector.new at result }
 {
     if !is_on(collector, at.lane) {
         let state = parts.sessions[at.lane as usize].state();

@@ -20,7 +20,8 @@ fn visit<D: Disk>(
     digest: &Digest32,
 ) -> Result<(), Failed>
     ensures serves { Serves D.honest D.faults disk.old disk.new (IsErr result) }
-    ensures visits { VisitsOne D.Disk disk.old disk.new book.old book.new plan.old plan.new digest.now result }
+    ensures visits { VisitsOne D.Disk disk.old disk.new
+        book.old book.new plan.old plan.new digest.now result }
 {
     if !book.is_stale(digest, plan.cutoff()) {
         return Ok(());
@@ -51,7 +52,8 @@ pub fn visit_next<D: Disk>(
     plan: &mut Gc,
 ) -> Result<(), DiskError>
     ensures serves { Serves D.honest D.faults disk.old disk.new (IsErrOf result DiskError.Failed) }
-    ensures visits { VisitsNext D.Disk disk.old disk.new book.old book.new plan.old plan.new result }
+    ensures visits { VisitsNext D.Disk disk.old disk.new
+        book.old book.new plan.old plan.new result }
 {
     list_chunks(disk, alloc, plan)?;
     let Some(digest) = plan.sweep_next() else {

@@ -20,11 +20,17 @@ use Rattle.core_state.specs.History.{History, StandsFor, world}
 use Rattle.core_state.specs.Remotes.{RemoteStays, SettlesRead, ShowsRemote, kind_by, reply_by}
 use Rattle.core_state.specs.Replies.{may_give}
 use Rattle.core_state.specs.Wanted.{session_at}
+use Rattle.core_state.proofs.Applying.{refused_remote}
 use Rattle.core_state.proofs.RemoteLemmas.{stays_there}
 use Rattle.core_state.proofs.RemoteReads.{FailsWhere, GivesRight, read_applies, read_keeps, unread_applies, unread_keeps}
-use Rattle.core_remote.specs.RemoteActs.{FailsBy, GivesFrom, GivesRemote, IsRemotes, RemoteGives, RemoteTells, StopHasText, TellsEnd, read_told}
+use Rattle.core_remote.specs.RemoteActs.{FailsBy, GivesFrom, GivesRemote, IsRemotes, RemoteGives, RemoteTells, StopHasText, TellsEnd, UnreadWhere, read_told}
 use Rattle.core_remote.proofs.Given.{given_right}
 use Rattle.core_remote.proofs.RemoteLemmas.{are_remotes, ends_fit, told_same}
+
+-- what holds, holds in any case
+in_any : {A P : Type 0} (o : Option A) → P → IfSome o (λ _. P)
+in_any None p = tt
+in_any (Some a) p = p
 
 -- what was not read gives nothing
 pub gives_none : {E : Type 0} (e : Ghosts E) (remote : Option E) (act : Act) (stop : RemoteStop) → GivesRemote e remote act (Err stop)
@@ -49,11 +55,16 @@ module _ {D E C : Type 0} (d : Ghosts D) (e : Ghosts E) (clock : clocks.Ghosts C
     no_kind n two five at =
         ⊎_elim (λ (x : (answer.entry).kind ≡ 2). two (sym at ∙ x)) (λ (x : (answer.entry).kind ≡ 5). five (sym at ∙ x)) (other_kinds refuses)
 
-    pub refused_tells : RemoteTells old k act answer
+    not_called : new.remote ≡ old.remote
+    not_called = refused_remote d clock old new k answer refuses
+
+    pub refused_tells : RemoteTells old new k act answer
     refused_tells = record {
       refused = λ zero. absurd (no_kind 0 (λ x. absurd (omega (arith, x))) (λ x. absurd (omega (arith, x))) zero);
       reads = λ at. ⊎_elim (λ (one : (answer.entry).kind ≡ 1). absurd (no_kind 1 (λ x. absurd (omega (arith, x))) (λ x. absurd (omega (arith, x))) one))
           (λ (seven : (answer.entry).kind ≡ 7). absurd (no_kind 7 (λ x. absurd (omega (arith, x))) (λ x. absurd (omega (arith, x))) seven)) at;
+      unread = λ _ _. not_called;
+      halted = in_any old.fault not_called;
     }
 
     pub refused_gives : RemoteGives e old act answer
@@ -63,7 +74,7 @@ module _ {D E C : Type 0} (d : Ghosts D) (e : Ghosts E) (clock : clocks.Ghosts C
 
   module _ (mid : Core D E C) (at : Place) (lt : k < 64) (formed : IsWellFormed act) (admitted : IsAdmitted clock.readings old mid k at) (filled : FillsUp old mid k act (At at))
       (remote : Option E) (ended : Result Reply RemoteStop) (tells : TellsEnd mid.parts mid.remote k act ended) (stays : RemoteStays e mid.remote remote) (failed : FailsBy e mid.remote remote ended)
-      (gives : GivesRemote e mid.remote act ended) (kind : IfOk ended (λ reply. IsTrue (may_give act reply))) (text : MatchResult ended ReplyHasText StopHasText)
+      (unread : UnreadWhere mid.parts mid.remote remote k act) (gives : GivesRemote e mid.remote act ended) (kind : IfOk ended (λ reply. IsTrue (may_give act reply))) (text : MatchResult ended ReplyHasText StopHasText)
       (settled : SettlesRead d (record mid { remote = remote }) new at.lane at.moment ended answer) where
     -- its tests, by the core as it was before
     before : read_told act (is_some mid.remote) (session_at mid.parts k) ≡ read_told act (is_some old.remote) (session_at old.parts k)
@@ -109,19 +120,31 @@ module _ {D E C : Type 0} (d : Ghosts D) (e : Ghosts E) (clock : clocks.Ghosts C
     not_read : (n : ℕ) → (answer.entry).kind ≡ n → (n ≡ 1 → ⊥) → (n ≡ 7 → ⊥) → ((answer.entry).kind ≡ 1) ⊎ ((answer.entry).kind ≡ 7) → ⊥
     not_read n kind one seven at = ⊎_elim (λ (x : (answer.entry).kind ≡ 1). one (sym kind ∙ x)) (λ (x : (answer.entry).kind ≡ 7). seven (sym kind ∙ x)) at
 
-    tells_by : (r : Result Reply RemoteStop) → TellsEnd mid.parts mid.remote k act r → (answer.entry).kind ≡ kind_by r → answer.reply ≡ Some (reply_by r) → RemoteTells old k act answer
-    tells_by (Ok reply) tells kind told = record { refused = λ zero. absurd (omega (arith, kind, zero)); reads = λ _. sym before ∙ tells }
+    -- where its tests refuse the read the remote is not called
+    not_called_where : UnreadWhere old.parts old.remote new.remote k act
+    not_called_where refusal told = settled.remote ∙ unread refusal (before ∙ told) ∙ ((admitted.ready).begun).remote
+
+    -- the disk had not failed
+    no_halt : IfSome old.fault (λ _. new.remote ≡ old.remote)
+    no_halt = subst (λ (o : Option ℕ). IfSome o (λ _. new.remote ≡ old.remote)) (sym (admitted.ready).no_fault) tt
+
+    tells_by : (r : Result Reply RemoteStop) → TellsEnd mid.parts mid.remote k act r → (answer.entry).kind ≡ kind_by r → answer.reply ≡ Some (reply_by r) → RemoteTells old new k act answer
+    tells_by (Ok reply) tells kind told = record { refused = λ zero. absurd (omega (arith, kind, zero)); reads = λ _. sym before ∙ tells; unread = not_called_where; halted = no_halt }
     tells_by (Err (stops.Refused r)) tells kind told = record {
       refused = λ _. (r, told, sym before ∙ tells);
       reads = λ at. absurd (not_read 0 kind (λ x. absurd (omega (arith, x))) (λ x. absurd (omega (arith, x))) at);
+      unread = not_called_where;
+      halted = no_halt;
     }
     tells_by (Err stops.NoMemory) tells kind told = record {
       refused = λ zero. absurd (omega (arith, kind, zero));
       reads = λ at. absurd (not_read 2 kind (λ x. absurd (omega (arith, x))) (λ x. absurd (omega (arith, x))) at);
+      unread = not_called_where;
+      halted = no_halt;
     }
-    tells_by (Err stops.Failed) tells kind told = record { refused = λ zero. absurd (omega (arith, kind, zero)); reads = λ _. sym before ∙ tells }
+    tells_by (Err stops.Failed) tells kind told = record { refused = λ zero. absurd (omega (arith, kind, zero)); reads = λ _. sym before ∙ tells; unread = not_called_where; halted = no_halt }
 
-    pub done_tells : RemoteTells old k act answer
+    pub done_tells : RemoteTells old new k act answer
     done_tells = tells_by ended tells kind_is settled.reply_is
 
     given_from : (reply : Reply) → answer.reply ≡ Some reply → (o : Option E) → GivesRemote e o act (Ok reply) → IfSome o (λ r. e.honest r → IfSome answer.reply (GivesFrom (e.content r) act))

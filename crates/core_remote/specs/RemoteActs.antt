@@ -74,6 +74,11 @@ EndsBy told (Err stops.Failed) = told ≡ Ok tt
 abbrev pub TellsEnd : {D E : Type 0} → Parts D → Option E → ℕ → Act → Result Reply RemoteStop → Type 0
 TellsEnd parts remote lane act result = EndsBy (read_told act (is_some remote) (session_at parts lane)) result
 
+-- the remote is not called where something refuses the read
+abbrev pub UnreadWhere : {D E : Type 0} → Parts D → Option E → Option E → ℕ → Act → Type 0
+UnreadWhere parts old new lane act =
+    (refusal : Refusal) → read_told act (is_some old) (session_at parts lane) ≡ Err refusal → new ≡ old
+
 -- the group, or the snapshot, that it names
 abbrev pub HasName : Act → Type 0
 HasName (RemoteList (Sync group)) = IsSome (group_of group)
@@ -85,11 +90,14 @@ abbrev pub StopHasText : RemoteStop → Type 0
 StopHasText (stops.Refused refusal) = ReplyHasText (Refused refusal)
 StopHasText stop = Unit {0}
 
--- On any remote: a read is made exactly where nothing refuses it, and else this is the refusal.
-pub record RemoteTells {D E C : Type 0} (old : Core D E C) (lane : ℕ) (act : Act) (answer : Answer) : Type 0 where
+-- On any remote: a read is made exactly where nothing refuses it, and else this is the refusal. The remote is not called for a read that is
+-- refused, nor after the disk failed.
+pub record RemoteTells {D E C : Type 0} (old new : Core D E C) (lane : ℕ) (act : Act) (answer : Answer) : Type 0 where
   pub refused : (answer.entry).kind ≡ 0
       → (refusal : Refusal) × (answer.reply ≡ Some (Refused refusal)) × (read_told act (is_some old.remote) (session_at old.parts lane) ≡ Err refusal)
   pub reads : ((answer.entry).kind ≡ 1) ⊎ ((answer.entry).kind ≡ 7) → read_told act (is_some old.remote) (session_at old.parts lane) ≡ Ok tt
+  pub unread : UnreadWhere old.parts old.remote new.remote lane act
+  pub halted : IfSome old.fault (λ _. new.remote ≡ old.remote)
 
 -- ---- what it gives
 

@@ -7,7 +7,7 @@ ghost use Rattle.core_state.specs.Applies.{ActKeeps, CoreApplies};
 ghost use Rattle.core_state.specs.Remotes.{RemoteStays};
 ghost use Rattle.core_state.specs.Replies.{may_give};
 ghost use Rattle.core_state.specs.Reserved.{HasRoom};
-ghost use Rattle.core_remote.specs.RemoteActs.{FailsBy, GivesRemote, IsRemotes, RemoteGives, RemoteTells, StopHasText, TellsEnd};
+ghost use Rattle.core_remote.specs.RemoteActs.{FailsBy, GivesRemote, IsRemotes, RemoteGives, RemoteTells, StopHasText, TellsEnd, UnreadWhere};
 
 use crate::reading::read;
 use crate::refusing::may_read;
@@ -32,6 +32,7 @@ fn reach<D, E: Disk>(
     requires kind { IsRemotes act }
     requires formed { IsWellFormed act }
     ensures tells { TellsEnd parts.now remote.old lane act result }
+    ensures unread { UnreadWhere parts.now remote.old remote.new lane act }
     ensures stays { RemoteStays E.Disk remote.old remote.new }
     ensures failed { FailsBy E.Disk remote.old remote.new result }
     ensures gives { GivesRemote E.Disk remote.old act result }
@@ -62,8 +63,8 @@ pub fn remote_act<D: Disk, E: Disk, C: Clock>(
     requires formed { IsWellFormed act }
     ensures applies { CoreApplies D.Disk E.Disk C.Clock core.old core.new lane act result }
     ensures keeps { ActKeeps D.Disk core.old core.new lane act result }
-    // on any remote: what refuses it
-    ensures by_kept { RemoteTells core.old lane act result }
+    // on any remote: what refuses it, and that it is not called then
+    ensures by_kept { RemoteTells core.old core.new lane act result }
     // of an honest remote, whatever it holds: what it gives
     ensures by_remote { RemoteGives E.Disk core.old act result }
 {

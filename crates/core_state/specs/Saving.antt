@@ -2,6 +2,7 @@
 use Rattle.disk_trait.specs.declared.disk.Disk.{Ghosts}
 use Rattle.disk_trait.specs.declared.disk.DiskError.{DiskError}
 use Rattle.disk_trait.specs.declared.disk.DiskError.TheVariants.{Failed}
+use Rattle.disk_trait.specs.Disk.{Serves}
 use Rattle.disk_trait.specs.Effects.{LeavesBy}
 use Rattle.std.specs.Prelude.{◌≡◌, ℕ, List, Option, None, Result, IsErrOf, OnOk}
 use Rattle.file_install.specs.Install.{Installs, installed}
@@ -21,6 +22,10 @@ KeepsRest old new = new ≡ record old { parts = record (old.parts) { disk = (ne
 -- the book's file as of the core's last moment
 abbrev pub text_of_book : {D E C : Type 0} → Core D E C → List ℕ
 text_of_book core = book_text (as_of core.last (core.upkeep).book)
+
+-- the disk serves, and fails where the call does
+abbrev pub SavesOrFails : {D E C : Type 0} → Ghosts D → Core D E C → Core D E C → Result (Unit {0}) DiskError → Type 0
+SavesOrFails d old new result = Serves d.honest d.faults (old.parts).disk (new.parts).disk (IsErrOf result Failed)
 
 abbrev pub LeavesBook : {D E C : Type 0} → Ghosts D → Core D E C → Core D E C → Type 0
 LeavesBook d old new = LeavesBy d (old.parts).disk (new.parts).disk (Installs (d.content (old.parts).disk) book_name (text_of_book old))

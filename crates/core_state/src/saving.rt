@@ -1,10 +1,9 @@
 //! The book of touches is saved.
 
-ghost use Rattle.std.specs.Prelude.{IsErrOf, OnOk};
-ghost use Rattle.disk_trait.specs.Disk.{Serves};
+ghost use Rattle.std.specs.Prelude.{OnOk};
 ghost use Rattle.disk_trait.specs.Effects.{DiskWantKeeps};
 ghost use Rattle.atime_book.specs.Touches.{NoneAfter};
-ghost use Rattle.core_state.specs.Saving.{HasSaved, KeepsRest, LeavesBook, SavesBook};
+ghost use Rattle.core_state.specs.Saving.{HasSaved, KeepsRest, LeavesBook, SavesBook, SavesOrFails};
 
 use crate::state::Core;
 use disk_trait::{Disk, DiskError};
@@ -22,7 +21,7 @@ impl<D: Disk, E, C> Core<D, E, C> {
     /// entry, chunks that are undated are saved as of the last moment.
     pub fn save_book(&mut self, alloc: Global) -> Result<(), DiskError>
         requires early { NoneAfter self.old.upkeep.book self.old.last }
-        ensures serves { Serves D.honest D.faults self.old.parts.disk self.new.parts.disk (IsErrOf result DiskError.Failed) }
+        ensures serves { SavesOrFails D.Disk self.old self.new result }
         // all but the disk is as before
         ensures rest { KeepsRest self.old self.new }
         ensures crash { LeavesBook D.Disk self.old self.new }

@@ -3,8 +3,10 @@ use Rattle.std.specs.Prelude.{◌≡◌, ℕ, Bool, true, false, List, map, max,
 use Rattle.store_types.specs.declared.append.AppendEntry.{AppendEntry}
 use Rattle.store_files.specs.Book.{Book}
 use Rattle.atime_book.specs.Touches.{SweptAt, TouchedAt, TouchesKnown, last_of}
+use Rattle.wire_commands.specs.declared.command.Command.{Command}
 use Rattle.wire_commands.specs.declared.reply.Reply.{Reply}
 use Rattle.store_history.specs.declared.act.Act.{Act}
+use Rattle.store_history.specs.declared.act.Act.TheVariants.{Plain}
 use Rattle.store_history.specs.LastTouches.{SameTouches, is_one_of, touched_by}
 use Rattle.core_state.specs.declared.entering.Place.{Place}
 use Rattle.core_state.specs.declared.stop.Stop.{Stop}
@@ -16,6 +18,10 @@ use Rattle.core_state.specs.Upkeeps.{touches_kept}
 -- the last touches are as the act's reply makes them of those before
 abbrev pub ActTouches : Upkeep → Upkeep → Place → Act → Result Reply Stop → Type 0
 ActTouches old new at act result = SameTouches (touches_kept new) (touched_by act (Some (reply_by (told result))) at.moment (touches_kept old))
+
+-- by its command
+abbrev pub PlainTouches : Upkeep → Upkeep → Place → Command → Result Reply Stop → Type 0
+PlainTouches old new at command result = ActTouches old new at (Plain command) result
 
 -- ---- a chunk that is sent
 

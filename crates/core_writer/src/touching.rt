@@ -3,9 +3,9 @@
 ghost use Rattle.std.specs.Prelude.{◌≡◌, ◌<◌, IfOk, OnErr};
 ghost use Rattle.wire_commands.specs.declared.command.Command.TheVariants.{Append};
 ghost use Rattle.store_history.specs.Acts.{IsCheckedChunk};
-ghost use Rattle.store_history.specs.declared.act.Act.TheVariants.{Chunk, Plain};
+ghost use Rattle.store_history.specs.declared.act.Act.TheVariants.{Chunk};
 ghost use Rattle.core_state.specs.Commands.{ActDoes, ActLeaves, PlainDoes, PlainLeaves};
-ghost use Rattle.core_writer.specs.Touching.{ActTouches, EndsEntry, MakesEntry, TouchesNamed};
+ghost use Rattle.core_writer.specs.Touching.{ActTouches, EndsEntry, MakesEntry, PlainTouches, TouchesNamed};
 
 use atime_book::Book;
 use core_state::{Parts, Place, Stop, Upkeep};
@@ -86,7 +86,7 @@ pub fn append_touched<D: Disk>(
     requires { at.lane < 64 }
     ensures does { PlainDoes D.Disk parts.old parts.new at (Append number entries.now) result }
     ensures leaves { PlainLeaves D.Disk parts.old parts.new at (Append number entries.now) result }
-    ensures touches { ActTouches upkeep.old upkeep.new at (Plain (Append number entries.now)) result }
+    ensures touches { PlainTouches upkeep.old upkeep.new at (Append number entries.now) result }
 {
     let ended = append(parts, alloc, at, number, entries);
     if ended.is_ok() {

@@ -1,8 +1,8 @@
 //! A disk: a map from names to bytes as it reads, and for each moment the images that a crash then may leave.
 
-ghost use Rattle.std.specs.Prelude.{◌≡◌, ◌<◌, ◌≤◌, ◌-◌, ◌^◌, ℕ, List, length, OnOk, IsErrOf, IsErr};
+ghost use Rattle.std.specs.Prelude.{◌≡◌, ◌≤◌, ℕ, List, length, OnOk, IsErrOf, IsErr};
 ghost use Rattle.disk_trait.specs.Files.{Files, HasShortNames, SameBut};
-ghost use Rattle.disk_trait.specs.Disk.{Serves, Ticks, Steps, Now, Same, MayMove, MayGo};
+ghost use Rattle.disk_trait.specs.Disk.{Serves, Ticks, Steps, Now, Same, MayMove, MayGo, ToldToNow, IsLeftAsRead};
 ghost use Rattle.disk_trait.specs.Calls.{ReadsAt, FindsAt, FillsAt, CountsAt, ListsNames, TellsThere, PutsWhole, MovesFile, DropsFile, WantKeeps, NoneKeeps};
 ghost use Rattle.disk_trait.specs.declared.disk.DiskError.TheVariants.{NoMemory, Failed as DiskFailed};
 
@@ -157,10 +157,10 @@ pub trait Disk {
         ensures durable { OnOk result (Now calls images self.new (λ c. c ≡ content self.new)) };
 
     /// Images are those of an honest disk, of moments up to now, below the greatest number.
-    ghost told: { (d : Self) (t : ℕ) (c : Files) → images d t c → honest d × (t ≤ calls d) × (t < 2 ^ 64 - 1) };
+    ghost told: { ToldToNow honest calls images };
 
     /// The disk as it reads is one of its images.
-    ghost as_read: { (d : Self) → honest d → calls d < 2 ^ 64 - 1 → images d (calls d) (content d) };
+    ghost as_read: { IsLeftAsRead honest content calls images };
 
     /// No name has more than 255 bytes, on the disk and in its images.
     ghost short_names: { (d : Self) → honest d → HasShortNames (content d) };

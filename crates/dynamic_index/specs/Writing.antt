@@ -1,9 +1,9 @@
 -- A dynamic index as it is written: its pieces come one by one.
-use Rattle.std.specs.Prelude.{ℕ, ◌≡◌, ◌+◌, ◌<◌, ◌≤◌, FitsSigned, All, List, [], ◌∷◌, ◌++◌, length, replicate, ℤ, IsTrue}
+use Rattle.std.specs.Prelude.{ℕ, ◌≡◌, ◌+◌, ◌<◌, ◌≤◌, FitsSigned, All, List, [], ◌∷◌, ◌++◌, length, map, replicate, ℤ, IsTrue}
 use Rattle.std.specs.List.{AllByRecursion}
-use Rattle.std.specs.Int.{w64}
+use Rattle.std.specs.Int.{w64, to_le_bytes, cast_unsigned}
 use Rattle.store_files.specs.Cells.{entry_limit}
-use Rattle.store_files.specs.DynamicIndex.{DynamicIndex, Ended, steps_fit}
+use Rattle.store_files.specs.DynamicIndex.{DynamicIndex, Ended, magic, csum_of, steps_fit}
 use Rattle.store_types.specs.declared.names.Digest32.{Digest32}
 use Rattle.dynamic_index.specs.Pieces.{size_of}
 
@@ -14,6 +14,14 @@ reserved = replicate 4032 0
 -- no piece yet
 abbrev pub begun : List ℕ → ℤ → DynamicIndex
 begun uuid ctime = record { uuid = uuid; ctime = ctime; reserved = reserved; entries = [] }
+
+-- an index's text before the entries
+abbrev pub header_text : DynamicIndex → List ℕ
+header_text x = magic ++ x.uuid ++ to_le_bytes w64 (cast_unsigned w64 x.ctime) ++ csum_of x ++ x.reserved
+
+-- each digest has 32 bytes
+abbrev pub HaveDigests : List Ended → Type 0
+HaveDigests entries = All (λ e. length e.digest ≡ 32) entries
 
 -- there is room for a piece of this length
 pub record FitsPiece (x : DynamicIndex) (len : ℕ) : Type 0 where
@@ -38,6 +46,10 @@ abbrev pub ends_behind : ℕ → List Known → List Ended
 ends_behind start [] = []
 ends_behind start (k ∷ ks) = record { end = start + k.1; digest = k.0 } ∷ ends_behind (start + k.1) ks
 
+-- so for pieces as they are handed in
+abbrev pub piece_ends : ℕ → List (Digest32 × ℕ) → List Ended
+piece_ends start pieces = ends_behind start (map known_of pieces)
+
 -- there is room for them all
 pub record FitsPieces (x : DynamicIndex) (pieces : List Known) : Type 0 where
   pub room : length x.entries + length pieces ≤ entry_limit
@@ -53,4 +65,4 @@ pub record IsBegun (uuid : List ℕ) (ctime : ℤ) (entries : List Ended) : Type
   pub ctime_fits : FitsSigned w64 ctime
   pub steps : IsTrue (steps_fit 0 entries)
   pub limit : length entries ≤ entry_limit
-  pub digest_len : All (λ e. length e.digest ≡ 32) entries
+  pub digest_len : HaveDigests entries

@@ -1,12 +1,11 @@
 //! An index as it is read from its file's bytes.
 
-ghost use Rattle.std.specs.Prelude.{◌≡◌, ◌+◌, ◌*◌, ◌-◌, ◌%◌, ◌/◌, ◌≤◌, ◌<◌, ◌&&◌, ◌↔◌, nat_lt, nat_le, [], length, take, drop, Ok, Err, MatchResult, IfOk, IfSome, IsNone, slice_range};
+ghost use Rattle.std.specs.Prelude.{◌≡◌, ◌+◌, ◌-◌, ◌%◌, ◌/◌, ◌≤◌, ◌<◌, ◌&&◌, ◌↔◌, nat_lt, nat_le, length, take, IfOk, IfSome, IsNone, slice_range};
 ghost use Rattle.std.specs.Str.{bytes_eq};
-ghost use Rattle.std.specs.Int.{w64, from_le_bytes};
 ghost use Rattle.store_files.specs.Cells.{header_len};
-ghost use Rattle.store_files.specs.DynamicIndex.{dynamic_of, dynamic_text, magic, fields_of, csum_of, steps_fit};
+ghost use Rattle.store_files.specs.DynamicIndex.{dynamic_text, magic, fields_of, csum_of, steps_fit};
 ghost use Rattle.dynamic_index.specs.Pieces.{size_of, entry_at, start_of, stop_of, HoldsOffset};
-ghost use Rattle.dynamic_index.specs.Viewing.{fault_of as fault_in};
+ghost use Rattle.dynamic_index.specs.Viewing.{fault_of as fault_in, TellsIndex};
 
 use crate::{ENTRY_SIZE, HEADER_SIZE, MAGIC};
 use sha2::{Digest, Sha256};
@@ -42,7 +41,7 @@ impl<'a> Model for DynamicView<'a> {
 impl<'a> DynamicView<'a> {
     /// The index that the bytes are, or the first cause for which they are none. It takes no memory.
     pub fn open_on(bytes: &'a [u8]) -> Result<DynamicView<'a>, BadIndex>
-        ensures exact { MatchResult result (λ view. dynamic_of bytes.now ≡ Ok view) (λ e. dynamic_of bytes.now ≡ Err e.cause) }
+        ensures exact { TellsIndex bytes.now result }
         ensures text { IfOk result (λ view. bytes.now ≡ dynamic_text view) }
     {
         match fault_of(bytes) {

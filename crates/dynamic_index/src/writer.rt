@@ -1,13 +1,11 @@
 //! An index as it is written.
 
-ghost use Rattle.std.specs.Prelude.{◌≡◌, ◌≤◌, ◌*◌, ◌++◌, All, length, map, IfOk, OnOk, OnErr, Ok};
-ghost use Rattle.std.specs.Int.{w64, to_le_bytes, cast_unsigned};
-ghost use Rattle.std.specs.List.{flat_map};
+ghost use Rattle.std.specs.Prelude.{◌≡◌, ◌≤◌, ◌*◌, ◌++◌, length, map, IfOk, OnOk, OnErr, Ok};
 ghost use Rattle.sha2.specs.Sha256.{sha256};
-ghost use Rattle.store_files.specs.DynamicIndex.{DynamicIndex, dynamic_text, dynamic_of, csum_of, entry_text, magic as magic_bytes};
+ghost use Rattle.store_files.specs.DynamicIndex.{DynamicIndex, dynamic_text, dynamic_of, csum_of};
 ghost use Rattle.dynamic_index.specs.Pieces.{size_of};
 ghost use Rattle.dynamic_index.specs.Entries.{ended_of, ends_of, spelled};
-ghost use Rattle.dynamic_index.specs.Writing.{reserved, begun, with_piece, FitsPiece, known_of, ends_behind, with_pieces, FitsPieces};
+ghost use Rattle.dynamic_index.specs.Writing.{reserved, begun, header_text, with_piece, FitsPiece, known_of, piece_ends, HaveDigests, with_pieces, FitsPieces};
 
 use crate::{ENTRY_SIZE, HEADER_SIZE, MAGIC};
 use sha2::{Digest, Sha256};
@@ -123,8 +121,7 @@ impl DynamicWriter {
 
     // All before the entries.
     fn header(&self, alloc: Global) -> Result<Vec<u8>, AllocError>
-        ensures { IfOk result (λ text. text.items ≡
-            magic_bytes ++ self.now.uuid ++ to_le_bytes w64 (cast_unsigned w64 self.now.ctime) ++ csum_of self.now ++ self.now.reserved) }
+        ensures { IfOk result (λ text. text.items ≡ header_text self.now) }
     {
         let mut text = Vec::with_capacity(alloc, HEADER_SIZE + ENTRY_SIZE * self.entries.len())?;
         text.extend_from_slice(&MAGIC)?;
@@ -152,8 +149,8 @@ fn entries_behind(
 ) -> Result<Vec<Entry>, AllocError>
     requires count { length pieces.now ≤ 1_048_576 }
     requires start { start ≤ 1_048_576 * 16_777_216 }
-    ensures ends { IfOk result (λ entries. ends_of entries.items ≡ ends_behind start (map known_of pieces.now)) }
-    ensures digests { IfOk result (λ entries. All (λ e. length e.digest ≡ 32) (ends_of entries.items)) }
+    ensures ends { IfOk result (λ entries. ends_of entries.items ≡ piece_ends start pieces.now) }
+    ensures digests { IfOk result (λ entries. HaveDigests (ends_of entries.items)) }
 {
     let mut entries = Vec::with_capacity(alloc, pieces.len())?;
     let mut end = start;

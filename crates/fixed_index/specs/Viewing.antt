@@ -1,11 +1,12 @@
 -- A fixed index as it is read.
-use Rattle.std.specs.Prelude.{◌≡◌, ℕ, ◌+◌, ◌-◌, ◌*◌, ◌/◌, ◌%◌, ◌≤◌, Bool, not, List, length, take, ◌==◌, IsTrue, nat_lt, min, if◌then◌else◌, Option, Some, None, slice_range}
+use Rattle.std.specs.Prelude.{◌≡◌, ℕ, ◌+◌, ◌-◌, ◌*◌, ◌/◌, ◌%◌, ◌≤◌, Bool, not, List, length, take, ◌==◌, IsTrue, nat_lt, min, if◌then◌else◌, Option, Some, None, Result, Ok, Err, MatchResult, slice_range}
 use Rattle.std.specs.Str.{bytes_eq}
 use Rattle.store_files.specs.declared.causes.IndexFault.{IndexFault}
 use Rattle.store_files.specs.declared.causes.IndexFault.TheVariants.{Short, Magic, Length, Count, Sizes, Csum}
 use Rattle.store_files.specs.Cells.{header_len, entry_limit}
-use Rattle.store_files.specs.FixedIndex.{FixedIndex, fields_of, has_sizes, csum_of}
+use Rattle.store_files.specs.FixedIndex.{FixedIndex, fixed_of, fields_of, has_sizes, csum_of}
 use Rattle.store_files.specs.FixedIndex.{magic as magic_bytes}
+use Rattle.fixed_index.specs.declared.view.BadIndex.{BadIndex}
 
 -- where a piece begins
 abbrev pub start_of : FixedIndex → ℕ → ℕ
@@ -28,6 +29,10 @@ fault_of bytes =
     first_fault (nat_lt (length bytes) header_len) (bytes_eq (take 8 bytes) magic_bytes) ((length bytes - header_len) % 32 == 0)
     (nat_lt entry_limit ((length bytes - header_len) / 32)) (has_sizes (fields_of bytes))
     (bytes_eq (slice_range bytes 32 64) (csum_of (fields_of bytes)))
+
+-- an answer tells the index that the bytes are, or the first cause for which they are none
+abbrev pub TellsIndex : List ℕ → Result FixedIndex BadIndex → Type 0
+TellsIndex bytes read = MatchResult read (λ x. fixed_of bytes ≡ Ok x) (λ e. fixed_of bytes ≡ Err e.cause)
 
 -- bytes that are an index
 pub record IsIndex (bytes : List ℕ) : Type 0 where

@@ -1,8 +1,8 @@
 -- A fixed index as it is written: its digests come one by one.
 use Rattle.std.specs.Prelude.{◌≡◌, ℕ, ◌+◌, ◌*◌, ◌^◌, ◌<◌, ◌≤◌, FitsSigned, All, List, [], ◌∷◌, ◌++◌, map, length, replicate, min, ℤ, IsTrue}
-use Rattle.std.specs.Int.{w64}
+use Rattle.std.specs.Int.{w64, to_le_bytes, cast_unsigned}
 use Rattle.store_files.specs.Cells.{entry_limit}
-use Rattle.store_files.specs.FixedIndex.{FixedIndex, is_chunk_size, piece_count, piece_len}
+use Rattle.store_files.specs.FixedIndex.{FixedIndex, magic, csum_of, is_chunk_size, piece_count, piece_len}
 use Rattle.store_types.specs.declared.names.Digest32.{Digest32}
 
 -- the rest of the header
@@ -18,6 +18,16 @@ pub record FitsSizes (size cut : ℕ) : Type 0 where
 abbrev pub begun : List ℕ → ℤ → ℕ → ℕ → FixedIndex
 begun uuid ctime size chunk_size =
     record { uuid = uuid; ctime = ctime; reserved = reserved; size = size; chunk_size = chunk_size; digests = [] }
+
+-- an index's text before the digests
+abbrev pub header_text : FixedIndex → List ℕ
+header_text x =
+    magic ++ x.uuid ++ to_le_bytes w64 (cast_unsigned w64 x.ctime) ++ csum_of x
+    ++ to_le_bytes w64 x.size ++ to_le_bytes w64 x.chunk_size ++ x.reserved
+
+-- the digests' bytes
+abbrev pub bytes_of : List Digest32 → List (List ℕ)
+bytes_of digests = map (λ d. d.0) digests
 
 -- where the pieces so far end
 abbrev pub end_of : FixedIndex → ℕ
@@ -38,6 +48,10 @@ Known = List ℕ × ℕ
 
 abbrev pub known_of : Digest32 × ℕ → Known
 known_of piece = ((piece.0).0, piece.1)
+
+-- the digests of pieces as they are handed in
+abbrev pub piece_digests : List (Digest32 × ℕ) → List (List ℕ)
+piece_digests pieces = map (λ k. k.0) (map known_of pieces)
 
 -- from an end on, each is as long as is asked where it begins
 abbrev pub FitsFrom : ℕ → ℕ → ℕ → List Known → Type 0

@@ -1,11 +1,11 @@
 //! An index as it is read from its file's bytes.
 
-ghost use Rattle.std.specs.Prelude.{◌≡◌, ◌+◌, ◌-◌, ◌%◌, ◌≤◌, ◌<◌, [], length, take, Ok, Err, MatchResult, IfOk, slice_index_or, slice_range};
+ghost use Rattle.std.specs.Prelude.{◌≡◌, ◌+◌, ◌-◌, ◌%◌, ◌≤◌, ◌<◌, [], length, take, IfOk, slice_index_or, slice_range};
 ghost use Rattle.std.specs.Str.{bytes_eq};
 ghost use Rattle.std.specs.Int.{w64, from_le_bytes};
 ghost use Rattle.store_files.specs.Cells.{header_len};
-ghost use Rattle.store_files.specs.FixedIndex.{fixed_of, fixed_text, magic, fields_of, csum_of, has_sizes as sizes_agree};
-ghost use Rattle.fixed_index.specs.Viewing.{fault_of as fault_in};
+ghost use Rattle.store_files.specs.FixedIndex.{fixed_text, magic, fields_of, csum_of, has_sizes as sizes_agree};
+ghost use Rattle.fixed_index.specs.Viewing.{fault_of as fault_in, TellsIndex};
 
 use crate::sizes::{is_chunk_size, piece_count};
 use crate::{HEADER_SIZE, MAGIC};
@@ -44,7 +44,7 @@ impl<'a> FixedView<'a> {
 
     /// The index that the bytes are, or the first cause for which they are none. It takes no memory.
     pub fn open_on(bytes: &'a [u8]) -> Result<FixedView<'a>, BadIndex>
-        ensures exact { MatchResult result (λ view. fixed_of bytes.now ≡ Ok view) (λ e. fixed_of bytes.now ≡ Err e.cause) }
+        ensures exact { TellsIndex bytes.now result }
         ensures text { IfOk result (λ view. bytes.now ≡ fixed_text view) }
     {
         match fault_of(bytes) {

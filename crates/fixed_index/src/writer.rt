@@ -1,11 +1,10 @@
 //! An index as it is written.
 
-ghost use Rattle.std.specs.Prelude.{◌≡◌, ◌*◌, ◌++◌, ◌≤◌, All, length, map, take, IfOk, OnOk, OnErr, Ok};
-ghost use Rattle.std.specs.Int.{w64, to_le_bytes, cast_unsigned};
+ghost use Rattle.std.specs.Prelude.{◌≡◌, ◌*◌, ◌++◌, ◌≤◌, All, length, map, IfOk, OnOk, OnErr, Ok};
 ghost use Rattle.std.specs.List.{concat};
 ghost use Rattle.sha2.specs.Sha256.{sha256};
-ghost use Rattle.store_files.specs.FixedIndex.{FixedIndex, fixed_text, fixed_of, csum_of, magic as magic_bytes};
-ghost use Rattle.fixed_index.specs.Writing.{reserved, begun, end_of, with_digest, FitsSizes, FitsPiece, known_of, with_pieces, FitsPieces};
+ghost use Rattle.store_files.specs.FixedIndex.{FixedIndex, fixed_text, fixed_of, csum_of};
+ghost use Rattle.fixed_index.specs.Writing.{reserved, begun, header_text, bytes_of, end_of, with_digest, FitsSizes, FitsPiece, known_of, piece_digests, with_pieces, FitsPieces};
 
 use crate::{HEADER_SIZE, MAGIC};
 use sha2::{Digest, Sha256};
@@ -24,15 +23,14 @@ pub struct FixedWriter {
 }
 
 impl Model for FixedWriter {
-    ghost use Rattle.std.specs.Prelude.{map};
     ghost use Rattle.store_files.specs.FixedIndex.{FixedIndex};
-    ghost use Rattle.fixed_index.specs.Writing.{reserved, IsBegun};
+    ghost use Rattle.fixed_index.specs.Writing.{reserved, bytes_of, IsBegun};
 
     ghost Value = { FixedIndex };
 
-    ghost view = { λ w. record { uuid = w.uuid; ctime = w.ctime; reserved = reserved; size = w.size; chunk_size = w.chunk_size; digests = map (λ d. d.0) w.digests.items } };
+    ghost view = { λ w. record { uuid = w.uuid; ctime = w.ctime; reserved = reserved; size = w.size; chunk_size = w.chunk_size; digests = bytes_of w.digests.items } };
 
-    ghost invariant = { λ w. IsBegun w.uuid w.ctime w.size w.chunk_size (map (λ d. d.0) w.digests.items) };
+    ghost invariant = { λ w. IsBegun w.uuid w.ctime w.size w.chunk_size (bytes_of w.digests.items) };
 }
 
 impl FixedWriter {
@@ -131,9 +129,7 @@ impl FixedWriter {
 
     // All before the digests.
     fn header(&self, alloc: Global) -> Result<Vec<u8>, AllocError>
-        ensures { IfOk result (λ text. text.items ≡
-            magic_bytes ++ self.now.uuid ++ to_le_bytes w64 (cast_unsigned w64 self.now.ctime) ++ csum_of self.now
-            ++ to_le_bytes w64 self.now.size ++ to_le_bytes w64 self.now.chunk_size ++ self.now.reserved) }
+        ensures { IfOk result (λ text. text.items ≡ header_text self.now) }
     {
         let mut text = Vec::with_capacity(alloc, HEADER_SIZE + 32 * self.digests.len())?;
         text.extend_from_slice(&MAGIC)?;
@@ -156,8 +152,8 @@ fn copy_of(digest: &Digest32) -> Digest32
 }
 
 fn digests_of(alloc: Global, pieces: &[(Digest32, u32)]) -> Result<Vec<Digest32>, AllocError>
-    ensures values { IfOk result (λ digests. map (λ d. d.0) digests.items ≡ map (λ k. k.0) (map known_of pieces.now)) }
-    ensures lengths { IfOk result (λ digests. All (λ d. length d ≡ 32) (map (λ d. d.0) digests.items)) }
+    ensures values { IfOk result (λ digests. bytes_of digests.items ≡ piece_digests pieces.now) }
+    ensures lengths { IfOk result (λ digests. All (λ d. length d ≡ 32) (bytes_of digests.items)) }
 {
     let mut digests = Vec::with_capacity(alloc, pieces.len())?;
     for piece in pieces {
@@ -176,7 +172,7 @@ fn zeros() -> [u8; 4016]
 
 // The SHA-256 of the digests one after another.
 fn digest_of_all(digests: &[Digest32]) -> Digest32
-    ensures { result.0 ≡ sha256 (concat (map (λ d. d.0) digests.now)) }
+    ensures { result.0 ≡ sha256 (concat (bytes_of digests.now)) }
 {
     let mut hasher = Sha256::new();
     for digest in digests {
@@ -186,7 +182,7 @@ fn digest_of_all(digests: &[Digest32]) -> Digest32
 }
 
 fn push_all(text: &mut Vec<u8>, digests: &[Digest32]) -> Result<(), AllocError>
-    ensures { OnOk result (text.new.items ≡ text.old.items ++ concat (map (λ d. d.0) digests.now)) }
+    ensures { OnOk result (text.new.items ≡ text.old.items ++ concat (bytes_of digests.now)) }
 {
     for digest in digests {
         text.extend_from_slice(&digest.0)?;

@@ -14,6 +14,7 @@ use Rattle.wire_commands.specs.declared.command.Command.TheVariants as commands
 use Rattle.wire_commands.specs.declared.reply.Reply.{Reply}
 use Rattle.wire_commands.specs.declared.reply.Reply.TheVariants.{Done, Refused}
 use Rattle.store_model.specs.declared.step.Step.{Step}
+use Rattle.store_model.specs.declared.step.Step.TheVariants.{ReadChunk}
 use Rattle.store_model.specs.AdminSteps.{files, forget, prune_group}
 use Rattle.store_model.specs.Job.{grouping, forgetting, opening, listing, reading, checking, closing, Asking, Job, over, asking, closed, step_of}
 use Rattle.store_model.specs.Jobs.{take}
@@ -31,12 +32,17 @@ use Rattle.store_history.proofs.Events.{step_class}
 use Rattle.store_history.proofs.Jobs.{take_begun}
 use Rattle.store_history.proofs.Longer.{after_all_append}
 use Rattle.job_laws.specs.Others.{StepsTo, MayBegin, VerifiesBesideOthers}
-use Rattle.job_laws.specs.Verifies.{EndsIn, Meanwhile, chunk_reads, report_of}
+use Rattle.job_laws.specs.Verifies.{undamaged, MayReply, EndsIn, Meanwhile, chunk_reads, report_of}
 use Rattle.job_laws.proofs.Changes.{Changes, moved_changes}
 use Rattle.job_laws.proofs.Judged.{true_false}
 use Rattle.job_laws.proofs.Leaving.{Reads, ordered_on, reads_on, meanwhile_on}
 use Rattle.job_laws.proofs.Ordered.{Ordered, rise_ordered}
 use Rattle.job_laws.proofs.Sound.{sound_snapshots_verify}
+
+-- where no chunk is damaged, each step is answered by the plain store
+as_told : (a : Step) (r : Reply) → MayReply undamaged a r r
+as_told (ReadChunk name place) r = refl
+as_told a r = refl
 
 -- ---- a job's steps on a lane with a reader
 
@@ -171,7 +177,7 @@ module _ (R : Option (List Snapshot)) where
 
   module _ (x : Snapshot) (k : ℕ) (report : Reply) where
     abbrev Ends : World → List Event → Type 0
-    Ends w es = (report ≡ report_of x) × (session (after_all R w es).store k ≡ none)
+    Ends w es = (report ≡ report_of undamaged x) × (session (after_all R w es).store k ≡ none)
 
     apart : (w : World) (e : Event) → (lane e == k) ≡ false → session (after R w e).store k ≡ session w.store k
     unfolding after
@@ -187,7 +193,7 @@ module _ (R : Option (List Snapshot)) where
     not_over a q e = cc
 
     -- once it is over, the lane stays without a session
-    over_stays : (q : Reply) (w : World) (es : List Event) → q ≡ report_of x → session w.store k ≡ none → StepsTo (over q) (own k es) (over report) → Ends w es
+    over_stays : (q : Reply) (w : World) (es : List Event) → q ≡ report_of undamaged x → session w.store k ≡ none → StepsTo (over q) (own k es) (over report) → Ends w es
     unfolding after_all
     over_stays q w [] is idle steps = (sym (one_reply q report steps) ∙ is, idle)
     over_stays q w (e ∷ es) is idle steps = by_lane (lane e == k) refl steps (over_stays q (after R w e) es is)
@@ -197,24 +203,24 @@ module _ (R : Option (List Snapshot)) where
         by_lane true on steps go = absurd steps
         by_lane false off steps go = go (apart w e off ∙ idle) steps
 
-    finishes : (n : ℕ) (cs : List Step) (q : Reply) (w : World) (es : List Event) → EndsIn n cs x (report_of x) k w.store (over q) → StepsTo (over q) (own k es) (over report) → Ends w es
-    finishes zero cs q w es ends steps = over_stays q w es (one_reply q (report_of x) ends.1) ends.2 steps
+    finishes : (n : ℕ) (cs : List Step) (q : Reply) (w : World) (es : List Event) → EndsIn undamaged n cs x (report_of undamaged x) k w.store (over q) → StepsTo (over q) (own k es) (over report) → Ends w es
+    finishes zero cs q w es ends steps = over_stays q w es (one_reply q (report_of undamaged x) ends.1) ends.2 steps
     finishes (suc n) cs q w es ends steps = absurd ends
 
     abbrev Goes : List Event → Type 0
     Goes es =
-        (n : ℕ) (cs : List Step) (a : Asking) (s : Store) (w : World) → EndsIn n cs x (report_of x) k s (asking a) → IsBegun (asking a) → Reads x k w.store → Meanwhile x k s w.store
+        (n : ℕ) (cs : List Step) (a : Asking) (s : Store) (w : World) → EndsIn undamaged n cs x (report_of undamaged x) k s (asking a) → IsBegun (asking a) → Reads x k w.store → Meanwhile x k s w.store
         → IsLegal R w es → StepsTo (asking a) (own k es) (over report) → Ends w es
 
-    goes_on : (es : List Event) → Goes es → (n : ℕ) (cs : List Step) (job : Job) (w : World) → EndsIn n cs x (report_of x) k w.store job → IsBegun job → Reads x k w.store
+    goes_on : (es : List Event) → Goes es → (n : ℕ) (cs : List Step) (job : Job) (w : World) → EndsIn undamaged n cs x (report_of undamaged x) k w.store job → IsBegun job → Reads x k w.store
         → IsLegal R w es → StepsTo job (own k es) (over report) → Ends w es
     goes_on es go n cs (over q) w ends begun reads legal steps = finishes n cs q w es ends steps
     goes_on es go n cs (asking a) w ends begun reads legal steps = go n cs a w.store w ends begun reads (record { own = refl; lanes = refl; there = reads.there }) legal steps
 
-    own_step : (e : Event) (es : List Event) → Goes es → (n : ℕ) (cs : List Step) (a : Asking) (s : Store) (w : World) → EndsIn n cs x (report_of x) k s (asking a) → IsBegun (asking a)
+    own_step : (e : Event) (es : List Event) → Goes es → (n : ℕ) (cs : List Step) (a : Asking) (s : Store) (w : World) → EndsIn undamaged n cs x (report_of undamaged x) k s (asking a) → IsBegun (asking a)
         → Reads x k w.store → Meanwhile x k s w.store → IsRight R w e → IsLegal R (after R w e) es → lane e ≡ k → StepsTo (asking a) (e ∷ own k es) (over report)
         → Ends (after R w e) es
-    own_step e es go zero cs a s w ends begun reads between right legal on steps = absurd (not_over a (report_of x) ends.1)
+    own_step e es go zero cs a s w ends begun reads between right legal on steps = absurd (not_over a (report_of undamaged x) ends.1)
     own_step e es go (suc n) cs a s w ends begun reads between right legal on steps =
         by_step (job_step w.store (lane e) (moment e) reads.own (ap (session w.store) on ∙ reads.reads) a begun)
       where
@@ -224,11 +230,11 @@ module _ (R : Option (List Snapshot)) where
         stored : (after R w e).store ≡ after_told.0
         stored = store_is w e a begun steps.0 steps.1
 
-        ends_on : EndsIn n ends.0 x (report_of x) k (after R w e).store (take a after_told.1)
+        ends_on : EndsIn undamaged n ends.0 x (report_of undamaged x) k (after R w e).store (take a after_told.1)
         ends_on =
-            subst (λ (t : Store). EndsIn n ends.0 x (report_of x) k t (take a after_told.1)) (sym stored)
-            (subst (λ j. EndsIn n ends.0 x (report_of x) k (answered w.store (step_outcome w.store j (moment e) (step_of a))).0 (take a (answered w.store (step_outcome w.store j (moment e) (step_of a))).1)) (sym on)
-            (ends.2 w.store (moment e) between))
+            subst (λ (t : Store). EndsIn undamaged n ends.0 x (report_of undamaged x) k t (take a after_told.1)) (sym stored)
+            (subst (λ j. EndsIn undamaged n ends.0 x (report_of undamaged x) k (answered w.store (step_outcome w.store j (moment e) (step_of a))).0 (take a (answered w.store (step_outcome w.store j (moment e) (step_of a))).1)) (sym on)
+            ((ends.2 w.store (moment e) between).1 (answered w.store (step_outcome w.store k (moment e) (step_of a))).1 (as_told (step_of a) (answered w.store (step_outcome w.store k (moment e) (step_of a))).1)))
 
         steps_on : StepsTo (take a after_told.1) (own k es) (over report)
         steps_on =
@@ -239,7 +245,7 @@ module _ (R : Option (List Snapshot)) where
         by_step (inl same) =
             goes_on es go n ends.0 (take a after_told.1) (after R w e) ends_on (take_begun a after_told.1 begun) (subst (Reads x k) (sym (stored ∙ same)) reads) legal steps_on
         by_step (inr (q, is)) =
-            finishes n ends.0 q (after R w e) es (subst (EndsIn n ends.0 x (report_of x) k (after R w e).store) is ends_on) (subst (λ j. StepsTo j (own k es) (over report)) is steps_on)
+            finishes n ends.0 q (after R w e) es (subst (EndsIn undamaged n ends.0 x (report_of undamaged x) k (after R w e).store) is ends_on) (subst (λ j. StepsTo j (own k es) (over report)) is steps_on)
 
     one_more : (e : Event) (es : List Event) → Goes es → Goes (e ∷ es)
     unfolding after_all
@@ -282,8 +288,8 @@ module _ (R : Option (List Snapshot)) (o : Opening) (before : List Event) (first
   unfolding outcome open_reader
   opens = rw (h.idle, h.named, h.there)
 
-  begins : (n : ℕ) → EndsIn n (chunk_reads x) x (report_of x) k w.store (asking (opening text)) → Ends R x k report (after R w first) later
-  begins zero ends = absurd (not_over R x k report (opening text) (report_of x) ends.1)
+  begins : (n : ℕ) → EndsIn undamaged n (chunk_reads x) x (report_of undamaged x) k w.store (asking (opening text)) → Ends R x k report (after R w first) later
+  begins zero ends = absurd (not_over R x k report (opening text) (report_of undamaged x) ends.1)
   begins (suc n) ends =
       goes_on R x k report later (going R x k report later) n ends.0 (take (opening text) after_told.1) (after R w first) ends_on (take_begun (opening text) after_told.1 tt) reads legal.1 steps_on
     where
@@ -305,20 +311,20 @@ module _ (R : Option (List Snapshot)) (o : Opening) (before : List Event) (first
         its = refl;
       })
 
-      ends_on : EndsIn n ends.0 x (report_of x) k (after R w first).store (take (opening text) after_told.1)
+      ends_on : EndsIn undamaged n ends.0 x (report_of undamaged x) k (after R w first).store (take (opening text) after_told.1)
       ends_on =
-          subst (λ (t : Store). EndsIn n ends.0 x (report_of x) k t (take (opening text) after_told.1)) (sym stored)
-          (ends.2 w.store (moment first) (record { own = refl; lanes = refl; there = h.there }))
+          subst (λ (t : Store). EndsIn undamaged n ends.0 x (report_of undamaged x) k t (take (opening text) after_told.1)) (sym stored)
+          ((ends.2 w.store (moment first) (record { own = refl; lanes = refl; there = h.there })).1 after_told.1 refl)
 
       steps_on : StepsTo (take (opening text) after_told.1) (own k later) (over report)
       steps_on =
           subst (λ q. StepsTo (take (opening text) q) (own k later) (over report))
           (some_reply R x k report steps.2 after_told.1 (sym steps.3 ∙ reply_is R w first (opening text) tt steps.0 steps.1 legal.0)) steps.4
 
-  has_ended : (report ≡ report_of x) × (session (after_all R (opened o) (before ++ first ∷ later)).store k ≡ none)
+  has_ended : (report ≡ report_of undamaged x) × (session (after_all R (opened o) (before ++ first ∷ later)).store k ≡ none)
   unfolding after_all
   has_ended =
-      let sound = sound_snapshots_verify x text w.store k h.fits h.named inside h.idle in
+      let sound = sound_snapshots_verify x text w.store k undamaged h.fits h.named inside h.idle in
       let ended = begins sound.0 sound.1 in
       (ended.0, ap (λ (v : World). session v.store k) (after_all_append R (opened o) before (first ∷ later)) ∙ ended.1)
 

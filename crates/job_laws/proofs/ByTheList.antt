@@ -1,27 +1,91 @@
--- A SYNC whose reads the remote's list answers asks what the job asks that knows the list.
-use Rattle.std.proofs.Common.{◌≡◌, ◌⊎◌, inl, inr, ℕ, true, false, List, [], ◌∷◌, ◌++◌, filter, Option, Some, None, IfSome, Result, Ok, Err, refl, sym, ap, subst, ◌∙◌, take as take_first}
+-- A SYNC whose reads the remote's list answers asks what the job asks that knows the list, and reads for that.
+use Rattle.std.proofs.Common.{◌≡◌, ◌⊎◌, inl, inr, ℕ, true, false, List, [], ◌∷◌, ◌++◌, filter, length, Option, Some, None, IfSome, Result, Ok, Err, refl, sym, ap, subst, ◌∙◌, take as take_first}
 use Rattle.std.specs.List.{All, Contains, fold, last_or}
 use Rattle.std.proofs.lemmas.List.Elements.{All-contains_itself, All-filter, All-weaker}
 use Rattle.store_types.specs.declared.names.GroupKey.{GroupKey}
 use Rattle.store_types.specs.declared.refusal.Refusal.{Refusal}
 use Rattle.store_types.specs.declared.refusal.Refusal.TheVariants.{BadName, NoRemote}
 use Rattle.store_types.specs.Chain.Refusing.{◌>>=◌, or_else}
+use Rattle.store_types.specs.FileNames.{manifest_name}
 use Rattle.store_types.specs.Names.{IsKey, group_of, group_of_key, same_group}
-use Rattle.store_files.specs.Archive.{Snapshot}
+use Rattle.blob_codec.specs.Blob as blobs
+use Rattle.store_files.specs.Archive.{Layout, dynamic, fixed, Content, archive, blob, File, Snapshot, digest_of, file_named}
+use Rattle.wire_commands.specs.declared.command.Command.{Command}
+use Rattle.wire_commands.specs.declared.command.Command.TheVariants.{Append, Blob, Chunk, CloseIndex, Finish}
 use Rattle.wire_commands.specs.declared.reply.Reply.{Reply}
 use Rattle.wire_commands.specs.declared.reply.Reply.TheVariants.{Keys, Refused}
 use Rattle.store_model.specs.AdminSteps.{group as group_here, group_texts}
-use Rattle.store_model.specs.Job.{Asking, Job, asking}
+use Rattle.store_model.specs.Job.{Pull, Asking, sending, Job, asking}
 use Rattle.store_model.specs.Jobs.{take as job_take, take_more as job_takes}
 use Rattle.store_model.specs.Stands.{IsSnapshot, group_limit}
 use Rattle.store_model.specs.Store.{Store, Outcome, session, want_idle, in_group, keys_in}
-use Rattle.store_model.specs.SyncJob.{is_later as job_later, next_snapshot, to_pull}
+use Rattle.store_model.specs.SyncJob.{commands_of, file_commands, is_later as job_later, listed_files, new_index, next_command, next_snapshot, text_of, to_pull, uploads}
+use Rattle.store_history.specs.declared.act.Act.TheVariants.{RemoteChunk, RemoteFile}
 use Rattle.store_history.specs.Acts.{Class, stepping, reaching, class_of}
-use Rattle.store_history.specs.Pulling.{Pulling, SyncJob, reports, asks, act_of, is_key, is_later, newest_in, next_snapshot as next_pulled, sought, compared, take, take_more}
+use Rattle.store_history.specs.Pulling.{Pulling, seeking, comparing, starting, reading_manifest, reading_file, opening, reading_chunk, sending_chunk, appending, closing_index, sending_blob, sending_manifest, finishing, rejecting, aborting, SyncJob, reports, asks, act_of, is_key, is_later, newest_in, next_snapshot as next_pulled, sought, compared, take, take_more}
 use Rattle.store_history.specs.Remote.{IsList, Reads}
 use Rattle.store_history.proofs.Beside.{IsOther, all_keys, asks_no_other, pulled_same, remote_texts}
-use Rattle.store_history.proofs.Meaning.{Shows, ShowsJob, asked_alike, reads_on, shows_snapshots, taken, texts_of, unread}
-use Rattle.job_laws.specs.Pulls.{AreToldBy, IsAlike, IsToldBy, PullsByTheList, is_refusal, pull_after, replies_by, replies_to_job}
+use Rattle.store_history.proofs.Meaning.{Sends, Shows, ShowsJob, asked_alike, behind_chunks, chunks_from, files_from, no_read, reads_on, shows_snapshots, taken, texts_of, unread}
+use Rattle.job_laws.specs.Pulls.{AreToldBy, IsAlike, IsOfFile, IsReadFor, IsToldBy, PullsByTheList, is_refusal, pull_after, replies_by, replies_to_job}
+
+-- ---- what a read is for
+
+asked_is : (p : Pull) (d : Command) (ds cs : List Command) (j : Asking) → cs ≡ d ∷ ds → Sends p cs j → j ≡ sending p d ds
+unfolding next_command
+asked_is p d ds cs j is asked = same (subst (λ xs. Sends p xs j) is asked)
+  where
+    same : Sends p (d ∷ ds) j → j ≡ sending p d ds
+    same e = cc
+
+-- of commands with one among them there is a first
+first_of : (cs : List Command) (c : Command) (ds : List Command) → (d : Command) × (later : List Command) × (cs ++ c ∷ ds ≡ d ∷ later)
+first_of [] c ds = (c, ds, refl)
+first_of (d ∷ cs) c ds = (d, cs ++ c ∷ ds, refl)
+
+commands_first : (x : Snapshot) → (d : Command) × (later : List Command) × (commands_of x ≡ d ∷ later)
+unfolding commands_of
+commands_first x = first_of (uploads [] (listed_files x)) (Blob manifest_name (text_of (file_named manifest_name x.files))) (Finish ∷ [])
+
+-- a file's first command is of that file
+index_named : (l : Layout) (name : List ℕ) → IsOfFile (new_index l name) name
+index_named dynamic name = refl
+index_named (fixed size chunk_size) name = refl
+
+file_first : (sent : List (List ℕ)) (name : List ℕ) (content : Content) (fs : List File) (x : Snapshot)
+    → (d : Command) × (later : List Command) × (files_from sent ((let f : File = record { name = name; content = content } in f) ∷ fs) x ≡ d ∷ later) × IsOfFile d name
+unfolding uploads file_commands
+file_first sent name (archive a) fs x = (new_index a.layout name, _, refl, index_named a.layout name)
+file_first sent name (blob bytes) fs x = (Blob name (blobs.blob bytes), _, refl, refl)
+
+reads_for : (L : List Snapshot) (x : Pulling) (j : Asking) → Shows L x j → class_of (act_of x) ≡ reaching → IsReadFor j (act_of x)
+reads_for L (reading_manifest c bytes) j h away =
+    let p = h.0 in
+    let first = commands_first p.snapshot in
+    subst (λ y. IsReadFor y (RemoteFile c.snapshot manifest_name (length bytes))) (sym (asked_is p first.0 first.1 (commands_of p.snapshot) j first.2 h.3))
+    ((h.1).snapshot, inl (refl, sym first.2))
+reads_for L (reading_file c s name bytes) j h away =
+    let a = h.0 in
+    let f = h.1 in
+    let first = file_first a.sent f.name f.content a.files (a.pull).snapshot in
+    subst (λ y. IsReadFor y (RemoteFile c.snapshot name (length bytes))) (sym (asked_is a.pull first.0 first.1 (files_from a.sent (f ∷ a.files) (a.pull).snapshot) j first.2 h.5))
+    ((a.course).snapshot, inr (subst (IsOfFile first.0) (sym h.3) first.3))
+reads_for L (reading_chunk c s i e later) j h away =
+    let a = h.0 in
+    let p = h.1 in
+    let rest = chunks_from (p ∷ a.sent) a.to_come (behind_chunks a.from a.after a.files (a.pull).snapshot) in
+    subst (λ y. IsReadFor y (RemoteChunk e.digest)) (sym (asked_is a.pull (Chunk (digest_of p) (blobs.blob p)) rest (Chunk (digest_of p) (blobs.blob p) ∷ rest) j refl h.7)) h.4
+reads_for L (seeking group) j h away = absurd h
+reads_for L (comparing group remote) j h away = absurd h
+reads_for L (rejecting path) j h away = absurd h
+reads_for L (starting c) j h away = cc
+reads_for L (opening c s i) j h away = absurd (no_read L (new_index i.layout i.name) away)
+reads_for L (sending_chunk c s i e later bytes) j h away = absurd (no_read L (Chunk e.digest bytes) away)
+reads_for L (appending c s i e later) j h away = absurd (no_read L (Append 0 (take_first 4096 (e ∷ later))) away)
+reads_for L (closing_index c s i) j h away = absurd (no_read L (CloseIndex 0 (length i.entries) i.size i.csum) away)
+reads_for L (sending_blob c s name bytes) j h away = absurd (no_read L (Blob name bytes) away)
+reads_for L (sending_manifest c s) j h away = absurd (no_read L (Blob manifest_name s.manifest) away)
+reads_for L (finishing c) j h away = cc
+reads_for L (aborting first) j h away = cc
 
 -- ---- behind one reply, and behind all
 
@@ -61,7 +125,12 @@ module _ (L : List Snapshot) (list : IsList L) where
 
   alike : (pull : SyncJob) (job : Job) → ShowsJob L pull job → IsAlike pull job
   alike (reports z) job h = subst (IsAlike (reports z)) (sym h) refl
-  alike (asks x) job h = subst (IsAlike (asks x)) (sym h.1) (λ local. asked_alike L x h.0 h.2 local)
+  alike (asks x) job h = subst (IsAlike (asks x)) (sym h.1) (by_act (class_of (act_of x)) refl)
+    where
+      by_act : (c : Class) → class_of (act_of x) ≡ c → IsAlike (asks x) (asking h.0)
+      by_act stepping is = inl (asked_alike L x h.0 h.2 is)
+      by_act reaching is = inr (reads_for L x h.0 h.2 is)
+      by_act c is = absurd (asks_no_other x (subst IsOther (sym is) tt))
 
   all_alike : (rs : List Reply) (pull : SyncJob) (job : Job) → ShowsJob L pull job → AreToldBy L pull rs → IsAlike (fold take_more pull rs) (fold job_takes job (replies_to_job pull rs))
   unfolding Behind GoesOn

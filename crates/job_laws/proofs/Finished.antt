@@ -1,7 +1,7 @@
 -- Of a snapshot that FINISH takes no file differs from what the manifest lists.
-use Rattle.std.proofs.Common.{◌≡◌, zero, suc, ℕ, Bool, true, false, List, [], ◌∷◌, map, not, cond, Option, Some, None, is_none, Ok, Err, Result, refl, sym, ap, ◌∙◌, arith, ◌==◌, if◌then◌else◌}
+use Rattle.std.proofs.Common.{◌≡◌, zero, suc, ℕ, Bool, true, false, List, [], ◌∷◌, map, not, cond, Option, Some, None, is_none, Ok, Err, Result, refl, sym, ap, ◌∙◌, arith, ◌+◌, ◌==◌, if◌then◌else◌}
 use Rattle.std.specs.List.{All, Contains, cons_option, filter_map}
-use Rattle.std.specs.Option.{option_or}
+use Rattle.std.specs.Option.{option_map, option_or}
 use Rattle.std.specs.Str.{bytes_eq}
 use Rattle.std.proofs.lemmas.Bool.{eqb-true}
 use Rattle.std.proofs.lemmas.List.Elements.{All-contains, All-contains_itself, All-cons, All-head, All-nil, All-tail}
@@ -11,17 +11,16 @@ use Rattle.store_types.specs.declared.names.Kind.TheVariants.{Ct, Host, Vm}
 use Rattle.store_types.specs.declared.names.SnapshotKey.{SnapshotKey}
 use Rattle.store_types.specs.FileNames.{manifest_name}
 use Rattle.store_types.specs.Names.{kind_rank, key_text}
-use Rattle.store_files.specs.Archive.{File, Snapshot, file_named}
+use Rattle.store_files.specs.Archive.{File, Snapshot, file_named, pieces_of}
 use Rattle.store_files.specs.Manifest.{Manifest, manifest_of}
 use Rattle.store_files.specs.Manifest.Fields.{Fact}
 use Rattle.store_files.specs.Manifest.Mismatch.{Mismatch, mismatch, key_mismatch, fact_mismatch, fact_named, listed_mismatch, unlisted_mismatch, upload_mismatch}
 use Rattle.wire_commands.specs.declared.rows.FileFault.TheVariants.{Differs}
-use Rattle.wire_commands.specs.declared.rows.FaultRow.{FaultRow}
 use Rattle.store_model.specs.AdminSteps.{facts_in}
 use Rattle.store_model.specs.Manifests.{beside_manifest, fact_of}
 use Rattle.store_model.specs.Stands.{IsSnapshot}
 use Rattle.store_model.proofs.ListingLemmas.{Listing, listing}
-use Rattle.job_laws.specs.Verifies.{fault_in, is_as_listed, is_listed, names_snapshot, FinishedSnapshotsDoNotDiffer}
+use Rattle.job_laws.specs.Verifies.{undamaged, damage_from, row_of, fault_in, is_as_listed, is_listed, names_snapshot, FinishedSnapshotsDoNotDiffer}
 use Rattle.job_laws.proofs.Judged.{fact, found, its_fact, true_false}
 
 -- ---- options
@@ -147,10 +146,15 @@ module _ (x : Snapshot) (m : Manifest) (fits : IsSnapshot x) (l : Listing x.key 
         by_name true is = names_it
         by_name false is = is_uploaded is
 
-  none_differ : (fs : List File) → All (Contains x.files) fs → filter_map (fault_in x) fs ≡ []
+  no_damage : (name : List ℕ) (place : ℕ) (ps : List (List ℕ)) → damage_from undamaged name place ps ≡ None
+  no_damage name place [] = refl
+  no_damage name place (p ∷ ps) = no_damage name (place + 1) ps
+
+  none_differ : (fs : List File) → All (Contains x.files) fs → filter_map (fault_in undamaged x) fs ≡ []
   none_differ [] there = refl
   none_differ (f ∷ fs) there =
-      ap (λ b. cons_option (if b then None else Some (let y : FaultRow = record { file = f.name; fault = Differs } in y)) (filter_map (fault_in x) fs)) (as_listed f (All-head (Contains x.files) f fs there))
+      ap (λ b. cons_option (option_map (row_of f) (option_or (if b then None else Some Differs) (damage_from undamaged f.name 0 (pieces_of f.content)))) (filter_map (fault_in undamaged x) fs)) (as_listed f (All-head (Contains x.files) f fs there))
+      ∙ ap (λ o. cons_option (option_map (row_of f) o) (filter_map (fault_in undamaged x) fs)) (no_damage f.name 0 (pieces_of f.content))
       ∙ none_differ fs (All-tail (Contains x.files) f fs there)
 
 pub finished_snapshots_do_not_differ : FinishedSnapshotsDoNotDiffer

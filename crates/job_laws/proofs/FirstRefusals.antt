@@ -20,13 +20,13 @@ use Rattle.store_history.specs.Pulling.{Course, Stock, Index, Pulling, seeking, 
 use Rattle.job_laws.specs.Pulls.{EndsBad, FirstRefusalIsTold, HasReadBad, IsCause, IsFirstRefusal, DoesNotDecode, DoesNotDecodeBy, is_refusal, pull_after}
 
 -- no refusal
-abbrev Fine : Reply → Type 0
+abbrev pub Fine : Reply → Type 0
 Fine r = is_refusal r ≡ false
 
 -- ---- behind the first refusal
 
 -- it is the report, or will be once the writer is ended
-abbrev Tells : Refusal → SyncJob → Type 0
+abbrev pub Tells : Refusal → SyncJob → Type 0
 Tells z (reports report) = report ≡ Refused z
 Tells z (asks (aborting first)) = first ≡ z
 Tells z pull = ⊥
@@ -36,7 +36,7 @@ stops_tell DiskFault = refl
 stops_tell (Halted place) = refl
 stops_tell z = refl
 
-ends_tell : (z : Refusal) (r : Reply) → Tells z (ends z r)
+pub ends_tell : (z : Refusal) (r : Reply) → Tells z (ends z r)
 ends_tell z (Refused NoMemory) = refl
 ends_tell z (Refused RemoteFault) = refl
 ends_tell z r = refl
@@ -47,17 +47,17 @@ tells_on z (reports report) r h = h
 tells_on z (asks (aborting first)) r h = subst (λ y. Tells y (ends first r)) h (ends_tell first r)
 tells_on z (asks x) r h = absurd h
 
-tells_behind : (z : Refusal) (rs : List Reply) (pull : SyncJob) → Tells z pull → Tells z (fold take_more pull rs)
+pub tells_behind : (z : Refusal) (rs : List Reply) (pull : SyncJob) → Tells z pull → Tells z (fold take_more pull rs)
 tells_behind z [] pull h = h
 tells_behind z (r ∷ rs) pull h = tells_behind z rs (take_more pull r) (tells_on z pull r h)
 
 -- it ends no writer, neither for a file nor for a refusal
-abbrev IsOpen : Pulling → Type 0
+abbrev pub IsOpen : Pulling → Type 0
 IsOpen (rejecting path) = ⊥
 IsOpen (aborting first) = ⊥
 IsOpen x = ⊤
 
-refused_tells : (x : Pulling) (z : Refusal) → IsOpen x → Tells z (take x (Refused z))
+pub refused_tells : (x : Pulling) (z : Refusal) → IsOpen x → Tells z (take x (Refused z))
 unfolding take sought compared started manifest_told file_told chunk_told
 refused_tells (seeking group) z h = refl
 refused_tells (comparing group remote) z h = refl
@@ -69,7 +69,7 @@ refused_tells x z h = stops_tell z
 -- ---- behind a reply that is none
 
 -- It goes on, or reports no refusal; a writer is ended for a file alone, which ended with the reply.
-abbrev IsFineBehind : Pulling → Reply → SyncJob → Type 0
+abbrev pub IsFineBehind : Pulling → Reply → SyncJob → Type 0
 IsFineBehind x r (reports report) = Fine report
 IsFineBehind x r (asks (aborting first)) = ⊥
 IsFineBehind x r (asks (rejecting path)) = EndsBad x r path
@@ -196,7 +196,7 @@ unfolding started
 started_fine c (Base snapshot) fine = tt
 started_fine c r fine = fine
 
-fine_on : (x : Pulling) (r : Reply) → IsOpen x → Fine r → IsFineBehind x r (take x r)
+pub fine_on : (x : Pulling) (r : Reply) → IsOpen x → Fine r → IsFineBehind x r (take x r)
 unfolding take finished
 fine_on (seeking group) r h fine = sought_fine group r fine
 fine_on (comparing group remote) r h fine = compared_fine group remote r fine

@@ -1,16 +1,39 @@
--- SYNCs that report a refusal.
-use Rattle.std.specs.Prelude.{◌≡◌, ℕ, List, [], ◌∷◌, ◌++◌, codes, refl, ⊤}
+-- SYNCs that report a refusal; and one of a snapshot, beside a list that has it.
+use Rattle.std.proofs.Common.{◌≡◌, ◌≤◌, ◌<◌, inr, ℕ, pos, Bool, true, false, cond, List, [], ◌∷◌, ◌++◌, length, Some, Ok, codes, refl, arith, nat_lt, IsTrue}
+use Rattle.std.specs.Prelude.{⊤}
+use Rattle.std.specs.List.{All, fold}
+use Rattle.std.proofs.lemmas.Bool.{ltb-true}
+use Rattle.std.proofs.lemmas.List.Elements.{All-cons, All-nil, All-weaker}
+use Rattle.std.proofs.lemmas.List.Sums.{AllPass-from_list_all}
+use Rattle.store_types.specs.declared.names.Kind.TheVariants.{Host}
 use Rattle.store_types.specs.declared.refusal.Refusal.TheVariants.{NoMemory, NoRemote, RemoteFault, Unreadable, WrongState}
 use Rattle.store_types.specs.declared.refusal.SessionState.TheVariants.{Idle}
+use Rattle.store_types.specs.FileNames.{manifest_name}
+use Rattle.store_types.specs.Names.{IsKey, group_of_key, same_group}
+use Rattle.blob_codec.specs.Blob as blobs
+use Rattle.store_files.specs.Archive.{dynamic, archive, blob, File, Snapshot, digest_of, file_text}
+use Rattle.store_files.specs.Manifest.{Manifest}
+use Rattle.wire_commands.specs.declared.command.Command.TheVariants.{Sync}
 use Rattle.wire_commands.specs.declared.reply.Reply.{Reply}
 use Rattle.wire_commands.specs.declared.reply.Reply.TheVariants.{Base, Done, Keys, Part, Refused}
-use Rattle.store_model.proofs.OnLiterals.{store_model_on_literals}
-use Rattle.store_history.specs.Pulling.{reports, asks, rejecting, compared, manifest_part, manifest_read, manifest_told, next_snapshot, sought, started, take}
-use Rattle.job_laws.specs.Pulls.{IsFirstRefusal, pull_after}
+use Rattle.store_model.specs.AdminSteps.{group as group_here}
+use Rattle.store_model.specs.Jobs.{take_more as job_takes}
+use Rattle.store_model.specs.Manifests.{listing_of}
+use Rattle.store_model.specs.Stands.{FitsContent, IsSnapshot, group_limit, names_content}
+use Rattle.store_model.specs.Store.{store_of}
+use Rattle.store_model.specs.SyncJob.{next_snapshot as job_begins, to_pull, uploads}
+use Rattle.store_model.proofs.ListingLemmas.{listing_lists}
+use Rattle.store_model.proofs.OnLiterals.{digests_on_literals, manifests_on_literals, store_model_on_literals}
+use Rattle.store_history.specs.declared.act.Act.TheVariants.{RemoteList}
+use Rattle.store_history.specs.Acts.{reaching, stepping}
+use Rattle.store_history.specs.Pulling.{Course, Stock, reading_file, rejecting, SyncJob, reports, asks, blob_read, compared, file_part, file_read, file_told, finished, index_in, index_read, manifest_part, manifest_read, manifest_told, next_file, next_snapshot, sought, started, take, take_more}
+use Rattle.store_history.specs.Remote.{IsList, Reads, text_in}
+use Rattle.job_laws.specs.Pulls.{AreToldBy, IsAlike, IsFirstRefusal, digests_sent, pull_after, replies_to_job}
+use Rattle.job_laws.proofs.ByTheList.{pulls_by_the_list}
 use Rattle.job_laws.proofs.FirstRefusals.{first_refusal_told}
 
 unfoldable on_pulls : ⊤
-unfolding take sought compared started manifest_told manifest_part manifest_read next_snapshot store_model_on_literals
+unfolding take sought compared started manifest_told manifest_part manifest_read file_told file_part file_read index_read index_in blob_read next_file finished next_snapshot store_model_on_literals
 on_pulls = tt
 
 abbrev host : List ℕ
@@ -60,3 +83,135 @@ told_first = refl
 told_none : pull_after host (Refused NoRemote ∷ []) ≡ reports (Refused NoRemote)
 unfolding on_pulls
 told_none = refl
+
+-- ---- other files that are none
+
+abbrev course : Course
+course = record { snapshot = newer; later = []; pulled = [] }
+
+abbrev stock : Stock
+stock = record { manifest = []; names = []; sent = [] }
+
+-- one of no bytes is neither a blob nor an index
+bad_blob : take (reading_file course stock (codes "a.blob") []) (Part 0 []) ≡ asks (rejecting (newer ++ codes "/a.blob"))
+unfolding on_pulls
+bad_blob = refl
+
+bad_index : take (reading_file course stock (codes "a.didx") []) (Part 0 []) ≡ asks (rejecting (newer ++ codes "/a.didx"))
+unfolding on_pulls
+bad_index = refl
+
+-- ---- a whole SYNC, of a snapshot with its manifest alone
+
+abbrev manifest : List ℕ
+manifest = codes "{\"backup-id\":\"a\",\"backup-time\":1579069803,\"backup-type\":\"host\",\"files\":[]}"
+
+abbrev k : List ℕ
+k = codes "host/a/2020-01-15T06:30:03Z"
+
+abbrev alone : Snapshot
+alone = record {
+  key = record { kind = Host; id = codes "a"; time = 1579069803 };
+  files = record { name = manifest_name; content = blob manifest } ∷ [];
+}
+
+abbrev file : List ℕ
+file = blobs.blob manifest
+
+-- the group, there and here
+abbrev group_told : List Reply
+group_told = Keys (k ∷ []) ∷ Keys [] ∷ []
+
+-- OPEN_WRITER, the read of the manifest, BLOB and FINISH
+abbrev later_told : List Reply
+later_told = Base [] ∷ Part (length file) file ∷ Done ∷ Done ∷ []
+
+told_whole : pull_after host (group_told ++ later_told) ≡ reports (Keys (k ∷ []))
+unfolding on_pulls manifests_on_literals
+told_whole = refl
+
+-- ---- a list that a remote may have
+
+abbrev list : List Snapshot
+list = alone ∷ []
+
+abbrev listing : Manifest
+listing = record { key = alone.key; files = [] }
+
+is_listing : listing_of alone.key alone.files ≡ Ok listing
+unfolding on_pulls manifests_on_literals
+is_listing = refl
+
+is_byte : ℕ → Bool
+is_byte b = nat_lt b 256
+
+are_bytes : All (λ b. b < 256) manifest
+unfolding is_byte
+are_bytes =
+    All-weaker (λ b. is_byte b ≡ true) (λ b. b < 256) (λ b h. ltb-true b 256 h) manifest
+    (AllPass-from_list_all is_byte manifest refl)
+
+is_snapshot : IsSnapshot alone
+is_snapshot = record {
+  key = (refl, omega arith);
+  names = refl;
+  kinds = All-cons (λ (f : File). IsTrue (names_content f.content f.name)) manifest_file [] refl (All-nil (λ (f : File). IsTrue (names_content f.content f.name)));
+  contents = All-cons (λ (f : File). FitsContent f.content) manifest_file [] (omega arith, are_bytes) (All-nil (λ (f : File). FitsContent f.content));
+  manifest = listing_lists alone.key alone.files listing is_listing (omega arith);
+  count = omega arith;
+}
+  where
+    manifest_file : File
+    manifest_file = record { name = manifest_name; content = blob manifest }
+
+is_list : IsList list
+is_list = record {
+  order = refl;
+  each = All-cons IsSnapshot alone [] is_snapshot (All-nil IsSnapshot);
+  groups = λ g. by_group (same_group (group_of_key alone.key) g);
+  clear = λ p q none. absurd (omega (arith, none.1));
+}
+  where
+    by_group : (b : Bool) → length (cond b list []) ≤ group_limit
+    by_group true = omega arith
+    by_group false = omega arith
+
+-- ---- what it is told there
+
+abbrev begun_whole : SyncJob
+begun_whole = pull_after host group_told
+
+step_told : stepping ≡ reaching → ⊥
+step_told h = cc
+
+are_told : AreToldBy list begun_whole later_told
+unfolding on_pulls manifests_on_literals text_in file_text
+are_told =
+    (λ step. absurd (step_told step), (λ read. inr (refl, refl), (λ step. absurd (step_told step), (λ step. absurd (step_told step), tt))))
+
+group_there : Reads list (RemoteList (Sync host)) (Some (Keys (k ∷ [])))
+unfolding on_pulls
+group_there = refl
+
+none_here : group_here (store_of []) host ≡ Ok (store_of [], Keys [])
+unfolding on_pulls
+none_here = refl
+
+to_come : to_pull (Some list) (store_of []) 0 host ≡ Ok list
+unfolding on_pulls
+to_come = refl
+
+-- So it is the job that knows the list.
+is_pulled : IsAlike (fold take_more begun_whole later_told) (fold job_takes (job_begins [] list) (replies_to_job begun_whole later_told))
+is_pulled =
+    pulls_by_the_list list (store_of []) 0 host list (Keys (k ∷ [])) (Keys []) later_told is_list (All-nil (λ (x : Snapshot). IsKey x.key)) to_come
+    group_there none_here are_told
+
+-- ---- what is sent: of two files of one piece this once
+
+abbrev one_piece : List ℕ → File
+one_piece name = record { name = name; content = archive (record { layout = dynamic; uuid = []; ctime = pos 0; reserved = []; pieces = codes "a" ∷ [] }) }
+
+sent_once : digests_sent (uploads [] (one_piece (codes "a.didx") ∷ one_piece (codes "b.didx") ∷ [])) ≡ digest_of (codes "a") ∷ []
+unfolding on_pulls digests_on_literals
+sent_once = refl

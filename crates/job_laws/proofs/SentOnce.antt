@@ -1,10 +1,10 @@
--- A snapshot that is pulled has one CHUNK of a digest.
-use Rattle.std.proofs.Common.{◌≡◌, ℕ, zero, suc, Bool, true, false, List, [], ◌∷◌, ◌++◌, map, length, ◌||◌, refl, arith, sym, ap, subst, ◌∙◌, if◌then◌else◌}
-use Rattle.std.specs.List.{All, AllPairs, list_any}
+-- A snapshot that is pulled has one CHUNK of each digest of its files' pieces, and no other.
+use Rattle.std.proofs.Common.{◌≡◌, ◌⊎◌, inl, inr, ℕ, zero, suc, Bool, true, false, List, [], ◌∷◌, ◌++◌, map, length, ◌||◌, refl, arith, sym, ap, subst, ◌∙◌, if◌then◌else◌}
+use Rattle.std.specs.List.{All, AllPairs, Contains, flat_map, list_any}
 use Rattle.std.specs.Str.{bytes_eq}
 use Rattle.std.proofs.lemmas.List.{append-nil}
 use Rattle.std.proofs.lemmas.List.Concat.{flat_map-append}
-use Rattle.std.proofs.lemmas.List.Elements.{All-append, All-cons, All-head, All-nil, All-tail, All-weaker}
+use Rattle.std.proofs.lemmas.List.Elements.{All-append, All-cons, All-head, All-nil, All-tail, All-weaker, Contains-append_cases, Contains-append_left, Contains-append_right, Contains-push, Contains-push_cases}
 use Rattle.std.proofs.lemmas.List.Folds.{list_any-append}
 use Rattle.std.proofs.lemmas.List.Kept.{AllPairs-cons}
 use Rattle.std.proofs.lemmas.Slice.Eq.{bytes_eq-Decides}
@@ -49,6 +49,10 @@ true_is_not a h k = true_false (sym h ∙ k)
 
 same_bytes : (d e : Digest32) → d ≡ e → d.0 ≡ e.0
 same_bytes d e h = ap (λ (x : Digest32). x.0) h
+
+-- of the pieces
+abbrev digests : List (List ℕ) → List Digest32
+digests ps = map digest_of ps
 
 -- ---- the pieces of an archive
 
@@ -146,21 +150,149 @@ file_sends sent name (archive a) =
     last : List Command
     last = CloseIndex 0 (length a.pieces) (size_of (archive a)) (csum_of (archive a)) ∷ []
 
-uploads_once : (sent : List (List ℕ)) (fs : List File) → Once sent (digests_sent (uploads sent fs))
+abbrev uploads_send : List (List ℕ) → List File → List Digest32
+uploads_send sent fs = digests_sent (uploads sent fs)
+
+-- of a file, and of those behind it
+first_sends : (sent : List (List ℕ)) (f : File) (fs : List File)
+    → uploads_send sent (f ∷ fs) ≡ digests (unsent sent (pieces_of f.content)) ++ uploads_send (pieces_of f.content ++ sent) fs
+unfolding uploads
+first_sends sent f fs =
+    flat_map-append digest_sent (file_commands sent f.name f.content) (uploads (pieces_of f.content ++ sent) fs)
+    ∙ ap (λ ds. ds ++ uploads_send (pieces_of f.content ++ sent) fs) (file_sends sent f.name f.content)
+
+uploads_once : (sent : List (List ℕ)) (fs : List File) → Once sent (uploads_send sent fs)
 unfolding uploads
 uploads_once sent [] = (All-nil (λ d. seen sent d ≡ false), tt)
 uploads_once sent (f ∷ fs) =
-    subst (Once sent) (sym digests)
-    (once_more sent (pieces_of f.content) later (uploads_once (pieces_of f.content ++ sent) fs) (map digest_of (unsent sent (pieces_of f.content)))
+    subst (Once sent) (sym (first_sends sent f fs))
+    (once_more sent (pieces_of f.content) (uploads_send (pieces_of f.content ++ sent) fs) (uploads_once (pieces_of f.content ++ sent) fs) (digests (unsent sent (pieces_of f.content)))
     (unsent_seen sent (pieces_of f.content)) (unsent_once sent (pieces_of f.content)))
-  where
-    later : List Digest32
-    later = digests_sent (uploads (pieces_of f.content ++ sent) fs)
 
-    digests : digests_sent (file_commands sent f.name f.content ++ uploads (pieces_of f.content ++ sent) fs) ≡ map digest_of (unsent sent (pieces_of f.content)) ++ later
-    digests =
-        flat_map-append digest_sent (file_commands sent f.name f.content) (uploads (pieces_of f.content ++ sent) fs)
-        ∙ ap (λ ds. ds ++ later) (file_sends sent f.name f.content)
+-- ---- which digests these are
+
+contains_none : {X : Type 0} (x : X) → Contains [] x → ⊥
+contains_none x h = omega (arith, h.1)
+
+contains_first : {X : Type 0} (x : X) (xs : List X) → Contains (x ∷ xs) x
+contains_first x xs = Contains-append_left (x ∷ []) xs x (Contains-push [] x)
+
+contains_later : {X : Type 0} (y x : X) (xs : List X) → Contains xs x → Contains (y ∷ xs) x
+contains_later y x xs h = Contains-append_right (y ∷ []) xs x h
+
+contains_cases : {X : Type 0} (y x : X) (xs : List X) → Contains (y ∷ xs) x → (y ≡ x) ⊎ Contains xs x
+contains_cases y x xs h = by_part (Contains-append_cases (y ∷ []) xs x h)
+  where
+    by_first : Contains [] x ⊎ (y ≡ x) → (y ≡ x) ⊎ Contains xs x
+    by_first (inl none) = absurd (contains_none x none)
+    by_first (inr same) = inl same
+
+    by_part : Contains (y ∷ []) x ⊎ Contains xs x → (y ≡ x) ⊎ Contains xs x
+    by_part (inl first) = by_first (Contains-push_cases [] y x first)
+    by_part (inr later) = inr later
+
+same_digest : (p : List ℕ) (d : Digest32) → bytes_eq (sha256 p) d.0 ≡ true → digest_of p ≡ d
+same_digest p d h = ap (λ bytes. let e : Digest32 = record { 0 = bytes } in e) ((bytes_eq-Decides (sha256 p) d.0).0 h)
+
+seen_there : (ps : List (List ℕ)) (d : Digest32) → seen ps d ≡ true → Contains (digests ps) d
+seen_there [] d h = absurd (true_false (sym h))
+seen_there (p ∷ ps) d h = by_test (bytes_eq (sha256 p) d.0) refl h (seen_there ps d)
+  where
+    by_test : (b : Bool) → bytes_eq (sha256 p) d.0 ≡ b → (b || seen ps d) ≡ true → (seen ps d ≡ true → Contains (digests ps) d) → Contains (digests (p ∷ ps)) d
+    by_test true is h go = subst (Contains (digests (p ∷ ps))) (same_digest p d is) (contains_first (digest_of p) (digests ps))
+    by_test false is h go = contains_later (digest_of p) d (digests ps) (go h)
+
+unsent_there : (sent ps : List (List ℕ)) (d : Digest32) → Contains (digests (unsent sent ps)) d → Contains (digests ps) d
+unsent_there sent [] d h = h
+unsent_there sent (p ∷ ps) d h = by_test (list_any (has_digest_of p) sent) h (unsent_there sent ps d) (unsent_there (p ∷ sent) ps d)
+  where
+    by_place : (digest_of p ≡ d) ⊎ Contains (digests (unsent (p ∷ sent) ps)) d → (Contains (digests (unsent (p ∷ sent) ps)) d → Contains (digests ps) d) → Contains (digests (p ∷ ps)) d
+    by_place (inl same) go = subst (Contains (digests (p ∷ ps))) same (contains_first (digest_of p) (digests ps))
+    by_place (inr later) go = contains_later (digest_of p) d (digests ps) (go later)
+
+    by_test : (b : Bool) → Contains (digests (if b then unsent sent ps else p ∷ unsent (p ∷ sent) ps)) d
+        → (Contains (digests (unsent sent ps)) d → Contains (digests ps) d) → (Contains (digests (unsent (p ∷ sent) ps)) d → Contains (digests ps) d) → Contains (digests (p ∷ ps)) d
+    by_test true h same other = contains_later (digest_of p) d (digests ps) (same h)
+    by_test false h same other = by_place (contains_cases (digest_of p) d (digests (unsent (p ∷ sent) ps)) h) other
+
+-- it was sent before, or is now
+abbrev IsSent : List (List ℕ) → List Digest32 → Digest32 → Type 0
+IsSent sent ds d = (seen sent d ≡ true) ⊎ Contains ds d
+
+each_sent : (sent ps : List (List ℕ)) (d : Digest32) → Contains (digests ps) d → IsSent sent (digests (unsent sent ps)) d
+each_sent sent [] d h = absurd (contains_none d h)
+each_sent sent (p ∷ ps) d h =
+    by_test (seen sent (digest_of p)) refl (contains_cases (digest_of p) d (digests ps) h) (each_sent sent ps d) (each_sent (p ∷ sent) ps d)
+  where
+    rest : List Digest32
+    rest = digests (unsent (p ∷ sent) ps)
+
+    by_first : (b : Bool) → bytes_eq (sha256 p) d.0 ≡ b → (b || seen sent d) ≡ true → IsSent sent (digest_of p ∷ rest) d
+    by_first true is h = inr (subst (Contains (digest_of p ∷ rest)) (same_digest p d is) (contains_first (digest_of p) rest))
+    by_first false is h = inl h
+
+    by_rest : IsSent (p ∷ sent) rest d → IsSent sent (digest_of p ∷ rest) d
+    by_rest (inl before) = by_first (bytes_eq (sha256 p) d.0) refl before
+    by_rest (inr now) = inr (contains_later (digest_of p) d rest now)
+
+    by_test : (b : Bool) → seen sent (digest_of p) ≡ b → (digest_of p ≡ d) ⊎ Contains (digests ps) d
+        → (Contains (digests ps) d → IsSent sent (digests (unsent sent ps)) d) → (Contains (digests ps) d → IsSent (p ∷ sent) rest d)
+        → IsSent sent (digests (if b then unsent sent ps else p ∷ unsent (p ∷ sent) ps)) d
+    by_test true is (inl same) go other = inl (subst (λ e. seen sent e ≡ true) same is)
+    by_test true is (inr later) go other = go later
+    by_test false is (inl same) go other = inr (subst (Contains (digest_of p ∷ rest)) same (contains_first (digest_of p) rest))
+    by_test false is (inr later) go other = by_rest (other later)
+
+-- those of the files
+abbrev digests_of : List File → List Digest32
+digests_of fs = flat_map (λ f. digests (pieces_of f.content)) fs
+
+uploads_there : (sent : List (List ℕ)) (fs : List File) (d : Digest32) → Contains (uploads_send sent fs) d → Contains (digests_of fs) d
+unfolding uploads
+uploads_there sent [] d h = h
+uploads_there sent (f ∷ fs) d h =
+    by_part (Contains-append_cases now (uploads_send (ps ++ sent) fs) d (subst (λ ds. Contains ds d) (first_sends sent f fs) h)) (uploads_there (ps ++ sent) fs d)
+  where
+    ps : List (List ℕ)
+    ps = pieces_of f.content
+
+    now : List Digest32
+    now = digests (unsent sent ps)
+
+    by_part : Contains now d ⊎ Contains (uploads_send (ps ++ sent) fs) d → (Contains (uploads_send (ps ++ sent) fs) d → Contains (digests_of fs) d) → Contains (digests_of (f ∷ fs)) d
+    by_part (inl first) go = Contains-append_left (digests ps) (digests_of fs) d (unsent_there sent ps d first)
+    by_part (inr later) go = Contains-append_right (digests ps) (digests_of fs) d (go later)
+
+each_uploaded : (sent : List (List ℕ)) (fs : List File) (d : Digest32) → Contains (digests_of fs) d → IsSent sent (uploads_send sent fs) d
+each_uploaded sent [] d h = absurd (contains_none d h)
+each_uploaded sent (f ∷ fs) d h =
+    subst (λ ds. IsSent sent ds d) (sym (first_sends sent f fs))
+    (by_part (Contains-append_cases (digests ps) (digests_of fs) d h) (each_uploaded (ps ++ sent) fs d))
+  where
+    ps : List (List ℕ)
+    ps = pieces_of f.content
+
+    now : List Digest32
+    now = digests (unsent sent ps)
+
+    later : List Digest32
+    later = uploads_send (ps ++ sent) fs
+
+    by_file : IsSent sent now d → IsSent sent (now ++ later) d
+    by_file (inl before) = inl before
+    by_file (inr first) = inr (Contains-append_left now later d first)
+
+    by_seen : (b : Bool) → seen ps d ≡ b → (b || seen sent d) ≡ true → IsSent sent (now ++ later) d
+    by_seen true is h = by_file (each_sent sent ps d (seen_there ps d is))
+    by_seen false is h = inl h
+
+    by_rest : IsSent (ps ++ sent) later d → IsSent sent (now ++ later) d
+    by_rest (inl before) = by_seen (seen ps d) refl (sym (list_any-append (λ q. bytes_eq (sha256 q) d.0) ps sent) ∙ before)
+    by_rest (inr behind) = inr (Contains-append_right now later d behind)
+
+    by_part : Contains (digests ps) d ⊎ Contains (digests_of fs) d → (Contains (digests_of fs) d → IsSent (ps ++ sent) later d) → IsSent sent (now ++ later) d
+    by_part (inl first) go = by_file (each_sent sent ps d first)
+    by_part (inr behind) go = by_rest (go behind)
 
 -- ---- a snapshot
 
@@ -170,7 +302,17 @@ all_pairs (d ∷ ds) h = AllPairs-cons (λ d e. d ≡ e → ⊥) d ds h.0 (all_p
 
 pub chunks_are_sent_once : ChunksAreSentOnce
 unfolding commands_of
-chunks_are_sent_once x = all_pairs (digests_sent (commands_of x)) (subst Apart (sym digests) (uploads_once [] (listed_files x)).1)
+chunks_are_sent_once x = (
+  all_pairs (digests_sent (commands_of x)) (subst Apart (sym are) (uploads_once [] (listed_files x)).1),
+  λ d. (
+    λ h. uploads_there [] (listed_files x) d (subst (λ ds. Contains ds d) are h),
+    λ h. subst (λ ds. Contains ds d) (sym are) (none_before d (each_uploaded [] (listed_files x) d h)),
+  ),
+)
   where
-    digests : digests_sent (commands_of x) ≡ digests_sent (uploads [] (listed_files x))
-    digests = flat_map-append digest_sent (uploads [] (listed_files x)) _ ∙ append-nil (digests_sent (uploads [] (listed_files x)))
+    are : digests_sent (commands_of x) ≡ uploads_send [] (listed_files x)
+    are = flat_map-append digest_sent (uploads [] (listed_files x)) _ ∙ append-nil (uploads_send [] (listed_files x))
+
+    none_before : (d : Digest32) → IsSent [] (uploads_send [] (listed_files x)) d → Contains (uploads_send [] (listed_files x)) d
+    none_before d (inl before) = absurd (true_false (sym before))
+    none_before d (inr now) = now

@@ -1,7 +1,7 @@
 -- A VERIFY of a snapshot that the store may hold: what each step is answered, and how the job comes to its end.
 use Rattle.std.proofs.Common.{◌≡◌, ℕ, zero, suc, ◌+◌, ◌≤◌, ◌<◌, Bool, true, false, List, [], ◌∷◌, ◌++◌, map, length, Option, Some, None, Result, Ok, Err, ◌&&◌, refl, sym, ap, subst, ◌∙◌, arith, take as take_first, drop, nat_lt, slice_get, if◌then◌else◌}
 use Rattle.std.specs.List.{All, concat, cons_option, filter_map, flat_map}
-use Rattle.std.specs.Option.{option_or}
+use Rattle.std.specs.Option.{option_map, option_or}
 use Rattle.std.specs.Str.{bytes_eq}
 use Rattle.std.proofs.lemmas.Bool.{le-leb, lt-ltb, ltb-false, ltb-true}
 use Rattle.std.proofs.lemmas.List.{append_assoc, append-nil, get_or-set_same, length-append, length-drop, length-map, length-set, take-append-drop}
@@ -10,8 +10,10 @@ use Rattle.std.proofs.lemmas.List.Elements.{All-head, All-tail}
 use Rattle.std.proofs.lemmas.Slice.Eq.{bytes_eq-Decides}
 use Rattle.std.proofs.Math.Seq.{drop-append_seam}
 use Rattle.sha2.specs.Sha256.{sha256}
+use Rattle.store_types.specs.declared.names.Digest32.{Digest32}
 use Rattle.store_types.specs.declared.names.SnapshotKey.{SnapshotKey}
 use Rattle.store_types.specs.declared.refusal.BadBlob.{BadBlob}
+use Rattle.store_types.specs.declared.refusal.Refusal.TheVariants as refusals
 use Rattle.store_types.specs.declared.refusal.Refusal.TheVariants.{BadName, NoSnapshot}
 use Rattle.store_types.specs.Chain.Refusing.{◌>>=◌, or_else}
 use Rattle.store_types.specs.FileNames.{is_file_name, is_index_name}
@@ -24,10 +26,10 @@ use Rattle.store_files.specs.Folder.{IsPiece}
 use Rattle.store_files.specs.Manifest.Fields.{Fact}
 use Rattle.wire_commands.specs.declared.rows.FileRow.{FileRow}
 use Rattle.wire_commands.specs.declared.rows.FileFault.{FileFault}
-use Rattle.wire_commands.specs.declared.rows.FileFault.TheVariants.{Damaged, Differs}
+use Rattle.wire_commands.specs.declared.rows.FileFault.TheVariants.{Damaged}
 use Rattle.wire_commands.specs.declared.rows.FaultRow.{FaultRow}
 use Rattle.wire_commands.specs.declared.reply.Reply.{Reply}
-use Rattle.wire_commands.specs.declared.reply.Reply.TheVariants.{Data, Done, Files, Part, Verified}
+use Rattle.wire_commands.specs.declared.reply.Reply.TheVariants.{Data, Done, Files, Part, Refused, Verified}
 use Rattle.store_model.specs.declared.step.Step.{Step}
 use Rattle.store_model.specs.AdminSteps.{fact_shown, facts_in, file_row, file_rows, files}
 use Rattle.store_model.specs.Job.{Visit, opening, listing, reading, checking, closing, Asking, Job, asking, step_of}
@@ -37,12 +39,51 @@ use Rattle.store_model.specs.ReaderSteps.{open_reader, reader_files, download, r
 use Rattle.store_model.specs.Stands.{IsSnapshot, pieces_in}
 use Rattle.store_model.specs.Steps.{answered, outcome}
 use Rattle.store_model.specs.Store.{Reader, Session, none, reader, Store, Outcome, session, with_session, ended, snapshot_named, want_idle, want_reader}
-use Rattle.store_model.specs.VerifyJob.{Judged, judged, next_file, file_done, file_read, next_chunk, opened, listed, part_read, read_part, checked, chunk_fault, is_piece_of}
+use Rattle.store_model.specs.VerifyJob.{Judged, digest, judged, next_file, file_done, file_read, next_chunk, opened, listed, part_read, read_part, checked, chunk_fault, is_piece_of}
 use Rattle.store_model.specs.WriterSteps.{part_limit, part_of}
-use Rattle.job_laws.specs.Verifies.{EndsIn, chunk_read, chunk_reads, fault_in, is_as_listed, reads_from, reads_of_file, report_of, SoundSnapshotsVerify}
+use Rattle.job_laws.specs.Verifies.{Damage, ReadAs, MayReply, EndsIn, chunk_read, chunk_reads, damage_from, fault_in, first_fault, is_as_listed, reads_from, reads_of_file, report_of, row_of, IsOther, SoundSnapshotsVerify}
 use Rattle.job_laws.proofs.Judged.{Shows, each_shows, fault_shown, row}
 
-module _ (x : Snapshot) (fits : IsSnapshot x) (lane : ℕ) where
+-- ---- damage
+
+whole_chunk : (p : List ℕ) → IsPiece p → chunk_fault (digest_of p) (blobs.blob p) ≡ None
+whole_chunk p is =
+    ap (λ (r : Result (List ℕ) BadBlob). elim r as (λ z. Option FileFault) [
+      | Err cause ↦ Some (Damaged (digest_of p))
+      | Ok piece ↦ if is_piece_of (digest_of p) piece then None else Some (Damaged (digest_of p))
+    ]) (data_of-blob p is.2 is.1)
+    ∙ ap (λ b. if b && bytes_eq (sha256 p) (sha256 p) then None else Some (Damaged (digest_of p))) (lt-ltb 0 (length p) is.0)
+    ∙ ap (λ b. if b then None else Some (Damaged (digest_of p))) ((bytes_eq-Decides (sha256 p) (sha256 p)).1 refl)
+
+other_chunk : (p bytes : List ℕ) → IsPiece p → IsOther (blobs.blob p) bytes → chunk_fault (digest_of p) bytes ≡ Some (Damaged (digest_of p))
+other_chunk p bytes is other = by_data (blobs.data_of bytes) refl
+  where
+    by_test : (q : List ℕ) (b c : Bool) → (digest_of q ≡ digest_of p → ⊥) → bytes_eq (sha256 q) (sha256 p) ≡ c
+        → (if b && c then None else Some (Damaged (digest_of p))) ≡ Some (Damaged (digest_of p))
+    by_test q true true off same = absurd (off (ap digest ((bytes_eq-Decides (sha256 q) (sha256 p)).0 same)))
+    by_test q true false off same = refl
+    by_test q false c off same = refl
+
+    by_data : (r : Result (List ℕ) BadBlob) → blobs.data_of bytes ≡ r
+        → (elim r as (λ z. Option FileFault) [
+          | Err cause ↦ Some (Damaged (digest_of p))
+          | Ok piece ↦ if is_piece_of (digest_of p) piece then None else Some (Damaged (digest_of p))
+        ]) ≡ Some (Damaged (digest_of p))
+    by_data (Err cause) read = refl
+    by_data (Ok q) read = by_test q (nat_lt 0 (length q)) (bytes_eq (sha256 q) (sha256 p)) (other p q (data_of-blob p is.2 is.1) read) refl
+
+-- the first of three
+first_of : (fault : Option FileFault) (b : Bool) (its : FileFault) (later : Option FileFault)
+    → option_or (option_or fault (if b then Some its else None)) later ≡ option_or fault (if b then Some its else later)
+first_of None true its later = refl
+first_of None false its later = refl
+first_of (Some fault) b its later = refl
+
+no_other : (o : Option FileFault) → option_or o None ≡ o
+no_other None = refl
+no_other (Some fault) = refl
+
+module _ (x : Snapshot) (fits : IsSnapshot x) (lane : ℕ) (bad : Damage) where
   abbrev own : Reader
   own = record { key = x.key; noted = [] }
 
@@ -93,21 +134,28 @@ module _ (x : Snapshot) (fits : IsSnapshot x) (lane : ℕ) where
 
   -- with the snapshot's reader the job comes to its end, with these reads of chunks and this report
   abbrev Leads : List Step → Reply → Job → Type 0
-  Leads reads report job = (n : ℕ) × ((s : Store) → session s lane ≡ reader own → lane < length s.sessions → EndsIn n reads x report lane s job)
+  Leads reads report job = (n : ℕ) × ((s : Store) → session s lane ≡ reader own → lane < length s.sessions → EndsIn bad n reads x report lane s job)
+
+  -- what the store is and answers behind a step
+  abbrev StepsOn : ℕ → List Step → Reply → Asking → Store → Store × Reply → Type 0
+  StepsOn n later report a t after =
+      ((after.0).snapshots ≡ t.snapshots) × ((r : Reply) → MayReply bad (step_of a) after.1 r → EndsIn bad n later x report lane after.0 (take a r))
 
   -- by a step that leaves the store as it is
-  by_step : (later : List Step) (report : Reply) (a : Asking) (reply : Reply)
+  by_step : (later : List Step) (report : Reply) (a : Asking) (reply : Reply) (job : Job)
       → ((t : Store) (moment : ℕ) → session t lane ≡ reader own → snapshot_named x.key t.snapshots ≡ Some x → step_outcome t lane moment (step_of a) ≡ Ok (t, reply))
-      → Leads later report (take a reply) → Leads (chunk_read (step_of a) ++ later) report (asking a)
-  by_step later report a reply told next = (suc next.0, stepped)
+      → ((r : Reply) → MayReply bad (step_of a) reply r → take a r ≡ job) → Leads later report job → Leads (chunk_read (step_of a) ++ later) report (asking a)
+  by_step later report a reply job told goes next = (suc next.0, stepped)
     where
-      stepped : (s : Store) → session s lane ≡ reader own → lane < length s.sessions → EndsIn (suc next.0) (chunk_read (step_of a) ++ later) x report lane s (asking a)
+      stepped : (s : Store) → session s lane ≡ reader own → lane < length s.sessions → EndsIn bad (suc next.0) (chunk_read (step_of a) ++ later) x report lane s (asking a)
       stepped s reads inside = (
         later,
         refl,
         (λ t moment between.
-            subst (λ (o : Outcome). EndsIn next.0 later x report lane (answered t o).0 (take a (answered t o).1)) (sym (told t moment (between.own ∙ reads) between.there))
-            (next.1 t (between.own ∙ reads) (subst (λ n. lane < n) (sym between.lanes) inside))),
+            subst (λ (o : Outcome). StepsOn next.0 later report a t (answered t o)) (sym (told t moment (between.own ∙ reads) between.there)) (
+              refl,
+              (λ r is. subst (EndsIn bad next.0 later x report lane t) (sym (goes r is)) (next.1 t (between.own ∙ reads) (subst (λ n. lane < n) (sym between.lanes) inside))),
+            )),
       )
 
   idle_again : (t : Store) → lane < length t.sessions → session (ended t lane) lane ≡ none
@@ -121,13 +169,15 @@ module _ (x : Snapshot) (fits : IsSnapshot x) (lane : ℕ) where
       report : Reply
       report = Verified files entries bytes faults
 
-      stepped : (s : Store) → session s lane ≡ reader own → lane < length s.sessions → EndsIn (suc zero) [] x report lane s (asking (closing report))
+      stepped : (s : Store) → session s lane ≡ reader own → lane < length s.sessions → EndsIn bad (suc zero) [] x report lane s (asking (closing report))
       stepped s reads inside = (
         [],
         refl,
         (λ t moment between.
-            subst (λ (o : Outcome). EndsIn zero [] x report lane (answered t o).0 (take (closing report) (answered t o).1)) (sym (close_told t moment between.there (between.own ∙ reads)))
-            (refl, refl, idle_again t (subst (λ n. lane < n) (sym between.lanes) inside))),
+            subst (λ (o : Outcome). StepsOn zero [] report (closing report) t (answered t o)) (sym (close_told t moment between.there (between.own ∙ reads))) (
+              refl,
+              (λ r is. subst (λ q. EndsIn bad zero [] x report lane (ended t lane) (take (closing report) q)) (sym is) (refl, refl, idle_again t (subst (λ n. lane < n) (sym between.lanes) inside))),
+            )),
       )
 
   -- ---- the walk
@@ -139,38 +189,38 @@ module _ (x : Snapshot) (fits : IsSnapshot x) (lane : ℕ) where
   abbrev rows : List File → List FileRow
   rows fs = map file_row (filter_map (fact_shown (facts_in x.files)) fs)
 
-  whole_chunk : (p : List ℕ) → IsPiece p → chunk_fault (digest_of p) (blobs.blob p) ≡ None
-  whole_chunk p is =
-      ap (λ (r : Result (List ℕ) BadBlob). elim r as (λ z. Option FileFault) [
-        | Err cause ↦ Some (Damaged (digest_of p))
-        | Ok piece ↦ if is_piece_of (digest_of p) piece then None else Some (Damaged (digest_of p))
-      ]) (data_of-blob p is.2 is.1)
-      ∙ ap (λ b. if b && bytes_eq (sha256 p) (sha256 p) then None else Some (Damaged (digest_of p))) (lt-ltb 0 (length p) is.0)
-      ∙ ap (λ b. if b then None else Some (Damaged (digest_of p))) ((bytes_eq-Decides (sha256 p) (sha256 p)).1 refl)
-
-  first_fault : (o : Option FileFault) → option_or o None ≡ o
-  first_fault None = refl
-  first_fault (Some fault) = refl
-
   -- a file, before those with these reads
   module _ (behind : List Step) (report : Reply) (f : File) (shows : Shows x f) where
     abbrev r : FileRow
     r = row f.name shows.size shows.csum
 
+    -- what a read of the chunk at this place brings it to
+    chunk_goes : (v : Visit) (fault : Option FileFault) (place : ℕ) (p : List ℕ) (ds : List Digest32) → IsPiece p → (b : Bool) (q : Reply) → ReadAs b (Data (blobs.blob p)) q
+        → take (checking v r fault place (digest_of p) ds) q ≡ next_chunk v r (option_or fault (if b then Some (Damaged (digest_of p)) else None)) (place + 1) ds
+    unfolding take checked
+    chunk_goes v fault place p ds piece false q is =
+        ap (take (checking v r fault place (digest_of p) ds)) is
+        ∙ ap (λ o. next_chunk v r (option_or fault o) (place + 1) ds) (whole_chunk p piece)
+    chunk_goes v fault place p ds piece true (Refused (refusals.Damaged asked found)) is = refl
+    chunk_goes v fault place p ds piece true (Data bytes) is = ap (λ o. next_chunk v r (option_or fault o) (place + 1) ds) (other_chunk p bytes piece is)
+    chunk_goes v fault place p ds piece true q is = absurd is
+
     -- its chunks from a place on
     chunks : (v : Visit) (fault : Option FileFault) (place : ℕ) (ps : List (List ℕ)) → ((i : ℕ) → slice_get (pieces_of f.content) (place + i) ≡ slice_get ps i)
-        → All (λ p. IsPiece p × (is_index_name f.name ≡ true)) ps → Leads behind report (file_done v r fault)
+        → All (λ p. IsPiece p × (is_index_name f.name ≡ true)) ps → Leads behind report (file_done v r (option_or fault (damage_from bad f.name place ps)))
         → Leads (reads_from f.name place ps ++ behind) report (next_chunk v r fault place (map digest_of ps))
-    unfolding next_chunk take checked
-    chunks v fault place [] here are done = done
+    unfolding next_chunk
+    chunks v fault place [] here are done = subst (λ o. Leads behind report (file_done v r o)) (no_other fault) done
     chunks v fault place (p ∷ ps) here are done =
         let first = All-head (λ p. IsPiece p × (is_index_name f.name ≡ true)) p ps are in
         let first_is : slice_get (pieces_of f.content) place ≡ Some p = (let e : place + 0 ≡ place = omega arith in subst (λ n. slice_get (pieces_of f.content) n ≡ Some p) e (here 0)) in
-        let later = chunks v fault (place + 1) ps (λ i. (let e : (place + 1) + i ≡ place + suc i = omega arith in ap (slice_get (pieces_of f.content)) e ∙ here (suc i)))
-        (All-tail (λ p. IsPiece p × (is_index_name f.name ≡ true)) p ps are) done in
-        by_step (reads_from f.name (place + 1) ps ++ behind) report (checking v r fault place (digest_of p) (map digest_of ps)) (Data (blobs.blob p))
+        let its = option_or fault (if bad f.name place then Some (Damaged (digest_of p)) else None) in
+        let later = chunks v its (place + 1) ps (λ i. (let e : (place + 1) + i ≡ place + suc i = omega arith in ap (slice_get (pieces_of f.content)) e ∙ here (suc i)))
+        (All-tail (λ p. IsPiece p × (is_index_name f.name ≡ true)) p ps are)
+        (subst (λ o. Leads behind report (file_done v r o)) (sym (first_of fault (bad f.name place) (Damaged (digest_of p)) (damage_from bad f.name (place + 1) ps))) done) in
+        by_step (reads_from f.name (place + 1) ps ++ behind) report (checking v r fault place (digest_of p) (map digest_of ps)) (Data (blobs.blob p)) (next_chunk v r its (place + 1) (map digest_of ps))
         (λ t moment reads there. chunk_told t moment there reads f shows.found place p first.1 first_is)
-        (subst (λ (o : Option FileFault). Leads (reads_from f.name (place + 1) ps ++ behind) report (next_chunk v r o (place + 1) (map digest_of ps))) (sym (ap (option_or fault) (whole_chunk p first.0) ∙ first_fault fault)) later)
+        (chunk_goes v fault place p (map digest_of ps) first.0 (bad f.name place)) later
 
     no_rest : (xs ys : List ℕ) → nat_lt (length xs) (length (xs ++ ys)) ≡ false → xs ++ ys ≡ xs
     no_rest xs [] h = append-nil xs
@@ -200,7 +250,8 @@ module _ (x : Snapshot) (fits : IsSnapshot x) (lane : ℕ) where
           → Leads its report (file_read v r (judged v.snapshot r (file_text f.content))) → Leads its report (asking (reading v r bytes))
       unfolding take read_part part_read
       one_part go done =
-          by_step its report (reading v r bytes) (Part (length (file_text f.content)) more) told
+          by_step its report (reading v r bytes) (Part (length (file_text f.content)) more)
+          (take (reading v r bytes) (Part (length (file_text f.content)) more)) told (λ q is. ap (take (reading v r bytes)) is)
           (by_test (nat_lt (length (bytes ++ more)) (length (file_text f.content))) refl)
         where
           by_test : (b : Bool) → nat_lt (length (bytes ++ more)) (length (file_text f.content)) ≡ b
@@ -226,15 +277,15 @@ module _ (x : Snapshot) (fits : IsSnapshot x) (lane : ℕ) where
 
     -- all of it
     whole : (files entries bytes : ℕ) (faults : List FaultRow) (later : List FileRow) (fs : List File) (all : List FaultRow)
-        → faults ++ filter_map (fault_in x) (f ∷ fs) ≡ all
-        → ((more : List FaultRow) → more ++ filter_map (fault_in x) fs ≡ all
+        → faults ++ filter_map (fault_in bad x) (f ∷ fs) ≡ all
+        → ((more : List FaultRow) → more ++ filter_map (fault_in bad x) fs ≡ all
         → Leads behind report (next_file (at (files + 1) (entries + length (map digest_of (pieces_of f.content))) (bytes + length (concat (pieces_of f.content))) more later) later))
         → Leads its report (asking (reading (at files entries bytes faults later) r []))
     unfolding file_read file_done
     whole files entries bytes faults later fs all are next =
         parts v (length (file_text f.content)) [] (file_text f.content) (omega arith) refl
         (subst (λ (j : Judged). Leads its report (file_read v r j)) (sym shows.told)
-        (chunks counted (fault_shown (is_as_listed x f)) 0 (pieces_of f.content) from_first shows.pieces (done (is_as_listed x f) are)))
+        (chunks counted (fault_shown (is_as_listed x f)) 0 (pieces_of f.content) from_first shows.pieces (done (first_fault bad x f) are)))
       where
         v : Visit
         v = at files entries bytes faults later
@@ -245,19 +296,16 @@ module _ (x : Snapshot) (fits : IsSnapshot x) (lane : ℕ) where
         from_first : (i : ℕ) → slice_get (pieces_of f.content) (0 + i) ≡ slice_get (pieces_of f.content) i
         from_first i = (let e : 0 + i ≡ i = omega arith in ap (slice_get (pieces_of f.content)) e)
 
-        differs : FaultRow
-        differs = record { file = f.name; fault = Differs }
-
-        done : (b : Bool) → faults ++ cons_option (if b then None else Some differs) (filter_map (fault_in x) fs) ≡ all → Leads behind report (file_done counted r (fault_shown b))
-        done true is = next faults is
-        done false is = next (faults ++ differs ∷ []) (append_assoc faults (differs ∷ []) (filter_map (fault_in x) fs) ∙ is)
+        done : (o : Option FileFault) → faults ++ cons_option (option_map (row_of f) o) (filter_map (fault_in bad x) fs) ≡ all → Leads behind report (file_done counted r o)
+        done None is = next faults is
+        done (Some fault) is = next (faults ++ row_of f fault ∷ []) (append_assoc faults (row_of f fault ∷ []) (filter_map (fault_in bad x) fs) ∙ is)
 
   abbrev pieces_from : List File → List (List ℕ)
   pieces_from fs = flat_map (λ (f : File). pieces_of f.content) fs
 
   walk : (fs : List File) → All (Shows x) fs → (files entries bytes : ℕ) (faults : List FaultRow) (before : List FileRow) (all_files all_entries all_bytes : ℕ) (all : List FaultRow)
       → files + length fs ≡ all_files → entries + length (pieces_from fs) ≡ all_entries → bytes + length (concat (pieces_from fs)) ≡ all_bytes
-      → faults ++ filter_map (fault_in x) fs ≡ all
+      → faults ++ filter_map (fault_in bad x) fs ≡ all
       → Leads (flat_map reads_of_file fs) (Verified all_files all_entries all_bytes all) (next_file (at files entries bytes faults before) (rows fs))
   unfolding next_file
   walk [] shown files entries bytes faults before all_files all_entries all_bytes all f e b are =
@@ -279,28 +327,32 @@ module _ (x : Snapshot) (fits : IsSnapshot x) (lane : ℕ) where
       walk fs (All-tail (Shows x) g fs shown) (files + 1) (entries + length (map digest_of ps)) (bytes + length (concat ps)) more (rows fs) all_files all_entries all_bytes all
       (omega (arith, f)) (omega (arith, e, count, own_count)) (omega (arith, b, joined)) is))
 
-  verified : Leads (chunk_reads x) (report_of x) (asking (listing (key_text x.key)))
+  verified : Leads (chunk_reads x) (report_of bad x) (asking (listing (key_text x.key)))
   unfolding take listed
   verified =
-      by_step (chunk_reads x) (report_of x) (listing (key_text x.key)) (Files (file_rows x.files)) (λ t moment reads there. files_told t moment there)
-      (walk x.files (each_shows x fits) 0 0 0 [] [] (length x.files) (length (pieces_in x)) (length (concat (pieces_in x))) (filter_map (fault_in x) x.files)
+      by_step (chunk_reads x) (report_of bad x) (listing (key_text x.key)) (Files (file_rows x.files)) (take (listing (key_text x.key)) (Files (file_rows x.files)))
+      (λ t moment reads there. files_told t moment there) (λ q is. ap (take (listing (key_text x.key))) is)
+      (walk x.files (each_shows x fits) 0 0 0 [] [] (length x.files) (length (pieces_in x)) (length (concat (pieces_in x))) (filter_map (fault_in bad x) x.files)
       (omega arith) (omega arith) (omega arith) refl)
 
-  from_start : (s : Store) → lane < length s.sessions → session s lane ≡ none → (n : ℕ) × EndsIn n (chunk_reads x) x (report_of x) lane s (asking (opening (key_text x.key)))
+  from_start : (s : Store) → lane < length s.sessions → session s lane ≡ none → (n : ℕ) × EndsIn bad n (chunk_reads x) x (report_of bad x) lane s (asking (opening (key_text x.key)))
   unfolding take opened
   from_start s inside idle = (suc verified.0, stepped)
     where
-      stepped : EndsIn (suc verified.0) (chunk_reads x) x (report_of x) lane s (asking (opening (key_text x.key)))
+      stepped : EndsIn bad (suc verified.0) (chunk_reads x) x (report_of bad x) lane s (asking (opening (key_text x.key)))
       stepped = (
         chunk_reads x,
         refl,
         (λ t moment between.
             let within : lane < length t.sessions = subst (λ n. lane < n) (sym between.lanes) inside in
-            subst (λ (o : Outcome). EndsIn verified.0 (chunk_reads x) x (report_of x) lane (answered t o).0 (take (opening (key_text x.key)) (answered t o).1)) (sym (open_told t moment between.there (between.own ∙ idle)))
-            (verified.1 (with_session t lane (reader own)) (get_or-set_same t.sessions lane (reader own) none within)
-            (subst (λ n. lane < n) (sym (length-set t.sessions lane (reader own))) within))),
+            subst (λ (o : Outcome). StepsOn verified.0 (chunk_reads x) (report_of bad x) (opening (key_text x.key)) t (answered t o)) (sym (open_told t moment between.there (between.own ∙ idle))) (
+              refl,
+              (λ r is. subst (λ q. EndsIn bad verified.0 (chunk_reads x) x (report_of bad x) lane (with_session t lane (reader own)) (take (opening (key_text x.key)) q)) (sym is)
+                  (verified.1 (with_session t lane (reader own)) (get_or-set_same t.sessions lane (reader own) none within)
+                  (subst (λ n. lane < n) (sym (length-set t.sessions lane (reader own))) within))),
+            )),
       )
 
 pub sound_snapshots_verify : SoundSnapshotsVerify
-sound_snapshots_verify x text s lane fits named inside idle =
-    subst (λ t. (n : ℕ) × EndsIn n (chunk_reads x) x (report_of x) lane s (asking (opening t))) (sym (key_one text x.key named).1) (from_start x fits lane s inside idle)
+sound_snapshots_verify x text s lane bad fits named inside idle =
+    subst (λ t. (n : ℕ) × EndsIn bad n (chunk_reads x) x (report_of bad x) lane s (asking (opening t))) (sym (key_one text x.key named).1) (from_start x fits lane bad s inside idle)

@@ -18,7 +18,7 @@ use Rattle.store_history.specs.Acts.{act_of_step}
 use Rattle.store_history.specs.History.{World, Opening, opened, after_all, own, lane, kind, reply}
 use Rattle.store_history.specs.LaneRun.{Position, begin, next_at, position_after, LaneRan}
 use Rattle.store_history.specs.Legal.{IsLegal}
-use Rattle.job_laws.specs.Verifies.{report_of, Meanwhile}
+use Rattle.job_laws.specs.Verifies.{undamaged, report_of, Meanwhile}
 
 -- ---- in the plain store
 
@@ -31,12 +31,13 @@ pub record Request : Type 0 where
 abbrev pub stepped : Store → Request → Store
 stepped s x = (answered s (step_outcome s x.lane x.moment x.step)).0
 
--- While a lane has a reader of a snapshot, the others may do whatever they do, one after another: they leave it its session,
--- and the snapshot under its key.
+-- While a lane has a reader of a snapshot, the others may do whatever they do, one after another: they
+-- leave it its session, and the snapshot under its key.
 abbrev pub OthersLeaveReaders : Type 0
 OthersLeaveReaders =
-    (x : Snapshot) (k : ℕ) (r : Reader) (s : Store) (requests : List Request) → IsTrue (keys_rise s.snapshots)
-    → session s k ≡ reader r → r.key ≡ x.key → snapshot_named x.key s.snapshots ≡ Some x
+    (x : Snapshot) (k : ℕ) (r : Reader) (s : Store) (requests : List Request)
+    → IsTrue (keys_rise s.snapshots) → session s k ≡ reader r → r.key ≡ x.key
+    → snapshot_named x.key s.snapshots ≡ Some x
     → All (λ a. a.lane ≡ k → ⊥) requests → Meanwhile x k s (fold stepped s requests)
 
 -- ---- in a history
@@ -46,13 +47,16 @@ abbrev pub StepsTo : Job → List Event → Job → Type 0
 StepsTo job [] end = job ≡ end
 StepsTo (over report) (e ∷ es) end = ⊥
 StepsTo (asking a) (e ∷ es) end =
-    (e.act ≡ act_of_step (step_of a)) × (kind e ≡ 0) × (r : Reply) × (reply e ≡ Some r) × StepsTo (take a r) es end
+    (e.act ≡ act_of_step (step_of a)) × (kind e ≡ 0)
+    × (r : Reply) × (reply e ≡ Some r) × StepsTo (take a r) es end
 
 abbrev pub world_behind : Option (List Snapshot) → Opening → List Event → World
 world_behind remote o before = after_all remote (opened o) before
 
--- A legal history. Before this event its lane has no session, and the store has this sound snapshot.
-pub record MayBegin (remote : Option (List Snapshot)) (o : Opening) (before : List Event) (first : Event) (later : List Event) (text : List ℕ) (x : Snapshot) : Type 0 where
+-- A legal history. Before this event its lane has no session, and the store this sound snapshot.
+pub record MayBegin
+    (remote : Option (List Snapshot)) (o : Opening) (before : List Event) (first : Event)
+    (later : List Event) (text : List ℕ) (x : Snapshot) : Type 0 where
   pub legal : IsLegal remote (opened o) (before ++ first ∷ later)
   pub order : IsTrue (keys_rise o.snapshots)
   pub idle : session (world_behind remote o before).store (lane first) ≡ none
@@ -60,13 +64,17 @@ pub record MayBegin (remote : Option (List Snapshot)) (o : Opening) (before : Li
   pub there : snapshot_named x.key ((world_behind remote o before).store).snapshots ≡ Some x
   pub fits : IsSnapshot x
 
--- Where from there on all events of the lane's own are the steps of this job, to its report, it reports what the snapshot is, and its lane is
--- without a session again. Between them there may be any events of other lanes.
+-- Where from there on all events of the lane's own are the steps of this job, to its report, it reports
+-- what the snapshot is, and its lane is without a session again. Between them there may be any events of
+-- other lanes.
 abbrev pub VerifiesBesideOthers : Type 0
 VerifiesBesideOthers =
-    (remote : Option (List Snapshot)) (o : Opening) (before : List Event) (first : Event) (later : List Event) (text : List ℕ) (x : Snapshot) (report : Reply)
-    → MayBegin remote o before first later text x → StepsTo (asking (opening text)) (first ∷ own (lane first) later) (over report)
-    → (report ≡ report_of x) × (session (world_behind remote o (before ++ first ∷ later)).store (lane first) ≡ none)
+    (remote : Option (List Snapshot)) (o : Opening) (before : List Event) (first : Event)
+    (later : List Event) (text : List ℕ) (x : Snapshot) (report : Reply)
+    → MayBegin remote o before first later text x
+    → StepsTo (asking (opening text)) (first ∷ own (lane first) later) (over report)
+    → (report ≡ report_of undamaged x)
+    × (session (world_behind remote o (before ++ first ∷ later)).store (lane first) ≡ none)
 
 -- ---- on a lane that runs its program
 
@@ -87,11 +95,15 @@ pub record VerifyIsNext (p : Position) (text : List ℕ) : Type 0 where
   pub next : next_at p ≡ job_step (opening text) left
   pub alone : p.pull ≡ None
 
--- What a lane that ran its program tells first, where a VERIFY was next, is what the snapshot is.
+-- What a lane that ran its program tells first, where a VERIFY was next and its acts are done until then,
+-- is what the snapshot is.
 abbrev pub VerifiesAreTold : Type 0
 VerifiesAreTold =
-    (remote : Option (List Snapshot)) (o : Opening) (before : List Event) (first : Event) (later : List Event) (text : List ℕ) (x : Snapshot)
-    (input : List ℕ) (ending : Ending) (told : List Reply) (r : Reply)
-    → MayBegin remote o before first later text x → LaneRan input ending (own (lane first) (before ++ first ∷ later)) told
+    (remote : Option (List Snapshot)) (o : Opening) (before : List Event) (first : Event)
+    (later : List Event) (text : List ℕ) (x : Snapshot) (input : List ℕ) (ending : Ending)
+    (told : List Reply) (r : Reply)
+    → MayBegin remote o before first later text x
+    → LaneRan input ending (own (lane first) (before ++ first ∷ later)) told
     → (let p = position_behind input ending (own (lane first) before) in
-    VerifyIsNext p text → TellsFirst ending p (first ∷ own (lane first) later) r → r ≡ report_of x)
+    VerifyIsNext p text → TellsFirst ending p (first ∷ own (lane first) later) r
+    → r ≡ report_of undamaged x)

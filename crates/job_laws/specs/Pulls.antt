@@ -1,26 +1,27 @@
 -- What holds of a SYNC, as the machine that its lane runs (`Pulling`).
-use Rattle.std.specs.Prelude.{◌≡◌, ◌≤◌, ◌<◌, ◌⊎◌, ◌↔◌, ⊤, ℕ, Bool, true, false, List, [], ◌∷◌, ◌++◌, length, Some, None, IfSome, Ok, IsErr}
-use Rattle.std.specs.List.{All, AllPairs, flat_map, fold}
+use Rattle.std.specs.Prelude.{◌≡◌, ◌≤◌, ◌<◌, ◌⊎◌, ◌↔◌, ⊤, ℕ, Bool, true, false, not, ◌&&◌, MatchBool, List, [], ◌∷◌, ◌++◌, map, length, Some, None, IfSome, Ok, IsErr}
+use Rattle.std.specs.List.{All, AllPairs, Contains, flat_map, fold}
 use Rattle.store_types.specs.declared.names.Digest32.{Digest32}
 use Rattle.store_types.specs.declared.refusal.Refusal.{Refusal}
-use Rattle.store_types.specs.declared.refusal.Refusal.TheVariants.{NoMemory, Unreadable}
+use Rattle.store_types.specs.declared.refusal.Refusal.TheVariants.{DiskFault, Halted, NoMemory, Unreadable}
 use Rattle.store_types.specs.FileNames.{manifest_name}
-use Rattle.store_types.specs.Names.{IsKey}
+use Rattle.store_types.specs.Names.{IsKey, key_text}
 use Rattle.blob_codec.specs.Blob.{data_of}
-use Rattle.store_files.specs.Archive.{Snapshot}
+use Rattle.store_files.specs.Archive.{Snapshot, digest_of, pieces_of}
 use Rattle.wire_commands.specs.declared.command.Command.{Command}
-use Rattle.wire_commands.specs.declared.command.Command.TheVariants.{Chunk, Sync}
+use Rattle.wire_commands.specs.declared.command.Command.TheVariants.{NewFixed, NewDynamic, Chunk, Blob, Abort, Sync}
 use Rattle.wire_commands.specs.declared.reply.Reply.{Reply}
 use Rattle.wire_commands.specs.declared.reply.Reply.TheVariants.{Part, Refused}
 use Rattle.store_model.specs.AdminSteps.{group as group_here}
-use Rattle.store_model.specs.Job.{Job, over, asking, step_of}
+use Rattle.store_model.specs.Job.{Pull, Asking, sending, Job, over, asking, step_of}
 use Rattle.store_model.specs.Jobs.{take_more as job_takes}
 use Rattle.store_model.specs.Load.{read_manifest}
 use Rattle.store_model.specs.Store.{Store}
-use Rattle.store_model.specs.SyncJob.{commands_of, next_snapshot, to_pull}
-use Rattle.store_history.specs.declared.act.Act.TheVariants.{RemoteList}
-use Rattle.store_history.specs.Acts.{Class, stepping, reaching, class_of, act_of_step}
-use Rattle.store_history.specs.Pulling.{Pulling, seeking, reading_manifest, reading_file, rejecting, SyncJob, reports, asks, act_of, index_in, is_index, path_of, take_more}
+use Rattle.store_model.specs.SyncJob.{commands_of, listed_files, next_snapshot, to_pull}
+use Rattle.store_history.specs.declared.act.Act.{Act}
+use Rattle.store_history.specs.declared.act.Act.TheVariants.{Plain, RemoteList, RemoteFile, RemoteChunk}
+use Rattle.store_history.specs.Acts.{Class, reaching, class_of, act_of_step}
+use Rattle.store_history.specs.Pulling.{Pulling, seeking, reading_manifest, reading_file, rejecting, SyncJob, reports, asks, act_of, has_writer, index_in, is_index, path_of, take_more}
 use Rattle.store_history.specs.Remote.{IsList, Reads}
 
 abbrev pub is_refusal : Reply → Bool
@@ -36,7 +37,8 @@ pull_after group replies = fold take_more (asks (seeking group)) replies
 -- a read of the remote is refused, or replied what the list gives; of the reply to a step nothing is asked
 abbrev pub IsToldBy : List Snapshot → SyncJob → Reply → Type 0
 IsToldBy L (reports report) reply = ⊤
-IsToldBy L (asks x) reply = class_of (act_of x) ≡ reaching → (is_refusal reply ≡ true) ⊎ Reads L (act_of x) (Some reply)
+IsToldBy L (asks x) reply =
+    class_of (act_of x) ≡ reaching → (is_refusal reply ≡ true) ⊎ Reads L (act_of x) (Some reply)
 
 abbrev pub AreToldBy : List Snapshot → SyncJob → List Reply → Type 0
 AreToldBy L pull [] = ⊤
@@ -56,10 +58,33 @@ abbrev pub replies_to_job : SyncJob → List Reply → List Reply
 replies_to_job pull [] = []
 replies_to_job pull (r ∷ rs) = reply_to_job pull r ++ replies_to_job (take_more pull r) rs
 
--- Both are over with one report; or both go on, and a step that the SYNC asks is the job's.
+-- the command is of this file, or of the chunk with this digest
+abbrev pub IsOfFile : Command → List ℕ → Type 0
+IsOfFile (NewFixed file size chunk_size) name = name ≡ file
+IsOfFile (NewDynamic file) name = name ≡ file
+IsOfFile (Blob file blob) name = name ≡ file
+IsOfFile command name = ⊥
+
+abbrev pub IsOfChunk : Command → Digest32 → Type 0
+IsOfChunk (Chunk sent blob) digest = digest ≡ sent
+IsOfChunk command digest = ⊥
+
+-- the manifest is read for the first command of a snapshot
+abbrev pub IsManifest : Pull → List Command → List ℕ → Type 0
+IsManifest p commands name = (name ≡ manifest_name) × (commands ≡ commands_of p.snapshot)
+
+-- The read is for the command that the job asks: of its snapshot's manifest, or of the command's file or chunk.
+abbrev pub IsReadFor : Asking → Act → Type 0
+IsReadFor (sending p command later) (RemoteFile text name offset) =
+    (text ≡ key_text (p.snapshot).key)
+    × (IsManifest p (command ∷ later) name ⊎ IsOfFile command name)
+IsReadFor (sending p command later) (RemoteChunk digest) = IsOfChunk command digest
+IsReadFor j act = ⊥
+
+-- Both are over with one report; or both go on, and what the SYNC asks is the job's step, or a read for it.
 abbrev pub IsAlike : SyncJob → Job → Type 0
 IsAlike (reports report) (over reply) = report ≡ reply
-IsAlike (asks x) (asking j) = class_of (act_of x) ≡ stepping → act_of x ≡ act_of_step (step_of j)
+IsAlike (asks x) (asking j) = (act_of x ≡ act_of_step (step_of j)) ⊎ IsReadFor j (act_of x)
 IsAlike pull job = ⊥
 
 -- A SYNC is told what the list has of its group, and then what the store has of it. From there on it is alike to the job that pulls these
@@ -90,8 +115,10 @@ DoesNotDecode name bytes = DoesNotDecodeBy (is_index name) name bytes
 
 -- The reply has the last part of the file that was asked for, and the whole is none. This is its full name.
 abbrev pub EndsBad : Pulling → Reply → List ℕ → Type 0
-EndsBad (reading_manifest c bytes) (Part total more) path = (total ≤ length (bytes ++ more)) × IsNoManifest (bytes ++ more) × (path ≡ path_of c manifest_name)
-EndsBad (reading_file c s name bytes) (Part total more) path = (total ≤ length (bytes ++ more)) × DoesNotDecode name (bytes ++ more) × (path ≡ path_of c name)
+EndsBad (reading_manifest c bytes) (Part total more) path =
+    (total ≤ length (bytes ++ more)) × IsNoManifest (bytes ++ more) × (path ≡ path_of c manifest_name)
+EndsBad (reading_file c s name bytes) (Part total more) path =
+    (total ≤ length (bytes ++ more)) × DoesNotDecode name (bytes ++ more) × (path ≡ path_of c name)
 EndsBad x reply path = ⊥
 
 -- with the last of these replies such a file was read
@@ -110,7 +137,13 @@ IsCause (rejecting path) (Refused NoMemory) refusal = refusal ≡ NoMemory
 IsCause (rejecting path) reply refusal = refusal ≡ Unreadable path
 IsCause state reply refusal = reply ≡ Refused refusal
 
--- No reply before this one is a refusal, nor was a file read before that is none, unless by the one just before; and it gives this refusal.
+-- A SYNC is to end its writer for a file exactly where this was read just before and is none.
+abbrev pub BadFilesEndIt : Type 0
+BadFilesEndIt =
+    (group : List ℕ) (replies : List Reply) (path : List ℕ)
+    → (pull_after group replies ≡ asks (rejecting path)) ↔ HasReadBad group replies path
+
+-- No reply before this one is a refusal, and it gives this refusal. Where the writer is ended for a file, this was read just before and is none.
 pub record IsFirstRefusal (group : List ℕ) (replies : List Reply) (refusal : Refusal) : Type 0 where
   pub before : List Reply
   pub reply : Reply
@@ -125,8 +158,46 @@ pub record IsFirstRefusal (group : List ℕ) (replies : List Reply) (refusal : R
 -- A SYNC that is over reports a refusal exactly where it is the first so.
 abbrev pub FirstRefusalIsTold : Type 0
 FirstRefusalIsTold =
-    (group : List ℕ) (replies : List Reply) (report : Reply) (refusal : Refusal) → pull_after group replies ≡ reports report
+    (group : List ℕ) (replies : List Reply) (report : Reply) (refusal : Refusal)
+    → pull_after group replies ≡ reports report
     → (report ≡ Refused refusal) ↔ IsFirstRefusal group replies refusal
+
+-- ---- behind a refusal
+
+-- it is over
+abbrev pub IsOver : SyncJob → Type 0
+IsOver (reports report) = ⊤
+IsOver (asks x) = ⊥
+
+-- it asks to end its writer
+abbrev pub EndsWriter : SyncJob → Type 0
+EndsWriter (reports report) = ⊥
+EndsWriter (asks x) = act_of x ≡ Plain Abort
+
+abbrev pub IsOverOrEnding : SyncJob → Type 0
+IsOverOrEnding pull = IsOver pull ⊎ EndsWriter pull
+
+-- the disk failed
+abbrev pub is_fault : Refusal → Bool
+is_fault DiskFault = true
+is_fault (Halted place) = true
+is_fault refusal = false
+
+-- what the refusal of what it asks makes of it
+abbrev pub EndsBy : Pulling → Refusal → SyncJob → Type 0
+EndsBy x refusal pull =
+    MatchBool (has_writer x && not (is_fault refusal)) (EndsWriter pull) (IsOver pull)
+
+-- Where a step or a read is refused a SYNC ends its writer next, if it has one and the disk did not fail; else it is over.
+-- That is said of what does not itself end the writer. And behind any refusal it asks nothing but to end its writer.
+pub record RefusalsEndIt : Type 0 where
+  pub next :
+      (group : List ℕ) (before : List Reply) (x : Pulling) (refusal : Refusal)
+      → pull_after group before ≡ asks x → (act_of x ≡ Plain Abort → ⊥)
+      → EndsBy x refusal (pull_after group (before ++ Refused refusal ∷ []))
+  pub later :
+      (group : List ℕ) (before more : List Reply) (refusal : Refusal)
+      → IsOverOrEnding (pull_after group (before ++ Refused refusal ∷ more))
 
 -- ---- what is sent
 
@@ -138,6 +209,12 @@ digest_sent command = []
 abbrev pub digests_sent : List Command → List Digest32
 digests_sent commands = flat_map digest_sent commands
 
--- Of the commands with which a snapshot is pulled no two CHUNKs have one digest.
+-- of the pieces of the files that its manifest lists
+abbrev pub digests_listed : Snapshot → List Digest32
+digests_listed x = flat_map (λ f. map digest_of (pieces_of f.content)) (listed_files x)
+
+-- Of the commands with which a snapshot is pulled no two CHUNKs have one digest, and theirs are those of its listed files' pieces.
 abbrev pub ChunksAreSentOnce : Type 0
-ChunksAreSentOnce = (x : Snapshot) → AllPairs (λ d e. d ≡ e → ⊥) (digests_sent (commands_of x))
+ChunksAreSentOnce =
+    (x : Snapshot) → AllPairs (λ d e. d ≡ e → ⊥) (digests_sent (commands_of x))
+    × ((d : Digest32) → Contains (digests_sent (commands_of x)) d ↔ Contains (digests_listed x) d)

@@ -6,5 +6,8 @@ mod pulls;
 mod verifies;
 
 pub use others::{others_leave_readers, verifies_are_told, verifies_beside_others};
-pub use pulls::{chunks_are_sent_once, first_refusals_are_told, syncs_pull_by_the_list};
+pub use pulls::{
+    bad_files_end_it, chunks_are_sent_once, first_refusals_are_told, refusals_end_it,
+    syncs_pull_by_the_list,
+};
 pub use verifies::{finished_snapshots_do_not_differ, sound_snapshots_verify};

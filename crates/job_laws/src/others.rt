@@ -2,8 +2,8 @@
 
 ghost use Rattle.job_laws.specs.Others.{OthersLeaveReaders, VerifiesAreTold, VerifiesBesideOthers};
 
-/// While a lane has a reader, whatever other lanes do leaves its session and its snapshot: a FORGET, a PRUNE's too, is
-/// refused, and FINISH puts no other in its place.
+/// While a lane has a reader, in a store whose keys rise, whatever commands and steps the other lanes ask leave its
+/// session, and its snapshot under its key.
 pub fn others_leave_readers()
     ensures { OthersLeaveReaders }
 {}
@@ -14,7 +14,8 @@ pub fn verifies_beside_others()
     ensures { VerifiesBesideOthers }
 {}
 
-/// And a lane that runs its program tells this report of it, before anything else.
+/// And what a lane that runs its program tells first, where its acts from the VERIFY on are done until then, is this
+/// report.
 pub fn verifies_are_told()
     ensures { VerifiesAreTold }
 {}

@@ -1,20 +1,33 @@
 //! What holds of every SYNC.
 
-ghost use Rattle.job_laws.specs.Pulls.{ChunksAreSentOnce, FirstRefusalIsTold, PullsByTheList};
+ghost use Rattle.job_laws.specs.Pulls.{BadFilesEndIt, ChunksAreSentOnce, FirstRefusalIsTold, PullsByTheList, RefusalsEndIt};
 
-/// A SYNC whose reads a list of snapshots answers, or that are refused, asks the steps, and reports the reply, of the job
-/// that knows the list.
+/// A SYNC that is told what a list and the store have of its group, and whose later reads the list answers, or are refused,
+/// asks the steps, and reports the reply, of the job that knows the list. Each of its reads is for the job's next step.
 pub fn syncs_pull_by_the_list()
     ensures { PullsByTheList }
 {}
 
-/// Beside any remote, a SYNC that is over reports a refusal exactly where it is the first that it was given; or tells the
-/// name of a file that it had read before, and that is none, or that memory was wanting behind that.
+/// Beside any remote, a SYNC is about to end its writer for a file exactly where it has just read this file, and it is none,
+/// or a manifest of more than 63 files. It keeps the file's full name.
+pub fn bad_files_end_it()
+    ensures { BadFilesEndIt }
+{}
+
+/// Beside any remote, a SYNC that is over reports a refusal exactly where this was the first that it was given; or, where it
+/// was ending its writer for a file that is none, or a manifest of more than 63 files, the name of that file, or that memory
+/// was wanting for that step.
 pub fn first_refusals_are_told()
     ensures { FirstRefusalIsTold }
 {}
 
-/// The commands with which a snapshot is pulled send no digest twice.
+/// Beside any remote, a SYNC that was refused a step or a read, other than the end of its writer, ends its writer next, where
+/// it has one, unless the disk failed; else it is over. Behind any refusal it asks nothing else.
+pub fn refusals_end_it()
+    ensures { RefusalsEndIt }
+{}
+
+/// The CHUNKs among the commands with which a snapshot is pulled have just the digests of its listed files' pieces, each once.
 pub fn chunks_are_sent_once()
     ensures { ChunksAreSentOnce }
 {}

@@ -21,7 +21,7 @@ use Rattle.job_steps.specs.declared.tested.TestOf.{TestOf}
 use Rattle.job_steps.specs.declared.tested.Tested.{Tested}
 use Rattle.std.specs.declared.thread.PromisedHandle.{PromisedHandle}
 use Rattle.job_steps.specs.Parts.{parts_fault}
-use Rattle.job_steps.specs.Visits.{HasNext, IsSettled, ReadsOne, StaysAt, digests_left, digests_of, fault_in, next_digest, place_in}
+use Rattle.job_steps.specs.Visits.{HasNext, IsSettled, ReadsOne, StaysAt, digests_left, digests_of, lengths_of, fault_in, next_digest, next_length, place_in}
 use Rattle.job_steps.specs.Waits.{IsTested, fault_with}
 
 -- ---- the test of a chunk
@@ -183,11 +183,14 @@ module _ (c : Chunks) where
   none_left h = ap digests_of (drop_all (place_in c) c.entries.items h)
 
   -- the entry that is read next
+  next_first : HasNext c → (e : Entry) → e ≡ get_or c.entries.items (place_in c) e → drop (place_in c) c.entries.items ≡ e ∷ drop (place_in c + 1) c.entries.items
+  next_first next e is = drop_more c.entries.items (place_in c) e next ∙ ap (λ x. x ∷ drop (place_in c + 1) c.entries.items) (sym is)
+
   pub next_is : HasNext c → (e : Entry) → e ≡ get_or c.entries.items (place_in c) e → e.digest ≡ next_digest c
-  next_is next e is =
-      let places : drop (place_in c) c.entries.items ≡ e ∷ drop (place_in c + 1) c.entries.items
-      = drop_more c.entries.items (place_in c) e next ∙ ap (λ x. x ∷ drop (place_in c + 1) c.entries.items) (sym is) in
-      sym (ap (λ xs. slice_index_or (digests_of xs) 0 (digest [])) places)
+  next_is next e is = sym (ap (λ xs. slice_index_or (digests_of xs) 0 (digest [])) (next_first next e is))
+
+  pub next_len_is : HasNext c → (e : Entry) → e ≡ get_or c.entries.items (place_in c) e → e.length ≡ next_length c
+  next_len_is next e is = sym (ap (λ xs. slice_index_or (lengths_of xs) 0 0) (next_first next e is))
 
 -- one more is read
 pub left_more : (entries : List Entry) (n : ℕ) → digests_of (drop (n + 1) entries) ≡ drop 1 (digests_of (drop n entries))

@@ -2,7 +2,6 @@ pub mod RowLemmas
 pub mod ItemLemmas
 pub mod ReplyLemmas
 pub mod Texts
-pub mod EndingLemmas
 pub mod JudgingLemmas
 pub mod BatchLemmas
 pub mod VerifyLemmas

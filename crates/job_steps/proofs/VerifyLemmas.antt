@@ -1,25 +1,21 @@
 -- What a VERIFY makes of the replies to its steps.
-use Rattle.std.proofs.Common.{◌≡◌, ℕ, ◌*◌, ◌≤◌, Bool, true, false, List, [], ◌∷◌, ◌++◌, drop, length, Option, None, Some, refl, sym, ap, subst, ◌∙◌, arith, length-append}
-use Rattle.std.specs.Prelude.{◌+◌, ◌<◌, ◌^◌, ◌&&◌, All, is_some, nat_lt}
-use Rattle.std.specs.List.{flat_map}
+use Rattle.std.proofs.Common.{◌≡◌, ℕ, ◌≤◌, Bool, true, false, List, ◌∷◌, ◌++◌, drop, length, Option, None, Some, refl, sym, ap, subst, ◌∙◌, arith}
+use Rattle.std.specs.Prelude.{◌+◌, ◌<◌, is_some, nat_lt}
 use Rattle.std.specs.Option.{option_map, option_or}
-use Rattle.std.proofs.lemmas.Bool.{and_parts, and_from, true≢false, false≢true, ltb-true, ltb-false, lt-ltb, le-ltb, eqb-true, eq-eqb}
+use Rattle.std.proofs.lemmas.Bool.{true≢false, false≢true, ltb-true, ltb-false, lt-ltb, le-ltb, eq-eqb}
 use Rattle.std.proofs.lemmas.List.{length-map}
-use Rattle.std.proofs.lemmas.List.Elements.{All-nil, All-cons, All-head, All-tail}
 use Rattle.store_types.specs.declared.names.Digest32.{Digest32}
 use Rattle.store_types.specs.declared.refusal.Refusal.TheVariants.{Damaged, Unreadable}
 use Rattle.wire_commands.specs.declared.rows.FileRow.{FileRow}
 use Rattle.wire_commands.specs.declared.rows.FileFault.{FileFault}
 use Rattle.wire_commands.specs.declared.rows.FileFault.TheVariants as faults
-use Rattle.wire_commands.specs.declared.rows.FaultRow.{FaultRow}
 use Rattle.wire_commands.specs.declared.reply.Reply.{Reply}
-use Rattle.wire_commands.specs.declared.reply.Reply.TheVariants.{Part, Data, Verified, Refused}
-use Rattle.wire_commands.specs.ReplyText.{file_fault_text, fault_row_text, reply_text}
-use Rattle.wire_commands.specs.HasText.{FitsFileFault, FitsFaultRow, ReplyHasText}
+use Rattle.wire_commands.specs.declared.reply.Reply.TheVariants.{Part, Data, Refused}
 use Rattle.store_model.specs.declared.step.Step.TheVariants.{ReadChunk}
-use Rattle.store_model.specs.Job.{Visit, asking, reading, closing, next}
+use Rattle.store_model.specs.Job.{Visit, asking, reading, closing, next, ended_by}
 use Rattle.store_model.specs.Jobs.{take, take_more}
-use Rattle.store_model.specs.VerifyJob.{Judged, tally, next_file, file_done, next_chunk, with_fault, judged, file_read, part_read, read_part, checked}
+use Rattle.store_model.specs.VerifyJob.{Judged, file_done, next_chunk, with_fault, judged, file_read, part_read, read_part, checked}
+use Rattle.store_model.proofs.VerifyLemmas.{part_more, part_whole}
 use Rattle.job_steps.specs.declared.chunks.Chunks.{Chunks}
 use Rattle.job_steps.specs.declared.chunks.Entry.{Entry}
 use Rattle.job_steps.specs.declared.stages.Checking.{Checking}
@@ -27,73 +23,16 @@ use Rattle.job_steps.specs.declared.stages.Reading.{Reading}
 use Rattle.job_steps.specs.declared.stages.Whole.{Whole}
 use Rattle.job_steps.specs.declared.visit.Visit as stages
 use Rattle.job_steps.specs.Checks.{checked_by, fault_of, fault_told, found_by, job_of, read_by, read_on, reading_of, shown_whole, stops, unread_by}
-use Rattle.job_steps.specs.Closes.{ended_by}
-use Rattle.job_steps.specs.FaultRows.{fault_fits, IsFitFault, IsFitRow}
+use Rattle.job_steps.specs.FaultRows.{IsFitFault}
 use Rattle.job_steps.specs.Replies.{EndsInText}
 use Rattle.job_steps.specs.States.{chunks_of}
 use Rattle.job_steps.specs.Visits.{HasNext, IsRead, IsSettled, digests_left, digests_of, fault_in, judged_by, next_digest, place_in, shown_visit}
 use Rattle.job_steps.proofs.BatchLemmas.{fault_settled, left_is, none_left}
 
--- ---- the report
-
-fault_short : (f : FileFault) → FitsFileFault f → length (file_fault_text f) ≤ 33
-fault_short faults.Differs h = omega arith
-fault_short (faults.Damaged d) h = omega (arith, h)
-fault_short faults.Unreadable h = omega arith
-
-rows_short : (rows : List FaultRow) → All FitsFaultRow rows → length (flat_map fault_row_text rows) ≤ 290 * length rows
-rows_short [] fit = omega arith
-rows_short (r ∷ rs) fit =
-    let first = All-head FitsFaultRow r rs fit in
-    let rest = rows_short rs (All-tail FitsFaultRow r rs fit) in
-    simp length-append (omega (arith, first.0, fault_short r.fault first.1, rest))
-
--- the test's rows
-fault_of_test : (f : FileFault) → fault_fits f ≡ true → FitsFileFault f
-fault_of_test (faults.Damaged d) h = eqb-true (length d.0) 32 h
-fault_of_test f h = tt
-
-pub rows_of_test : (rows : List FaultRow) → All IsFitRow rows → All FitsFaultRow rows
-rows_of_test [] fit = All-nil FitsFaultRow
-rows_of_test (r ∷ rs) fit =
-    let parts = and_parts (nat_lt (length r.file) 256) (fault_fits r.fault) (All-head IsFitRow r rs fit) in
-    All-cons FitsFaultRow r rs (ltb-true (length r.file) 256 parts.0, fault_of_test r.fault parts.1) (rows_of_test rs (All-tail IsFitRow r rs fit))
-
-pub row_tested : (file : List ℕ) (f : FileFault) → length file < 256 → fault_fits f ≡ true → (nat_lt (length file) 256 && fault_fits f) ≡ true
-row_tested file f short fits = and_from (nat_lt (length file) 256) (fault_fits f) (lt-ltb (length file) 256 short) fits
-
-pub verified_spelled : (files entries bytes : ℕ) (rows : List FaultRow) → files < 256 → entries < 2 ^ 64 → bytes < 2 ^ 64 → length rows ≤ files → All FitsFaultRow rows
-    → ReplyHasText (Verified files entries bytes rows)
-unfolding reply_text
-verified_spelled files entries bytes rows few counted summed within fit =
-    ((few, counted, summed, omega (arith, few, within), fit), simp length-append (omega (arith, few, within, rows_short rows fit)))
-
--- ---- from file to file
-
-module _ (v : Visit) where
-  pub next_none : (later : List FileRow) → length later ≡ 0 → asking (closing (tally v)) ≡ next_file v later
-  unfolding next_file
-  next_none [] h = refl
-  next_none (r ∷ rs) h = absurd (omega (arith, h))
-
-  pub next_some : (later rest : List FileRow) (row : FileRow) → later ≡ row ∷ rest → asking (reading (record v { later = rest }) row []) ≡ next_file v later
-  unfolding next_file
-  next_some later rest row is = sym (ap (next_file v) is)
-
--- where the files to come are told, those before do not matter
-pub next_any : (v : Visit) (before later : List FileRow) → next_file (record v { later = before }) later ≡ next_file v later
-unfolding next_file
-next_any v before [] = refl
-next_any v before (r ∷ rs) = refl
-
 -- the files to come are as they were
 pub later_kept : (v : Visit) (row : FileRow) (fault : Option FileFault) → (with_fault row fault v).later ≡ v.later
 later_kept v row None = refl
 later_kept v row (Some fault) = refl
-
-pub entries_kept : (v : Visit) (row : FileRow) (fault : Option FileFault) → (with_fault row fault v).entries ≡ v.entries
-entries_kept v row None = refl
-entries_kept v row (Some fault) = refl
 
 -- ---- parts of a file
 
@@ -101,15 +40,6 @@ inner : {A : Type 0} {x y : A} → (let a : Option A = Some x in a) ≡ Some y �
 inner e = cc
 
 module _ (v : Visit) (row : FileRow) (bytes : List ℕ) (total : ℕ) where
-  -- more of the file is to come
-  pub part_more : length bytes < total → asking (reading v row bytes) ≡ part_read v row bytes total
-  unfolding part_read
-  part_more h = rw (lt-ltb (length bytes) total h) refl
-
-  pub part_whole : total ≤ length bytes → file_read v row (judged v.snapshot row bytes) ≡ part_read v row bytes total
-  unfolding part_read
-  part_whole within = rw (le-ltb (length bytes) total within) refl
-
   pub judged_more : length bytes < total → judged_by v row bytes total ≡ None
   judged_more h = rw (lt-ltb (length bytes) total h, judged_by) refl
 

@@ -7,19 +7,22 @@ use Rattle.wire_commands.specs.declared.rows.FileFault.TheVariants as faults
 use Rattle.wire_commands.specs.declared.rows.FileRow.{FileRow}
 use Rattle.wire_commands.specs.declared.reply.Reply.{Reply}
 use Rattle.wire_commands.specs.declared.reply.Reply.TheVariants.{Part, Data, Refused}
-use Rattle.store_model.specs.Job.{Job, over, asking, reading, closing}
+use Rattle.store_model.specs.declared.step.Step.{Step}
+use Rattle.store_model.specs.Job.{Job, over, asking, reading, closing, ended_by}
 use Rattle.store_model.specs.Job as model
 use Rattle.store_model.specs.VerifyJob as verify
 use Rattle.job_steps.specs.declared.stages.Checking.{Checking}
 use Rattle.job_steps.specs.declared.stages.Reading.{Reading}
 use Rattle.job_steps.specs.declared.stages.Whole.{Whole}
-use Rattle.job_steps.specs.Closes.{ended_by}
 use Rattle.job_steps.specs.States.{chunks_of}
 use Rattle.job_steps.specs.Visits.{digests_left, digests_of, fault_in, next_digest, place_in, shown_visit}
 
 abbrev pub IsPart : Reply → Type 0
 IsPart (Part total bytes) = Unit {0}
 IsPart reply = ⊥
+
+abbrev pub GivesStep : {E : Type 0} → Result Step E → Step → Type 0
+GivesStep result step = IfOk result (λ given. given ≡ step)
 
 -- a step of the job was refused, and its session is to be closed
 abbrev pub stops : Job → Bool
@@ -34,6 +37,10 @@ shown_whole w = record { fault = w.fault; bytes = w.bytes; digests = digests_of 
 
 abbrev pub GivesWhole : {E : Type 0} → Result Whole E → verify.Judged → Type 0
 GivesWhole result judged = IfOk result (λ given. shown_whole given ≡ judged)
+
+-- what its bytes say, where they are all of the file
+abbrev pub judged_of : Reading → verify.Judged
+judged_of r = verify.judged r.visit.snapshot r.row r.bytes.items
 
 -- one more file was read
 abbrev pub CountsFile : model.Visit → model.Visit → FileRow → Option FileFault → Type 0

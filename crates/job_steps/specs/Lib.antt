@@ -1,9 +1,9 @@
-pub mod Closes
+pub mod Batches
+pub mod Checks
 pub mod FaultRows
-pub mod Waits
 pub mod Parts
-pub mod Visits
+pub mod Replies
 pub mod Rows
 pub mod States
-pub mod Checks
-pub mod Replies
+pub mod Visits
+pub mod Waits

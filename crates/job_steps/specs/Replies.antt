@@ -1,10 +1,13 @@
 -- The replies that a job takes, and when its report has a text.
-use Rattle.std.specs.Prelude.{◌<◌, ◌+◌, List, [], ◌∷◌, length, All, ⊤, IsSome, IfSome}
+use Rattle.std.specs.Prelude.{◌≡◌, ◌<◌, ◌+◌, List, [], ◌∷◌, length, All, ⊤, IsSome, IfSome, Result, IfErr, MatchResult}
 use Rattle.wire_commands.specs.declared.reply.Reply.{Reply}
 use Rattle.wire_commands.specs.HasText.{FitsPruneRow, IsText, ReplyHasText}
 use Rattle.store_model.specs.Job.{Job, over, asking, grouping, forgetting, opening, listing, reading, checking, closing, next}
 use Rattle.store_model.specs.Jobs.{take_more}
 use Rattle.store_model.specs.JobReplies.{IsReplyTo}
+use Rattle.job_steps.specs.declared.job.State.{State}
+use Rattle.job_steps.specs.States.{job_in}
+use Rattle.job_steps.specs.Visits.{IsPartRead}
 
 -- each is to a step that the job asks, one after another
 abbrev pub AreReplies : Job → List Reply → Type 0
@@ -25,3 +28,11 @@ EndsInText (asking (checking v row fault place digest later)) = ⊤
 EndsInText (asking (closing report)) = ReplyHasText report
 -- there are no other jobs here
 EndsInText _ = ⊥
+
+-- the state after a reply, or the one before it, where memory was wanting
+abbrev pub EitherEndsInText : Result State State → Type 0
+EitherEndsInText result = MatchResult result (λ state. EndsInText (job_in state)) (λ state. EndsInText (job_in state))
+
+-- where memory was wanting, a part of a file was read, and the job is as it was
+abbrev pub WantsForPart : Job → Reply → Result State State → Type 0
+WantsForPart job reply result = IfErr result (λ state. (job_in state ≡ job) × IsPartRead (next job) reply)

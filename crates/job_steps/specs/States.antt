@@ -7,6 +7,7 @@ use Rattle.wire_commands.specs.declared.command.Command.TheVariants.{Prune}
 use Rattle.store_model.specs.VerifyJob as verify
 use Rattle.job_steps.specs.declared.chunks.Chunks.{Chunks}
 use Rattle.job_steps.specs.declared.job.State.{State}
+use Rattle.job_steps.specs.declared.prune.Forgetting as prune
 use Rattle.job_steps.specs.declared.job.State.TheVariants.{Over, Grouping, Forgetting, Opening, Listing, Reading, Checking, Closing}
 use Rattle.job_steps.specs.declared.visit.Visit.{Visit}
 use Rattle.job_steps.specs.Rows.{asked_at}
@@ -16,10 +17,14 @@ use Rattle.job_steps.specs.Visits.{digests_left, fault_in, place_in, shown_visit
 abbrev pub chunks_of : Visit → FileRow → Option FileFault → Chunks → Job
 chunks_of v row fault c = verify.next_chunk (shown_visit v) row (fault_in fault c) (place_in c) (digests_left c)
 
+-- a PRUNE that is to forget the snapshot of a row
+abbrev pub forgetting_of : prune.Forgetting → Job
+forgetting_of f = asked_at f.rows.items f.place
+
 abbrev pub job_in : State → Job
 job_in (Over report) = over report
 job_in (Grouping g) = asking (grouping (Prune g.group g.keep g.dry) g.keep g.dry)
-job_in (Forgetting f) = asked_at f.rows.items f.place
+job_in (Forgetting f) = forgetting_of f
 job_in (Opening o) = asking (opening o.snapshot)
 job_in (Listing o) = asking (listing o.snapshot)
 job_in (Reading r) = asking (reading (shown_visit r.visit) r.row r.bytes.items)

@@ -35,6 +35,9 @@ shown_visit v = record {
 abbrev pub digests_of : List Entry → List Digest32
 digests_of entries = map (λ e. e.digest) entries
 
+abbrev pub lengths_of : List Entry → List ℕ
+lengths_of entries = map (λ e. e.length) entries
+
 -- how many of its chunks were read: those that are tested or at a thread, and those that wait
 abbrev pub place_in : Chunks → ℕ
 place_in c = c.tested + length c.waiting.chunks.items
@@ -58,7 +61,22 @@ HasNext c = place_in c < length c.entries.items
 abbrev pub next_digest : Chunks → Digest32
 next_digest c = slice_index_or (digests_left c) 0 (verify.digest [])
 
+abbrev pub next_length : Chunks → ℕ
+next_length c = slice_index_or (lengths_of (drop (place_in c) c.entries.items)) 0 0
+
 -- ---- what a call leaves
+
+-- whatever the fault of the file so far: with the chunks that were read, its first fault is as before
+abbrev pub SameFault : Chunks → Chunks → Type 0
+SameFault old new = (fault : Option FileFault) → fault_in fault new ≡ fault_in fault old
+
+-- the same, where this fault was taken out of them
+abbrev pub KeepsFault : Chunks → Chunks → Option FileFault → Type 0
+KeepsFault old new found = (fault : Option FileFault) → fault_in (option_or fault found) new ≡ fault_in fault old
+
+-- the same, where this fault is all that they have
+abbrev pub FindsFault : Chunks → Option FileFault → Type 0
+FindsFault c found = (fault : Option FileFault) → option_or fault found ≡ fault_in fault c
 
 -- one more was read
 pub record ReadsOne (old new : Chunks) : Type 0 where

@@ -5,7 +5,8 @@ ghost use Rattle.std.specs.Bool.{OnFalse};
 ghost use Rattle.std.specs.Option.{option_or};
 ghost use Rattle.job_steps.specs.FaultRows.{IsFitFault};
 ghost use Rattle.store_model.specs.VerifyJob.{chunk_fault};
-ghost use Rattle.job_steps.specs.Visits.{EndsTested, HasNext, IsRead, IsUnread, ReadsOne, StaysAt, TestsAll, WaitsFor, fault_in, next_digest, place_in};
+ghost use Rattle.job_steps.specs.Batches.{BatchHas, BeginsBatch, GoesOn, IsBatch, PutsOne, SettlesBatch};
+ghost use Rattle.job_steps.specs.Visits.{EndsTested, FindsFault, HasNext, IsRead, IsUnread, KeepsFault, ReadsOne, SameFault, StaysAt, TestsAll, WaitsFor, fault_in, next_digest, next_length, place_in};
 
 use crate::chunks::{Chunks, Entry};
 use crate::handed::Handed;
@@ -31,6 +32,7 @@ impl Chunks {
         requires { vec_len entries ≤ 1_048_576 }
         ensures entries { IfOk result (λ c. c.entries.items ≡ entries.items) }
         ensures unread { IfOk result IsUnread }
+        ensures batch { IfOk result BeginsBatch }
     {
         let handed = Handed::new(alloc, entries.len())?;
         let waiting = Part::new(alloc)?;
@@ -62,7 +64,8 @@ impl Chunks {
     /// The entry whose chunk is read next.
     pub fn next(&self) -> Entry
         requires { HasNext self.now }
-        ensures { result.digest ≡ next_digest self.now }
+        ensures digest { result.digest ≡ next_digest self.now }
+        ensures length { result.length ≡ next_length self.now }
     {
         self.entries[self.place()]
     }
@@ -74,7 +77,8 @@ impl Chunks {
         ensures reads { ReadsOne self.old self.new }
         ensures handed { self.new.handed.parts.items ≡ self.old.handed.parts.items }
         ensures none { self.new.waiting.chunks.items ≡ [] }
-        ensures fault { (fault : Option FileFault) → fault_in fault self.new ≡ fault_in fault self.old }
+        ensures fault { SameFault self.old self.new }
+        ensures batch { BatchHas self.old self.new 0 0 }
     {
         self.tested += 1;
     }
@@ -86,6 +90,7 @@ impl Chunks {
         ensures reads { ReadsOne self.old self.new }
         ensures fault { (fault : Option FileFault) →
             fault_in fault self.new ≡ option_or (fault_in fault self.old) (chunk_fault (next_digest self.old) blob) }
+        ensures batch { BatchHas self.old self.new 1 (next_length self.old) }
     {
         let Entry { digest, length } = self.next();
         self.bytes += u64::from(length);
@@ -106,6 +111,7 @@ impl Chunks {
         ensures fault { fault_in fault.now self.new
             ≡ option_or (fault_in fault.now self.old) (chunk_fault (next_digest self.old) blob) }
         ensures waits { WaitsFor fault.now self.new }
+        ensures batch { PutsOne fault.now self.old self.new }
     {
         if fault.is_some() {
             self.skip();
@@ -116,7 +122,7 @@ impl Chunks {
 
     /// The batch has ended: it is as long as one may be, or of as many bytes, or its index has no more.
     fn has_ended(&self) -> bool
-        ensures { OnFalse result (HasNext self.now) }
+        ensures { MatchBool result (IsBatch self.now) (GoesOn self.now) }
     {
         self.batch_chunks + self.waiting.chunks.len() >= BATCH_LIMIT
             || self.batch_bytes + self.bytes >= BATCH_BYTES
@@ -132,9 +138,10 @@ impl Chunks {
 
     /// Tests those that wait, and gives the first fault of the batch. None waits then, and none is at a thread. It takes no memory.
     pub fn test<R: Threads + Sync>(&mut self, rt: &R) -> Option<FileFault>
-        ensures fault { (fault : Option FileFault) → option_or fault result ≡ fault_in fault self.old }
+        ensures fault { FindsFault self.old result }
         ensures fits { IsFitFault result }
         ensures tests { TestsAll self.old self.new }
+        ensures batch { BeginsBatch self.new }
     {
         self.tested += self.waiting.chunks.len();
         self.bytes = 0;
@@ -145,10 +152,11 @@ impl Chunks {
 
     /// Hands those that wait to a thread. Where there is none, the first fault of the batch so far is given.
     fn hand<R: Threads + Sync>(&mut self, rt: &R) -> Option<FileFault>
-        ensures fault { (fault : Option FileFault) → fault_in (option_or fault result) self.new ≡ fault_in fault self.old }
+        ensures fault { KeepsFault self.old self.new result }
         ensures fits { IsFitFault result }
         ensures stays { StaysAt self.old self.new }
         ensures none { self.new.waiting.chunks.items ≡ [] }
+        ensures batch { BatchHas self.old self.new 0 0 }
     {
         let count = self.waiting.chunks.len();
         self.tested += count;
@@ -173,6 +181,7 @@ impl Chunks {
         ensures waits { WaitsFor result self.new }
         ensures few { vec_len self.new.waiting.chunks < 128 }
         ensures ends { EndsTested self.new }
+        ensures batch { SettlesBatch self.old self.new }
     {
         if self.has_ended() {
             return first_of(fault, self.test(rt));

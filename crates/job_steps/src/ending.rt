@@ -2,8 +2,7 @@
 
 ghost use Rattle.std.specs.Prelude.{◌≡◌, true};
 ghost use Rattle.wire_commands.specs.HasText.{ReplyHasText};
-ghost use Rattle.store_model.specs.Job.{closing, closed as closed_by};
-ghost use Rattle.job_steps.specs.Closes.{ended_by, closes_first as has_close, is_refused as has_refusal, leaves_open as stays_open};
+ghost use Rattle.store_model.specs.Job.{closing, closed as closed_by, ended_by, closes_first as has_close, is_refused as has_refusal, leaves_open as stays_open};
 ghost use Rattle.job_steps.specs.Replies.{EndsInText};
 ghost use Rattle.job_steps.specs.States.{job_in};
 

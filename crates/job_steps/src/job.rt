@@ -1,15 +1,14 @@
 //! A job from its command to its report.
 
-ghost use Rattle.std.specs.Prelude.{◌≡◌, ◌≤◌, drop, false, fold, take, vec_len, IsSome, IsNone, IfErr, IfSome, IfOk, MatchResult, OnErr, OnOk};
+ghost use Rattle.std.specs.Prelude.{◌≡◌, ◌≤◌, drop, false, fold, take, vec_len, IsSome, IsNone, IfSome, IfOk, OnErr, OnOk};
 ghost use Rattle.wire_commands.specs.HasText.{ReplyHasText};
 ghost use Rattle.store_model.specs.Job.{asking, next as next_of, report as report_of};
 ghost use Rattle.store_model.specs.Jobs.{job_of, IsJob, take_more, job_after};
 ghost use Rattle.store_model.specs.PruneJob.{grouped as grouped_by, go_on};
 ghost use Rattle.store_model.specs.JobReplies.{IsJobStep, IsReplyTo, IsWithinGroup};
 ghost use Rattle.job_steps.specs.Checks.{stops};
-ghost use Rattle.job_steps.specs.Replies.{AreReplies, EndsInText};
-ghost use Rattle.job_steps.specs.Rows.{asked_at};
-ghost use Rattle.job_steps.specs.States.{job_in};
+ghost use Rattle.job_steps.specs.Replies.{AreReplies, EitherEndsInText, EndsInText, WantsForPart};
+ghost use Rattle.job_steps.specs.States.{forgetting_of, job_in};
 ghost use Rattle.job_steps.specs.Visits.{IsPartRead};
 
 use crate::ending::closed;
@@ -161,8 +160,8 @@ impl State {
         requires text { ReplyHasText reply }
         requires ends { EndsInText (job_in self) }
         ensures ok { IfOk result (λ state. job_in state ≡ take_more (job_in self) reply) }
-        ensures err { IfErr result (λ state. (job_in state ≡ job_in self) × IsPartRead (next_of (job_in self)) reply) }
-        ensures ends { MatchResult result (λ state. EndsInText (job_in state)) (λ state. EndsInText (job_in state)) }
+        ensures err { WantsForPart (job_in self) reply result }
+        ensures ends { EitherEndsInText result }
     {
         match self {
             State::Over(_) => unreachable!(),
@@ -194,7 +193,7 @@ impl State {
 
     /// The state after the reply to the FORGET of the snapshot that was to go.
     fn forgot(forgetting: Forgetting, reply: Reply) -> State
-        ensures { job_in result ≡ take_more (asked_at forgetting.rows.items forgetting.place) reply }
+        ensures { job_in result ≡ take_more (forgetting_of forgetting) reply }
     {
         let Forgetting { mut rows, place } = forgetting;
         let Some(mark) = mark_by(&reply) else {

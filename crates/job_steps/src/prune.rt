@@ -1,9 +1,9 @@
 //! The rows of a prune: what is meant to be done, and which snapshot goes next.
 
-ghost use Rattle.std.specs.Prelude.{◌≡◌, ◌+◌, ◌<◌, ◌≤◌, ◌++◌, drop, length, map, take, vec_capacity, vec_len, IfOk, IfSome};
+ghost use Rattle.std.specs.Prelude.{◌≡◌, ◌+◌, ◌<◌, ◌≤◌, ◌++◌, drop, length, map, take, vec_capacity, vec_len, IfSome};
 ghost use Rattle.std.specs.List.{zip};
 ghost use Rattle.store_model.specs.PruneJob.{item_of as item_in, meant as meant_by, rows_meant as rows_of, go_on};
-ghost use Rattle.job_steps.specs.Rows.{row_of, row_at, asked_first, mark_told};
+ghost use Rattle.job_steps.specs.Rows.{GivesCommand, row_of, forget_at, asked_first, mark_told};
 
 use prune_rules::{Item, Mark, marks_into};
 use std::alloc::{AllocError, Global};
@@ -70,7 +70,7 @@ pub struct Grouping {
 impl Grouping {
     /// The PRUNE's own command.
     pub fn command(&self, alloc: Global) -> Result<Command, AllocError>
-        ensures { IfOk result (λ command. command ≡ Command.Prune self.now.group self.now.keep self.now.dry) }
+        ensures { GivesCommand result (Command.Prune self.now.group self.now.keep self.now.dry) }
     {
         Ok(Command::Prune {
             group: Bytes::from_slice(alloc, self.group.as_slice())?,
@@ -92,7 +92,7 @@ pub struct Forgetting {
 impl Forgetting {
     /// The FORGET of the snapshot that is to go.
     pub fn command(&self, alloc: Global) -> Result<Command, AllocError>
-        ensures { IfOk result (λ command. command ≡ Command.Forget (row_at self.now.rows.items self.now.place).snapshot) }
+        ensures { GivesCommand result (forget_at self.now.rows.items self.now.place) }
     {
         let row = &self.rows[self.place];
         Ok(Command::Forget {

@@ -4,7 +4,7 @@ ghost use Rattle.std.specs.Prelude.{◌≡◌, [], length, IfOk, None, Option};
 ghost use Rattle.std.specs.List.{All};
 ghost use Rattle.std.specs.Option.{option_or};
 ghost use Rattle.job_steps.specs.FaultRows.{IsFitFault};
-ghost use Rattle.job_steps.specs.Waits.{IsTested, fault_with};
+ghost use Rattle.job_steps.specs.Waits.{IsTested, SameFaults, fault_with};
 
 use crate::part::{Part, Waiting};
 use crate::tested::Tested;
@@ -28,7 +28,7 @@ fn test_one(waiting: &mut Waiting)
 
 /// Tests each, by as many threads as there are processors, up to 32. It takes no memory, and the answer is that of one thread.
 fn test_all<R: Threads + Sync>(rt: &R, waiting: &mut [Waiting])
-    ensures same { (fault : Option FileFault) → fault_with fault waiting.new ≡ fault_with fault waiting.old }
+    ensures same { SameFaults waiting.old waiting.new }
     ensures count { length waiting.new ≡ length waiting.old }
     ensures tested { All IsTested waiting.new }
 {

@@ -1,14 +1,13 @@
 //! VERIFY: each file of a snapshot is read, and each chunk that its indexes name.
 
-ghost use Rattle.std.specs.Prelude.{◌≡◌, ◌+◌, ◌<◌, ◌++◌, length, vec_len, IfErr, IfOk, MatchResult, OnErr, OnOk};
+ghost use Rattle.std.specs.Prelude.{◌≡◌, ◌+◌, ◌<◌, ◌++◌, length, vec_len, IfErr, IfOk, OnErr, OnOk};
 ghost use Rattle.std.specs.Option.{option_map};
 ghost use Rattle.wire_commands.specs.HasText.{FitsFileRow, ReplyHasText};
 ghost use Rattle.store_model.specs.VerifyJob as model;
-ghost use Rattle.job_steps.specs.Replies.{EndsInText};
+ghost use Rattle.job_steps.specs.Replies.{EitherEndsInText, EndsInText};
 ghost use Rattle.job_steps.specs.States.{chunks_of, job_in};
-ghost use Rattle.job_steps.specs.Checks.{CountsFile, GivesWhole, IsPart, checked_by, damaged_by, fault_told as told_of, held_by, read_by, read_on, reading_of, shown_whole, unheld_by, unread_by, unreadable_by};
-ghost use Rattle.job_steps.specs.Closes.{ended_by};
-ghost use Rattle.store_model.specs.Job.{closing};
+ghost use Rattle.job_steps.specs.Checks.{CountsFile, GivesStep, GivesWhole, IsPart, checked_by, damaged_by, fault_told as told_of, held_by, judged_of, read_by, read_on, reading_of, shown_whole, unheld_by, unread_by, unreadable_by};
+ghost use Rattle.store_model.specs.Job.{ended_by, closing};
 ghost use Rattle.job_steps.specs.FaultRows.{IsFitFault};
 ghost use Rattle.job_steps.specs.Visits.{EndsTested, IsUncounted, WaitsFor, judged_by, place_in, shown_visit as shown};
 
@@ -29,7 +28,7 @@ use wire_commands::{Command, FaultRow, FileFault, FileRow, Reply};
 impl Opening {
     /// The OPEN_READER of the snapshot.
     pub fn open(&self, alloc: Global) -> Result<Step, AllocError>
-        ensures { IfOk result (λ step. step ≡ Step.Command (Command.OpenReader self.now.snapshot)) }
+        ensures { GivesStep result (Step.Command (Command.OpenReader self.now.snapshot)) }
     {
         let snapshot = Bytes::from_slice(alloc, self.snapshot.as_slice())?;
         Ok(Step::Command(Command::OpenReader { snapshot }))
@@ -37,7 +36,7 @@ impl Opening {
 
     /// And the FILES of it.
     pub fn files(&self, alloc: Global) -> Result<Step, AllocError>
-        ensures { IfOk result (λ step. step ≡ Step.Command (Command.Files self.now.snapshot)) }
+        ensures { GivesStep result (Step.Command (Command.Files self.now.snapshot)) }
     {
         let snapshot = Bytes::from_slice(alloc, self.snapshot.as_slice())?;
         Ok(Step::Command(Command::Files { snapshot }))
@@ -172,7 +171,7 @@ impl Visit {
 impl Reading {
     /// The read of the next part.
     pub fn step(&self, alloc: Global) -> Result<Step, AllocError>
-        ensures { IfOk result (λ step. step ≡ Step.ReadFile self.now.row.file (length self.now.bytes.items)) }
+        ensures { GivesStep result (Step.ReadFile self.now.row.file (length self.now.bytes.items)) }
     {
         let name = file_name(alloc, self.row.file.as_slice())?;
         Ok(Step::ReadFile {
@@ -183,7 +182,7 @@ impl Reading {
 
     /// What the bytes say, where they are all of the file.
     fn whole(&self, alloc: Global) -> Result<Whole, AllocError>
-        ensures { GivesWhole result (model.judged self.now.visit.snapshot self.now.row self.now.bytes.items) }
+        ensures { GivesWhole result (judged_of self.now) }
     {
         let judged = judge(
             alloc,
@@ -271,7 +270,7 @@ impl Reading {
         requires { ReplyHasText reply }
         ensures ok { IfOk result (λ state. job_in state ≡ read_by self reply) }
         ensures err { IfErr result (λ state. (job_in state ≡ reading_of self) × IsPart reply) }
-        ensures ends { MatchResult result (λ state. EndsInText (job_in state)) (λ state. EndsInText (job_in state)) }
+        ensures ends { EitherEndsInText result }
     {
         match reply {
             Reply::Part { total, bytes } => match self.append(alloc, total, bytes.as_slice()) {
@@ -299,7 +298,7 @@ fn fault_told(reply: &Reply) -> Option<FileFault>
 impl Checking {
     /// The read of the next chunk.
     pub fn step(&self, alloc: Global) -> Result<Step, AllocError>
-        ensures { IfOk result (λ step. step ≡ Step.ReadChunk self.now.row.file (place_in self.now.chunks)) }
+        ensures { GivesStep result (Step.ReadChunk self.now.row.file (place_in self.now.chunks)) }
     {
         let name = file_name(alloc, self.row.file.as_slice())?;
         let entry = self.chunks.place() as u32;

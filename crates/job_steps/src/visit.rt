@@ -2,7 +2,7 @@
 
 ghost use Rattle.std.specs.Prelude.{◌≡◌, ◌+◌, ◌*◌, ◌≤◌, ◌^◌, length, vec_capacity, vec_len, All, IfOk};
 ghost use Rattle.wire_commands.specs.HasText.{FitsFileRow};
-ghost use Rattle.job_steps.specs.FaultRows.{IsFitRow};
+ghost use Rattle.store_model.specs.FaultRows.{IsFitRow};
 
 use std::alloc::{AllocError, Global};
 use std::collections::VecDeque;

@@ -16,7 +16,7 @@ use Rattle.store_model.specs.Load.{read_manifest}
 use Rattle.store_history.specs.declared.act.Act.{Act}
 use Rattle.store_history.specs.declared.act.Act.TheVariants as acts
 use Rattle.store_history.specs.Pulling.{Course, Stock, Index, Pulling, seeking, comparing, starting, reading_manifest, reading_file, opening, reading_chunk, sending_chunk, appending, closing_index, sending_blob, sending_manifest, finishing, rejecting, aborting, SyncJob, asks, is_key, is_later, newest_in, next_snapshot, finished, stops, ends, rejected, rejects, is_sent, next_append, next_chunk, index_in, is_index, index_read, blob_read, file_read, next_file, stock_of, manifest_read, batch, sought, compared, started, manifest_part, file_part, manifest_told, file_told, chunk_told, goes_on, take, is_ending}
-use Rattle.job_steps.specs.Closes.{leaves_open}
+use Rattle.store_model.specs.Job.{leaves_open}
 use Rattle.lane.specs.declared.acts.Told.{Told}
 use Rattle.lane.specs.Acting.{MayTell}
 use Rattle.lane.specs.Pulling.{IsActOf, IsFormed, course_rank, file_rank, rank, snapshot_rank, stock_rank}

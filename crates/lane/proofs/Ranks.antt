@@ -28,7 +28,7 @@ use Rattle.wire_commands.specs.declared.rows.FileRow.{FileRow}
 use Rattle.wire_commands.specs.declared.rows.PruneMark.TheVariants.{Removed, Held, Gone}
 use Rattle.wire_commands.specs.declared.rows.PruneRow.{PruneRow}
 use Rattle.wire_commands.specs.HasText.{ReplyHasText}
-use Rattle.store_model.specs.Job.{Visit, Asking, grouping, forgetting, opening, listing, reading, checking, closing, over, asking, stopped, closed}
+use Rattle.store_model.specs.Job.{Visit, Asking, grouping, forgetting, opening, listing, reading, checking, closing, over, asking, stopped, closed, leaves_open}
 use Rattle.store_model.specs.Jobs.{take}
 use Rattle.store_model.specs.PruneJob as prune
 use Rattle.store_model.specs.VerifyJob as verify
@@ -36,7 +36,6 @@ use Rattle.store_history.specs.declared.act.Act.{Act}
 use Rattle.store_history.specs.declared.act.Act.TheVariants as acts
 use Rattle.store_history.specs.Begun.{IsBegun}
 use Rattle.store_history.specs.LaneRun.{is_stopping}
-use Rattle.job_steps.specs.Closes.{leaves_open}
 use Rattle.core_state.specs.Replies.{may_answer, answers_part}
 use Rattle.lane.specs.declared.acts.Told.{Told}
 use Rattle.lane.specs.Acting.{IsRefused, MayTell}

@@ -11,7 +11,7 @@ use Rattle.wire_commands.specs.declared.rows.PruneMark.TheVariants.{Removed, Hel
 use Rattle.store_types.specs.declared.names.Keep.{Keep}
 use Rattle.store_types.specs.declared.refusal.Refusal.{Refusal}
 use Rattle.store_types.specs.declared.refusal.Refusal.TheVariants.{SnapshotBusy, NoSnapshot, NoMemory, RemoteFault, DiskFault, Halted}
-use Rattle.store_model.specs.Job.{Asking, grouping, forgetting, opening, listing, reading, checking, closing, aborting, step_of, Job, over, asking, closed}
+use Rattle.store_model.specs.Job.{Asking, grouping, forgetting, opening, listing, reading, checking, closing, aborting, step_of, Job, over, asking, closed, leaves_open}
 use Rattle.store_model.specs.Jobs.{take, take_more}
 use Rattle.store_model.specs.Weave.{first_fault}
 use Rattle.store_model.specs.PruneJob as prune
@@ -24,7 +24,6 @@ use Rattle.store_history.specs.Acts.{act_of_step}
 use Rattle.store_history.specs.Begun.{IsBegun}
 use Rattle.store_history.specs.LaneRun.{is_stopping}
 use Rattle.store_history.proofs.Jobs.{take_begun}
-use Rattle.job_steps.specs.Closes.{leaves_open}
 use Rattle.core_state.specs.declared.kept.Session.{Session}
 use Rattle.core_state.specs.declared.kept.Session.TheVariants.{Idle, Reader}
 use Rattle.core_state.specs.declared.state.Core.{Core}

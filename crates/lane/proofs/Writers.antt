@@ -14,7 +14,7 @@ use Rattle.store_history.specs.declared.act.Act.TheVariants as acts
 use Rattle.store_history.specs.declared.act.Answer.{Answer}
 use Rattle.store_history.specs.Acts.{act_of_command}
 use Rattle.store_history.specs.Pulling.{Course, Pulling, seeking, comparing, starting, reading_manifest, reading_file, opening, reading_chunk, sending_chunk, appending, closing_index, sending_blob, sending_manifest, finishing, rejecting, aborting, SyncJob, reports, asks, act_of, next_snapshot, finished, stops, ends, rejected, sought, compared, started, manifest_told, file_told, chunk_told, goes_on, take, take_more, is_ending, has_writer}
-use Rattle.job_steps.specs.Closes.{leaves_open}
+use Rattle.store_model.specs.Job.{leaves_open}
 use Rattle.core_state.specs.declared.kept.Session.{Session}
 use Rattle.core_state.specs.declared.kept.Session.TheVariants.{Idle}
 use Rattle.core_state.specs.declared.parts.Parts.{Parts}

@@ -10,7 +10,7 @@ use Rattle.wire_commands.specs.declared.reply.Reply.{Reply}
 use Rattle.wire_commands.specs.declared.command.Command.TheVariants.{OpenReader}
 use Rattle.wire_commands.specs.declared.reply.Reply.TheVariants.{Done, Refused}
 use Rattle.wire_commands.specs.ReplyText.{reply_text}
-use Rattle.job_steps.specs.Closes.{leaves_open}
+use Rattle.store_model.specs.Job.{leaves_open}
 use Rattle.store_model.specs.declared.ending.Ending.{Ending}
 use Rattle.store_model.specs.declared.ending.Ending.TheVariants as endings
 use Rattle.store_history.specs.declared.act.Act.{Act}

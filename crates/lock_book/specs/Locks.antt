@@ -1,9 +1,13 @@
 -- Which lane has which group, and which lanes hold which snapshots.
-use Rattle.std.specs.Prelude.{◌≡◌, ℕ, not, List, [], ◌∷◌, ◌++◌, map, filter, ◌==◌, if◌then◌else◌, Option, Some, None}
+use Rattle.std.specs.Prelude.{◌≡◌, ℕ, not, List, [], ◌∷◌, ◌++◌, map, filter, ◌==◌, if◌then◌else◌, Option, Some, None, option_map, Result, OnOk}
+use Rattle.std.specs.Borrow.{Bor}
 use Rattle.std.specs.Map.{lookup}
+use Rattle.std.specs.Option.{option_copied}
+use Rattle.std.specs.Result.{result_err}
 use Rattle.store_types.specs.declared.names.SnapshotKey.{SnapshotKey}
 use Rattle.store_types.specs.declared.names.GroupKey.{GroupKey}
 use Rattle.store_types.specs.Names.{same_key, same_group}
+use Rattle.lock_book.specs.declared.LaneHolds.{LaneHolds}
 
 -- the lane that has each group, and the claims to snapshots as they were taken
 pub record Locks : Type 0 where
@@ -26,7 +30,15 @@ abbrev pub other_than : ℕ → Option ℕ → Option ℕ
 other_than lane None = None
 other_than lane (Some holder) = if holder == lane then None else Some holder
 
+-- a refusal tells the lane that has the group, and comes just where that is another one
+abbrev pub TellsHolder : Locks → ℕ → GroupKey → Result (Unit {0}) LaneHolds → Type 0
+TellsHolder locks lane group taken = option_map (λ e. e.lane) (result_err taken) ≡ other_than lane (group_holder locks group)
+
 -- the lane's claim to the snapshot, where there is one
+abbrev pub claim_by : ℕ → Option SnapshotKey → Option (SnapshotKey × ℕ)
+claim_by lane key = option_map (λ k. (k, lane)) key
+
+-- the same as a list
 abbrev pub claims_of : ℕ → Option SnapshotKey → List (SnapshotKey × ℕ)
 claims_of lane None = []
 claims_of lane (Some key) = (key, lane) ∷ []
@@ -40,6 +52,13 @@ pub record TakesGroup (old new : Locks) (lane : ℕ) (group : GroupKey) : Type 0
 pub record TakesWriter (old new : Locks) (lane : ℕ) (group : GroupKey) (base : Option SnapshotKey) : Type 0 where
   pub groups : (g : GroupKey) → group_holder new g ≡ (if same_group group g then Some lane else group_holder old g)
   pub shared : new.shared ≡ old.shared ++ claims_of lane base
+
+-- what an answer without a refusal means
+abbrev pub OkTakesGroup : Locks → Locks → ℕ → GroupKey → Result (Unit {0}) LaneHolds → Type 0
+OkTakesGroup old new lane group taken = OnOk taken (TakesGroup old new lane group)
+
+abbrev pub OkTakesWriter : Locks → Locks → ℕ → GroupKey → Option (Bor SnapshotKey) → Result (Unit {0}) LaneHolds → Type 0
+OkTakesWriter old new lane group base taken = OnOk taken (TakesWriter old new lane group (option_copied base))
 
 -- The lane holds the snapshot too, and nothing else has changed.
 pub record TakesShare (old new : Locks) (lane : ℕ) (key : SnapshotKey) : Type 0 where

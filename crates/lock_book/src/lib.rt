@@ -1,10 +1,10 @@
 //! Which lane's writer has which group, and which lanes hold which snapshots.
 #![tactic(auto)]
 
-ghost use Rattle.std.specs.Prelude.{◌≡◌, ◌≤◌, ◌<◌, ◌++◌, None, [], All, Contains, IfOk, OnOk, OnErr, IfErr, option_map, min, vec_len, vec_capacity};
+ghost use Rattle.std.specs.Prelude.{◌≡◌, ◌≤◌, ◌<◌, ◌++◌, [], All, Contains, IfOk, OnOk, OnErr, IfErr, min, vec_len, vec_capacity};
 ghost use Rattle.std.specs.List.{reduce};
-ghost use Rattle.std.specs.Option.{option_to_list};
-ghost use Rattle.std.specs.Result.{result_err};
+ghost use Rattle.std.specs.Option.{option_copied, option_to_list};
+ghost use Rattle.lock_book.specs.Locks.{claim_by};
 
 use std::alloc::{AllocError, Global};
 use std::collections::BTreeMap;
@@ -36,7 +36,7 @@ impl Model for LockBook {
 
 /// The lane's claim to the snapshot, where there is one.
 fn claim_of(lane: u32, key: Option<&SnapshotKey>) -> Result<Option<(SnapshotKey, u32)>, AllocError>
-    ensures { IfOk result (λ claim. claim ≡ option_map (λ k. (k, lane)) (option_map (λ k. k.now) key.entry)) }
+    ensures { IfOk result (λ claim. claim ≡ claim_by lane (option_copied key.entry)) }
 {
     match key {
         None => Ok(None),
@@ -55,7 +55,7 @@ fn add_claim(claims: &mut Vec<(SnapshotKey, u32)>, claim: Option<(SnapshotKey, u
 }
 
 impl LockBook {
-    ghost use Rattle.lock_book.specs.Locks.{Locks, no_locks, group_holder, other_than, sharers, TakesGroup, TakesWriter, TakesShare, Releases};
+    ghost use Rattle.lock_book.specs.Locks.{Locks, no_locks, group_holder, other_than, sharers, TellsHolder, OkTakesGroup, OkTakesWriter, TakesShare, Releases};
 
     /// No lane holds anything. It takes no memory.
     pub fn new(alloc: Global) -> LockBook
@@ -79,7 +79,7 @@ impl LockBook {
 
     /// `Ok` where no other lane has the group, else the lane that has it. It takes no memory.
     pub fn free_for_writer(&self, lane: u32, group: &GroupKey) -> Result<(), LaneHolds>
-        ensures { option_map (λ e. e.lane) (result_err result) ≡ other_than lane (group_holder self.now group.now) }
+        ensures { TellsHolder self.now lane group.now result }
     {
         match self.other_holder(lane, group) {
             None => Ok(()),
@@ -95,8 +95,8 @@ impl LockBook {
         group: &GroupKey,
         base: Option<&SnapshotKey>,
     ) -> Result<Result<(), LaneHolds>, AllocError>
-        ensures held { IfOk result (λ taken. option_map (λ e. e.lane) (result_err taken) ≡ other_than lane (group_holder self.old group.now)) }
-        ensures taken { IfOk result (λ taken. OnOk taken (TakesWriter self.old self.new lane group.now (option_map (λ k. k.now) base.entry))) }
+        ensures held { IfOk result (TellsHolder self.old lane group.now) }
+        ensures taken { IfOk result (OkTakesWriter self.old self.new lane group.now base.entry) }
         ensures refused { IfOk result (λ taken. OnErr taken (self.new ≡ self.old)) }
         ensures err { OnErr result (self.new ≡ self.old) }
     {
@@ -117,8 +117,8 @@ impl LockBook {
         lane: u32,
         group: &GroupKey,
     ) -> Result<Result<(), LaneHolds>, AllocError>
-        ensures held { IfOk result (λ taken. option_map (λ e. e.lane) (result_err taken) ≡ other_than lane (group_holder self.old group.now)) }
-        ensures taken { IfOk result (λ taken. OnOk taken (TakesGroup self.old self.new lane group.now)) }
+        ensures held { IfOk result (TellsHolder self.old lane group.now) }
+        ensures taken { IfOk result (OkTakesGroup self.old self.new lane group.now) }
         ensures refused { IfOk result (λ taken. OnErr taken (self.new ≡ self.old)) }
         ensures err { OnErr result (self.new ≡ self.old) }
     {

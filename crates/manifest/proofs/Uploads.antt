@@ -11,7 +11,7 @@ use Rattle.store_files.specs.Manifest.Mismatch.{Mismatch, mismatch, key_mismatch
 use Rattle.manifest.specs.declared.facts.FileFact.{FileFact}
 use Rattle.manifest.specs.declared.facts.Manifest.{Manifest}
 use Rattle.manifest.specs.Views.{fact_view}
-use Rattle.manifest.specs.Checking.{uploaded, placed, first_mismatch, of_file}
+use Rattle.manifest.specs.Checking.{uploaded, placed, first_mismatch, is_listed, is_unlisted, of_file}
 use Rattle.manifest.specs.Least.{lesser}
 use Rattle.manifest.proofs.Ordered.{lesser-assoc, named-placed, kept, first_kept, first_kept-placed, in_order-rises, in_order-same, filter-rises, Rises}
 
@@ -70,10 +70,6 @@ any-viewed : (name : List ℕ) (listed : List FileFact) → list_any (λ f. byte
 any-viewed name [] = refl
 any-viewed name (f ∷ fs) = ap (λ b. bytes_eq f.name name || b) (any-viewed name fs)
 
--- whether a name is listed
-abbrev pub is_listed : List FileFact → List ℕ → Bool
-is_listed listed name = list_any (λ f. bytes_eq f.name name) listed
-
 -- the first upload that is not listed
 abbrev pub first_name : List FileFact → List FileFact → Option (List ℕ)
 first_name listed uploads = first_kept (is_listed listed) (uploaded uploads)
@@ -108,10 +104,7 @@ module _ (listed : List FileFact) (u : FileFact) (us : List FileFact) (first : O
 
 -- one upload more, by whether it is told
 module _ (listed : List FileFact) (u : FileFact) (us : List FileFact) (first : Option (List ℕ)) where
-  abbrev pub is_told : Bool
-  is_told = not (bytes_eq u.name manifest_name) && not (is_listed listed u.name)
-
-  pub first-passed : is_told ≡ false → lesser first (first_name listed us) ≡ lesser first (first_name listed (u ∷ us))
+  pub first-passed : is_unlisted listed u.name ≡ false → lesser first (first_name listed us) ≡ lesser first (first_name listed (u ∷ us))
   first-passed e = by_tests (bytes_eq u.name manifest_name) (is_listed listed u.name) refl refl e
     where
       by_tests : (a b : Bool) → bytes_eq u.name manifest_name ≡ a → is_listed listed u.name ≡ b → (not a && not b) ≡ false
@@ -120,7 +113,7 @@ module _ (listed : List FileFact) (u : FileFact) (us : List FileFact) (first : O
       by_tests false true is there h = first-listed_too listed u us first is there
       by_tests false false is there h = cc
 
-  pub first-told : is_told ≡ true → lesser (lesser first (Some u.name)) (first_name listed us) ≡ lesser first (first_name listed (u ∷ us))
+  pub first-told : is_unlisted listed u.name ≡ true → lesser (lesser first (Some u.name)) (first_name listed us) ≡ lesser first (first_name listed (u ∷ us))
   first-told e = by_tests (bytes_eq u.name manifest_name) (is_listed listed u.name) refl refl e
     where
       by_tests : (a b : Bool) → bytes_eq u.name manifest_name ≡ a → is_listed listed u.name ≡ b → (not a && not b) ≡ true

@@ -1,12 +1,12 @@
 //! Manifests are compared with a session.
 
-ghost use Rattle.std.specs.Prelude.{◌≡◌, ◌≤◌, [], None, Some, not, ◌&&◌, option_map, map, IfOk, IfErr, IfSome, MatchResult};
-ghost use Rattle.std.specs.List.{find, list_any};
+ghost use Rattle.std.specs.Prelude.{◌≡◌, ◌≤◌, [], None, Some, option_map, IfOk, IfErr, IfSome, MatchResult};
+ghost use Rattle.std.specs.List.{find};
+ghost use Rattle.std.specs.Option.{option_copied};
 ghost use Rattle.std.specs.Str.{bytes_eq};
-ghost use Rattle.store_types.specs.FileNames.{manifest_name};
-ghost use Rattle.store_files.specs.Manifest.Mismatch.{key_mismatch, upload_mismatch, fact_named, listed_mismatch, unlisted_mismatch};
+ghost use Rattle.store_files.specs.Manifest.Mismatch.{key_mismatch};
 ghost use Rattle.manifest.specs.Views.{fact_view, mismatch_view};
-ghost use Rattle.manifest.specs.Checking.{uploaded, first_mismatch, of_file, FitsField};
+ghost use Rattle.manifest.specs.Checking.{first_mismatch, upload_of, file_mismatch, files_mismatch, uploads_mismatch, is_listed as listed_in, is_unlisted as unlisted_in, of_file, in_file, told_of, FitsField};
 ghost use Rattle.manifest.specs.Least.{lesser as lesser_of};
 
 use crate::facts::{FileFact, Manifest, Mismatch};
@@ -30,20 +30,20 @@ fn key_field(listed: &SnapshotKey, key: &SnapshotKey) -> Option<u8>
 }
 
 fn is_listed(listed: &[FileFact], name: &FileName) -> bool
-    ensures { result ≡ list_any (λ f. bytes_eq f.name name.now) listed.now }
+    ensures { result ≡ listed_in listed.now name.now }
 {
     listed.iter().any(|file| file.name == *name)
 }
 
 fn file_named<'f>(files: &'f [FileFact], name: &FileName) -> Option<&'f FileFact>
-    ensures { option_map (λ f. f.now) result ≡ find (λ f. bytes_eq f.name name.now) files.now }
+    ensures { option_copied result ≡ find (λ f. bytes_eq f.name name.now) files.now }
 {
     files.iter().find(|file| file.name == *name)
 }
 
 /// The upload with a listed file's name. The manifest is none.
 fn upload_named<'u>(uploads: &'u [FileFact], name: &FileName) -> Option<&'u FileFact>
-    ensures { option_map (λ u. fact_view u.now) result ≡ fact_named name.now (uploaded uploads.now) }
+    ensures { option_map (λ u. fact_view u.now) result ≡ upload_of uploads.now name.now }
 {
     if name.is_manifest() {
         return None;
@@ -53,7 +53,7 @@ fn upload_named<'u>(uploads: &'u [FileFact], name: &FileName) -> Option<&'u File
 
 /// What differs between a listed file and its upload.
 fn file_field(listed: &FileFact, uploads: &[FileFact]) -> Option<u8>
-    ensures value { option_map (of_file listed.now.name) result ≡ upload_mismatch (fact_view listed.now) (fact_named listed.now.name (uploaded uploads.now)) }
+    ensures value { option_map (in_file listed.now) result ≡ file_mismatch listed.now uploads.now }
     ensures field { IfSome result (λ field. (4 ≤ field) × (field ≤ 7)) }
 {
     let Some(upload) = upload_named(uploads, &listed.name) else {
@@ -70,7 +70,7 @@ fn file_field(listed: &FileFact, uploads: &[FileFact]) -> Option<u8>
 
 /// The first listed file that was not uploaded so, and what differs.
 fn first_listed<'l>(listed: &'l [FileFact], uploads: &[FileFact]) -> Option<(&'l FileName, u8)>
-    ensures value { option_map (λ r. of_file r.0.now r.1) result ≡ listed_mismatch (map fact_view listed.now) (uploaded uploads.now) }
+    ensures value { option_map told_of result ≡ files_mismatch listed.now uploads.now }
     ensures field { IfSome result (λ r. (4 ≤ r.1) × (r.1 ≤ 7)) }
 {
     for file in listed {
@@ -82,7 +82,7 @@ fn first_listed<'l>(listed: &'l [FileFact], uploads: &[FileFact]) -> Option<(&'l
 }
 
 fn lesser<'n>(first: Option<&'n FileName>, name: &'n FileName) -> Option<&'n FileName>
-    ensures { option_map (λ n. n.now) result ≡ lesser_of (option_map (λ n. n.now) first.entry) (Some name.now) }
+    ensures { option_copied result ≡ lesser_of (option_copied first.entry) (Some name.now) }
 {
     let Some(first) = first else {
         return Some(name);
@@ -95,14 +95,14 @@ fn lesser<'n>(first: Option<&'n FileName>, name: &'n FileName) -> Option<&'n Fil
 }
 
 fn is_unlisted(listed: &[FileFact], name: &FileName) -> bool
-    ensures { result ≡ (not (bytes_eq name.now manifest_name) && not (list_any (λ f. bytes_eq f.name name.now) listed.now)) }
+    ensures { result ≡ unlisted_in listed.now name.now }
 {
     !name.is_manifest() && !is_listed(listed, name)
 }
 
 /// The first in byte order of the uploads that are not listed. The manifest is none.
 fn first_unlisted<'u>(listed: &[FileFact], uploads: &'u [FileFact]) -> Option<&'u FileName>
-    ensures { option_map (λ n. of_file n.now 5) result ≡ unlisted_mismatch (map fact_view listed.now) (uploaded uploads.now) }
+    ensures { option_map (λ n. of_file n.now 5) result ≡ uploads_mismatch listed.now uploads.now }
 {
     let mut first = None;
     for upload in uploads {

@@ -1,11 +1,11 @@
 //! Manifests are read.
 
-ghost use Rattle.std.specs.Prelude.{◌≡◌, List, ℕ, [], ◌∷◌, Ok, Err, IfOk, MatchResult, map};
+ghost use Rattle.std.specs.Prelude.{◌≡◌, [], Ok, Err, IfOk, MatchResult, map};
 ghost use Rattle.serde_json.specs.View.{view, items_view};
 ghost use Rattle.store_types.specs.Names.{IsKey};
 ghost use Rattle.store_files.specs.Manifest.{files_in as files_of, manifest_of};
 ghost use Rattle.manifest.specs.Views.{fact_view, manifest_view};
-ghost use Rattle.manifest.specs.Reading.{HasNames, entry_in as entry_of, manifest_in as manifest_from};
+ghost use Rattle.manifest.specs.Reading.{TellsEntry, manifest_in as manifest_from};
 
 use crate::facts::{BadManifest, FileFact, Manifest};
 use crate::fields::{fact_in, is_plain, key_in};
@@ -31,9 +31,7 @@ fn entry_in(
     json: &Value,
     names: &mut BTreeSet<FileName>,
 ) -> Result<Result<FileFact, BadManifest>, AllocError>
-    ensures { IfOk result (λ read. (before : List (List ℕ)) → HasNames names.old before → MatchResult read
-        (λ fact. (entry_of before (view json.now) ≡ Ok (fact_view fact)) × HasNames names.new (fact.name ∷ before))
-        (λ e. entry_of before (view json.now) ≡ Err e.cause)) }
+    ensures { IfOk result (TellsEntry (view json.now) names.old names.new) }
 {
     let Some(fact) = fact_in(alloc, json)? else {
         return Ok(Err(BAD_FILE));

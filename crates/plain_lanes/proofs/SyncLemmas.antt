@@ -11,9 +11,8 @@ use Rattle.wire_commands.specs.declared.reply.Reply.TheVariants.{Base, Keys, Ref
 use Rattle.wire_commands.specs.Fields.{text}
 use Rattle.wire_commands.specs.ReplyText.{reply_text}
 use Rattle.wire_commands.specs.HasText.{IsText, ReplyHasText}
-use Rattle.store_model.specs.Job.{Pull, over, asking, beginning, sending, aborting}
+use Rattle.store_model.specs.Job.{Pull, over, asking, beginning, sending, aborting, ended_by, is_refused}
 use Rattle.store_model.specs.SyncJob.{next_snapshot, next_command, commands_of, begun, replied}
-use Rattle.plain_lanes.specs.Closes.{ended_by, is_refused}
 use Rattle.plain_lanes.specs.Pulls.{is_base}
 
 texts_short : (ts : List (List ℕ)) → All IsText ts → length (flat_map text ts) ≤ 256 * length ts

@@ -1,51 +1,23 @@
 -- What a VERIFY makes of the replies to its steps.
-use Rattle.std.proofs.Common.{◌≡◌, ℕ, ◌*◌, ◌≤◌, Bool, true, false, cond, List, [], ◌∷◌, length, Option, None, Some, refl, sym, ap, arith, length-append}
-use Rattle.std.specs.Prelude.{◌+◌, ◌<◌, ◌^◌, ◌&&◌, All}
-use Rattle.std.specs.List.{flat_map}
+use Rattle.std.proofs.Common.{◌≡◌, ℕ, true, false, List, [], ◌∷◌, length, Option, None, Some, refl, sym, ap, arith}
+use Rattle.std.specs.Prelude.{◌+◌, ◌<◌, ◌&&◌}
 use Rattle.std.specs.Option.{option_or}
 use Rattle.std.specs.Prelude.{nat_lt}
-use Rattle.std.proofs.lemmas.Bool.{and_parts, ltb-true, lt-ltb, eqb-true, eq-eqb}
-use Rattle.std.proofs.lemmas.List.Elements.{All-nil, All-cons, All-head, All-tail}
+use Rattle.std.proofs.lemmas.Bool.{lt-ltb, eq-eqb}
 use Rattle.store_types.specs.declared.names.Digest32.{Digest32}
 use Rattle.store_types.specs.declared.refusal.Refusal.TheVariants.{Damaged, Unreadable}
 use Rattle.wire_commands.specs.declared.rows.FileRow.{FileRow}
 use Rattle.wire_commands.specs.declared.rows.FileFault.{FileFault}
 use Rattle.wire_commands.specs.declared.rows.FileFault.TheVariants as faults
-use Rattle.wire_commands.specs.declared.rows.FaultRow.{FaultRow}
 use Rattle.wire_commands.specs.declared.reply.Reply.{Reply}
-use Rattle.wire_commands.specs.declared.reply.Reply.TheVariants.{Done, Part, Data, Files, Verified, Refused}
-use Rattle.wire_commands.specs.ReplyText.{file_fault_text, fault_row_text, reply_text}
-use Rattle.wire_commands.specs.HasText.{FitsFileFault, FitsFaultRow, ReplyHasText}
-use Rattle.store_model.specs.Job.{Visit, over, asking, listing, reading, checking, closing}
-use Rattle.store_model.specs.VerifyJob.{next_file, file_done, next_chunk, with_fault, tally, judged, file_read, opened, listed, part_read, read_part, chunk_fault, checked}
-use Rattle.plain_lanes.specs.Closes.{ended_by}
-use Rattle.plain_lanes.specs.FaultRows.{fault_fits, IsFitRow}
+use Rattle.wire_commands.specs.declared.reply.Reply.TheVariants.{Done, Part, Data, Files, Refused}
+use Rattle.wire_commands.specs.HasText.{FitsFileFault}
+use Rattle.store_model.specs.Job.{Visit, over, asking, listing, checking, closing, ended_by}
+use Rattle.store_model.specs.VerifyJob.{file_done, next_chunk, with_fault, opened, listed, read_part, chunk_fault, checked}
+use Rattle.store_model.specs.FaultRows.{fault_fits}
 use Rattle.plain_lanes.specs.Visits.{is_done, is_files, is_part, is_data, fault_told, chunk_told, unreadable_told, chunk_judged, with_faults, read_by, checked_by}
 
 -- ---- the report
-
-fault_short : (f : FileFault) → FitsFileFault f → length (file_fault_text f) ≤ 33
-fault_short faults.Differs h = omega arith
-fault_short (faults.Damaged d) h = omega (arith, h)
-fault_short faults.Unreadable h = omega arith
-
-rows_short : (rows : List FaultRow) → All FitsFaultRow rows → length (flat_map fault_row_text rows) ≤ 290 * length rows
-rows_short [] fit = omega arith
-rows_short (r ∷ rs) fit =
-    let first = All-head FitsFaultRow r rs fit in
-    let rest = rows_short rs (All-tail FitsFaultRow r rs fit) in
-    simp length-append (omega (arith, first.0, fault_short r.fault first.1, rest))
-
--- the test's rows
-fault_of_test : (f : FileFault) → fault_fits f ≡ true → FitsFileFault f
-fault_of_test (faults.Damaged d) h = eqb-true (length d.0) 32 h
-fault_of_test f h = tt
-
-pub rows_of_test : (rows : List FaultRow) → All IsFitRow rows → All FitsFaultRow rows
-rows_of_test [] fit = All-nil FitsFaultRow
-rows_of_test (r ∷ rs) fit =
-    let parts = and_parts (nat_lt (length r.file) 256) (fault_fits r.fault) (All-head IsFitRow r rs fit) in
-    All-cons FitsFaultRow r rs (ltb-true (length r.file) 256 parts.0, fault_of_test r.fault parts.1) (rows_of_test rs (All-tail IsFitRow r rs fit))
 
 fault_tested : (f : FileFault) → FitsFileFault f → fault_fits f ≡ true
 fault_tested (faults.Damaged d) h = eq-eqb (length d.0) 32 h
@@ -54,29 +26,7 @@ fault_tested f h = refl
 pub row_tested : (file : List ℕ) (f : FileFault) → length file < 256 → FitsFileFault f → (nat_lt (length file) 256 && fault_fits f) ≡ true
 row_tested file f short fits = rw (lt-ltb (length file) 256 short, fault_tested f fits) refl
 
-pub verified_spelled : (files entries bytes : ℕ) (rows : List FaultRow) → files < 256 → entries < 2 ^ 64 → bytes < 2 ^ 64 → length rows ≤ files → All FitsFaultRow rows
-    → ReplyHasText (Verified files entries bytes rows)
-unfolding reply_text
-verified_spelled files entries bytes rows few counted summed within fit =
-    ((few, counted, summed, omega (arith, few, within), fit), simp length-append (omega (arith, few, within, rows_short rows fit)))
-
 -- ---- from file to file
-
-module _ (v : Visit) where
-  pub next_none : (later : List FileRow) → length later ≡ 0 → asking (closing (tally v)) ≡ next_file v later
-  unfolding next_file
-  next_none [] h = refl
-  next_none (r ∷ rs) h = absurd (omega arith)
-
-  pub next_some : (later rest : List FileRow) (row : FileRow) → later ≡ row ∷ rest → asking (reading (record v { later = rest }) row []) ≡ next_file v later
-  unfolding next_file
-  next_some later rest row is = sym (ap (next_file v) is)
-
--- where the files to come are told, those before do not matter
-pub next_any : (v : Visit) (before later : List FileRow) → next_file (record v { later = before }) later ≡ next_file v later
-unfolding next_file
-next_any v before [] = refl
-next_any v before (r ∷ rs) = refl
 
 -- one more file, with its fault
 pub fault_pushed : (v : Visit) (row : FileRow) (fault : Option FileFault)
@@ -114,20 +64,6 @@ listed_not snapshot (Refused refusal) h = refl
 listed_not snapshot reply h = refl
 
 module _ (v : Visit) (row : FileRow) where
-  -- more of the file is to come
-  pub part_more : (bytes : List ℕ) (total : ℕ) → length bytes < total → asking (reading v row bytes) ≡ part_read v row bytes total
-  unfolding part_read
-  part_more bytes total h = rw (lt-ltb (length bytes) total h) refl
-
-  pub part_whole : (bytes : List ℕ) (total : ℕ) → total ≤ length bytes → file_read v row (judged v.snapshot row bytes) ≡ part_read v row bytes total
-  unfolding part_read
-  part_whole bytes total within = by_test (nat_lt (length bytes) total) refl
-    where
-      by_test : (b : Bool) → nat_lt (length bytes) total ≡ b
-          → file_read v row (judged v.snapshot row bytes) ≡ cond b (asking (reading v row bytes)) (file_read v row (judged v.snapshot row bytes))
-      by_test true h = absurd (omega (arith, ltb-true (length bytes) total h))
-      by_test false h = refl
-
   -- a fault ends the file
   pub fault_read : (reply : Reply) (fault : FileFault) → fault_told reply ≡ Some fault → file_done v row (Some fault) ≡ read_by v row reply
   fault_read reply fault h = rw (h, read_by) refl

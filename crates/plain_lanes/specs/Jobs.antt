@@ -1,6 +1,7 @@
 -- What a job takes and leaves.
-use Rattle.std.specs.Prelude.{◌≡◌, ◌≤◌, length, Option, Some, None, Result, IfOk}
+use Rattle.std.specs.Prelude.{◌≡◌, ◌≤◌, length, Option, Some, None, Result, IfOk, MatchResult}
 use Rattle.store_types.specs.declared.refusal.Refusal.TheVariants.{SnapshotBusy, NoSnapshot}
+use Rattle.wire_commands.specs.declared.command.Command.{Command}
 use Rattle.wire_commands.specs.declared.command.Command.TheVariants.{Prune}
 use Rattle.wire_commands.specs.declared.rows.PruneMark.{PruneMark}
 use Rattle.wire_commands.specs.declared.rows.PruneMark.TheVariants.{Removed, Held, Gone}
@@ -8,6 +9,7 @@ use Rattle.wire_commands.specs.declared.reply.Reply.{Reply}
 use Rattle.wire_commands.specs.declared.reply.Reply.TheVariants.{Done, Keys, Refused}
 use Rattle.wire_commands.specs.HasText.{ReplyHasText}
 use Rattle.store_model.specs.Job as model
+use Rattle.store_model.specs.Jobs.{job_of}
 use Rattle.plain_lanes.specs.declared.job.Job.{Job}
 use Rattle.plain_lanes.specs.declared.job.Job.TheVariants.{Over, Asking}
 
@@ -18,6 +20,10 @@ shown_job (Asking a) = model.asking a
 -- where memory is not wanting, it is this job
 abbrev pub GivesJob : {E : Type 0} → Result Job E → model.Job → Type 0
 GivesJob result job = IfOk result (λ given. shown_job given ≡ job)
+
+-- the job of a command with nothing done, or the command back where it has none
+abbrev pub StartsJob : Command → Result model.Asking Command → Type 0
+StartsJob c result = MatchResult result (λ a. job_of c ≡ Some a) (λ back. (job_of c ≡ None) × (back ≡ c))
 
 -- what a job reports has a text
 abbrev pub IsSpelledJob : Job → Type 0

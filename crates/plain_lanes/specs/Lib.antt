@@ -1,4 +1,3 @@
-pub mod FaultRows
 pub mod Closes
 pub mod Visits
 pub mod Pulls

@@ -54,6 +54,10 @@ abbrev pub left_by : Next → Lane → Lane
 left_by (Job a left) lane = record lane { job = None }
 left_by _ lane = lane
 
+-- no job is open, and this is left
+abbrev pub left_idle : List ℕ → Lane → Lane
+left_idle left lane = record lane { left = left; job = None }
+
 -- a SYNC stands next, begun or not
 abbrev pub is_sync_next : model.Next → Bool
 is_sync_next (model.job_step j left) = is_sync j

@@ -11,11 +11,11 @@ use Rattle.wire_commands.specs.declared.rows.FileFault.TheVariants as faults
 use Rattle.wire_commands.specs.declared.rows.FaultRow.{FaultRow}
 use Rattle.wire_commands.specs.declared.reply.Reply.{Reply}
 use Rattle.wire_commands.specs.declared.reply.Reply.TheVariants.{Done, Part, Data, Files, Refused}
+use Rattle.store_model.specs.Job.{ended_by}
 use Rattle.store_model.specs.Job as model
 use Rattle.store_model.specs.VerifyJob as verify
 use Rattle.plain_lanes.specs.declared.judging.Judged.{Judged}
 use Rattle.plain_lanes.specs.declared.visit.Visit.{Visit}
-use Rattle.plain_lanes.specs.Closes.{ended_by}
 
 abbrev pub shown_visit : Visit → model.Visit
 shown_visit v = record {

@@ -2,9 +2,9 @@
 
 ghost use Rattle.std.specs.Prelude.{◌≡◌, true};
 ghost use Rattle.wire_commands.specs.HasText.{ReplyHasText};
-ghost use Rattle.store_model.specs.Job.{asking, closed as closed_by};
+ghost use Rattle.store_model.specs.Job.{asking, closed as closed_by, ended_by, closes_first as has_close, is_refused as has_refusal, leaves_open as stays_open};
 ghost use Rattle.plain_lanes.specs.Jobs.{shown_job, IsSpelledJob};
-ghost use Rattle.plain_lanes.specs.Closes.{asked_by, ended_by, closes_first as has_close, is_refused as has_refusal, leaves_open as stays_open};
+ghost use Rattle.plain_lanes.specs.Closes.{asked_by};
 
 use crate::job::{Asking, Job, Stage};
 use store_types::Refusal;

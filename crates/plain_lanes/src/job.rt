@@ -1,9 +1,9 @@
 //! Jobs: what one asks next, by the replies to its steps so far.
 
-ghost use Rattle.std.specs.Prelude.{◌≡◌, MatchResult, Some, None, IfOk};
+ghost use Rattle.std.specs.Prelude.{◌≡◌, IfOk};
 ghost use Rattle.store_model.specs.Job.{step_of, is_sync as is_of_sync};
-ghost use Rattle.store_model.specs.Jobs.{job_of, take as taken};
-ghost use Rattle.plain_lanes.specs.Jobs.{shown_job, FitsAsked, IsSpelledJob};
+ghost use Rattle.store_model.specs.Jobs.{take as taken};
+ghost use Rattle.plain_lanes.specs.Jobs.{shown_job, FitsAsked, IsSpelledJob, StartsJob};
 
 use crate::asked::{chunk_step, copied, file_step};
 use crate::ending::{Close, closed};
@@ -104,7 +104,7 @@ impl Asking {
     /// The job of a command, with nothing done. A command that is no job's comes back, and so does a SYNC, which is none
     /// before its first step.
     pub fn start(command: Command) -> Result<Asking, Command>
-        ensures { MatchResult result (λ a. job_of command ≡ Some a) (λ back. (job_of command ≡ None) × (back ≡ command)) }
+        ensures { StartsJob command result }
     {
         match command {
             Command::Prune { group, keep, dry } => Ok(Asking {

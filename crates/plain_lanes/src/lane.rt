@@ -5,7 +5,7 @@ ghost use Rattle.wire_frames.specs.Frames.{frame};
 ghost use Rattle.wire_commands.specs.ReplyText.{reply_text};
 ghost use Rattle.wire_commands.specs.HasText.{ReplyHasText};
 ghost use Rattle.store_model.specs.Lanes.{new_lane, say as said, lane_next};
-ghost use Rattle.plain_lanes.specs.Nexts.{shown_next, left_by, is_sync_next, IsFitNext};
+ghost use Rattle.plain_lanes.specs.Nexts.{shown_next, left_by, left_idle, is_sync_next, IsFitNext};
 
 use crate::job::Asking;
 use crate::next::{Next, next_at};
@@ -93,7 +93,7 @@ impl<'a> Lane<'a> {
     /// One more reply, with this left of the input and no job open.
     pub fn tell(&mut self, alloc: Global, left: &'a [u8], reply: &Reply) -> Result<(), AllocError>
         requires { ReplyHasText reply.now }
-        ensures { OnOk result (self.new ≡ said reply.now (record self.old { left = left.now; job = None })) }
+        ensures { OnOk result (self.new ≡ said reply.now (left_idle left.now self.old)) }
     {
         let bytes = reply_bytes(alloc, reply)?;
         self.told.extend_from_slice(&bytes)?;

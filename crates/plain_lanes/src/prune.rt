@@ -4,7 +4,7 @@ ghost use Rattle.std.specs.Prelude.{◌≡◌, ◌+◌, ◌<◌, ◌≤◌, ◌�
 ghost use Rattle.store_types.specs.Times.{last_moment};
 ghost use Rattle.wire_commands.specs.HasText.{IsText, FitsPruneRow, ReplyHasText};
 ghost use Rattle.store_model.specs.PruneJob as model;
-ghost use Rattle.plain_lanes.specs.Jobs.{shown_job, FitsTaken, IsSpelledJob, mark_told};
+ghost use Rattle.plain_lanes.specs.Jobs.{FitsTaken, GivesJob, IsSpelledJob, mark_told};
 
 use crate::job::{Asking, Job, Stage};
 use prune_rules::{Item, Mark, marks};
@@ -75,7 +75,7 @@ fn go_on(mut before: Vec<PruneRow>, mut later: VecDeque<PruneRow>) -> Result<Job
     requires count { length before.items + length later.items ≤ 4096 }
     requires done { All FitsPruneRow before.items }
     requires to_come { All FitsPruneRow later.items }
-    ensures job { IfOk result (λ job. shown_job job ≡ model.go_on before.items later.items) }
+    ensures job { GivesJob result (model.go_on before.items later.items) }
     ensures spelled { IfOk result IsSpelledJob }
 {
     while let Some(row) = later.pop_front() {
@@ -97,7 +97,7 @@ fn go_on(mut before: Vec<PruneRow>, mut later: VecDeque<PruneRow>) -> Result<Job
 #[tactic(auto, unfolding(store_model::specs::PruneJob::grouped))]
 pub fn grouped(alloc: Global, keep: &Keep, dry: bool, reply: Reply) -> Result<Job, AllocError>
     requires { FitsTaken reply }
-    ensures job { IfOk result (λ job. shown_job job ≡ model.grouped keep.now dry reply) }
+    ensures job { GivesJob result (model.grouped keep.now dry reply) }
     ensures spelled { IfOk result IsSpelledJob }
 {
     let snapshots = match reply {
@@ -135,7 +135,7 @@ pub fn forgot(
     requires asked { IsText snapshot }
     requires to_come { All FitsPruneRow later.items }
     requires fits { ReplyHasText reply }
-    ensures job { IfOk result (λ job. shown_job job ≡ model.forgot before.items snapshot later.items reply) }
+    ensures job { GivesJob result (model.forgot before.items snapshot later.items reply) }
     ensures spelled { IfOk result IsSpelledJob }
 {
     let Some(mark) = mark_of(&reply) else {

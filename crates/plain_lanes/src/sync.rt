@@ -3,8 +3,8 @@
 ghost use Rattle.std.specs.Prelude.{◌≡◌, ◌<◌, [], length, All, IfOk};
 ghost use Rattle.wire_commands.specs.HasText.{IsText, ReplyHasText};
 ghost use Rattle.store_model.specs.SyncJob as model;
+ghost use Rattle.store_model.specs.Job.{is_refused as has_refusal};
 ghost use Rattle.plain_lanes.specs.Jobs.{shown_job, GivesJob, IsSpelledJob};
-ghost use Rattle.plain_lanes.specs.Closes.{is_refused as has_refusal};
 ghost use Rattle.plain_lanes.specs.Pulls.{shown_pull, keys_with, is_base as tells_base};
 
 use crate::ending::{Close, ended, is_refused};

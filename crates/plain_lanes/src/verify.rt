@@ -5,7 +5,7 @@ ghost use Rattle.std.specs.Option.{option_or};
 ghost use Rattle.wire_commands.specs.HasText.{FitsFileFault, FitsFileRow, ReplyHasText};
 ghost use Rattle.wire_commands.specs.declared.reply.Reply.TheVariants as replies;
 ghost use Rattle.store_model.specs.VerifyJob as model;
-ghost use Rattle.plain_lanes.specs.FaultRows.{IsFitRow};
+ghost use Rattle.store_model.specs.FaultRows.{IsFitRow};
 ghost use Rattle.plain_lanes.specs.Jobs.{shown_job, GivesJob, IsSpelledJob};
 ghost use Rattle.plain_lanes.specs.Visits.{GivesOrBack, GivesVisit, JudgesChunk, shown_visit as shown, shown_judged, is_done as tells_done, is_part, is_files, is_data, fault_told as told_of, chunk_told as told_of_chunk, unreadable_told, with_faults, counted_of, read_by, checked_by};
 

@@ -2,7 +2,7 @@
 
 ghost use Rattle.std.specs.Prelude.{◌≤◌, length, All};
 ghost use Rattle.wire_commands.specs.HasText.{FitsFileRow};
-ghost use Rattle.plain_lanes.specs.FaultRows.{IsFitRow};
+ghost use Rattle.store_model.specs.FaultRows.{IsFitRow};
 
 use std::collections::VecDeque;
 use store_types::Bytes;

@@ -1,15 +1,25 @@
 -- The tests of the commands on archives, one after another.
-use Rattle.std.specs.Prelude.{ℕ, List, length, Result, Ok}
+use Rattle.std.specs.Prelude.{◌≡◌, ℕ, List, length, map, Result, Ok, IfOk}
+use Rattle.store_types.specs.declared.append.AppendEntry.{AppendEntry}
 use Rattle.store_types.specs.declared.names.Digest32.{Digest32}
+use Rattle.store_types.specs.declared.names.SnapshotKey.{SnapshotKey}
 use Rattle.store_types.specs.declared.refusal.Refusal.{Refusal}
 use Rattle.store_types.specs.declared.refusal.Refusal.TheVariants.{BadName, NoFile}
 use Rattle.store_types.specs.Chain.Refusing.{◌>>=◌, unless, or_else}
 use Rattle.store_types.specs.FileNames.{is_fixed_name, is_dynamic_name}
-use Rattle.store_files.specs.Archive.{Layout, dynamic, fixed, File, archive, content_of, csum_by, piece_with}
+use Rattle.store_files.specs.Archive.{Archive, Layout, dynamic, fixed, File, archive, content_of, csum_by, piece_with}
 use Rattle.store_model.specs.Store.{Begun, Writer}
 use Rattle.store_model.specs.Uploads.{want_room}
 use Rattle.store_model.specs.Archives.{new_archive, want_sizes, want_number, free_number, want_entries, piece_named, pieces_named, want_facts}
+use Rattle.store_model.specs.ArchiveSteps.{named}
 use Rattle.store_model.specs.WriterCalls.{numbers, begun_at}
+use Rattle.plain_snapshots.specs.declared.archive.Layout as layouts
+use Rattle.plain_snapshots.specs.Shown.{shown_layout}
+
+-- where memory is not wanting, it is the new archive
+abbrev pub BeginsArchive : {E : Type 0} → Layout → ℕ → SnapshotKey → List ℕ → ℕ → Result Archive E → Type 0
+BeginsArchive layout reserved key name moment result =
+    IfOk result (λ archive. archive ≡ new_archive layout reserved key name moment)
 
 -- the dynamic archive that a writer begins
 abbrev pub begun_of : Writer → List ℕ → ℕ → Result Begun Refusal
@@ -36,6 +46,10 @@ piece_at pool layout place end entry = piece_named (λ digest. piece_with digest
 abbrev pub pieces_from : List (List ℕ) → Layout → ℕ → ℕ → List (Digest32 × ℕ) → Result (List (List ℕ)) Refusal
 pieces_from pool layout place end entries = pieces_named (λ digest. piece_with digest pool) (λ p. length p) layout place end entries
 
+-- the same of a command's entries, in an archive's own layout
+abbrev pub first_pieces : List (List ℕ) → layouts.Layout → ℕ → List AppendEntry → Result (List (List ℕ)) Refusal
+first_pieces pool layout end entries = pieces_from pool (shown_layout layout) 0 end (map named entries)
+
 -- the pieces that a writer's archive of a number gets
 abbrev pub appended : Writer → ℕ → List (Digest32 × ℕ) → Result (List (List ℕ)) Refusal
 appended w number entries = do
@@ -43,9 +57,13 @@ appended w number entries = do
   _ ← want_entries (length (b.archive).pieces) (length entries)
   pieces_from w.pool (b.archive).layout 0 (length (content_of b.archive)) entries
 
+-- the archive has so many pieces, they end there, its index has this checksum, and its size is reached
+abbrev pub want_facts_of : Archive → ℕ → ℕ → Digest32 → Result (Unit {0}) Refusal
+want_facts_of a count size csum = want_facts a.layout (length a.pieces) (length (content_of a)) (csum_by a.layout a) count size csum
+
 -- the file that a writer's archive of a number becomes
 abbrev pub closed_of : Writer → ℕ → ℕ → ℕ → Digest32 → Result File Refusal
 closed_of w number count size csum = do
   b ← or_else NoFile (begun_at number w)
-  _ ← want_facts (b.archive).layout (length (b.archive).pieces) (length (content_of b.archive)) (csum_by (b.archive).layout b.archive) count size csum
+  _ ← want_facts_of b.archive count size csum
   Ok (record { name = b.name; content = archive b.archive })

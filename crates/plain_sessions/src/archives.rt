@@ -5,9 +5,11 @@ ghost use Rattle.std.specs.List.{find, list_any};
 ghost use Rattle.std.specs.Str.{bytes_eq};
 ghost use Rattle.store_types.specs.Times.{last_moment};
 ghost use Rattle.wire_commands.specs.HasText.{FitsRefusal};
-ghost use Rattle.store_model.specs.Archives.{uuid_of as uuid_by, new_archive as archive_of, want_sizes as sizes_fit, want_number as number_left, free_number as least_free, change_first, without_first};
+ghost use Rattle.store_model.specs.Archives.{uuid_of as uuid_by, want_sizes as sizes_fit, want_number as number_left, free_number as least_free, without_first};
 ghost use Rattle.store_model.specs.WriterCalls.{has_number, with_pieces};
 ghost use Rattle.plain_snapshots.specs.Shown.{shown_layout};
+ghost use Rattle.plain_sessions.specs.Archiving.{BeginsArchive};
+ghost use Rattle.plain_sessions.specs.Changes.{with_grown};
 
 use fixed_index::{is_chunk_size, piece_count};
 use plain_snapshots::{Archive, BlobData, Layout, PlainKey};
@@ -81,7 +83,7 @@ pub fn new_archive(
     moment: u64,
 ) -> Result<Archive, AllocError>
     requires { moment ≤ last_moment }
-    ensures { IfOk result (λ archive. archive ≡ archive_of (shown_layout layout) reserved key.now name.now moment) }
+    ensures { BeginsArchive (shown_layout layout) reserved key.now name.now moment result }
 {
     let uuid = uuid_of(alloc, key, name)?;
     let zeros = vec![in alloc; 0u8; reserved]?;
@@ -192,7 +194,7 @@ impl Open {
 
     /// These pieces come behind those of the first of this number. At want of memory nothing has changed.
     pub fn grow(&mut self, number: u8, pieces: Vec<BlobData>) -> Result<(), AllocError>
-        ensures ok { OnOk result (self.new ≡ change_first (has_number number) (with_pieces pieces.items) self.old) }
+        ensures ok { OnOk result (self.new ≡ with_grown number pieces.items self.old) }
         ensures err { OnErr result (self.new ≡ self.old) }
     {
         match self.place_of(number) {

@@ -3,7 +3,7 @@
 ghost use Rattle.std.specs.Prelude.{◌≡◌, ◌<◌, ◌≤◌, length, IfOk, OnOk};
 ghost use Rattle.store_types.specs.Times.{last_moment};
 ghost use Rattle.plain_sessions.specs.Changes.{HasRoom};
-ghost use Rattle.plain_sessions.specs.Outcomes.{Gives, IsFitRefusal};
+ghost use Rattle.plain_sessions.specs.Outcomes.{GivesSame, IsFitRefusal};
 ghost use Rattle.plain_sessions.specs.Archiving.{begun_of, fixed_begun_of};
 
 use crate::archives::{Begun, new_archive, want_number, want_sizes};
@@ -18,7 +18,7 @@ impl Writer {
     pub fn begin_dynamic(&self, alloc: Global, name: &[u8], moment: u64) -> Result<Begun, Stop>
         requires { moment ≤ last_moment }
         ensures fits { IsFitRefusal result }
-        ensures gives { Gives (λ b. b) result (begun_of self.now name.now moment) }
+        ensures gives { GivesSame result (begun_of self.now name.now moment) }
         ensures number { IfOk result (λ b. b.number < 256) }
         ensures room { OnOk result ((length self.now.begun < 16) × HasRoom self.now) }
     {
@@ -50,7 +50,7 @@ impl Writer {
     ) -> Result<Begun, Stop>
         requires { moment ≤ last_moment }
         ensures fits { IsFitRefusal result }
-        ensures gives { Gives (λ b. b) result (fixed_begun_of self.now name.now size chunk_size moment) }
+        ensures gives { GivesSame result (fixed_begun_of self.now name.now size chunk_size moment) }
         ensures number { IfOk result (λ b. b.number < 256) }
         ensures room { OnOk result ((length self.now.begun < 16) × HasRoom self.now) }
     {

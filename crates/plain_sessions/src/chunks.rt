@@ -1,7 +1,7 @@
 //! What a CHUNK tests.
 
 ghost use Rattle.store_model.specs.ArchiveSteps.{check_chunk};
-ghost use Rattle.plain_sessions.specs.Outcomes.{Gives, IsFitRefusal};
+ghost use Rattle.plain_sessions.specs.Outcomes.{GivesSame, IsFitRefusal};
 
 use crate::stop::Stop;
 use plain_snapshots::BlobData;
@@ -13,7 +13,7 @@ use store_types::{Digest32, Refusal};
 #[tactic(auto, unfolding(store_model::specs::ArchiveSteps::check_chunk))]
 pub fn checked_piece(alloc: Global, digest: &Digest32, blob: &[u8]) -> Result<BlobData, Stop>
     ensures fits { IsFitRefusal result }
-    ensures gives { Gives (λ piece. piece) result (check_chunk digest.now blob.now) }
+    ensures gives { GivesSame result (check_chunk digest.now blob.now) }
 {
     let piece = match BlobData::decoded(alloc, blob)? {
         Ok(contents) => contents,

@@ -1,16 +1,15 @@
 //! What a CLOSE_INDEX tests, and the file that comes of it.
 
-ghost use Rattle.std.specs.Prelude.{◌≡◌, length, IsTrue, IfErr, OnOk};
+ghost use Rattle.std.specs.Prelude.{◌≡◌, IsTrue, IfErr, OnOk};
 ghost use Rattle.std.specs.List.{list_any};
-ghost use Rattle.store_files.specs.Archive.{content_of, csum_by};
 ghost use Rattle.wire_commands.specs.HasText.{FitsRefusal};
-ghost use Rattle.store_model.specs.Archives.{want_size as size_reached, want_facts as facts_are};
+ghost use Rattle.store_model.specs.Archives.{want_size as size_reached};
 ghost use Rattle.store_model.specs.WriterCalls.{has_number};
 ghost use Rattle.plain_snapshots.specs.Shown.{shown_layout};
 ghost use Rattle.store_types.specs.declared.refusal.Refusal.TheVariants.{BadClose};
 ghost use Rattle.plain_sessions.specs.declared.stop.Stop.TheVariants.{Refused};
-ghost use Rattle.plain_sessions.specs.Outcomes.{Gives, IsFitRefusal};
-ghost use Rattle.plain_sessions.specs.Archiving.{closed_of};
+ghost use Rattle.plain_sessions.specs.Outcomes.{GivesSame, IsFitRefusal};
+ghost use Rattle.plain_sessions.specs.Archiving.{closed_of, want_facts_of};
 
 use crate::stop::Stop;
 use crate::writer::Writer;
@@ -50,8 +49,7 @@ fn want_facts(
     csum: &Digest32,
 ) -> Result<(), Stop>
     ensures fits { IsFitRefusal result }
-    ensures gives { Gives (λ u. u) result (facts_are archive.now.layout (length archive.now.pieces) (length (content_of archive.now))
-        (csum_by archive.now.layout archive.now) count size csum.now) }
+    ensures gives { GivesSame result (want_facts_of archive.now count size csum.now) }
 {
     let pieces = archive.pieces.len() as u64;
     if count != pieces {
@@ -80,7 +78,7 @@ impl Writer {
         csum: &Digest32,
     ) -> Result<File, Stop>
         ensures fits { IsFitRefusal result }
-        ensures gives { Gives (λ f. f) result (closed_of self.now number count size csum.now) }
+        ensures gives { GivesSame result (closed_of self.now number count size csum.now) }
         ensures stands { OnOk result (IsTrue (list_any (has_number number) self.now.begun)) }
     {
         let Some(begun) = self.begun.at(number) else {

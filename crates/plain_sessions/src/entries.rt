@@ -6,8 +6,8 @@ ghost use Rattle.wire_commands.specs.HasText.{FitsRefusal};
 ghost use Rattle.store_model.specs.Archives.{want_entries as entries_fit, fits_layout as fits};
 ghost use Rattle.store_model.specs.ArchiveSteps.{named};
 ghost use Rattle.plain_snapshots.specs.Shown.{shown_layout};
-ghost use Rattle.plain_sessions.specs.Outcomes.{Gives, IsFitRefusal};
-ghost use Rattle.plain_sessions.specs.Archiving.{piece_at, pieces_from, appended};
+ghost use Rattle.plain_sessions.specs.Outcomes.{GivesItems, IsFitRefusal};
+ghost use Rattle.plain_sessions.specs.Archiving.{piece_at, first_pieces, appended};
 
 use crate::stop::Stop;
 use crate::writer::Writer;
@@ -93,7 +93,7 @@ fn pieces_named(
 ) -> Result<Vec<BlobData>, Stop>
     requires { length entries.now ≤ 4096 }
     ensures fits { IsFitRefusal result }
-    ensures gives { Gives (λ pieces. pieces.items) result (pieces_from pool.now (shown_layout layout) 0 start (map named entries.now)) }
+    ensures gives { GivesItems result (first_pieces pool.now layout start entries.now) }
 {
     let mut pieces = Vec::new(alloc);
     let mut end = start;
@@ -116,7 +116,7 @@ impl Writer {
         entries: &[AppendEntry],
     ) -> Result<Vec<BlobData>, Stop>
         ensures fits { IsFitRefusal result }
-        ensures gives { Gives (λ pieces. pieces.items) result (appended self.now number (map named entries.now)) }
+        ensures gives { GivesItems result (appended self.now number (map named entries.now)) }
     {
         let Some(begun) = self.begun.at(number) else {
             return Err(Stop::Refused(Refusal::NoFile));

@@ -1,13 +1,12 @@
 //! What a FINISH tests, and the snapshot that comes of it.
 
 ghost use Rattle.std.specs.Prelude.{◌≡◌, map, IfOk};
-ghost use Rattle.store_types.specs.Chain.Refusing.{if_none};
 ghost use Rattle.manifest.specs.Views.{fact_view, manifest_view, mismatch_view};
-ghost use Rattle.manifest.specs.Checking.{first_mismatch, FitsField};
+ghost use Rattle.manifest.specs.Checking.{FitsField};
 ghost use Rattle.wire_commands.specs.HasText.{FitsRefusal};
 ghost use Rattle.store_model.specs.Manifests.{fact_of as listed_of, want_manifest, mismatch_refusal as refusal_of, listing_of};
-ghost use Rattle.plain_sessions.specs.Outcomes.{Gives, IsFitRefusal};
-ghost use Rattle.plain_sessions.specs.Finishing.{finished_of};
+ghost use Rattle.plain_sessions.specs.Outcomes.{Gives, GivesSame, IsFitRefusal};
+ghost use Rattle.plain_sessions.specs.Finishing.{finished_of, want_uploads};
 
 use crate::stop::Stop;
 use crate::writer::Writer;
@@ -60,7 +59,7 @@ fn want_listed(
     uploads: &[FileFact],
 ) -> Result<(), Stop>
     ensures fits { IsFitRefusal result }
-    ensures gives { Gives (λ u. u) result (if_none refusal_of (first_mismatch manifest.now key.now uploads.now)) }
+    ensures gives { GivesSame result (want_uploads manifest.now key.now uploads.now) }
 {
     match check(manifest, key, uploads)? {
         Ok(()) => Ok(()),
@@ -86,7 +85,7 @@ impl Writer {
     /// The snapshot that a FINISH makes of the files: no archive is open, and the manifest among them lists the others.
     pub fn finished(&self, alloc: Global) -> Result<Snapshot, Stop>
         ensures fits { IsFitRefusal result }
-        ensures gives { Gives (λ x. x) result (finished_of self.now) }
+        ensures gives { GivesSame result (finished_of self.now) }
     {
         let count = self.begun.len();
         if count > 0 {

@@ -3,12 +3,11 @@
 ghost use Rattle.std.specs.Prelude.{◌≡◌, ◌≤◌, [], length, option_map, IfOk, IfErr};
 ghost use Rattle.std.specs.List.{concat};
 ghost use Rattle.blob_codec.specs.Blob.{blob};
-ghost use Rattle.store_files.specs.Archive.{piece_with as first_with};
 ghost use Rattle.wire_commands.specs.HasText.{FitsRefusal};
-ghost use Rattle.store_model.specs.ReaderSteps.{is_noted as has_noted, note as noted, pieces_at as pieces_named, noted_pieces, want_range as range_fits, range_of};
+ghost use Rattle.store_model.specs.ReaderSteps.{is_noted as has_noted, note as noted, pieces_at as pieces_named, want_range as range_fits, range_of};
 ghost use Rattle.plain_snapshots.specs.Contents.{shown_content};
-ghost use Rattle.plain_sessions.specs.Outcomes.{Gives, IsFitRefusal};
-ghost use Rattle.plain_sessions.specs.Reading.{chunk_of, entry_blob};
+ghost use Rattle.plain_sessions.specs.Outcomes.{GivesSame, IsFitRefusal};
+ghost use Rattle.plain_sessions.specs.Reading.{chunk_of, entry_blob, noted_piece};
 
 use crate::entries::piece_with;
 use crate::stop::Stop;
@@ -51,7 +50,7 @@ fn blob_of(alloc: Global, piece: &BlobData) -> Result<Bytes, AllocError>
 /// The blob of the piece at an entry of an index.
 pub fn blob_at(alloc: Global, pieces: &[BlobData], entry: u32) -> Result<Bytes, Stop>
     ensures fits { IsFitRefusal result }
-    ensures gives { Gives (λ b. b) result (entry_blob pieces.now entry) }
+    ensures gives { GivesSame result (entry_blob pieces.now entry) }
     ensures short { IfOk result (λ b. length b ≤ 16_777_228) }
 {
     let place = entry as usize;
@@ -133,7 +132,7 @@ impl Reader {
 
     /// The first piece with this digest of the archives that it downloaded.
     fn noted_piece<'a>(&self, files: &'a [File], digest: &Digest32) -> Option<&'a BlobData>
-        ensures { option_map (λ p. p.now) result ≡ first_with digest.now (noted_pieces files.now self.now) }
+        ensures { option_map (λ p. p.now) result ≡ noted_piece files.now self.now digest.now }
     {
         for name in &self.noted {
             if let Some(piece) = piece_with(digest, pieces_at(files, name)) {
@@ -146,7 +145,7 @@ impl Reader {
     /// The blob that a GET_CHUNK gives, where these are the files of its snapshot.
     pub fn chunk(&self, alloc: Global, files: &[File], digest: &Digest32) -> Result<Bytes, Stop>
         ensures fits { IsFitRefusal result }
-        ensures gives { Gives (λ b. b) result (chunk_of files.now self.now digest.now) }
+        ensures gives { GivesSame result (chunk_of files.now self.now digest.now) }
         ensures short { IfOk result (λ b. length b ≤ 16_777_228) }
     {
         let Some(piece) = self.noted_piece(files, digest) else {
@@ -165,7 +164,7 @@ impl Reader {
         count: u32,
     ) -> Result<Bytes, Stop>
         ensures fits { IsFitRefusal result }
-        ensures gives { Gives (λ b. b) result (range_of files.now self.now name.now offset count) }
+        ensures gives { GivesSame result (range_of files.now self.now name.now offset count) }
         ensures short { IfOk result (λ b. length b ≤ 4_194_304) }
     {
         if !self.is_noted(name) {

@@ -1,12 +1,14 @@
 //! The sessions of lanes.
 
-ghost use Rattle.std.specs.Prelude.{◌≡◌, length, Ok, Err, MatchResult, IfErr, OnOk, OnErr, position};
+ghost use Rattle.std.specs.Prelude.{◌≡◌, length, IfErr, OnOk, OnErr, position};
 ghost use Rattle.store_types.specs.Chain.Refusing.{if_none};
 ghost use Rattle.store_types.specs.Names.{group_of_key};
 ghost use Rattle.store_model.specs.Store.{writes_group as has_group, holds_snapshot as has_snapshot};
 ghost use Rattle.store_types.specs.declared.refusal.Refusal.TheVariants.{GroupBusy, SnapshotBusy};
 ghost use Rattle.wire_commands.specs.HasText.{FitsRefusal};
 ghost use Rattle.plain_sessions.specs.Changes.{changed_in, FitsSession};
+ghost use Rattle.plain_sessions.specs.Outcomes.{Tells};
+ghost use Rattle.plain_sessions.specs.Sessions.{group_writer};
 
 use crate::changes::Change;
 use crate::reader::Reader;
@@ -67,7 +69,7 @@ impl Held {
     /// The session is a writer.
     pub fn want_writer(&self) -> Result<&Writer, Refusal>
         ensures fits { IfErr result FitsRefusal }
-        ensures test { MatchResult result (λ w. needs_writer (shown_held self.now) ≡ Ok w.now) (λ r. needs_writer (shown_held self.now) ≡ Err r) }
+        ensures test { Tells result (needs_writer (shown_held self.now)) (λ w. w.now) }
     {
         match self {
             Held::Writing(w) => Ok(w),
@@ -78,7 +80,7 @@ impl Held {
     /// The session is a reader.
     pub fn want_reader(&self) -> Result<&Reader, Refusal>
         ensures fits { IfErr result FitsRefusal }
-        ensures test { MatchResult result (λ x. needs_reader (shown_held self.now) ≡ Ok x.now) (λ r. needs_reader (shown_held self.now) ≡ Err r) }
+        ensures test { Tells result (needs_reader (shown_held self.now)) (λ x. x.now) }
     {
         match self {
             Held::Reading(r) => Ok(r),
@@ -122,7 +124,7 @@ impl Held {
 
 /// The lane whose writer has the snapshot's group.
 fn group_holder(sessions: &[Session], key: &SnapshotKey) -> Option<usize>
-    ensures { result ≡ position (has_group (group_of_key key.now)) sessions.now }
+    ensures { result ≡ group_writer key.now sessions.now }
 {
     sessions
         .iter()
@@ -133,7 +135,7 @@ fn group_holder(sessions: &[Session], key: &SnapshotKey) -> Option<usize>
 pub fn want_free(sessions: &[Session], key: &SnapshotKey) -> Result<(), Refusal>
     requires { length sessions.now ≡ 64 }
     ensures fits { IfErr result FitsRefusal }
-    ensures test { result ≡ if_none GroupBusy (position (has_group (group_of_key key.now)) sessions.now) }
+    ensures test { result ≡ if_none GroupBusy (group_writer key.now sessions.now) }
 {
     match group_holder(sessions, key) {
         None => Ok(()),

@@ -4,7 +4,7 @@ ghost use Rattle.std.specs.Prelude.{◌≡◌, IfErr, OnOk};
 ghost use Rattle.wire_commands.specs.HasText.{FitsRefusal};
 ghost use Rattle.store_model.specs.Uploads.{has_file as file_there, want_room as needs_room};
 ghost use Rattle.plain_sessions.specs.Changes.{HasRoom};
-ghost use Rattle.plain_sessions.specs.Outcomes.{Gives, IsFitRefusal};
+ghost use Rattle.plain_sessions.specs.Outcomes.{GivesSame, IsFitRefusal};
 ghost use Rattle.plain_sessions.specs.Uploading.{upload_of};
 
 use crate::stop::Stop;
@@ -41,7 +41,7 @@ impl Writer {
     /// The file that a BLOB uploads.
     pub fn upload(&self, alloc: Global, name: &[u8], blob: &[u8]) -> Result<File, Stop>
         ensures fits { IsFitRefusal result }
-        ensures gives { Gives (λ f. f) result (upload_of self.now name.now blob.now) }
+        ensures gives { GivesSame result (upload_of self.now name.now blob.now) }
         ensures room { OnOk result (HasRoom self.now) }
     {
         let Ok(name) = FileName::check(alloc, name)? else {

@@ -1,5 +1,5 @@
 -- What a step leaves, by what it answers.
-use Rattle.std.specs.Prelude.{◌≡◌, ℕ, List, Option, option_map, Result, Ok, Err, MatchResult, Vec}
+use Rattle.std.specs.Prelude.{◌≡◌, ℕ, List, Option, option_map, Result, Ok, Err, Vec}
 use Rattle.std.specs.declared.alloc.Global.{Global}
 use Rattle.store_types.specs.declared.names.Digest32.{Digest32}
 use Rattle.store_types.specs.declared.refusal.Refusal.{Refusal}
@@ -17,7 +17,7 @@ use Rattle.plain_sessions.specs.declared.changes.Change.{Change}
 use Rattle.plain_sessions.specs.Changes.{changed_in}
 use Rattle.plain_sessions.specs.declared.stop.Stop.{Stop}
 use Rattle.plain_sessions.specs.declared.stop.Stop.TheVariants.{Refused, NoMemory}
-use Rattle.plain_sessions.specs.Outcomes.{Gives, IsFitRefusal}
+use Rattle.plain_sessions.specs.Outcomes.{GivesItems, IsFitRefusal}
 
 -- the reply and the store after are the outcome's; a refusal is the outcome's and changes nothing, and so does want of memory
 abbrev pub Does : Store → Store → Result Reply Stop → Outcome → Type 0
@@ -33,10 +33,6 @@ IsSpelled (Err stop) = IsFitRefusal {A = Reply} (Err stop)
 -- the same of a step that changes nothing
 abbrev pub Answers : Store → Result Reply Stop → Outcome → Type 0
 Answers s result outcome = Does s s result outcome
-
--- the test gives what is shown of the answer, or the refusal
-abbrev pub Tells : {A B : Type 0} → Result A Refusal → Result B Refusal → (A → B) → Type 0
-Tells result test show = MatchResult result (λ a. test ≡ Ok (show a)) (λ r. test ≡ Err r)
 
 -- ---- commands of many words
 
@@ -62,4 +58,4 @@ job_done s lane moment job = step_done s lane moment (step_of job)
 
 -- what a SYNC pulls from another store, where there is one
 abbrev pub Pulls : {R : Type 0} → Option R → (R → Store) → Store → ℕ → List ℕ → Result (Vec Snapshot Global) Stop → Type 0
-Pulls remote shown s lane group result = Gives (λ found. found.items) result (to_pull (option_map (λ p. (shown p).snapshots) remote) s lane group)
+Pulls remote shown s lane group result = GivesItems result (to_pull (option_map (λ p. (shown p).snapshots) remote) s lane group)

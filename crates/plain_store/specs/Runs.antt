@@ -1,5 +1,6 @@
 -- What an entry leaves of a run.
 use Rattle.std.specs.Prelude.{◌≡◌, ℕ, Bool, true, false, List, ◌==◌, if◌then◌else◌, Option, Some, None, option_map, Result, Ok, Err, IfOk}
+use Rattle.std.specs.Borrow.{Bor}
 use Rattle.store_types.specs.declared.order.Entry.{Entry}
 use Rattle.store_types.specs.declared.refusal.Refusal.{Refusal}
 use Rattle.wire_commands.specs.declared.reply.Reply.TheVariants.{Refused}
@@ -9,7 +10,11 @@ use Rattle.store_model.specs.Store.{Store}
 use Rattle.store_model.specs.Weave.{Misfit, Woven, close_collector, ends, entered, fault_refusal, faulted, first_fault, open_collector, opens, passed, remote_failed, short, stepped, tell, told_fault, unread, want_collector, weave}
 use Rattle.plain_lanes.specs.declared.next.Ahead.{Ahead}
 use Rattle.plain_lanes.specs.declared.next.Next.{Next}
-use Rattle.plain_lanes.specs.Nexts.{shown_ahead, left_by}
+use Rattle.plain_lanes.specs.Nexts.{shown_ahead, shown_left, left_by}
+
+-- where memory is not wanting, this is left, or nothing is told
+abbrev pub GivesLeft : {E : Type 0} → Result (Option (Bor (List ℕ))) E → Option (List ℕ) → Type 0
+GivesLeft result left = IfOk result (λ found. shown_left found ≡ left)
 
 -- a job that is next is taken out of its lane
 abbrev pub run_left : Next → Run → ℕ → Run

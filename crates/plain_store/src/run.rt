@@ -8,8 +8,8 @@ ghost use Rattle.wire_commands.specs.HasText.{FitsRefusal, ReplyHasText};
 ghost use Rattle.store_model.specs.Lanes.{lane_at, next_of};
 ghost use Rattle.store_model.specs.Weave.{tell as told, go_on as gone_on, end_session as without_session, fault_refusal as refusal_of, is_end as is_an_end, is_cut_off as cuts_off, is_replied as has_reply, may_leave_unread as may_stop, want_collector as wants_collector, open_collector as opened, close_collector as closed_by, collected as collected_by, ended_with as after_end, unread as after_unread, begin_sync as begun_sync};
 ghost use Rattle.plain_lanes.specs.Jobs.{shown_job, IsSpelledJob};
-ghost use Rattle.plain_lanes.specs.Nexts.{shown_left, shown_next, is_sync_next, left_of_collect, IsFitAhead, IsFitNext};
-ghost use Rattle.plain_store.specs.Runs.{run_left, BeginsBy, Enters, EntersBy, EntersEntry, EntersOpen, IsApart, own_collector as own_open, end_open_at, ends_at, fault_at, fault_open_at, faulted_at, opened_at, opens_at, passed_at, refused_at, remote_failed_at, short_at, short_open, stepped_at};
+ghost use Rattle.plain_lanes.specs.Nexts.{shown_next, is_sync_next, left_of_collect, IsFitAhead, IsFitNext};
+ghost use Rattle.plain_store.specs.Runs.{run_left, BeginsBy, Enters, EntersBy, EntersEntry, EntersOpen, GivesLeft, IsApart, own_collector as own_open, end_open_at, ends_at, fault_at, fault_open_at, faulted_at, opened_at, opens_at, passed_at, refused_at, remote_failed_at, short_at, short_open, stepped_at};
 
 use crate::plain::Plain;
 use plain_lanes::{Ahead, Job, Lane, Next, pull_all};
@@ -377,7 +377,7 @@ impl<'a> Run<'a> {
         requires lane { lane < length self.old.lanes }
         requires apart { IsApart self.old lane }
         requires idle { is_some (lane_at self.old lane).job ≡ false }
-        ensures left { IfOk result (λ found. shown_left found ≡ left_of_collect (next_of self.old lane)) }
+        ensures left { GivesLeft result (left_of_collect (next_of self.old lane)) }
         ensures same { OnOk result (self.new ≡ self.old) }
     {
         let next = self.take_next(alloc, lane)?;

@@ -2,7 +2,8 @@
 
 ghost use Rattle.std.specs.Prelude.{◌≡◌, ◌<◌, length, option_map, IfOk, IfErr};
 ghost use Rattle.store_model.specs.WriterSteps.{base_text as text_of_base, want_newer as needs_newer, open_writer as opened, base_of as base_named, previous as looked_back, put_blob as put, finish as finished, abort as aborted};
-ghost use Rattle.plain_store.specs.Outcomes.{Does, IsSpelled, Tells};
+ghost use Rattle.plain_sessions.specs.Outcomes.{Tells};
+ghost use Rattle.plain_store.specs.Outcomes.{Does, IsSpelled};
 ghost use Rattle.wire_commands.specs.HasText.{FitsRefusal};
 ghost use Rattle.plain_store.specs.Writers.{base_of as tested_base, want_room_in};
 

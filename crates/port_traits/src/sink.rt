@@ -1,8 +1,8 @@
 //! What bytes go to.
 
-ghost use Rattle.std.specs.Prelude.{◌≡◌, ℕ, ◌≤◌, ◌<◌, List, length, take, is_ok, IfOk, OnErr, Option};
-ghost use Rattle.port_traits.specs.Faults.{HasCause, Rose};
-ghost use Rattle.port_traits.specs.Bytes.{AddsTo, IsCountOf, Writes, WritesCounted};
+ghost use Rattle.std.specs.Prelude.{◌≡◌, ℕ, ◌≤◌, List, length, take, is_ok, IfOk, OnErr, Option};
+ghost use Rattle.port_traits.specs.Faults.{HasCause};
+ghost use Rattle.port_traits.specs.Bytes.{AddsTo, IsCountOf, Writes, TakesFront, NoneIsFault, PutsCounted};
 
 use crate::source::Failed;
 
@@ -18,9 +18,9 @@ pub trait Sink {
     /// a fault too. A call that fails takes nothing.
     fn write(&mut self, bytes: &[u8]) -> Result<usize, Failed>
         ensures bound { IfOk result (λ n. n ≤ length bytes.now) }
-        ensures ok { IfOk result (λ n. AddsTo (taken self.old) (taken self.new) (take n bytes.now)) }
+        ensures ok { TakesFront taken self.old self.new bytes.now result }
         ensures err { OnErr result (taken self.new ≡ taken self.old) }
-        ensures stuck { IfOk result (λ n. n ≡ 0 → 0 < length bytes.now → Rose (faults self.old) (faults self.new)) }
+        ensures stuck { NoneIsFault faults self.old self.new bytes.now result }
         ensures cause { HasCause (faults self.old) (faults self.new) result };
 
     /// The count of faults.
@@ -39,7 +39,7 @@ pub fn write_all_of<K: Sink>(sink: &mut K, bytes: &[u8]) -> Result<(), Failed>
 /// Writes as `write_all_of` does, and adds how many bytes were written to a count, also where it
 /// fails.
 pub fn write_counted<K: Sink>(sink: &mut K, bytes: &[u8], given: &mut u64) -> Result<(), Failed>
-    ensures bytes { WritesCounted (K.taken sink.old) (K.taken sink.new) given.old given.new bytes.now (is_ok result) }
+    ensures bytes { PutsCounted K.taken sink.old sink.new given.old given.new bytes.now result }
     ensures cause { HasCause (K.faults sink.old) (K.faults sink.new) result }
 {
     let (count, result) = write_front(sink, bytes);

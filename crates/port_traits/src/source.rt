@@ -1,8 +1,8 @@
 //! What bytes come from.
 
-ghost use Rattle.std.specs.Prelude.{◌≡◌, ℕ, ◌≤◌, ◌<◌, ◌↔◌, List, [], length, take, IfOk, IfSome, is_some, Option};
+ghost use Rattle.std.specs.Prelude.{◌≡◌, ℕ, ◌≤◌, List, length, IfOk, is_some, Option};
 ghost use Rattle.port_traits.specs.Faults.{HasCause};
-ghost use Rattle.port_traits.specs.Bytes.{TakesFrom};
+ghost use Rattle.port_traits.specs.Bytes.{GivesFront, NoneIsEnd};
 
 use thiserror::Error;
 
@@ -23,8 +23,8 @@ pub trait Source {
     /// empty is the end. What the slice holds behind them, and what is left after a fault, is open.
     fn read(&mut self, into: &mut [u8]) -> Result<usize, Failed>
         ensures bound { IfOk result (λ n. n ≤ length into.new) }
-        ensures bytes { IfOk result (λ n. TakesFrom (left self.old) (left self.new) (take n into.new)) }
-        ensures end { IfOk result (λ n. 0 < length into.old → IfSome (left self.old) (λ xs. (n ≡ 0) ↔ (xs ≡ []))) }
+        ensures bytes { GivesFront left self.old self.new into.new result }
+        ensures end { NoneIsEnd left self.old into.old result }
         ensures told { is_some (left self.new) ≡ is_some (left self.old) }
         ensures cause { HasCause (faults self.old) (faults self.new) result };
 

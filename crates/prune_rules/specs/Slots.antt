@@ -1,13 +1,14 @@
 -- Slots by the work space and the marks of a running prune, and what one look over them finds.
 use Rattle.std.specs.Prelude.{◌≡◌, ℕ, ◌<◌, ◌≤◌, Bool, true, false, not, ◌&&◌, ◌||◌, List, [], map, length, slice_index_or, ◌==◌, nat_lt, Option, Some, None}
-use Rattle.std.specs.List.{range_with_len, list_any}
+use Rattle.std.specs.List.{fold, range_with_len, list_any}
 use Rattle.std.specs.List.Sorted.{IsPermutation}
 use Rattle.prune_rules.specs.declared.Item.{Item}
 use Rattle.prune_rules.specs.declared.Mark.{Mark}
 use Rattle.prune_rules.specs.declared.Mark.TheVariants.{Kept, Removed}
 use Rattle.prune_rules.specs.declared.periods.Period.{Period}
 use Rattle.prune_rules.specs.declared.periods.Period.TheVariants.{Second, Hour, Day, Week, Month, Year}
-use Rattle.prune_rules.specs.Prune.{Slot, Choice, hour_of, day_of, week_of, month_of, year_of}
+use Rattle.store_types.specs.declared.names.Keep.{Keep}
+use Rattle.prune_rules.specs.Prune.{Slot, Choice, choices, after_choice, hour_of, day_of, week_of, month_of, year_of}
 
 abbrev pub number_of : Period → ℕ → ℕ
 number_of Second t = t
@@ -38,6 +39,16 @@ slot_in items covered into k = record {
 
 abbrev pub slots_in : List Item → List Bool → List Mark → List Slot
 slots_in items covered into = map (slot_in items covered into) (range_with_len 0 (length items))
+
+-- the slots are as an option leaves them
+abbrev pub TakesPeriods : Period → ℕ → List Item → List Bool → List Mark → List Bool → List Mark → Type 0
+TakesPeriods period count items old_covered old covered new =
+    slots_in items covered new ≡ after_choice (slots_in items old_covered old) (choice period count)
+
+-- the slots are as all options leave them
+abbrev pub TakesOptions : Keep → List Item → List Bool → List Mark → List Bool → List Mark → Type 0
+TakesOptions keep items old_covered old covered new =
+    slots_in items covered new ≡ fold after_choice (slots_in items old_covered old) (choices keep)
 
 abbrev pub time_at : List Item → ℕ → ℕ
 time_at items k = (item_at items k).time
@@ -85,6 +96,10 @@ abbrev pub Spans : (ℕ → ℕ) → ℕ → ℕ → List ℕ → ℕ → ℕ �
 Spans number n own order from to =
     (i : ℕ) → i < n → number i ≡ own → (k : ℕ) × (from ≤ k) × (k < to) × (place_of order k ≡ i)
 
+-- what has this number of a period comes so
+abbrev pub SpansNumber : Period → List Item → ℕ → List ℕ → ℕ → ℕ → Type 0
+SpansNumber period items number order from to = Spans (number_at period items) (length items) number order from to
+
 -- Of the places from one step of the order up to another the newest in the greatest period, among those that pass.
 pub record IsFirst (passes : ℕ → Bool) (number time : ℕ → ℕ) (order : List ℕ) (from to i : ℕ) : Type 0 where
   pub found : (k : ℕ) × (from ≤ k) × (k < to) × (place_of order k ≡ i)
@@ -99,6 +114,11 @@ pub record IsFirst (passes : ℕ → Bool) (number time : ℕ → ℕ) (order : 
 abbrev pub FirstOf : (ℕ → Bool) → (ℕ → ℕ) → (ℕ → ℕ) → List ℕ → ℕ → ℕ → Option ℕ → Type 0
 FirstOf passes number time order from to None = (k : ℕ) → from ≤ k → k < to → passes (place_of order k) ≡ false
 FirstOf passes number time order from to (Some i) = IsFirst passes number time order from to i
+
+-- so among the open places
+abbrev pub FirstOpen : Period → List Item → List Bool → Option ℕ → List ℕ → ℕ → ℕ → Option ℕ → Type 0
+FirstOpen period items covered bound order from to found =
+    FirstOf (is_open period items covered bound) (number_at period items) (time_at items) order from to found
 
 -- none of the first n items is newer, or there is none
 abbrev pub NewestOf : List Item → ℕ → Option ℕ → Type 0

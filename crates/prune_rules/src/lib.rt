@@ -11,9 +11,8 @@
 #![tactic(auto)]
 
 ghost use Rattle.std.specs.Prelude.{◌≡◌, ◌<◌, ◌≤◌, All, IfOk, length};
-ghost use Rattle.std.specs.List.{fold};
-ghost use Rattle.prune_rules.specs.Prune.{marks as marks_of, choices, after_choice, has_no_option as is_without};
-ghost use Rattle.prune_rules.specs.Slots.{Orders, slots_in};
+ghost use Rattle.prune_rules.specs.Prune.{marks as marks_of, has_no_option as is_without};
+ghost use Rattle.prune_rules.specs.Slots.{Orders, TakesOptions};
 ghost use Rattle.store_types.specs.Times.{last_moment};
 
 mod marking;
@@ -110,7 +109,7 @@ fn take_options(
     requires order { Orders (length items.now) order.old }
     requires covered { length covered.old ≡ length items.now }
     requires into { length into.old ≡ length items.now }
-    ensures { slots_in items.now covered.new into.new ≡ fold after_choice (slots_in items.now covered.old into.old) (choices keep.now) }
+    ensures { TakesOptions keep.now items.now covered.old into.old covered.new into.new }
 {
     take_periods(items, Period::Second, keep.last, order, covered, into);
     take_periods(items, Period::Hour, keep.hourly, order, covered, into);

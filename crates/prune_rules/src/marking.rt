@@ -2,8 +2,7 @@
 
 ghost use Rattle.std.specs.Prelude.{◌≡◌, ℕ, ◌<◌, ◌≤◌, ◌||◌, All, IfSome, length, slice_index_or, false};
 ghost use Rattle.store_types.specs.Times.{last_moment};
-ghost use Rattle.prune_rules.specs.Prune.{after_choice};
-ghost use Rattle.prune_rules.specs.Slots.{choice, is_kept, is_below as below_of, is_open as open_of, is_newer as newer_of, Orders, Rises, StartsRun, Spans, time_at, number_at as number_of_item, number_in, FirstOf, goes_before as before_of, holds_kept as kept_in, keeps_at, is_finished_in as ends_in, runs_at, stands_at, NewestOf, slots_in};
+ghost use Rattle.prune_rules.specs.Slots.{TakesPeriods, is_kept, is_below as below_of, is_open as open_of, is_newer as newer_of, Orders, Rises, StartsRun, SpansNumber, time_at, number_at as number_of_item, number_in, FirstOpen, goes_before as before_of, holds_kept as kept_in, keeps_at, is_finished_in as ends_in, runs_at, stands_at, NewestOf};
 
 use crate::order::{number_at, place_at, sort_by_period};
 use crate::periods::Period;
@@ -25,7 +24,7 @@ pub fn take_periods(
     requires covered { length covered.old ≡ length items.now }
     requires into { length into.old ≡ length items.now }
     ensures order { Orders (length items.now) order.new }
-    ensures slots { slots_in items.now covered.new into.new ≡ after_choice (slots_in items.now covered.old into.old) (choice period count) }
+    ensures slots { TakesPeriods period count items.now covered.old into.old covered.new into.new }
 {
     if count == 0 {
         return;
@@ -52,7 +51,7 @@ fn take_sorted(
     requires rises { Rises (number_in period items.now order.now) (length items.now) }
     requires covered { length covered.old ≡ length items.now }
     requires into { length into.old ≡ length items.now }
-    ensures { slots_in items.now covered.new into.new ≡ after_choice (slots_in items.now covered.old into.old) (choice period count) }
+    ensures { TakesPeriods period count items.now covered.old into.old covered.new into.new }
 {
     let mut left = count;
     let mut end = items.len();
@@ -78,7 +77,7 @@ fn take_any(items: &[Item], period: Period, count: u16, covered: &mut [bool], in
     requires times { All (λ item. item.time ≤ last_moment) items.now }
     requires covered { length covered.old ≡ length items.now }
     requires into { length into.old ≡ length items.now }
-    ensures { slots_in items.now covered.new into.new ≡ after_choice (slots_in items.now covered.old into.old) (choice period count) }
+    ensures { TakesPeriods period count items.now covered.old into.old covered.new into.new }
 {
     let mut bound = None;
     let mut left = count;
@@ -174,7 +173,7 @@ fn newest_open(
     requires covered { length covered.now ≡ length items.now }
     requires range { from ≤ to }
     requires within { to ≤ length items.now }
-    ensures first { FirstOf (open_of period items.now covered.now bound) (number_of_item period items.now) (time_at items.now) order.now from to result }
+    ensures first { FirstOpen period items.now covered.now bound order.now from to result }
     ensures within { IfSome result (λ i. i < length items.now) }
 {
     let mut newest = None;
@@ -202,7 +201,7 @@ fn holds_kept(
     requires into { length into.now ≡ length items.now }
     requires range { from ≤ to }
     requires within { to ≤ length items.now }
-    requires all { Spans (number_of_item period items.now) (length items.now) number order.now from to }
+    requires all { SpansNumber period items.now number order.now from to }
     ensures { result ≡ kept_in period items.now into.now number }
 {
     for k in from..to {
@@ -238,7 +237,7 @@ fn cover(
     requires covered { length covered.old ≡ length items.now }
     requires range { from ≤ to }
     requires within { to ≤ length items.now }
-    requires all { Spans (number_of_item period items.now) (length items.now) number order.now from to }
+    requires all { SpansNumber period items.now number order.now from to }
     ensures { (i : ℕ) → i < length items.now → slice_index_or covered.new i false
         ≡ (slice_index_or covered.old i false || ends_in period items.now number i) }
 {

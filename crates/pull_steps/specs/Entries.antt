@@ -20,6 +20,10 @@ abbrev pub append_from : Sending → List AppendEntry → SyncJob
 append_from s entries =
     model.next_append (shown_course s.course) (shown_stock s.stock) (shown_index s.index) entries
 
+-- after the reply to the opening of its index
+abbrev pub opened_by : Sending → Reply → SyncJob
+opened_by s reply = model.goes_on reply (chunk_from s s.index.entries.items)
+
 -- the first entry from a place on whose chunk was not sent: there the next chunk is read, and else the entries are
 -- appended
 abbrev pub from_place : Sending → Option ℕ → SyncJob

@@ -4,7 +4,7 @@ ghost use Rattle.std.specs.Prelude.{◌≡◌, ◌<◌, ◌≤◌, ◌^◌, drop
 ghost use Rattle.wire_commands.specs.HasText.{ReplyHasText};
 ghost use Rattle.store_history.specs.Pulling as model;
 ghost use Rattle.pull_steps.specs.Asked.{AsksFor};
-ghost use Rattle.pull_steps.specs.Entries.{AsksAt, IsFirstUnsent, NotesChunk, append_from, appended_behind, chunk_behind, chunk_from, chunk_told_at};
+ghost use Rattle.pull_steps.specs.Entries.{AsksAt, IsFirstUnsent, NotesChunk, append_from, appended_behind, chunk_behind, chunk_from, chunk_told_at, opened_by};
 ghost use Rattle.pull_steps.specs.States.{CourseHasText, EndsInText, appending_at, closing_of, opening_of, pull_in, reading_at, sending_at, shown_course, shown_stock};
 ghost use Rattle.pull_steps.specs.Taken.{IsData};
 
@@ -103,7 +103,7 @@ impl Sending {
     pub fn opened(self, reply: Reply) -> State
         requires text { ReplyHasText reply }
         requires texts { CourseHasText (shown_course self.course) }
-        ensures job { pull_in result ≡ model.goes_on reply (chunk_from self self.index.entries.items) }
+        ensures job { pull_in result ≡ opened_by self reply }
         ensures text { EndsInText (pull_in result) }
     {
         if let Reply::Refused(_) = reply {

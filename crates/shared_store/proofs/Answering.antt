@@ -69,7 +69,7 @@ collectors_answer d old new lane Step answer is tells = tells
 collectors_answer d old new lane act answer is tells = absurd is
 
 -- and those that read the remote
-pub remotes_answer : {D E C : Type 0} (d : Ghosts D) (old new : Core D E C) (lane : ℕ) (act : Act) (answer : Answer) → IsRemotes act → RemoteTells old lane act answer → CoreAnswersBy d old new lane act answer
+pub remotes_answer : {D E C : Type 0} (d : Ghosts D) (old new : Core D E C) (lane : ℕ) (act : Act) (answer : Answer) → IsRemotes act → RemoteTells old new lane act answer → CoreAnswersBy d old new lane act answer
 remotes_answer d old new lane (RemoteList command) answer is tells = tells
 remotes_answer d old new lane (RemoteFile snapshot name offset) answer is tells = tells
 remotes_answer d old new lane (RemoteChunk digest) answer is tells = tells

@@ -18,3 +18,5 @@ pub mod GroupTimes
 pub mod PiecesNamed
 pub mod ListingLemmas
 pub mod ManifestTexts
+pub mod EndingLemmas
+pub mod VerifyLemmas

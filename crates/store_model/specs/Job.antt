@@ -104,3 +104,25 @@ closed close report (Refused NoMemory) = asking (close (Refused NoMemory))
 closed close report (Refused RemoteFault) = asking (close (Refused RemoteFault))
 closed close report (Refused refusal) = over (Refused refusal)
 closed close report reply = over report
+
+-- a reply that ends the job
+abbrev pub ended_by : (Reply → Asking) → Reply → Job
+ended_by close (Refused refusal) = stopped close refusal
+ended_by close reply = over reply
+
+-- the session is closed before the job reports it
+abbrev pub closes_first : Reply → Bool
+closes_first (Refused DiskFault) = false
+closes_first (Refused (Halted place)) = false
+closes_first (Refused refusal) = true
+closes_first _ = false
+
+abbrev pub is_refused : Reply → Bool
+is_refused (Refused refusal) = true
+is_refused _ = false
+
+-- the step was refused and has done nothing: its session is open still
+abbrev pub leaves_open : Reply → Bool
+leaves_open (Refused NoMemory) = true
+leaves_open (Refused RemoteFault) = true
+leaves_open _ = false

@@ -8,6 +8,7 @@ pub mod ReaderSteps
 pub mod AdminSteps
 pub mod Steps
 pub mod Job
+pub mod FaultRows
 pub mod PruneJob
 pub mod VerifyJob
 pub mod SyncJob

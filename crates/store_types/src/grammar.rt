@@ -1,10 +1,10 @@
 //! The grammar of names over bytes.
 
-ghost use Rattle.std.specs.Prelude.{◌≡◌, ◌∷◌, [], MatchOption};
+ghost use Rattle.std.specs.Prelude.{◌≡◌};
 ghost use Rattle.std.specs.List.{list_all};
 ghost use Rattle.std.specs.Str.{IsAscii};
 ghost use Rattle.store_types.specs.FileNames.{is_id as is_id_of, is_word_byte as is_word, is_id_byte as is_id_part, has_ending as ends_after_more, is_file_name as is_name_of_file};
-ghost use Rattle.store_types.specs.Names.{parts};
+ghost use Rattle.store_types.specs.Names.{SplitsAtSlash};
 
 /// An ASCII letter, a digit or `_`.
 fn is_word_byte(b: u8) -> bool
@@ -55,7 +55,7 @@ pub fn is_file_name(text: &[u8]) -> bool
 
 /// What stands before the first `/`, and what stands behind it.
 pub fn split_at_slash(text: &[u8]) -> Option<(&[u8], &[u8])>
-    ensures { MatchOption result (parts text.now ≡ text.now ∷ []) (λ x. parts text.now ≡ x.0.now ∷ parts x.1.now) }
+    ensures { SplitsAtSlash text.now result }
 {
     let at = text.iter().position(|b| *b == b'/')?;
     Some((&text[..at], &text[at + 1..]))

@@ -1,10 +1,10 @@
 //! The turn.
-ghost use Rattle.std.specs.Prelude.{◌≡◌, ℕ, ◌+◌, ◌-◌, ◌/◌, ◌^◌, ◌<◌, ◌≤◌, true, false, List, [], length, IfOk, IfErr, IfSome, IfNone};
+ghost use Rattle.std.specs.Prelude.{◌≡◌, ℕ, ◌+◌, ◌-◌, ◌/◌, ◌^◌, ◌<◌, ◌≤◌, true, false, List, [], length, IfOk, IfErr, IfNone};
 ghost use Rattle.std.specs.List.{range_with_len};
 ghost use mathlib.Core.List.{IsPrefix};
-ghost use Rattle.turn_lock.specs.State.{first_seat, seat_after_join};
+ghost use Rattle.turn_lock.specs.State.{IsNewTurn, seat_after_join};
 ghost use Rattle.turn_lock.specs.Places.{RisesWithin};
-ghost use Rattle.turn_lock.specs.Steps.{IsWaiting, Takes};
+ghost use Rattle.turn_lock.specs.Steps.{IsWaiting, Takes, TakesFound};
 
 use crate::held::Held;
 use crate::opening::Opening;
@@ -49,7 +49,7 @@ impl<T: Replays> Turn<T> {
     pub fn make(alloc: Global, value: T) -> Result<(Turn<T>, Seat<T>), T>
         ghost history: { List T.Event }
         requires { T.stands value history }
-        ensures ok { IfOk result (λ r. (r.0.opening ≡ history) × (r.1 ≡ first_seat r.0.id history)) }
+        ensures ok { IfOk result (IsNewTurn history) }
         ensures err { IfErr result (λ v. v ≡ value) }
     {
         let opening = Opening::of();
@@ -118,7 +118,7 @@ impl<T: Replays> Turn<T> {
         requires own { seat.old.table_id ≡ self.now.id }
         requires waiting { IsWaiting ticket seat.old }
         ensures same { (seat.new.table_id ≡ seat.old.table_id) × (seat.new.id ≡ seat.old.id) }
-        ensures some { IfSome result (λ value. Takes T.stands seat.old.me ticket value seat.new.me) }
+        ensures some { TakesFound T.stands seat.old.me ticket result seat.new.me }
         ensures none { IfNone result (seat.new.me ≡ seat.old.me) }
     {
         let shared = &self.table.shared;

@@ -1,2 +1,4 @@
 pub mod Cutting
 pub mod Frames
+pub mod Laws
+pub mod Puts

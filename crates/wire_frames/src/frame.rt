@@ -1,9 +1,9 @@
 //! Frames and how they are written.
 
-ghost use Rattle.std.specs.Prelude.{◌+◌, ◌<◌, ◌≤◌, ◌++◌, length, is_ok};
-ghost use Rattle.port_traits.specs.Bytes.{Writes, WritesCounted};
+ghost use Rattle.std.specs.Prelude.{◌+◌, ◌<◌, ◌≤◌, length};
 ghost use Rattle.port_traits.specs.Faults.{HasCause};
-ghost use Rattle.wire_frames.specs.Frames.{body_limit, frame};
+ghost use Rattle.wire_frames.specs.Frames.{body_limit};
+ghost use Rattle.wire_frames.specs.Puts.{PutsBody, PutsBodyCounted};
 
 use port_traits::{Failed, Sink, write_counted};
 use thiserror::Error;
@@ -30,7 +30,7 @@ pub struct TooLong {
 pub fn put_frame<K: Sink>(sink: &mut K, head: &[u8], rest: &[u8]) -> Result<(), Failed>
     requires some { 0 < length head.now + length rest.now }
     requires within { length head.now + length rest.now ≤ body_limit }
-    ensures bytes { Writes (K.taken sink.old) (K.taken sink.new) (frame (head.now ++ rest.now)) (is_ok result) }
+    ensures bytes { PutsBody K.taken sink.old sink.new head.now rest.now result }
     ensures cause { HasCause (K.faults sink.old) (K.faults sink.new) result }
 {
     put_frame_counted(sink, head, rest, &mut 0)
@@ -45,7 +45,8 @@ pub fn put_frame_counted<K: Sink>(
 ) -> Result<(), Failed>
     requires some { 0 < length head.now + length rest.now }
     requires within { length head.now + length rest.now ≤ body_limit }
-    ensures bytes { WritesCounted (K.taken sink.old) (K.taken sink.new) given.old given.new (frame (head.now ++ rest.now)) (is_ok result) }
+    ensures bytes { PutsBodyCounted K.taken sink.old sink.new given.old given.new
+        head.now rest.now result }
     ensures cause { HasCause (K.faults sink.old) (K.faults sink.new) result }
 {
     let length = (head.len() + rest.len()) as u32;

@@ -1,8 +1,7 @@
 // One snapshot as two files, of which a crash leaves both or none: how calls are proved together from their clauses.
-ghost use Rattle.std.specs.Prelude.{◌≡◌, ◌⊎◌, Some, None, OnOk, IsErr, IsErrOf};
-ghost use Rattle.disk_trait.specs.Files.{Files};
-ghost use Rattle.disk_trait.specs.Disk.{Serves, LeavesOnly, Now};
-ghost use Rattle.base_tests.specs.Snapshot.{loaded};
+ghost use Rattle.std.specs.Prelude.{◌≡◌, None, OnOk, IsErr, IsErrOf};
+ghost use Rattle.disk_trait.specs.Disk.{Serves, Now};
+ghost use Rattle.base_tests.specs.Snapshot.{loaded, LeavesNoneOrWhole, OkHasWhole, LeavesNoneOrAsLoaded};
 
 use crate::asserts::same;
 use disk_trait::{Disk, DiskError, Failed, MemoryDisk};
@@ -19,8 +18,8 @@ pub fn save<D: Disk>(
 ) -> Result<(), DiskError>
     requires { Now D.calls D.images disk.old (λ c. loaded c ≡ None) }
     ensures serves { Serves D.honest D.faults disk.old disk.new (IsErrOf result DiskError.Failed) }
-    ensures crash { LeavesOnly D.calls D.images disk.old disk.new (λ c. (loaded c ≡ None) ⊎ (loaded c ≡ Some (manifest.now, Some chunk.now))) }
-    ensures saved { OnOk result (Now D.calls D.images disk.new (λ c. loaded c ≡ Some (manifest.now, Some chunk.now))) }
+    ensures crash { LeavesNoneOrWhole D.Disk disk.old disk.new manifest.now chunk.now }
+    ensures saved { OkHasWhole D.Disk disk.new manifest.now chunk.now result }
 {
     install(disk, alloc, "chunk", chunk)?;
     install_firm(disk, alloc, "manifest", manifest)?;
@@ -30,7 +29,7 @@ pub fn save<D: Disk>(
 // Forgets it: its manifest, and only then its chunk.
 pub fn forget<D: Disk>(disk: &mut D) -> Result<(), Failed>
     ensures serves { Serves D.honest D.faults disk.old disk.new (IsErr result) }
-    ensures crash { LeavesOnly D.calls D.images disk.old disk.new (λ c. (loaded c ≡ None) ⊎ ((b : Files) × D.images disk.old (D.calls disk.old) b × (loaded c ≡ loaded b))) }
+    ensures crash { LeavesNoneOrAsLoaded D.Disk disk.old disk.new }
     ensures gone { OnOk result (Now D.calls D.images disk.new (λ c. loaded c ≡ None)) }
 {
     drop_firm(disk, "manifest")?;

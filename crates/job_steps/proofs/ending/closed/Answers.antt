@@ -1,6 +1,6 @@
 use Rattle.std.proofs.Common.{sym, ◌∙◌}
 use Rattle.store_model.specs.Job.{closing}
-use Rattle.job_steps.proofs.EndingLemmas.{closed_over, closed_refused, closed_told}
+use Rattle.store_model.proofs.EndingLemmas.{closed_over, closed_refused, closed_told}
 use Rattle.job_steps.proofs.ending.closed.Goals as goal
 
 pub returns-then-is_refused-clause-job : goal.returns-then-is_refused-clause-job

@@ -1,6 +1,6 @@
 use Rattle.std.proofs.Common.{sym, ◌∙◌}
 use Rattle.store_model.specs.Job.{closing}
-use Rattle.job_steps.proofs.EndingLemmas.{again_first, again_refused}
+use Rattle.store_model.proofs.EndingLemmas.{again_first, again_refused}
 use Rattle.job_steps.proofs.ending.closes_again.Goals as goal
 
 pub returns-then-is_refused-clause-job : goal.returns-then-is_refused-clause-job

@@ -1,6 +1,6 @@
 use Rattle.std.proofs.Common.{sym, ◌∙◌}
 use Rattle.store_model.specs.Job.{closing}
-use Rattle.job_steps.proofs.EndingLemmas.{ends_at_once, ends_first}
+use Rattle.store_model.proofs.EndingLemmas.{ends_at_once, ends_first}
 use Rattle.job_steps.proofs.ending.ended.Goals as goal
 
 pub returns-then-closes_first-clause-job : goal.returns-then-closes_first-clause-job

@@ -1,7 +1,7 @@
 use Rattle.std.proofs.Common.{◌≡◌, Option, sym, subst, ◌∙◌}
 use Rattle.std.specs.Prelude.{IfOk}
 use Rattle.wire_commands.specs.declared.rows.FileFault.{FileFault}
-use Rattle.job_steps.proofs.JudgingLemmas.{blob_manifest, blob_other}
+use Rattle.store_model.proofs.VerifyLemmas.{blob_manifest, blob_other}
 use Rattle.job_steps.proofs.judging.blob_fault.Goals as goal
 
 pub returns-then-is_manifest-clause-fault : goal.returns-then-is_manifest-clause-fault

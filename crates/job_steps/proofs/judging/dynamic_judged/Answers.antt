@@ -1,15 +1,16 @@
-use Rattle.std.proofs.Common.{arith}
+use Rattle.std.proofs.Common.{◌∙◌, arith}
 use Rattle.std.proofs.lemmas.List.{length-map}
 use Rattle.store_files.specs.DynamicIndex.{Ended}
 use Rattle.store_model.specs.VerifyJob.{digest}
 use Rattle.job_steps.specs.Visits.{digests_of, dynamic_digests_of}
-use Rattle.job_steps.proofs.JudgingLemmas.{counted, dynamic_read, dynamic_small}
+use Rattle.store_model.proofs.VerifyLemmas.{dynamic_read}
+use Rattle.job_steps.proofs.JudgingLemmas.{counted, dynamic_small, last_same}
 use Rattle.job_steps.proofs.judging.dynamic_judged.Goals as goal
 
 pub returns : goal.returns
 returns c =
     dynamic_read c.args.row.now c.args.bytes.now c.compared.result c.size-total.result c.csum.result.0 (digests_of c.in_ok-entries.entries.items) c.compared.ensures.fault
-    c.in-Ok.view c.in-Ok.ensures.exact c.size-total.ensures c.csum.ensures c.in_ok-entries.ensures
+    c.in-Ok.view c.in-Ok.ensures.exact (c.size-total.ensures ∙ last_same c.in-Ok.view.entries) c.csum.ensures c.in_ok-entries.ensures
 
 pub invariant_of-result : goal.invariant_of-result
 invariant_of-result c =

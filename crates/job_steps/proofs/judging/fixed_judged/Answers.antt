@@ -2,7 +2,8 @@ use Rattle.std.proofs.Common.{arith}
 use Rattle.std.proofs.lemmas.List.{length-map}
 use Rattle.store_model.specs.VerifyJob.{digest}
 use Rattle.job_steps.specs.Visits.{digests_of, fixed_digests_of}
-use Rattle.job_steps.proofs.JudgingLemmas.{counted, fixed_read, fixed_small, has_pieces}
+use Rattle.store_model.proofs.VerifyLemmas.{fixed_read}
+use Rattle.job_steps.proofs.JudgingLemmas.{counted, fixed_small, has_pieces}
 use Rattle.job_steps.proofs.judging.fixed_judged.Goals as goal
 
 pub fixed_entries-requires : goal.fixed_entries-requires

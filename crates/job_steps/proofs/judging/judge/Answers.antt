@@ -3,7 +3,7 @@ use Rattle.std.specs.Prelude.{IfOk}
 use Rattle.store_types.specs.FileNames.{is_fixed_name, is_dynamic_name}
 use Rattle.store_model.specs.VerifyJob.{Judged, without_entries}
 use Rattle.job_steps.specs.Visits.{shown_judged, blob_fault_of}
-use Rattle.job_steps.proofs.JudgingLemmas.{judged_fixed, judged_dynamic, judged_blob}
+use Rattle.store_model.proofs.VerifyLemmas.{judged_fixed, judged_dynamic, judged_blob}
 use Rattle.job_steps.proofs.judging.judge.Goals as goal
 
 pub returns-then-is_fixed : goal.returns-then-is_fixed

@@ -4,7 +4,7 @@ use Rattle.wire_commands.specs.HasText.{FitsFileRow}
 use Rattle.wire_commands.specs.declared.reply.Reply.{Reply}
 use Rattle.store_model.specs.Job.{Visit, asking, reading, closing}
 use Rattle.job_steps.specs.Visits.{shown_visit}
-use Rattle.job_steps.proofs.VerifyLemmas.{next_none, next_some}
+use Rattle.store_model.proofs.VerifyLemmas.{next_none, next_some}
 use Rattle.job_steps.proofs.verify.next_file.Goals as goal
 
 pub returns-in-Some-clause-job : goal.returns-in-Some-clause-job

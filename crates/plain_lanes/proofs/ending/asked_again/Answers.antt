@@ -1,6 +1,6 @@
 use Rattle.std.proofs.Common.{sym, ◌∙◌}
 use Rattle.plain_lanes.specs.Closes.{asked_by}
-use Rattle.plain_lanes.proofs.EndingLemmas.{again_first, again_refused}
+use Rattle.store_model.proofs.EndingLemmas.{again_first, again_refused}
 use Rattle.plain_lanes.proofs.ending.asked_again.Goals as goal
 
 pub returns-then-is_refused-clause-job : goal.returns-then-is_refused-clause-job

@@ -1,6 +1,6 @@
 use Rattle.std.proofs.Common.{sym, ◌∙◌}
 use Rattle.plain_lanes.specs.Closes.{asked_by}
-use Rattle.plain_lanes.proofs.EndingLemmas.{closed_refused, closed_told, closed_over}
+use Rattle.store_model.proofs.EndingLemmas.{closed_refused, closed_told, closed_over}
 use Rattle.plain_lanes.proofs.ending.closed.Goals as goal
 
 pub returns-then-is_refused-clause-job : goal.returns-then-is_refused-clause-job

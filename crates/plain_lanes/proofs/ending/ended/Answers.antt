@@ -1,6 +1,6 @@
 use Rattle.std.proofs.Common.{sym, ◌∙◌}
 use Rattle.plain_lanes.specs.Closes.{asked_by}
-use Rattle.plain_lanes.proofs.EndingLemmas.{ends_first, ends_at_once}
+use Rattle.store_model.proofs.EndingLemmas.{ends_first, ends_at_once}
 use Rattle.plain_lanes.proofs.ending.ended.Goals as goal
 
 pub returns-then-closes_first-clause-job : goal.returns-then-closes_first-clause-job

@@ -1,5 +1,5 @@
 use Rattle.std.proofs.Common.{◌∙◌}
-use Rattle.plain_lanes.proofs.JudgingLemmas.{fixed_read}
+use Rattle.store_model.proofs.VerifyLemmas.{fixed_read}
 use Rattle.plain_lanes.proofs.judging.fixed_judged.Goals as goal
 
 pub returns-clause-judged : goal.returns-clause-judged

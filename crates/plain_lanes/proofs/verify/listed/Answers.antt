@@ -1,12 +1,12 @@
 use Rattle.std.proofs.Common.{List, [], sym, ap, subst, ◌∙◌, arith}
 use Rattle.std.proofs.lemmas.List.Elements.{All-nil, All-same}
 use Rattle.wire_commands.specs.HasText.{FitsFileRow, ReplyHasText}
-use Rattle.plain_lanes.specs.FaultRows.{IsFitRow}
+use Rattle.store_model.specs.FaultRows.{IsFitRow}
 use Rattle.wire_commands.specs.declared.rows.FaultRow.{FaultRow}
-use Rattle.store_model.specs.Job.{Visit, closing}
+use Rattle.store_model.specs.Job.{Visit, closing, ended_by}
 use Rattle.store_model.specs.VerifyJob.{begun, listed, next_file}
-use Rattle.plain_lanes.specs.Closes.{ended_by}
-use Rattle.plain_lanes.proofs.VerifyLemmas.{next_any, listed_not}
+use Rattle.store_model.proofs.VerifyLemmas.{next_any}
+use Rattle.plain_lanes.proofs.VerifyLemmas.{listed_not}
 use Rattle.plain_lanes.proofs.verify.listed.Goals as goal
 
 pub returns-in-Ok-clause-job : goal.returns-in-Ok-clause-job

@@ -5,7 +5,7 @@ use Rattle.wire_commands.specs.HasText.{FitsFileRow, ReplyHasText}
 use Rattle.std.proofs.lemmas.List.Elements.{All-head, All-tail, All-same}
 use Rattle.store_model.specs.Job.{Visit, asking, reading, closing}
 use Rattle.plain_lanes.specs.Visits.{shown_visit}
-use Rattle.plain_lanes.proofs.VerifyLemmas.{rows_of_test, verified_spelled, next_none, next_some}
+use Rattle.store_model.proofs.VerifyLemmas.{rows_of_test, verified_spelled, next_none, next_some}
 use Rattle.plain_lanes.proofs.verify.next_file.Goals as goal
 
 pub asked-requires : goal.asked-requires

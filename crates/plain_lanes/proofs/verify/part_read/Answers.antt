@@ -4,7 +4,7 @@ use Rattle.store_model.specs.Job.{Job}
 use Rattle.store_model.specs.VerifyJob.{judged, file_read}
 use Rattle.plain_lanes.specs.Jobs.{shown_job}
 use Rattle.plain_lanes.specs.Visits.{shown_visit}
-use Rattle.plain_lanes.proofs.VerifyLemmas.{part_more, part_whole}
+use Rattle.store_model.proofs.VerifyLemmas.{part_more, part_whole}
 use Rattle.plain_lanes.proofs.verify.part_read.Goals as goal
 
 pub returns-then-so_far-total-clause-job : goal.returns-then-so_far-total-clause-job

@@ -2,7 +2,7 @@ use Rattle.std.proofs.Common.{List, sym, subst}
 use Rattle.std.specs.Prelude.{All}
 use Rattle.std.proofs.lemmas.List.Elements.{All-push}
 use Rattle.wire_commands.specs.declared.rows.FaultRow.{FaultRow}
-use Rattle.plain_lanes.specs.FaultRows.{IsFitRow}
+use Rattle.store_model.specs.FaultRows.{IsFitRow}
 use Rattle.plain_lanes.proofs.VerifyLemmas.{row_tested}
 use Rattle.plain_lanes.proofs.verify.push_fault.Goals as goal
 

@@ -16,4 +16,4 @@ returns-clause-fault c = λ fault.
     let ws = old.waiting.chunks.items in
     let before = option_or fault (parts_fault old.handed.parts.items) in
     ap (fault_with before) c.push_reserved.ensures.items ∙ fault_push before ws _
-    ∙ ap (λ d. option_or (fault_in fault old) (chunk_fault d c.args.blob)) c.next-length.ensures
+    ∙ ap (λ d. option_or (fault_in fault old) (chunk_fault d c.args.blob)) c.next-length.ensures.digest

@@ -18,7 +18,7 @@ returns-clause-job g c =
     (c.skip.ensures.fault c.first_of-fault.result ∙ fault_settled c.first_of-fault.result c.test.new.self c.test.ensures.tests.settled
     ∙ c.first_of-fault.ensures.first
     ∙ ap (λ f. option_or f (Some (faults.Damaged c.next.result.digest))) (c.first_of-before.ensures.first ∙ c.test.ensures.fault s.fault)
-    ∙ ap (λ d. option_or (fault_of s) (Some (faults.Damaged d))) c.next.ensures)
+    ∙ ap (λ d. option_or (fault_of s) (Some (faults.Damaged d))) c.next.ensures.digest)
     (c.skip.ensures.reads.place ∙ ap (λ n. n + 1) c.test.ensures.tests.stays.place)
     (c.skip.ensures.reads.left ∙ ap (drop 1) (left_stays s.chunks c.test.new.self c.test.ensures.tests.stays))
 

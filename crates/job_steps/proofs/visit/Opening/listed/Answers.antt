@@ -5,8 +5,8 @@ use Rattle.wire_commands.specs.declared.rows.FaultRow.{FaultRow}
 use Rattle.wire_commands.specs.HasText.{FitsFileRow, ReplyHasText}
 use Rattle.store_model.specs.Job.{Visit}
 use Rattle.store_model.specs.VerifyJob.{begun, listed, next_file}
-use Rattle.job_steps.specs.FaultRows.{IsFitRow}
-use Rattle.job_steps.proofs.VerifyLemmas.{next_any}
+use Rattle.store_model.specs.FaultRows.{IsFitRow}
+use Rattle.store_model.proofs.VerifyLemmas.{next_any}
 use Rattle.job_steps.proofs.visit.Opening.listed.Goals as goal
 
 pub returns-clause-job : goal.returns-clause-job

@@ -2,7 +2,7 @@ use Rattle.std.proofs.Common.{sym, ap, subst, List, arith}
 use Rattle.wire_commands.specs.declared.rows.FaultRow.{FaultRow}
 use Rattle.wire_commands.specs.declared.reply.Reply.TheVariants.{Verified}
 use Rattle.wire_commands.specs.HasText.{ReplyHasText}
-use Rattle.job_steps.proofs.VerifyLemmas.{rows_of_test, verified_spelled}
+use Rattle.store_model.proofs.VerifyLemmas.{rows_of_test, verified_spelled}
 use Rattle.job_steps.proofs.visit.Visit.report.Goals as goal
 
 pub returns-clause-report : goal.returns-clause-report

@@ -1,11 +1,9 @@
 -- How a job that has a session ends.
 use Rattle.std.proofs.Common.{◌≡◌, true, false, refl}
-use Rattle.store_types.specs.declared.refusal.Refusal.{Refusal}
 use Rattle.store_types.specs.declared.refusal.Refusal.TheVariants.{RemoteFault, DiskFault, Halted, NoMemory}
 use Rattle.wire_commands.specs.declared.reply.Reply.{Reply}
 use Rattle.wire_commands.specs.declared.reply.Reply.TheVariants.{Refused}
-use Rattle.store_model.specs.Job.{Asking, over, asking, closed}
-use Rattle.plain_lanes.specs.Closes.{ended_by, closes_first, is_refused, leaves_open}
+use Rattle.store_model.specs.Job.{Asking, over, asking, closed, ended_by, closes_first, is_refused, leaves_open}
 
 module _ (close : Reply → Asking) where
   pub ends_first : (reply : Reply) → closes_first reply ≡ true → asking (close reply) ≡ ended_by close reply
