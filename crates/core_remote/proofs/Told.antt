@@ -23,7 +23,7 @@ use Rattle.core_state.specs.Wanted.{session_at}
 use Rattle.core_state.proofs.Applying.{refused_remote}
 use Rattle.core_state.proofs.RemoteLemmas.{stays_there}
 use Rattle.core_state.proofs.RemoteReads.{FailsWhere, GivesRight, read_applies, read_keeps, unread_applies, unread_keeps}
-use Rattle.core_remote.specs.RemoteActs.{FailsBy, GivesFrom, GivesRemote, IsRemotes, RemoteGives, RemoteTells, StopHasText, TellsEnd, UnreadWhere, read_told}
+use Rattle.core_remote.specs.RemoteActs.{FailsBy, GivesFrom, GivesRemote, IsRemotes, IsTested, RemoteGives, RemoteTells, StopHasText, TellsEnd, UnreadWhere, read_told}
 use Rattle.core_remote.proofs.Given.{given_right}
 use Rattle.core_remote.proofs.RemoteLemmas.{are_remotes, ends_fit, told_same}
 
@@ -65,6 +65,7 @@ module _ {D E C : Type 0} (d : Ghosts D) (e : Ghosts E) (clock : clocks.Ghosts C
           (λ (seven : (answer.entry).kind ≡ 7). absurd (no_kind 7 (λ x. absurd (omega (arith, x))) (λ x. absurd (omega (arith, x))) seven)) at;
       unread = λ _ _. not_called;
       halted = in_any old.fault not_called;
+      tested = λ one. absurd (no_kind 1 (λ x. absurd (omega (arith, x))) (λ x. absurd (omega (arith, x))) one);
     }
 
     pub refused_gives : RemoteGives e old act answer
@@ -74,7 +75,7 @@ module _ {D E C : Type 0} (d : Ghosts D) (e : Ghosts E) (clock : clocks.Ghosts C
 
   module _ (mid : Core D E C) (at : Place) (lt : k < 64) (formed : IsWellFormed act) (admitted : IsAdmitted clock.readings old mid k at) (filled : FillsUp old mid k act (At at))
       (remote : Option E) (ended : Result Reply RemoteStop) (tells : TellsEnd mid.parts mid.remote k act ended) (stays : RemoteStays e mid.remote remote) (failed : FailsBy e mid.remote remote ended)
-      (unread : UnreadWhere mid.parts mid.remote remote k act) (gives : GivesRemote e mid.remote act ended) (kind : IfOk ended (λ reply. IsTrue (may_give act reply))) (text : MatchResult ended ReplyHasText StopHasText)
+      (unread : UnreadWhere mid.parts mid.remote remote k act) (tested : IfOk ended (IsTested act)) (gives : GivesRemote e mid.remote act ended) (kind : IfOk ended (λ reply. IsTrue (may_give act reply))) (text : MatchResult ended ReplyHasText StopHasText)
       (settled : SettlesRead d (record mid { remote = remote }) new at.lane at.moment ended answer) where
     -- its tests, by the core as it was before
     before : read_told act (is_some mid.remote) (session_at mid.parts k) ≡ read_told act (is_some old.remote) (session_at old.parts k)
@@ -120,6 +121,15 @@ module _ {D E C : Type 0} (d : Ghosts D) (e : Ghosts E) (clock : clocks.Ghosts C
     not_read : (n : ℕ) → (answer.entry).kind ≡ n → (n ≡ 1 → ⊥) → (n ≡ 7 → ⊥) → ((answer.entry).kind ≡ 1) ⊎ ((answer.entry).kind ≡ 7) → ⊥
     not_read n kind one seven at = ⊎_elim (λ (x : (answer.entry).kind ≡ 1). one (sym kind ∙ x)) (λ (x : (answer.entry).kind ≡ 7). seven (sym kind ∙ x)) at
 
+    tested_by : (r : Result Reply RemoteStop) → IfOk r (IsTested act) → (answer.entry).kind ≡ kind_by r → answer.reply ≡ Some (reply_by r) → (answer.entry).kind ≡ 1 → IfSome answer.reply (IsTested act)
+    tested_by (Ok reply) tests kind told one = subst (λ (x : Option Reply). IfSome x (IsTested act)) (sym told) tests
+    tested_by (Err (stops.Refused r)) tests kind told one = absurd (omega (arith, kind, one))
+    tested_by (Err stops.NoMemory) tests kind told one = absurd (omega (arith, kind, one))
+    tested_by (Err stops.Failed) tests kind told one = absurd (omega (arith, kind, one))
+
+    chunk_tested : (answer.entry).kind ≡ 1 → IfSome answer.reply (IsTested act)
+    chunk_tested = tested_by ended tested kind_is settled.reply_is
+
     -- where its tests refuse the read the remote is not called
     not_called_where : UnreadWhere old.parts old.remote new.remote k act
     not_called_where refusal told = settled.remote ∙ unread refusal (before ∙ told) ∙ ((admitted.ready).begun).remote
@@ -129,20 +139,22 @@ module _ {D E C : Type 0} (d : Ghosts D) (e : Ghosts E) (clock : clocks.Ghosts C
     no_halt = subst (λ (o : Option ℕ). IfSome o (λ _. new.remote ≡ old.remote)) (sym (admitted.ready).no_fault) tt
 
     tells_by : (r : Result Reply RemoteStop) → TellsEnd mid.parts mid.remote k act r → (answer.entry).kind ≡ kind_by r → answer.reply ≡ Some (reply_by r) → RemoteTells old new k act answer
-    tells_by (Ok reply) tells kind told = record { refused = λ zero. absurd (omega (arith, kind, zero)); reads = λ _. sym before ∙ tells; unread = not_called_where; halted = no_halt }
+    tells_by (Ok reply) tells kind told = record { refused = λ zero. absurd (omega (arith, kind, zero)); reads = λ _. sym before ∙ tells; unread = not_called_where; halted = no_halt; tested = chunk_tested }
     tells_by (Err (stops.Refused r)) tells kind told = record {
       refused = λ _. (r, told, sym before ∙ tells);
       reads = λ at. absurd (not_read 0 kind (λ x. absurd (omega (arith, x))) (λ x. absurd (omega (arith, x))) at);
       unread = not_called_where;
       halted = no_halt;
+      tested = chunk_tested;
     }
     tells_by (Err stops.NoMemory) tells kind told = record {
       refused = λ zero. absurd (omega (arith, kind, zero));
       reads = λ at. absurd (not_read 2 kind (λ x. absurd (omega (arith, x))) (λ x. absurd (omega (arith, x))) at);
       unread = not_called_where;
       halted = no_halt;
+      tested = chunk_tested;
     }
-    tells_by (Err stops.Failed) tells kind told = record { refused = λ zero. absurd (omega (arith, kind, zero)); reads = λ _. sym before ∙ tells; unread = not_called_where; halted = no_halt }
+    tells_by (Err stops.Failed) tells kind told = record { refused = λ zero. absurd (omega (arith, kind, zero)); reads = λ _. sym before ∙ tells; unread = not_called_where; halted = no_halt; tested = chunk_tested }
 
     pub done_tells : RemoteTells old new k act answer
     done_tells = tells_by ended tells kind_is settled.reply_is

@@ -17,7 +17,7 @@ use Rattle.wire_commands.specs.declared.reply.Reply.{Reply}
 use Rattle.wire_commands.specs.declared.reply.Reply.TheVariants.{Data, Keys, Refused}
 use Rattle.wire_commands.specs.HasText.{ReplyHasText}
 use Rattle.store_model.specs.Stands.{group_limit}
-use Rattle.chunk_store.specs.Pieces.{found_at}
+use Rattle.chunk_store.specs.Pieces.{IsChunk, found_at}
 use Rattle.snapshot_files.specs.Grouped.{GroupKeys}
 use Rattle.snapshot_files.specs.Parts.{part_at}
 use Rattle.store_history.specs.declared.act.Act.{Act}
@@ -90,14 +90,20 @@ abbrev pub StopHasText : RemoteStop → Type 0
 StopHasText (stops.Refused refusal) = ReplyHasText (Refused refusal)
 StopHasText stop = Unit {0}
 
--- On any remote: a read is made exactly where nothing refuses it, and else this is the refusal. The remote is not called for a read that is
--- refused, nor after the disk failed.
+-- the bytes that are given of a chunk are the blob of a piece with its digest
+abbrev pub IsTested : Act → Reply → Type 0
+IsTested (RemoteChunk digest) (Data bytes) = IsChunk digest.0 bytes
+IsTested act reply = Unit {0}
+
+-- On any remote: a read is made exactly where nothing refuses it, and else this is the refusal. The remote is not called where
+-- something refuses the read, nor after the disk failed. What is given of a chunk is the blob of a piece with its digest.
 pub record RemoteTells {D E C : Type 0} (old new : Core D E C) (lane : ℕ) (act : Act) (answer : Answer) : Type 0 where
   pub refused : (answer.entry).kind ≡ 0
       → (refusal : Refusal) × (answer.reply ≡ Some (Refused refusal)) × (read_told act (is_some old.remote) (session_at old.parts lane) ≡ Err refusal)
   pub reads : ((answer.entry).kind ≡ 1) ⊎ ((answer.entry).kind ≡ 7) → read_told act (is_some old.remote) (session_at old.parts lane) ≡ Ok tt
   pub unread : UnreadWhere old.parts old.remote new.remote lane act
   pub halted : IfSome old.fault (λ _. new.remote ≡ old.remote)
+  pub tested : (answer.entry).kind ≡ 1 → IfSome answer.reply (IsTested act)
 
 -- ---- what it gives
 

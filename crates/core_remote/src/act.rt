@@ -7,7 +7,7 @@ ghost use Rattle.core_state.specs.Applies.{ActKeeps, CoreApplies};
 ghost use Rattle.core_state.specs.Remotes.{RemoteStays};
 ghost use Rattle.core_state.specs.Replies.{may_give};
 ghost use Rattle.core_state.specs.Reserved.{HasRoom};
-ghost use Rattle.core_remote.specs.RemoteActs.{FailsBy, GivesRemote, IsRemotes, RemoteGives, RemoteTells, StopHasText, TellsEnd, UnreadWhere};
+ghost use Rattle.core_remote.specs.RemoteActs.{FailsBy, GivesRemote, IsRemotes, IsTested, RemoteGives, RemoteTells, StopHasText, TellsEnd, UnreadWhere};
 
 use crate::reading::read;
 use crate::refusing::may_read;
@@ -38,6 +38,7 @@ fn reach<D, E: Disk>(
     ensures gives { GivesRemote E.Disk remote.old act result }
     // on any remote
     ensures kind { IfOk result (λ reply. IsTrue (may_give act reply)) }
+    ensures tested { IfOk result (IsTested act) }
     ensures text { MatchResult result ReplyHasText StopHasText }
 {
     let has_remote = remote.is_some();
@@ -63,7 +64,7 @@ pub fn remote_act<D: Disk, E: Disk, C: Clock>(
     requires formed { IsWellFormed act }
     ensures applies { CoreApplies D.Disk E.Disk C.Clock core.old core.new lane act result }
     ensures keeps { ActKeeps D.Disk core.old core.new lane act result }
-    // on any remote: what refuses it, and that it is not called then
+    // on any remote: what refuses it, that it is not called then, and that a chunk is tested
     ensures by_kept { RemoteTells core.old core.new lane act result }
     // of an honest remote, whatever it holds: what it gives
     ensures by_remote { RemoteGives E.Disk core.old act result }

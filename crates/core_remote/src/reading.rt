@@ -9,7 +9,7 @@ ghost use Rattle.wire_commands.specs.HasText.{ReplyHasText};
 ghost use Rattle.wire_commands.specs.declared.command.Command.TheVariants.{Sync};
 ghost use Rattle.core_state.specs.Remotes.{RemoteStays};
 ghost use Rattle.core_state.specs.Replies.{gives_blob, gives_file, gives_keys, may_give};
-ghost use Rattle.core_remote.specs.RemoteActs.{FailsBy, Gives, GivesRemote, HasName, IsRemotes, IsShort, IsUnread, texts_of as texts_by};
+ghost use Rattle.core_remote.specs.RemoteActs.{FailsBy, Gives, GivesRemote, HasName, IsRemotes, IsShort, IsTested, IsUnread, texts_of as texts_by};
 
 use chunk_store::{LoadFault, load};
 use core_state::{Act, RemoteStop};
@@ -91,6 +91,7 @@ fn chunk<E: Disk>(remote: &mut E, alloc: Global, digest: &Digest32) -> Result<Re
     ensures gives { Gives E.Disk remote.old (RemoteChunk digest.now) result }
     // on any remote
     ensures kind { IfOk result (λ reply. IsTrue (gives_blob reply)) }
+    ensures tested { IfOk result (IsTested (RemoteChunk digest.now)) }
     ensures text { IfOk result ReplyHasText }
 {
     match load(remote, alloc, digest) {
@@ -112,6 +113,7 @@ fn read_disk<E: Disk>(remote: &mut E, alloc: Global, act: Act) -> Result<Reply, 
     ensures gives { Gives E.Disk remote.old act result }
     // on any remote
     ensures kind { IfOk result (λ reply. IsTrue (may_give act reply)) }
+    ensures tested { IfOk result (IsTested act) }
     ensures text { IfOk result ReplyHasText }
 {
     match act {
@@ -136,6 +138,7 @@ pub fn read<E: Disk>(remote: &mut Option<E>, alloc: Global, act: Act) -> Result<
     ensures gives { GivesRemote E.Disk remote.old act result }
     // on any remote
     ensures kind { IfOk result (λ reply. IsTrue (may_give act reply)) }
+    ensures tested { IfOk result (IsTested act) }
     ensures text { IfOk result ReplyHasText }
     ensures unrefused { IfErr result IsUnread }
 {

@@ -15,6 +15,7 @@ use Rattle.dynamic_index.specs.Pieces as pieces
 use Rattle.dynamic_index.proofs.Reading.{dynamic_of-fits}
 use Rattle.store_model.specs.VerifyJob.{digest, last_end}
 use Rattle.job_steps.specs.declared.chunks.Entry.{Entry}
+use Rattle.job_steps.specs.Lengths.{HaveLengths}
 use Rattle.job_steps.specs.Visits.{HasPieces, digests_of}
 
 -- where the entries of a dynamic index end
@@ -38,6 +39,14 @@ dynamic_more es new e x i lt pushed read before =
     ap digests_of pushed ∙ map_push (λ (y : Entry). y.digest) es e ∙ ap (λ ds. ds ++ e.digest ∷ []) before
     ∙ ap (λ d. map (λ (y : Ended). digest y.digest) (take i x.entries) ++ digest d ∷ []) read
     ∙ sym (map_more (λ (y : Ended). digest y.digest) x.entries i none lt)
+
+lengths_push : (len : ℕ → ℕ) (place : ℕ) (es : List Entry) (e : Entry) → HaveLengths len place es → e.length ≡ len (place + length es)
+    → HaveLengths len place (es ++ e ∷ [])
+lengths_push len place [] e have is = (is ∙ ap len (omega arith), tt)
+lengths_push len place (x ∷ xs) e have is = (have.0, lengths_push len (place + 1) xs e have.1 (is ∙ ap len (omega arith)))
+
+pub lengths_more : (len : ℕ → ℕ) (es new : List Entry) (e : Entry) → new ≡ es ++ e ∷ [] → HaveLengths len 0 es → e.length ≡ len (length es) → HaveLengths len 0 new
+lengths_more len es new e pushed have is = subst (HaveLengths len 0) (sym pushed) (lengths_push len 0 es e have (is ∙ ap len (omega arith)))
 
 -- as many as there are digests
 pub counted : (es : List Entry) (ds : List Digest32) → digests_of es ≡ ds → length es ≡ length ds

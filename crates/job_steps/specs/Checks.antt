@@ -15,6 +15,7 @@ use Rattle.job_steps.specs.declared.stages.Checking.{Checking}
 use Rattle.job_steps.specs.declared.stages.Reading.{Reading}
 use Rattle.job_steps.specs.declared.stages.Whole.{Whole}
 use Rattle.job_steps.specs.States.{chunks_of}
+use Rattle.job_steps.specs.Lengths.{HaveTheirs}
 use Rattle.job_steps.specs.Visits.{digests_left, digests_of, fault_in, next_digest, place_in, shown_visit}
 
 abbrev pub IsPart : Reply → Type 0
@@ -37,6 +38,10 @@ shown_whole w = record { fault = w.fault; bytes = w.bytes; digests = digests_of 
 
 abbrev pub GivesWhole : {E : Type 0} → Result Whole E → verify.Judged → Type 0
 GivesWhole result judged = IfOk result (λ given. shown_whole given ≡ judged)
+
+-- its chunks are of the lengths that its index has
+abbrev pub GivesTheirs : {E : Type 0} → Result Whole E → Reading → Type 0
+GivesTheirs result r = IfOk result (λ w. HaveTheirs r.row.file r.bytes.items w.chunks.entries.items)
 
 -- what its bytes say, where they are all of the file
 abbrev pub judged_of : Reading → verify.Judged

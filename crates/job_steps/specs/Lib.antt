@@ -7,3 +7,4 @@ pub mod Rows
 pub mod States
 pub mod Visits
 pub mod Waits
+pub mod Lengths

@@ -1,5 +1,6 @@
 -- A VERIFY's state.
-use Rattle.std.specs.Prelude.{◌≡◌, ℕ, ◌+◌, ◌*◌, ◌^◌, ◌<◌, ◌≤◌, true, List, [], drop, length, map, nat_lt, Option, Some, None, is_some, Result, IfOk, if◌then◌else◌, slice_index_or}
+use Rattle.std.specs.Prelude.{◌≡◌, ℕ, ◌+◌, ◌*◌, ◌^◌, ◌<◌, ◌≤◌, true, List, [], drop, length, map, nat_lt, Option, Some, None, is_some, Result, Vec, IfOk, if◌then◌else◌, slice_index_or}
+use Rattle.std.specs.declared.alloc.Global.{Global}
 use Rattle.std.specs.Option.{option_or}
 use Rattle.sha2.specs.Sha256.{sha256}
 use Rattle.store_types.specs.declared.names.Digest32.{Digest32}
@@ -34,6 +35,9 @@ shown_visit v = record {
 
 abbrev pub digests_of : List Entry → List Digest32
 digests_of entries = map (λ e. e.digest) entries
+
+abbrev pub GivesDigests : {E : Type 0} → List Digest32 → Result (Vec Entry Global) E → Type 0
+GivesDigests digests result = IfOk result (λ entries. digests_of entries.items ≡ digests)
 
 abbrev pub lengths_of : List Entry → List ℕ
 lengths_of entries = map (λ e. e.length) entries

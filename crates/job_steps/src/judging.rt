@@ -1,9 +1,10 @@
 //! What whole files say, beside what is listed of them.
 
-ghost use Rattle.std.specs.Prelude.{◌≡◌, IfOk};
+ghost use Rattle.std.specs.Prelude.{◌≡◌, [], IfOk};
 ghost use Rattle.job_steps.specs.FaultRows.{IsFitFault};
 ghost use Rattle.store_model.specs.VerifyJob as model;
-ghost use Rattle.job_steps.specs.Visits.{GivesFault, GivesJudged, HasPieces, blob_fault_of, digests_of, fixed_digests_of, dynamic_digests_of, shown_judged};
+ghost use Rattle.job_steps.specs.Lengths.{GivesLengths, HaveDynamic, HaveFixed, HaveTheirs, dynamic_length, fixed_length};
+ghost use Rattle.job_steps.specs.Visits.{GivesDigests, GivesFault, GivesJudged, HasPieces, blob_fault_of, fixed_digests_of, dynamic_digests_of, shown_judged};
 
 use crate::chunks::{Entry, Judged};
 use blob_codec::decode;
@@ -16,7 +17,8 @@ use wire_commands::{FileFault, FileRow};
 
 fn without_entries(alloc: Global, fault: Option<FileFault>) -> Judged
     requires { IsFitFault fault }
-    ensures { shown_judged result ≡ model.without_entries fault }
+    ensures judged { shown_judged result ≡ model.without_entries fault }
+    ensures none { result.entries.items ≡ [] }
 {
     Judged {
         fault,
@@ -39,7 +41,8 @@ fn compared(row: &FileRow, size: u64, csum: &[u8; 32]) -> Option<FileFault>
 
 fn fixed_entries(alloc: Global, view: &FixedView) -> Result<Vec<Entry>, AllocError>
     requires { HasPieces view.now }
-    ensures { IfOk result (λ entries. digests_of entries.items ≡ fixed_digests_of view.now) }
+    ensures digests { GivesDigests (fixed_digests_of view.now) result }
+    ensures lengths { GivesLengths (fixed_length view.now) result }
 {
     let mut entries = Vec::with_capacity(alloc, view.len() as usize)?;
     for i in 0..view.len() {
@@ -53,7 +56,8 @@ fn fixed_entries(alloc: Global, view: &FixedView) -> Result<Vec<Entry>, AllocErr
 }
 
 fn dynamic_entries(alloc: Global, view: &DynamicView) -> Result<Vec<Entry>, AllocError>
-    ensures { IfOk result (λ entries. digests_of entries.items ≡ dynamic_digests_of view.now) }
+    ensures digests { GivesDigests (dynamic_digests_of view.now) result }
+    ensures lengths { GivesLengths (dynamic_length view.now) result }
 {
     let mut entries = Vec::with_capacity(alloc, view.len() as usize)?;
     for i in 0..view.len() {
@@ -68,7 +72,8 @@ fn dynamic_entries(alloc: Global, view: &DynamicView) -> Result<Vec<Entry>, Allo
 
 #[tactic(auto, unfolding(store_model::specs::VerifyJob::fixed_judged))]
 fn fixed_judged(alloc: Global, row: &FileRow, bytes: &[u8]) -> Result<Judged, AllocError>
-    ensures { GivesJudged result (model.fixed_judged row.now bytes.now) }
+    ensures judged { GivesJudged result (model.fixed_judged row.now bytes.now) }
+    ensures lengths { IfOk result (λ given. HaveFixed bytes.now given.entries.items) }
 {
     let Ok(view) = FixedView::open_on(bytes) else {
         return Ok(without_entries(alloc, Some(FileFault::Unreadable)));
@@ -84,7 +89,8 @@ fn fixed_judged(alloc: Global, row: &FileRow, bytes: &[u8]) -> Result<Judged, Al
 
 #[tactic(auto, unfolding(store_model::specs::VerifyJob::dynamic_judged))]
 fn dynamic_judged(alloc: Global, row: &FileRow, bytes: &[u8]) -> Result<Judged, AllocError>
-    ensures { GivesJudged result (model.dynamic_judged row.now bytes.now) }
+    ensures judged { GivesJudged result (model.dynamic_judged row.now bytes.now) }
+    ensures lengths { IfOk result (λ given. HaveDynamic bytes.now given.entries.items) }
 {
     let Ok(view) = DynamicView::open_on(bytes) else {
         return Ok(without_entries(alloc, Some(FileFault::Unreadable)));
@@ -171,7 +177,8 @@ pub fn judge(
     row: &FileRow,
     bytes: &[u8],
 ) -> Result<Judged, AllocError>
-    ensures { GivesJudged result (model.judged snapshot.now row.now bytes.now) }
+    ensures judged { GivesJudged result (model.judged snapshot.now row.now bytes.now) }
+    ensures lengths { IfOk result (λ given. HaveTheirs row.now.file bytes.now given.entries.items) }
 {
     let name = file_name(alloc, row.file.as_slice())?;
     if name.is_fixed() {

@@ -6,7 +6,7 @@ ghost use Rattle.wire_commands.specs.HasText.{FitsFileRow, ReplyHasText};
 ghost use Rattle.store_model.specs.VerifyJob as model;
 ghost use Rattle.job_steps.specs.Replies.{EitherEndsInText, EndsInText};
 ghost use Rattle.job_steps.specs.States.{chunks_of, job_in};
-ghost use Rattle.job_steps.specs.Checks.{CountsFile, GivesStep, GivesWhole, IsPart, checked_by, damaged_by, fault_told as told_of, held_by, judged_of, read_by, read_on, reading_of, shown_whole, unheld_by, unread_by, unreadable_by};
+ghost use Rattle.job_steps.specs.Checks.{CountsFile, GivesStep, GivesTheirs, GivesWhole, IsPart, checked_by, damaged_by, fault_told as told_of, held_by, judged_of, read_by, read_on, reading_of, shown_whole, unheld_by, unread_by, unreadable_by};
 ghost use Rattle.store_model.specs.Job.{ended_by, closing};
 ghost use Rattle.job_steps.specs.FaultRows.{IsFitFault};
 ghost use Rattle.job_steps.specs.Visits.{EndsTested, IsUncounted, WaitsFor, judged_by, place_in, shown_visit as shown};
@@ -182,7 +182,8 @@ impl Reading {
 
     /// What the bytes say, where they are all of the file.
     fn whole(&self, alloc: Global) -> Result<Whole, AllocError>
-        ensures { GivesWhole result (judged_of self.now) }
+        ensures judged { GivesWhole result (judged_of self.now) }
+        ensures lengths { GivesTheirs result self.now }
     {
         let judged = judge(
             alloc,

@@ -25,7 +25,7 @@ pub returns-in-At-clause-applies : goal.returns-in-At-clause-applies
 returns-in-At-clause-applies g c =
     let e = c.settle_read.ensures in
     done_applies g.D.Disk g.E.Disk g.C.Clock c.args.core.now c.settle_read.new.core c.args.lane c.args.act c.settle_read.result c.requires.kind c.begin.new.core c.in-At.at c.requires.lane c.requires.formed
-    c.in-At.ensures.begun c.in-At.ensures.filled c.reach-ended.new.remote c.reach-ended.result c.reach-ended.ensures.tells c.reach-ended.ensures.stays c.reach-ended.ensures.failed c.reach-ended.ensures.unread c.reach-ended.ensures.gives
+    c.in-At.ensures.begun c.in-At.ensures.filled c.reach-ended.new.remote c.reach-ended.result c.reach-ended.ensures.tells c.reach-ended.ensures.stays c.reach-ended.ensures.failed c.reach-ended.ensures.unread c.reach-ended.ensures.tested c.reach-ended.ensures.gives
     c.reach-ended.ensures.kind c.reach-ended.ensures.text
     (record { parts = e.parts; remote = e.remote; clock = e.clock; fault = e.fault; last = e.last; upkeep = e.upkeep; collector = e.collector; entries = e.entries; calls = e.calls; entry = e.entry; reply_is = e.reply_is; place = e.place; is_held = e.is_held; room = e.room; last_held = e.last_held })
 
@@ -33,7 +33,7 @@ pub returns-in-At-clause-keeps : goal.returns-in-At-clause-keeps
 returns-in-At-clause-keeps g c =
     let e = c.settle_read.ensures in
     done_keeps g.D.Disk g.E.Disk g.C.Clock c.args.core.now c.settle_read.new.core c.args.lane c.args.act c.settle_read.result c.requires.kind c.begin.new.core c.in-At.at c.requires.lane c.requires.formed
-    c.in-At.ensures.begun c.in-At.ensures.filled c.reach-ended.new.remote c.reach-ended.result c.reach-ended.ensures.tells c.reach-ended.ensures.stays c.reach-ended.ensures.failed c.reach-ended.ensures.unread c.reach-ended.ensures.gives
+    c.in-At.ensures.begun c.in-At.ensures.filled c.reach-ended.new.remote c.reach-ended.result c.reach-ended.ensures.tells c.reach-ended.ensures.stays c.reach-ended.ensures.failed c.reach-ended.ensures.unread c.reach-ended.ensures.tested c.reach-ended.ensures.gives
     c.reach-ended.ensures.kind c.reach-ended.ensures.text
     (record { parts = e.parts; remote = e.remote; clock = e.clock; fault = e.fault; last = e.last; upkeep = e.upkeep; collector = e.collector; entries = e.entries; calls = e.calls; entry = e.entry; reply_is = e.reply_is; place = e.place; is_held = e.is_held; room = e.room; last_held = e.last_held })
 
@@ -41,7 +41,7 @@ pub returns-in-At-clause-by_kept : goal.returns-in-At-clause-by_kept
 returns-in-At-clause-by_kept g c =
     let e = c.settle_read.ensures in
     done_tells g.D.Disk g.E.Disk g.C.Clock c.args.core.now c.settle_read.new.core c.args.lane c.args.act c.settle_read.result c.requires.kind c.begin.new.core c.in-At.at c.requires.lane c.requires.formed
-    c.in-At.ensures.begun c.in-At.ensures.filled c.reach-ended.new.remote c.reach-ended.result c.reach-ended.ensures.tells c.reach-ended.ensures.stays c.reach-ended.ensures.failed c.reach-ended.ensures.unread c.reach-ended.ensures.gives
+    c.in-At.ensures.begun c.in-At.ensures.filled c.reach-ended.new.remote c.reach-ended.result c.reach-ended.ensures.tells c.reach-ended.ensures.stays c.reach-ended.ensures.failed c.reach-ended.ensures.unread c.reach-ended.ensures.tested c.reach-ended.ensures.gives
     c.reach-ended.ensures.kind c.reach-ended.ensures.text
     (record { parts = e.parts; remote = e.remote; clock = e.clock; fault = e.fault; last = e.last; upkeep = e.upkeep; collector = e.collector; entries = e.entries; calls = e.calls; entry = e.entry; reply_is = e.reply_is; place = e.place; is_held = e.is_held; room = e.room; last_held = e.last_held })
 
@@ -49,6 +49,6 @@ pub returns-in-At-clause-by_remote : goal.returns-in-At-clause-by_remote
 returns-in-At-clause-by_remote g c =
     let e = c.settle_read.ensures in
     done_gives g.D.Disk g.E.Disk g.C.Clock c.args.core.now c.settle_read.new.core c.args.lane c.args.act c.settle_read.result c.requires.kind c.begin.new.core c.in-At.at c.requires.lane c.requires.formed
-    c.in-At.ensures.begun c.in-At.ensures.filled c.reach-ended.new.remote c.reach-ended.result c.reach-ended.ensures.tells c.reach-ended.ensures.stays c.reach-ended.ensures.failed c.reach-ended.ensures.unread c.reach-ended.ensures.gives
+    c.in-At.ensures.begun c.in-At.ensures.filled c.reach-ended.new.remote c.reach-ended.result c.reach-ended.ensures.tells c.reach-ended.ensures.stays c.reach-ended.ensures.failed c.reach-ended.ensures.unread c.reach-ended.ensures.tested c.reach-ended.ensures.gives
     c.reach-ended.ensures.kind c.reach-ended.ensures.text
     (record { parts = e.parts; remote = e.remote; clock = e.clock; fault = e.fault; last = e.last; upkeep = e.upkeep; collector = e.collector; entries = e.entries; calls = e.calls; entry = e.entry; reply_is = e.reply_is; place = e.place; is_held = e.is_held; room = e.room; last_held = e.last_held })

@@ -20,3 +20,8 @@ returns-in-Err-Damaged-clause-text g c =
     let is : length c.in-Err-Damaged.digest.0 ≡ 32 = search rules in
     let fits : FitsChunkFault c.in-Err-Damaged.found = search rules in
     damaged_has_text c.in-Err-Damaged.digest c.in-Err-Damaged.found is fits
+
+pub returns-in-Ok-clause-tested : goal.returns-in-Ok-clause-tested
+returns-in-Ok-clause-tested g c =
+    let is : c.from_vec.result ≡ blob c.in-Ok.chunk = c.from_vec.ensures ∙ c.into_blob.ensures in
+    (c.in-Ok.chunk, c.in-Ok.ensures.checked.0, is, c.in-Ok.ensures.checked.1)
