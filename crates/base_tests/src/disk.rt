@@ -1,7 +1,8 @@
 mod watched;
 
 use crate::asserts::{same, same_at};
-use disk_trait::{Disk, DiskError, Failed, FailingDisk, FileDisk, MemoryDisk};
+use disk_trait::{Disk, DiskError, Failed, FailingDisk, MemoryDisk};
+use file_disk::FileDisk;
 use std::alloc::Global;
 use std::cell::{Cell, RefCell};
 use std::fs;

@@ -2,11 +2,14 @@
 
 ghost use Rattle.std.specs.Prelude.{◌≡◌, ◌≤◌, ℕ, List, length, OnOk, IsErrOf, IsErr};
 ghost use Rattle.disk_trait.specs.Files.{Files, HasShortNames, SameBut};
-ghost use Rattle.disk_trait.specs.Disk.{Serves, Ticks, Steps, Now, Same, MayMove, MayGo, ToldToNow, IsLeftAsRead};
+ghost use Rattle.disk_trait.specs.Disk.{Serves, TicksOnce, Steps, Now, Same, MayMove, MayGo, ToldToNow, IsLeftAsRead};
 ghost use Rattle.disk_trait.specs.Calls.{ReadsAt, FindsAt, FillsAt, CountsAt, ListsNames, TellsThere, PutsWhole, MovesFile, DropsFile, WantKeeps, NoneKeeps};
+ghost use Rattle.std.specs.IoError.{error_kind};
+ghost use Rattle.disk_trait.specs.IoCauses.{cause_of};
 ghost use Rattle.disk_trait.specs.declared.disk.DiskError.TheVariants.{NoMemory, Failed as DiskFailed};
 
 use std::alloc::{AllocError, AllocFailed, Global};
+use std::io::{self, ErrorKind};
 use thiserror::Error;
 
 /// The disk failed, and its count of faults rose.
@@ -48,6 +51,24 @@ impl<T: Drop> From<AllocFailed<T>> for DiskError {
     }
 }
 
+impl From<io::Error> for Failed {
+    fn from(_: io::Error) -> Self {
+        Failed
+    }
+}
+
+impl From<io::Error> for DiskError {
+    ghost from_gives = { λ error e. e ≡ cause_of (error_kind error) };
+
+    fn from(error: io::Error) -> Self {
+        if error.kind() == ErrorKind::OutOfMemory {
+            DiskError::NoMemory
+        } else {
+            DiskError::Failed
+        }
+    }
+}
+
 /// A map from names of at most 255 bytes to bytes. Every `&mut` call is a moment, and the disk has for each moment the
 /// images that a crash then may leave. Its content and its images are told of an honest disk alone; of any disk its
 /// counts and the causes of its refusals.
@@ -61,14 +82,14 @@ pub trait Disk {
     /// The images that a crash at a moment may leave, or might have left.
     ghost images: { Self → ℕ → Files → Type 0 };
 
-    /// The moment: how many calls there were, or any number that rises so.
+    /// The moment: how many calls there were, from any number on.
     ghost calls: { Self → ℕ };
 
     /// How often the disk has failed.
     ghost faults: { Self → ℕ };
 
-    /// Never falls. On an honest disk it rises with each `&mut` call while it is below 2^64 - 1; no clause tells of
-    /// images at that value.
+    /// Never falls. On an honest disk it rises by one with each `&mut` call, up to 2^64 - 1; no clause tells of images at
+    /// that value.
     fn calls(&self) -> u64
         ensures { result ≡ calls self.now };
 
@@ -79,7 +100,7 @@ pub trait Disk {
     /// The bytes at a name, or `None` where nothing is there.
     fn read(&mut self, alloc: Global, name: &str) -> Result<Option<Vec<u8>>, DiskError>
         ensures serves { Serves honest faults self.old self.new (IsErrOf result DiskError.Failed) }
-        ensures tick { Ticks honest calls self.old self.new }
+        ensures tick { TicksOnce honest calls self.old self.new }
         ensures crash { Steps calls images self.old self.new Same }
         ensures same { honest self.old → content self.new ≡ content self.old }
         ensures bytes { ReadsAt honest content self.old name.now result }
@@ -94,7 +115,7 @@ pub trait Disk {
         into: &mut [u8],
     ) -> Result<Option<usize>, Failed>
         ensures serves { Serves honest faults self.old self.new (IsErr result) }
-        ensures tick { Ticks honest calls self.old self.new }
+        ensures tick { TicksOnce honest calls self.old self.new }
         ensures crash { Steps calls images self.old self.new Same }
         ensures same { honest self.old → content self.new ≡ content self.old }
         ensures there { FindsAt honest content self.old name.now result }
@@ -103,7 +124,7 @@ pub trait Disk {
     /// How many bytes stand at a name, or `None` where nothing is there.
     fn size(&mut self, name: &str) -> Result<Option<u64>, Failed>
         ensures serves { Serves honest faults self.old self.new (IsErr result) }
-        ensures tick { Ticks honest calls self.old self.new }
+        ensures tick { TicksOnce honest calls self.old self.new }
         ensures crash { Steps calls images self.old self.new Same }
         ensures same { honest self.old → content self.new ≡ content self.old }
         ensures size { CountsAt honest content self.old name.now result };
@@ -111,7 +132,7 @@ pub trait Disk {
     /// The names that begin with a prefix, in byte order.
     fn list(&mut self, alloc: Global, prefix: &str) -> Result<Vec<String>, DiskError>
         ensures serves { Serves honest faults self.old self.new (IsErrOf result DiskError.Failed) }
-        ensures tick { Ticks honest calls self.old self.new }
+        ensures tick { TicksOnce honest calls self.old self.new }
         ensures crash { Steps calls images self.old self.new Same }
         ensures same { honest self.old → content self.new ≡ content self.old }
         ensures names { ListsNames honest content self.old prefix.now result }
@@ -122,7 +143,7 @@ pub trait Disk {
     fn put(&mut self, alloc: Global, name: &str, bytes: &[u8]) -> Result<(), DiskError>
         requires { length name.now ≤ 255 }
         ensures serves { Serves honest faults self.old self.new (IsErrOf result DiskError.Failed) }
-        ensures tick { Ticks honest calls self.old self.new }
+        ensures tick { TicksOnce honest calls self.old self.new }
         ensures crash { Steps calls images self.old self.new (SameBut name.now) }
         ensures put { PutsWhole honest content self.old self.new name.now bytes.now result }
         ensures unchanged { WantKeeps honest content calls images faults self.old self.new result };
@@ -132,7 +153,7 @@ pub trait Disk {
     fn rename(&mut self, from: &str, to: &str) -> Result<bool, Failed>
         requires { length to.now ≤ 255 }
         ensures serves { Serves honest faults self.old self.new (IsErr result) }
-        ensures tick { Ticks honest calls self.old self.new }
+        ensures tick { TicksOnce honest calls self.old self.new }
         ensures crash { Steps calls images self.old self.new (MayMove from.now to.now) }
         ensures there { TellsThere honest content self.old from.now result }
         ensures renamed { MovesFile honest content self.old self.new from.now to.now result }
@@ -142,7 +163,7 @@ pub trait Disk {
     /// the name, and then nothing changed.
     fn remove(&mut self, name: &str) -> Result<bool, Failed>
         ensures serves { Serves honest faults self.old self.new (IsErr result) }
-        ensures tick { Ticks honest calls self.old self.new }
+        ensures tick { TicksOnce honest calls self.old self.new }
         ensures crash { Steps calls images self.old self.new (MayGo name.now) }
         ensures there { TellsThere honest content self.old name.now result }
         ensures removed { DropsFile honest content self.old self.new name.now result }
@@ -151,7 +172,7 @@ pub trait Disk {
     /// After Ok, a crash leaves only what is read.
     fn sync(&mut self) -> Result<(), Failed>
         ensures serves { Serves honest faults self.old self.new (IsErr result) }
-        ensures tick { Ticks honest calls self.old self.new }
+        ensures tick { TicksOnce honest calls self.old self.new }
         ensures crash { Steps calls images self.old self.new Same }
         ensures same { honest self.old → OnOk result (content self.new ≡ content self.old) }
         ensures durable { OnOk result (Now calls images self.new (λ c. c ≡ content self.new)) };

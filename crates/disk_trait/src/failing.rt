@@ -2,7 +2,7 @@
 
 ghost use Rattle.std.specs.Prelude.{◌≡◌, ◌<◌, ◌≤◌, ◌+◌, ◌-◌, ◌^◌, ◌↔◌, min, ℕ, List, length, OnOk, IsErrOf, IsErr};
 ghost use Rattle.disk_trait.specs.Files.{SameBut};
-ghost use Rattle.disk_trait.specs.Disk.{Rose, Ticks, Same, MayMove, MayGo};
+ghost use Rattle.disk_trait.specs.Disk.{Rose, TicksOnce, Same, MayMove, MayGo};
 ghost use Rattle.disk_trait.specs.Calls.{ReadsAt, FindsAt, CountsAt, ListsNames, WantKeepsFaults};
 ghost use Rattle.disk_trait.specs.Effects.{StepsOn, SameContent, OkKeepsContent, IsDurable, DiskFills, DiskTells, DiskPuts, Renames, DiskDrops, DiskWantKeeps, DiskNoneKeeps};
 ghost use Rattle.disk_trait.specs.FailurePlan.{fails_at};
@@ -54,7 +54,7 @@ pub struct FailingDisk<D: Disk + Drop> {
 fn pass<D: Disk>(disk: &mut D)
     ensures kept { D.honest disk.old ↔ D.honest disk.new }
     ensures count { D.faults disk.old ≤ D.faults disk.new }
-    ensures tick { Ticks D.honest D.calls disk.old disk.new }
+    ensures tick { TicksOnce D.honest D.calls disk.old disk.new }
     ensures crash { StepsOn D.Disk disk.old disk.new Same }
     ensures same { SameContent D.Disk disk.old disk.new }
 {
@@ -112,7 +112,7 @@ impl<D: Disk + Drop> FailingDisk<D> {
         ensures rose { Rose (all_faults D.Disk self.old) (all_faults D.Disk self.new) }
         ensures own { self.new.failed ≡ min (self.old.failed + 1) (2 ^ 64 - 1) }
         ensures schedule { self.new.schedule ≡ self.old.schedule }
-        ensures tick { Ticks D.honest D.calls self.old.inner self.new.inner }
+        ensures tick { TicksOnce D.honest D.calls self.old.inner self.new.inner }
         ensures crash { StepsOn D.Disk self.old.inner self.new.inner Same }
         ensures same { SameContent D.Disk self.old.inner self.new.inner }
     {
@@ -152,7 +152,7 @@ impl<D: Disk + Drop> Disk for FailingDisk<D> {
 
     fn read(&mut self, alloc: Global, name: &str) -> Result<Option<Vec<u8>>, DiskError>
         ensures serves { ServesOver D.Disk self.old self.new (IsErrOf result DiskError.Failed) }
-        ensures tick { Ticks D.honest D.calls (below self.old) (below self.new) }
+        ensures tick { TicksOnce D.honest D.calls (below self.old) (below self.new) }
         ensures crash { StepsOn D.Disk (below self.old) (below self.new) Same }
         ensures same { SameContent D.Disk (below self.old) (below self.new) }
         ensures bytes { ReadsAt D.honest D.content (below self.old) name.now result }
@@ -173,7 +173,7 @@ impl<D: Disk + Drop> Disk for FailingDisk<D> {
         into: &mut [u8],
     ) -> Result<Option<usize>, Failed>
         ensures serves { ServesOver D.Disk self.old self.new (IsErr result) }
-        ensures tick { Ticks D.honest D.calls (below self.old) (below self.new) }
+        ensures tick { TicksOnce D.honest D.calls (below self.old) (below self.new) }
         ensures crash { StepsOn D.Disk (below self.old) (below self.new) Same }
         ensures same { SameContent D.Disk (below self.old) (below self.new) }
         ensures there { FindsAt D.honest D.content (below self.old) name.now result }
@@ -189,7 +189,7 @@ impl<D: Disk + Drop> Disk for FailingDisk<D> {
 
     fn size(&mut self, name: &str) -> Result<Option<u64>, Failed>
         ensures serves { ServesOver D.Disk self.old self.new (IsErr result) }
-        ensures tick { Ticks D.honest D.calls (below self.old) (below self.new) }
+        ensures tick { TicksOnce D.honest D.calls (below self.old) (below self.new) }
         ensures crash { StepsOn D.Disk (below self.old) (below self.new) Same }
         ensures same { SameContent D.Disk (below self.old) (below self.new) }
         ensures size { CountsAt D.honest D.content (below self.old) name.now result }
@@ -204,7 +204,7 @@ impl<D: Disk + Drop> Disk for FailingDisk<D> {
 
     fn list(&mut self, alloc: Global, prefix: &str) -> Result<Vec<String>, DiskError>
         ensures serves { ServesOver D.Disk self.old self.new (IsErrOf result DiskError.Failed) }
-        ensures tick { Ticks D.honest D.calls (below self.old) (below self.new) }
+        ensures tick { TicksOnce D.honest D.calls (below self.old) (below self.new) }
         ensures crash { StepsOn D.Disk (below self.old) (below self.new) Same }
         ensures same { SameContent D.Disk (below self.old) (below self.new) }
         ensures names { ListsNames D.honest D.content (below self.old) prefix.now result }
@@ -221,7 +221,7 @@ impl<D: Disk + Drop> Disk for FailingDisk<D> {
     fn put(&mut self, alloc: Global, name: &str, bytes: &[u8]) -> Result<(), DiskError>
         requires { length name.now ≤ 255 }
         ensures serves { ServesOver D.Disk self.old self.new (IsErrOf result DiskError.Failed) }
-        ensures tick { Ticks D.honest D.calls (below self.old) (below self.new) }
+        ensures tick { TicksOnce D.honest D.calls (below self.old) (below self.new) }
         ensures crash { StepsOn D.Disk (below self.old) (below self.new) (SameBut name.now) }
         ensures put { DiskPuts D.Disk (below self.old) (below self.new) name.now bytes.now result }
         ensures unchanged { DiskWantKeeps D.Disk (below self.old) (below self.new) result }
@@ -238,7 +238,7 @@ impl<D: Disk + Drop> Disk for FailingDisk<D> {
     fn rename(&mut self, from: &str, to: &str) -> Result<bool, Failed>
         requires { length to.now ≤ 255 }
         ensures serves { ServesOver D.Disk self.old self.new (IsErr result) }
-        ensures tick { Ticks D.honest D.calls (below self.old) (below self.new) }
+        ensures tick { TicksOnce D.honest D.calls (below self.old) (below self.new) }
         ensures crash { StepsOn D.Disk (below self.old) (below self.new) (MayMove from.now to.now) }
         ensures there { DiskTells D.Disk (below self.old) from.now result }
         ensures renamed { Renames D.Disk (below self.old) (below self.new) from.now to.now result }
@@ -255,7 +255,7 @@ impl<D: Disk + Drop> Disk for FailingDisk<D> {
 
     fn remove(&mut self, name: &str) -> Result<bool, Failed>
         ensures serves { ServesOver D.Disk self.old self.new (IsErr result) }
-        ensures tick { Ticks D.honest D.calls (below self.old) (below self.new) }
+        ensures tick { TicksOnce D.honest D.calls (below self.old) (below self.new) }
         ensures crash { StepsOn D.Disk (below self.old) (below self.new) (MayGo name.now) }
         ensures there { DiskTells D.Disk (below self.old) name.now result }
         ensures removed { DiskDrops D.Disk (below self.old) (below self.new) name.now result }
@@ -272,7 +272,7 @@ impl<D: Disk + Drop> Disk for FailingDisk<D> {
 
     fn sync(&mut self) -> Result<(), Failed>
         ensures serves { ServesOver D.Disk self.old self.new (IsErr result) }
-        ensures tick { Ticks D.honest D.calls (below self.old) (below self.new) }
+        ensures tick { TicksOnce D.honest D.calls (below self.old) (below self.new) }
         ensures crash { StepsOn D.Disk (below self.old) (below self.new) Same }
         ensures same { OkKeepsContent D.Disk (below self.old) (below self.new) result }
         ensures durable { OnOk result (IsDurable D.Disk (below self.new)) }

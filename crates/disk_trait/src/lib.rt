@@ -4,14 +4,11 @@
 mod crashes;
 mod disk;
 mod failing;
-mod file_disk;
-mod folder;
 mod memory;
 mod names;
 mod step_log;
 
 pub use disk::{Disk, DiskError, Failed};
 pub use failing::FailingDisk;
-pub use file_disk::FileDisk;
 pub use memory::MemoryDisk;
 pub use step_log::{LoggedStep, Step};

@@ -2,7 +2,7 @@
 //! pulled from. The replies to the session in a file go to the file of its name with `.out` behind it.
 #![tactic(auto)]
 
-use disk_trait::FileDisk;
+use file_disk::FileDisk;
 use lane::Port;
 use pbs_server::{Plan, Status, WordFault, plan_words, serve};
 use port_traits::{FileSink, FileSource, FreeGate, WallClock};

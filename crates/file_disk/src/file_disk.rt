@@ -5,7 +5,7 @@ ghost use Rattle.std.specs.FinMap.{empty};
 ghost use Rattle.disk_trait.specs.Disk.{one_up};
 
 use crate::folder::Folder;
-use crate::{Disk, DiskError, Failed};
+use disk_trait::{Disk, DiskError, Failed};
 use std::alloc::{AllocError, Global};
 use std::rt::Files;
 

@@ -1,10 +1,8 @@
 //! A real folder whose files are seen as a map from names to bytes. A name with slashes is a file in sub-folders.
 
 ghost use Rattle.std.specs.Prelude.{◌≡◌, IfOk, string_bytes};
-ghost use Rattle.std.specs.IoError.{error_kind};
-ghost use Rattle.disk_trait.specs.IoCauses.{cause_of};
 
-use crate::{DiskError, Failed};
+use disk_trait::{DiskError, Failed};
 use std::alloc::{AllocError, Global};
 use std::fs::{self, DirEntry, OpenFile};
 use std::io::{self, ErrorKind, Read, Seek, SeekFrom, Write};
@@ -12,24 +10,6 @@ use std::rt::Files;
 
 // The most bytes that a name has.
 const MAX_NAME: usize = 255;
-
-impl From<io::Error> for Failed {
-    fn from(_: io::Error) -> Self {
-        Failed
-    }
-}
-
-impl From<io::Error> for DiskError {
-    ghost from_gives = { λ error e. e ≡ cause_of (error_kind error) };
-
-    fn from(error: io::Error) -> Self {
-        if error.kind() == ErrorKind::OutOfMemory {
-            DiskError::NoMemory
-        } else {
-            DiskError::Failed
-        }
-    }
-}
 
 /// The files below a root. No clause says what is read or written.
 #[derive(Drop)]
