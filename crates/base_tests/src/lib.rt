@@ -1,12 +1,10 @@
-//! The tests of names, ports, disks, what a writer may name, locks, turns, prunes and files that are installed.
+//! The tests of names, ports, what a writer may name, locks, turns, prunes and files that are installed.
 #![tactic(auto)]
 
 #[cfg(test)]
 mod asserts;
 #[cfg(test)]
 mod crc;
-#[cfg(test)]
-mod disk;
 #[cfg(test)]
 mod install;
 #[cfg(test)]

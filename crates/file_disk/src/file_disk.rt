@@ -5,29 +5,59 @@ ghost use Rattle.std.specs.FinMap.{empty};
 ghost use Rattle.disk_trait.specs.Disk.{one_up};
 
 use crate::folder::Folder;
+use crate::root::{Hold, LockFile};
+use crate::syncs::SyncFolders;
 use disk_trait::{Disk, DiskError, Failed};
 use std::alloc::{AllocError, Global};
 use std::rt::Files;
 
 /// The files of a real folder, the root, which must be there: else each call fails. A name with slashes is a file in
 /// sub-folders, which are made when needed. A name that no file below the root can have, as `../a`, is never there, and
-/// putting it fails. Each file is synced as it is put, and each folder as a name in it changes.
+/// putting it fails.
+///
+/// The first call locks the folder, until this is dropped or the program ends: each call fails where another has it.
+///
+/// A file is synced as it is put. A change of a name lasts from the next `sync` on, and so do, from the first `sync` on
+/// and from that behind a call that failed, the names that stood there before.
+///
+/// No link is followed, but where the root is one. A call fails that meets what is neither file nor folder, or a folder in
+/// the place of its file. Names that are no UTF-8 or have more than 255 bytes are left alone.
 #[derive(Drop)]
-pub struct FileDisk<R: Files + AllocGlobal + Clone + Drop> {
-    folder: Folder<R>,
+pub struct FileDisk<R: Files + AllocGlobal + Clone + Drop, S: SyncFolders + Drop> {
+    folder: Folder<R, S>,
     calls: u64,
     faults: u64,
 }
 
-impl<R: Files + AllocGlobal + Clone + Drop> FileDisk<R> {
-    /// The folder is first read in the first call.
-    pub fn new(rt: R, alloc: Global, root: &str) -> Result<Self, AllocError>
-        ensures root { IfOk result (λ d. string_bytes d.folder.root ≡ root.now) }
-        ensures calls { IfOk result (λ d. ⟦<FileDisk<R> as Disk>⟧.calls d ≡ 0) }
-        ensures faults { IfOk result (λ d. ⟦<FileDisk<R> as Disk>⟧.faults d ≡ 0) }
+impl<R: Files + AllocGlobal + Clone + Drop, S: SyncFolders + Drop> FileDisk<R, S>
+where
+    R::File: LockFile,
+{
+    /// The disk over a folder that no other disk may have beside it.
+    pub fn alone(rt: R, syncs: S, alloc: Global, root: &str) -> Result<Self, AllocError>
+        ensures root { IfOk result (λ d. string_bytes d.folder.root.path ≡ root.now) }
+        ensures calls { IfOk result (λ d. ⟦<FileDisk<R, S> as Disk>⟧.calls d ≡ 0) }
+        ensures faults { IfOk result (λ d. ⟦<FileDisk<R, S> as Disk>⟧.faults d ≡ 0) }
+    {
+        FileDisk::new(rt, syncs, alloc, root, Hold::Alone)
+    }
+
+    /// The disk over a folder that other shared disks may read too. It only reads: each change fails.
+    pub fn shared(rt: R, syncs: S, alloc: Global, root: &str) -> Result<Self, AllocError>
+        ensures root { IfOk result (λ d. string_bytes d.folder.root.path ≡ root.now) }
+        ensures calls { IfOk result (λ d. ⟦<FileDisk<R, S> as Disk>⟧.calls d ≡ 0) }
+        ensures faults { IfOk result (λ d. ⟦<FileDisk<R, S> as Disk>⟧.faults d ≡ 0) }
+    {
+        FileDisk::new(rt, syncs, alloc, root, Hold::Shared)
+    }
+
+    fn new(rt: R, syncs: S, alloc: Global, root: &str, hold: Hold) -> Result<Self, AllocError>
+        ensures root { IfOk result (λ d. string_bytes d.folder.root.path ≡ root.now) }
+        ensures calls { IfOk result (λ d. d.calls ≡ 0) }
+        ensures faults { IfOk result (λ d. d.faults ≡ 0) }
     {
         Ok(FileDisk {
-            folder: Folder::new(rt, alloc, root)?,
+            folder: Folder::new(rt, syncs, alloc, root, hold)?,
             calls: 0,
             faults: 0,
         })
@@ -44,6 +74,7 @@ impl<R: Files + AllocGlobal + Clone + Drop> FileDisk<R> {
         self.calls = self.calls.saturating_add(1);
         if let Err(DiskError::Failed) = outcome {
             self.faults = self.faults.saturating_add(1);
+            self.folder.distrust();
         }
         outcome
     }
@@ -58,12 +89,16 @@ impl<R: Files + AllocGlobal + Clone + Drop> FileDisk<R> {
         self.calls = self.calls.saturating_add(1);
         if outcome.is_err() {
             self.faults = self.faults.saturating_add(1);
+            self.folder.distrust();
         }
         outcome
     }
 }
 
-impl<R: Files + AllocGlobal + Clone + Drop> Disk for FileDisk<R> {
+impl<R: Files + AllocGlobal + Clone + Drop, S: SyncFolders + Drop> Disk for FileDisk<R, S>
+where
+    R::File: LockFile,
+{
     ghost honest = { λ _. ⊥ };
 
     ghost content = { λ _. empty };
@@ -130,9 +165,8 @@ impl<R: Files + AllocGlobal + Clone + Drop> Disk for FileDisk<R> {
         self.counted_failure(outcome)
     }
 
-    // Each change was synced as it was made.
     fn sync(&mut self) -> Result<(), Failed> {
-        let outcome = self.folder.check_root();
+        let outcome = self.folder.sync();
         self.counted_failure(outcome)
     }
 }

@@ -2,61 +2,85 @@
 
 ghost use Rattle.std.specs.Prelude.{◌≡◌, IfOk, string_bytes};
 
+use crate::changes::Changes;
+use crate::paths::{Kind, MAX_NAME, append_part, folder_of, is_plain, kind_at, write_over};
+use crate::root::{Hold, LockFile, Root};
+use crate::syncs::SyncFolders;
+use crate::walk::walk_from;
 use disk_trait::{DiskError, Failed};
 use std::alloc::{AllocError, Global};
-use std::fs::{self, DirEntry, OpenFile};
-use std::io::{self, ErrorKind, Read, Seek, SeekFrom, Write};
+use std::fs::{self, OpenFile, OpenOptions};
+use std::io::{Read, Seek, SeekFrom, Write};
 use std::rt::Files;
 
-// The most bytes that a name has.
-const MAX_NAME: usize = 255;
-
-/// The files below a root. No clause says what is read or written.
+/// The files below a root. No clause says what is read or written. No link below the root is followed.
 #[derive(Drop)]
-pub struct Folder<R: Files + AllocGlobal + Clone + Drop> {
+pub struct Folder<R: Files + AllocGlobal + Clone + Drop, S: SyncFolders + Drop> {
     rt: R,
-    root: String,
+    syncs: S,
+    alloc: Global,
+    pub root: Root<R::File>,
     // Room for the paths of two names, so that most calls take no memory.
     path: String,
     target: String,
+    changes: Changes,
+    // Whether a crash leaves all that is read, but for the changes.
+    is_durable: bool,
 }
 
-impl<R: Files + AllocGlobal + Clone + Drop> Folder<R> {
+impl<R: Files + AllocGlobal + Clone + Drop, S: SyncFolders + Drop> Folder<R, S>
+where
+    R::File: LockFile,
+{
     /// The folder at a root, which is not looked at yet.
-    pub fn new(rt: R, alloc: Global, root: &str) -> Result<Self, AllocError>
-        ensures { IfOk result (λ f. string_bytes f.root ≡ root.now) }
+    pub fn new(rt: R, syncs: S, alloc: Global, root: &str, hold: Hold) -> Result<Self, AllocError>
+        ensures { IfOk result (λ f. string_bytes f.root.path ≡ root.now) }
     {
         let room = root.len().saturating_add(1 + MAX_NAME);
         Ok(Folder {
             rt,
-            root: String::from_str(alloc, root)?,
+            syncs,
+            alloc,
+            root: Root::new(alloc, root, hold)?,
             path: String::with_capacity(alloc, room)?,
             target: String::with_capacity(alloc, room)?,
+            changes: Changes::new(alloc, root)?,
+            is_durable: false,
         })
     }
 
-    /// Fails where the root is no folder.
-    pub fn check_root(&self) -> Result<(), Failed> {
-        if fs::metadata(&self.rt, self.root.as_str())?.is_dir() {
-            Ok(())
-        } else {
-            Err(Failed)
+    /// A call failed: what it left counts as nothing that lasts.
+    pub fn distrust(&mut self) {
+        self.is_durable = false;
+    }
+
+    /// The size of the file at a name, where there is one. Its path then stands in `path`. Fails where there is a folder.
+    pub fn look_up(&mut self, name: &str) -> Result<Option<u64>, Failed> {
+        self.root.check(&self.rt)?;
+        if !is_plain(name) || !self.has_folders(name)? {
+            return Ok(None);
+        }
+        append_part(&mut self.path, last_part(name))?;
+        match kind_at(&self.rt, self.path.as_str())? {
+            Kind::File(size) => Ok(Some(size)),
+            Kind::Nothing => Ok(None),
+            Kind::Folder => Err(Failed),
         }
     }
 
-    /// The size of the file at a name, where there is one. Its path then stands in `path`.
-    pub fn look_up(&mut self, name: &str) -> Result<Option<u64>, Failed> {
-        self.check_root()?;
-        if !is_plain(name) {
-            return Ok(None);
+    // Whether all folders of a name are there. Then the path of the last one stands in `path`.
+    fn has_folders(&mut self, name: &str) -> Result<bool, Failed> {
+        write_over(&mut self.path, self.root.path.as_str())?;
+        let Some((folders, _)) = name.rsplit_once('/') else {
+            return Ok(true);
+        };
+        for part in folders.split('/') {
+            append_part(&mut self.path, part)?;
+            if kind_at(&self.rt, self.path.as_str())? != Kind::Folder {
+                return Ok(false);
+            }
         }
-        spell(&mut self.path, self.root.as_str(), name)?;
-        match fs::symlink_metadata(&self.rt, self.path.as_str()) {
-            Ok(found) if found.is_file() => Ok(Some(found.len())),
-            Ok(_) => Ok(None),
-            Err(e) if is_absence(&e) => Ok(None),
-            Err(_) => Err(Failed),
-        }
+        Ok(true)
     }
 
     /// All bytes of the file at a name, where there is one.
@@ -66,7 +90,8 @@ impl<R: Files + AllocGlobal + Clone + Drop> Folder<R> {
         };
         // One byte more than the file has, so that its end is read without growing.
         let mut bytes = Vec::with_capacity(alloc, (size as usize).saturating_add(1))?;
-        fs::open(&self.rt, self.path.as_str())?.read_to_end(&mut bytes)?;
+        let file = fs::open(&self.rt, self.path.as_str())?;
+        file.take(size).read_to_end(&mut bytes)?;
         Ok(Some(bytes))
     }
 
@@ -89,188 +114,122 @@ impl<R: Files + AllocGlobal + Clone + Drop> Folder<R> {
         Ok(Some(count))
     }
 
-    /// Writes the file at a name, syncs it, and syncs its folder. Folders of the name are made when needed.
+    /// Writes the file at a name anew, and syncs it. Folders of the name are made when needed. The names that this
+    /// changes last from the next `sync` on.
     pub fn put(&mut self, name: &str, bytes: &[u8]) -> Result<(), Failed> {
-        self.check_root()?;
-        make_folders(&self.rt, &mut self.path, self.root.as_str(), name)?;
-        let mut file = fs::create(&self.rt, self.path.as_str())?;
+        self.root.check_change(&self.rt)?;
+        if self.find_place(name)? {
+            fs::remove_file(&self.rt, self.target.as_str())?;
+        }
+        let mut how = OpenOptions::new();
+        how.write(true).create_new(true);
+        let mut file = how.open(&self.rt, self.target.as_str())?;
         file.write_all(bytes)?;
         file.sync_all()?;
-        sync_folder_of(&self.rt, self.path.as_str())
+        self.changes
+            .add(&self.syncs, folder_of(self.target.as_str()))
     }
 
-    /// Renames a file, over another where there is one, and syncs the folders; `false` where there is none at `from`.
+    // Makes the folders of a name that are missing, and leaves its path in `target`: whether a file stands there. Fails
+    // where none can.
+    fn find_place(&mut self, name: &str) -> Result<bool, Failed> {
+        if !is_plain(name) {
+            return Err(Failed);
+        }
+        write_over(&mut self.target, self.root.path.as_str())?;
+        if let Some((folders, _)) = name.rsplit_once('/') {
+            for part in folders.split('/') {
+                append_part(&mut self.target, part)?;
+                self.make_folder()?;
+            }
+        }
+        append_part(&mut self.target, last_part(name))?;
+        match kind_at(&self.rt, self.target.as_str())? {
+            Kind::File(_) => Ok(true),
+            Kind::Nothing => Ok(false),
+            Kind::Folder => Err(Failed),
+        }
+    }
+
+    // Makes the folder at `target` where it is missing.
+    fn make_folder(&mut self) -> Result<(), Failed> {
+        let path = self.target.as_str();
+        match kind_at(&self.rt, path)? {
+            Kind::Folder => Ok(()),
+            Kind::File(_) => Err(Failed),
+            Kind::Nothing => {
+                fs::create_dir(&self.rt, path)?;
+                self.changes.add(&self.syncs, folder_of(path))
+            }
+        }
+    }
+
+    /// Renames a file, over another where there is one; `false` where there is none at `from`.
     pub fn rename(&mut self, from: &str, to: &str) -> Result<bool, Failed> {
+        self.root.check_change(&self.rt)?;
         if self.look_up(from)?.is_none() {
             return Ok(false);
         }
-        make_folders(&self.rt, &mut self.target, self.root.as_str(), to)?;
+        self.find_place(to)?;
         fs::rename(&self.rt, self.path.as_str(), self.target.as_str())?;
-        sync_folder_of(&self.rt, self.target.as_str())?;
-        if folder_of(self.path.as_str()) != folder_of(self.target.as_str()) {
-            sync_folder_of(&self.rt, self.path.as_str())?;
-        }
+        self.changes
+            .add(&self.syncs, folder_of(self.target.as_str()))?;
+        self.changes
+            .add(&self.syncs, folder_of(self.path.as_str()))?;
         Ok(true)
     }
 
-    /// Removes the file at a name, and syncs its folder; `false` where there is none.
+    /// Removes the file at a name; `false` where there is none.
     pub fn remove(&mut self, name: &str) -> Result<bool, Failed> {
+        self.root.check_change(&self.rt)?;
         if self.look_up(name)?.is_none() {
             return Ok(false);
         }
         fs::remove_file(&self.rt, self.path.as_str())?;
-        sync_folder_of(&self.rt, self.path.as_str())?;
+        self.changes
+            .add(&self.syncs, folder_of(self.path.as_str()))?;
         Ok(true)
     }
 
     /// The names of the files that begin with the prefix.
-    pub fn list(&self, alloc: Global, prefix: &str) -> Result<Vec<String>, DiskError> {
-        self.check_root()?;
-        let mut found = Found {
-            names: Vec::new(alloc),
-            folders: Vec::new(alloc),
-        };
+    pub fn list(&mut self, alloc: Global, prefix: &str) -> Result<Vec<String>, DiskError> {
+        self.root.check(&self.rt)?;
         let first = folder_of(prefix);
-        if first.is_empty() || is_plain(first) {
-            found.folders.push(String::from_str(alloc, first)?)?;
+        let can_be = first.is_empty() || is_plain(first);
+        if !can_be || !self.has_folders(prefix)? {
+            return Ok(Vec::new(alloc));
         }
-        for _ in 0..u64::MAX {
-            let Some(folder) = found.folders.pop() else {
-                break;
-            };
-            self.list_folder(alloc, folder.as_str(), prefix, &mut found)?;
-        }
-        found.names.sort()?;
-        Ok(found.names)
+        let root = self.root.path.as_str();
+        let mut names = walk_from(&self.rt, alloc, root, first, prefix)?.names;
+        names.sort()?;
+        Ok(names)
     }
 
-    fn list_folder(
-        &self,
-        alloc: Global,
-        folder: &str,
-        prefix: &str,
-        found: &mut Found,
-    ) -> Result<(), DiskError> {
-        let root = self.root.as_str();
-        let path = format!(in alloc; "{root}/{folder}")?;
-        let entries = match fs::read_dir(&self.rt, path.as_str()) {
-            Ok(entries) => entries,
-            Err(e) if is_absence(&e) => return Ok(()),
-            Err(e) => return Err(DiskError::from(e)),
-        };
-        for entry in entries {
-            match entry {
-                Ok(entry) => found.add(alloc, folder, prefix, &entry)?,
-                // It is no text, so no name.
-                Err(e) if e.kind() == ErrorKind::InvalidFilename => {}
-                Err(e) => return Err(DiskError::from(e)),
-            }
+    /// Makes each change of a name last. The first time, and once a call failed, what others left too.
+    pub fn sync(&mut self) -> Result<(), Failed> {
+        self.root.check(&self.rt)?;
+        if self.is_durable {
+            return self.changes.sync(&self.syncs);
         }
+        self.sync_below()?;
+        self.changes.clear();
+        self.is_durable = true;
         Ok(())
     }
-}
 
-// What a listing has found: the files, and the folders that it has yet to read.
-#[derive(Drop)]
-struct Found {
-    names: Vec<String>,
-    folders: Vec<String>,
-}
-
-impl Found {
-    // Adds a file or a folder that begins with the prefix.
-    fn add<R: Files>(
-        &mut self,
-        alloc: Global,
-        folder: &str,
-        prefix: &str,
-        entry: &DirEntry<R, Global>,
-    ) -> Result<(), DiskError> {
-        let mut name = String::from_str(alloc, folder)?;
-        if !name.is_empty() {
-            name.push('/')?;
-        }
-        name.push_str(entry.file_name())?;
-        if name.len() > MAX_NAME || !name.as_str().starts_with(prefix) {
-            return Ok(());
-        }
-        let kind = entry.file_type()?;
-        if kind.is_dir() {
-            self.folders.push(name)?;
-        } else if kind.is_file() {
-            self.names.push(name)?;
-        }
-        Ok(())
-    }
-}
-
-// Whether a name stays below the root: its parts are neither empty nor `.` or `..`, and no byte is zero.
-fn is_plain(name: &str) -> bool {
-    let is_part = |part: &str| !part.is_empty() && part != "." && part != "..";
-    !name.contains('\0') && name.split('/').all(is_part)
-}
-
-// The folder of a path or a prefix: the part before its last slash.
-fn folder_of(path: &str) -> &str {
-    match path.rsplit_once('/') {
-        Some((folder, _)) => folder,
-        None => "",
-    }
-}
-
-// Nothing is at the path.
-fn is_absence(error: &io::Error) -> bool {
-    error.kind() == ErrorKind::NotFound || error.kind() == ErrorKind::NotADirectory
-}
-
-// Adds a text where there is room for it.
-fn append(path: &mut String, text: &str) -> Result<(), Failed> {
-    if path.capacity().saturating_sub(path.len()) < text.len() {
-        return Err(Failed);
-    }
-    match path.push_str(text) {
-        Ok(()) => Ok(()),
-        Err(_) => Err(Failed),
-    }
-}
-
-fn spell(path: &mut String, root: &str, name: &str) -> Result<(), Failed> {
-    path.clear();
-    append(path, root)?;
-    append(path, "/")?;
-    append(path, name)
-}
-
-// Makes the folders of a name that are missing, and leaves its path.
-fn make_folders<R: Files>(rt: &R, path: &mut String, root: &str, name: &str) -> Result<(), Failed> {
-    if !is_plain(name) {
-        return Err(Failed);
-    }
-    if let Some((folder, _)) = name.rsplit_once('/') {
-        path.clear();
-        append(path, root)?;
-        for part in folder.split('/') {
-            append(path, "/")?;
-            append(path, part)?;
-            make_folder(rt, path.as_str())?;
+    // Syncs the root, and each folder below it.
+    fn sync_below(&self) -> Result<(), Failed> {
+        match walk_from(&self.rt, self.alloc, self.root.path.as_str(), "", "") {
+            Ok(found) => self.syncs.sync_folders(&found.folders),
+            Err(_) => Err(Failed),
         }
     }
-    spell(path, root, name)
 }
 
-fn make_folder<R: Files>(rt: &R, path: &str) -> Result<(), Failed> {
-    match fs::symlink_metadata(rt, path) {
-        Ok(found) if found.is_dir() => Ok(()),
-        Ok(_) => Err(Failed),
-        Err(e) if e.kind() == ErrorKind::NotFound => {
-            fs::create_dir(rt, path)?;
-            sync_folder_of(rt, path)
-        }
-        Err(_) => Err(Failed),
+// The part of a name behind its last slash.
+fn last_part(name: &str) -> &str {
+    match name.rsplit_once('/') {
+        Some((_, last)) => last,
+        None => name,
     }
-}
-
-// Syncs the folder in which a path stands.
-fn sync_folder_of<R: Files>(rt: &R, path: &str) -> Result<(), Failed> {
-    Ok(fs::open(rt, folder_of(path))?.sync_all()?)
 }

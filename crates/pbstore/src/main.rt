@@ -2,7 +2,7 @@
 //! pulled from. The replies to the session in a file go to the file of its name with `.out` behind it.
 #![tactic(auto)]
 
-use file_disk::FileDisk;
+use file_disk::{AtOnce, FileDisk};
 use lane::Port;
 use pbs_server::{Plan, Status, WordFault, plan_words, serve};
 use port_traits::{FileSink, FileSource, FreeGate, WallClock};
@@ -57,13 +57,17 @@ fn ports_of(
 }
 
 /// The datastore folder that snapshots are pulled from.
-fn remote_of(
+fn remote_of<'a, R: Threads + Sync>(
     rt: HostRuntime,
+    threads: &'a R,
     alloc: Global,
     root: Option<&str>,
-) -> Result<Option<FileDisk<HostRuntime>>, AllocError> {
+) -> Result<Option<FileDisk<HostRuntime, AtOnce<&'a R>>>, AllocError> {
     match root {
-        Some(root) => Ok(Some(FileDisk::new(rt, alloc, root)?)),
+        Some(root) => {
+            let syncs = AtOnce::new(rt, threads);
+            Ok(Some(FileDisk::shared(rt, syncs, alloc, root)?))
+        }
         None => Ok(None),
     }
 }
@@ -97,8 +101,8 @@ fn serve_words<R: Threads + Sync>(
         Err(WordFault::NoMemory) => return Ok(Status::NoMemory),
     };
     let mut ports = ports_of(rt, alloc, sessions)?;
-    let disk = FileDisk::new(rt, alloc, root)?;
-    let remote = remote_of(rt, alloc, remote)?;
+    let disk = FileDisk::alone(rt, AtOnce::new(rt, threads), alloc, root)?;
+    let remote = remote_of(rt, threads, alloc, remote)?;
     let clock = WallClock::new(rt);
     let mut journal = FileSink::over(io::writer(&rt));
     let served = serve(

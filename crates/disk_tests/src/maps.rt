@@ -1,25 +1,24 @@
-mod watched;
+//! What any disk does: it is a map from names to bytes.
 
 use crate::asserts::{same, same_at};
-use disk_trait::{Disk, DiskError, Failed, FailingDisk, MemoryDisk};
-use file_disk::FileDisk;
-use std::alloc::Global;
-use std::cell::{Cell, RefCell};
+use disk_trait::{Disk, DiskError, Failed, MemoryDisk};
+use file_disk::{AtOnce, FileDisk};
+use std::alloc::{AllocError, Global};
 use std::fs;
 use std::process::Abort;
 use std::test::Fail;
-use watched::{Record, Watched};
+use std::thread::Threads;
 
 /// A call that changes a disk.
 #[derive(Clone, Copy)]
-enum Change {
-    Put(&'static str, &'static [u8]),
-    Rename(&'static str, &'static str),
-    Remove(&'static str),
+pub enum Change<'t> {
+    Put(&'t str, &'t [u8]),
+    Rename(&'t str, &'t str),
+    Remove(&'t str),
     Sync,
 }
 
-fn put<D: Disk>(
+pub fn put<D: Disk>(
     rt: &impl Abort,
     alloc: Global,
     disk: &mut D,
@@ -30,12 +29,17 @@ fn put<D: Disk>(
     disk.put(alloc, name, bytes)
 }
 
-fn rename<D: Disk>(rt: &impl Abort, disk: &mut D, from: &str, to: &str) -> Result<bool, Failed> {
+pub fn rename<D: Disk>(
+    rt: &impl Abort,
+    disk: &mut D,
+    from: &str,
+    to: &str,
+) -> Result<bool, Failed> {
     assert!(rt; to.len() <= 255);
     disk.rename(from, to)
 }
 
-fn make<D: Disk>(
+pub fn make<D: Disk>(
     rt: &impl Abort,
     alloc: Global,
     disk: &mut D,
@@ -54,7 +58,7 @@ fn make<D: Disk>(
     Ok(())
 }
 
-fn make_all<D: Disk>(
+pub fn make_all<D: Disk>(
     rt: &impl Abort,
     alloc: Global,
     disk: &mut D,
@@ -113,7 +117,11 @@ fn try_read<D: Disk>(rt: &impl Abort, alloc: Global, disk: &mut D) -> Result<(),
     Ok(())
 }
 
-fn read<D: Disk>(alloc: Global, disk: &mut D, name: &str) -> Result<Option<Vec<u8>>, DiskError> {
+pub fn read<D: Disk>(
+    alloc: Global,
+    disk: &mut D,
+    name: &str,
+) -> Result<Option<Vec<u8>>, DiskError> {
     disk.read(alloc, name)
 }
 
@@ -135,7 +143,7 @@ fn try_lists<D: Disk>(rt: &impl Abort, alloc: Global, disk: &mut D) -> Result<()
     Ok(())
 }
 
-fn try_list<D: Disk>(
+pub fn try_list<D: Disk>(
     rt: &impl Abort,
     alloc: Global,
     disk: &mut D,
@@ -148,7 +156,7 @@ fn try_list<D: Disk>(
 }
 
 // The names that begin with a prefix, with spaces between them.
-fn listed<D: Disk>(alloc: Global, disk: &mut D, prefix: &str) -> Result<String, Fail> {
+pub fn listed<D: Disk>(alloc: Global, disk: &mut D, prefix: &str) -> Result<String, Fail> {
     let mut text = String::new(alloc);
     for name in disk.list(alloc, prefix)? {
         if !text.is_empty() {
@@ -178,17 +186,7 @@ fn try_parts<D: Disk>(rt: &impl Abort, disk: &mut D) -> Result<(), Fail> {
 }
 
 // Names at which nothing is, and of which a folder can have no file.
-static ABSENT: [&str; 9] = [
-    "",
-    "a",
-    "a/b/c",
-    "b",
-    "none/at/all",
-    "../a",
-    "a//b",
-    "/a",
-    ".",
-];
+static ABSENT: [&str; 8] = ["", "a/b/c", "b", "none/at/all", "../a", "a//b", "/a", "."];
 
 fn try_absent<D: Disk>(rt: &impl Abort, alloc: Global, disk: &mut D) -> Result<(), Fail> {
     for name in &ABSENT {
@@ -208,25 +206,38 @@ fn memory_is_a_map(rt: HostRuntime) -> Result<(), Fail> {
     try_all(&rt, alloc, &mut disk)
 }
 
-#[test]
-fn folder_is_a_map(rt: HostRuntime) -> Result<(), Fail> {
+// A folder as a disk of its own.
+pub fn folder_at<'a, R: Threads + Sync>(
+    rt: HostRuntime,
+    threads: &'a R,
+    root: &str,
+) -> Result<FileDisk<HostRuntime, AtOnce<&'a R>>, AllocError> {
+    FileDisk::alone(rt, AtOnce::new(rt, threads), rt.alloc(), root)
+}
+
+fn try_folder<R: Threads + Sync + Abort>(rt: HostRuntime, threads: &R) -> Result<(), Fail> {
     let alloc = rt.alloc();
-    let root = "disk_trait_test_folder";
+    let root = "disk_tests_map";
     let _ = fs::remove_dir_all(&rt, root);
-    try_no_folder(&rt, alloc, &mut FileDisk::new(rt, alloc, root)?)?;
-    same(&rt, fs::exists(&rt, root)?, false);
+    try_no_folder(threads, alloc, &mut folder_at(rt, threads, root)?)?;
+    same(threads, fs::exists(&rt, root)?, false);
     fs::create_dir(&rt, root)?;
-    let mut disk = FileDisk::new(rt, alloc, root)?;
-    try_all(&rt, alloc, &mut disk)?;
-    try_bad_names(&rt, alloc, &mut disk)?;
-    let text = fs::read_to_string(&rt, "disk_trait_test_folder/e/f")?;
-    same(&rt, text.as_str(), "four");
+    let mut disk = folder_at(rt, threads, root)?;
+    try_all(threads, alloc, &mut disk)?;
+    try_bad_names(threads, alloc, &mut disk)?;
+    let text = fs::read_to_string(&rt, "disk_tests_map/e/f")?;
+    same(threads, text.as_str(), "four");
     fs::remove_dir_all(&rt, root)?;
     Ok(())
 }
 
+#[test]
+fn folder_is_a_map(rt: HostRuntime) -> Result<(), Fail> {
+    try_folder(rt, &rt)
+}
+
 // One of each.
-static CHANGES: [Change; 4] = [
+pub static CHANGES: [Change; 4] = [
     Change::Put("a", b"one"),
     Change::Rename("a", "b"),
     Change::Remove("a"),
@@ -247,140 +258,14 @@ fn try_no_folder<D: Disk>(rt: &impl Abort, alloc: Global, disk: &mut D) -> Resul
     Ok(())
 }
 
-// Names outside the folder, and of which it can have no file.
+// Names outside the folder, of which it can have no file, and of a folder.
 fn try_bad_names<D: Disk>(rt: &impl Abort, alloc: Global, disk: &mut D) -> Result<(), Fail> {
-    for name in &["../a", "a/b/c", "", "a/.."] {
+    for name in &["../a", "a/b/c", "", "a/..", "a"] {
         let outcome = put(rt, alloc, disk, name, b"one");
         same_at(rt, *name, outcome, Err(DiskError::Failed));
     }
-    same(rt, disk.faults(), 4);
-    Ok(())
-}
-
-// Changes a folder, and tries to on a full disk. Gives how often the disk failed.
-fn change_folder(rt: HostRuntime, root: &str, record: &Record) -> Result<u64, Fail> {
-    let alloc = rt.alloc();
-    let mut disk = FileDisk::new(Watched { rt, record }, alloc, root)?;
-    disk.put(alloc, "a/b", b"one")?;
-    disk.put(alloc, "a/b", b"two")?;
-    disk.rename("a/b", "c/d")?;
-    disk.remove("c/d")?;
-    disk.sync()?;
-    record.full.set(true);
-    let _ = disk.put(alloc, "a/b", b"three");
-    Ok(disk.faults())
-}
-
-#[test]
-fn folder_is_synced(rt: HostRuntime) -> Result<(), Fail> {
-    let alloc = rt.alloc();
-    let root = "disk_trait_test_synced";
-    let _ = fs::remove_dir_all(&rt, root);
-    fs::create_dir(&rt, root)?;
-    let record = Record {
-        synced: RefCell::new(String::new(alloc)),
-        full: Cell::new(false),
-    };
-    same(&rt, change_folder(rt, root, &record)?, 1);
-    fs::remove_dir_all(&rt, root)?;
-    let want = "\
-        disk_trait_test_synced\n\
-        disk_trait_test_synced/a/b\n\
-        disk_trait_test_synced/a\n\
-        disk_trait_test_synced/a/b\n\
-        disk_trait_test_synced/a\n\
-        disk_trait_test_synced\n\
-        disk_trait_test_synced/c\n\
-        disk_trait_test_synced/a\n\
-        disk_trait_test_synced/c\n";
-    same(&rt, record.synced.into_inner().as_str(), want);
-    Ok(())
-}
-
-// Puts, renames, removals and syncs, each of which a crash or a failure may cut off.
-static SCRIPT: [Change; 6] = [
-    Change::Put("a", b"first"),
-    Change::Put("b", b"second"),
-    Change::Sync,
-    Change::Put("b", b"third!"),
-    Change::Rename("b", "c"),
-    Change::Remove("a"),
-];
-
-// What a crash leaves by each choice: the names, and the sizes at `b` and `c`.
-static CRASHES: [(u8, &str, Option<u64>, Option<u64>); 4] = [
-    (0, "a b", Some(6), None),
-    (1, "c", None, Some(6)),
-    (2, "a c", None, Some(3)),
-    (3, "c", None, Some(6)),
-];
-
-#[test]
-fn crashes_by_choice(rt: HostRuntime) -> Result<(), Fail> {
-    let alloc = rt.alloc();
-    let mut disk = MemoryDisk::new(alloc);
-    make_all(&rt, alloc, &mut disk, &SCRIPT)?;
-    same(&rt, disk.steps().len(), 6);
-    for (choice, names, b, c) in &CRASHES {
-        let mut left = disk.crashed(alloc, *choice)?;
-        try_list(&rt, alloc, &mut left, "", names)?;
-        same_at(&rt, *choice, left.size("b")?, *b);
-        same_at(&rt, *choice, left.size("c")?, *c);
-    }
-    Ok(())
-}
-
-// A disk that fails after k calls.
-fn try_stop(rt: &impl Abort, alloc: Global, k: u64) -> Result<(), Fail> {
-    let mut disk = FailingDisk::stopping_after(MemoryDisk::new(alloc), k);
-    let outcome = make_all(rt, alloc, &mut disk, &SCRIPT);
-    same_at(rt, k, outcome.is_ok(), k == 6);
-    same_at(rt, k, disk.faults(), if k < 6 { 1 } else { 0 });
-    same_at(rt, k, disk.sync(), Err(Failed));
-    same_at(rt, k, disk.calls(), k.min(5) + 2);
-    same_at(rt, k, disk.into_inner().steps().len() as u64, k);
-    Ok(())
-}
-
-#[test]
-fn stops_after_each_call(rt: HostRuntime) -> Result<(), Fail> {
-    for k in 0..7 {
-        try_stop(&rt, rt.alloc(), k)?;
-    }
-    Ok(())
-}
-
-fn try_size<D: Disk>(rt: &impl Abort, disk: &mut D, want: Result<Option<u64>, Failed>) {
-    same(rt, disk.size("a"), want);
-}
-
-#[test]
-fn fails_at_the_listed_calls(rt: HostRuntime) -> Result<(), Fail> {
-    let alloc = rt.alloc();
-    let mut disk = FailingDisk::at_calls(MemoryDisk::new(alloc), Vec::from_slice(alloc, &[1, 3])?);
-    try_size(&rt, &mut disk, Ok(None));
-    try_size(&rt, &mut disk, Err(Failed));
-    try_size(&rt, &mut disk, Ok(None));
-    let outcome = put(&rt, alloc, &mut disk, "a", b"x");
-    same(&rt, outcome, Err(DiskError::Failed));
-    try_size(&rt, &mut disk, Ok(None));
-    Ok(())
-}
-
-// A disk can be moved to another thread.
-fn moved<D: Disk + Send>(disk: D) -> D {
-    disk
-}
-
-fn try_moved<D: Disk + Send + Drop>(rt: &impl Abort, disk: D) {
-    let disk = moved(disk);
-    same(rt, disk.faults(), 0);
-}
-
-#[test]
-fn crosses_threads(rt: HostRuntime) -> Result<(), Fail> {
-    let alloc = rt.alloc();
-    try_moved(&rt, FailingDisk::stopping_after(MemoryDisk::new(alloc), 0));
-    try_moved(&rt, FileDisk::new(rt, alloc, "none")?);
+    same(rt, disk.size("a"), Err(Failed));
+    same(rt, disk.remove("a"), Err(Failed));
+    same(rt, disk.faults(), 7);
     Ok(())
 }

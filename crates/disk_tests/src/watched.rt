@@ -1,15 +1,37 @@
-// The host's files, with a record of what is synced, on a disk that can be full.
+//! The host's files, with a record of what is synced, on a disk that can be full, or fail to sync folders.
+
+use disk_trait::Failed;
+use file_disk::{LockFile, SyncFolders, sync_each};
 use std::alloc::{Alloc, Allocator, Global};
 use std::cell::{Cell, RefCell};
-use std::fs::{File, Metadata, OpenFile, OpenOptions};
+use std::fs::{File, Metadata, OpenFile, OpenOptions, TryLockError};
 use std::io::{self, ErrorKind, Read, Seek, SeekFrom, Write};
 use std::rt::Files;
 
 #[derive(Drop)]
 pub struct Record {
     // The paths of the files and folders that were synced, one a line.
-    pub synced: RefCell<String>,
+    synced: RefCell<String>,
     pub full: Cell<bool>,
+    pub fails: Cell<bool>,
+}
+
+impl Record {
+    pub fn new(alloc: Global) -> Record {
+        Record {
+            synced: RefCell::new(String::new(alloc)),
+            full: Cell::new(false),
+            fails: Cell::new(false),
+        }
+    }
+
+    /// What was synced since this was last called.
+    pub fn taken(&self, alloc: Global) -> io::Result<String> {
+        match self.synced.try_replace(String::new(alloc)) {
+            Ok(synced) => Ok(synced),
+            Err(_) => Err(io::Error::from(ErrorKind::Other)),
+        }
+    }
 }
 
 #[derive(Clone, Copy)]
@@ -23,6 +45,22 @@ pub struct WatchedFile<'a> {
     file: File,
     path: String,
     record: &'a Record,
+}
+
+impl SyncFolders for Watched<'_> {
+    fn sync_folders(&self, folders: &[String]) -> Result<(), Failed> {
+        sync_each(self, folders)
+    }
+}
+
+impl LockFile for WatchedFile<'_> {
+    fn try_lock(&self) -> Result<(), TryLockError> {
+        self.file.try_lock()
+    }
+
+    fn try_lock_shared(&self) -> Result<(), TryLockError> {
+        self.file.try_lock_shared()
+    }
 }
 
 impl Alloc for Watched<'_> {
@@ -105,6 +143,9 @@ impl OpenFile for WatchedFile<'_> {
     }
 
     fn sync_all(&self) -> io::Result<()> {
+        if self.record.fails.get() {
+            return Err(io::Error::from(ErrorKind::Other));
+        }
         self.note()?;
         self.file.sync_all()
     }

@@ -1,0 +1,38 @@
+//! Folders that are synced at once: each of them, and one that can't be is told.
+
+use crate::asserts::same_at;
+use disk_trait::Failed;
+use file_disk::{AtOnce, SyncFolders};
+use std::alloc::{AllocError, Global};
+use std::process::Abort;
+use std::test::Fail;
+use std::thread::Threads;
+
+// So many folders, of which the one at a place is not there.
+fn folders(alloc: Global, count: usize, missing: usize) -> Result<Vec<String>, AllocError> {
+    let mut paths = Vec::new(alloc);
+    for place in 0..count {
+        let path = if place == missing { "none" } else { "." };
+        paths.push(String::from_str(alloc, path)?)?;
+    }
+    Ok(paths)
+}
+
+// Wherever one is missing, it fails; where all are there, it does not.
+fn try_count<R: Threads + Abort>(rt: HostRuntime, threads: &R, count: usize) -> Result<(), Fail> {
+    let syncs = AtOnce::new(rt, threads);
+    for missing in 0..=count {
+        let outcome = syncs.sync_folders(&folders(rt.alloc(), count, missing)?);
+        let want = if missing < count { Err(Failed) } else { Ok(()) };
+        same_at(threads, (count, missing), outcome, want);
+    }
+    Ok(())
+}
+
+#[test]
+fn each_folder_is_synced(rt: HostRuntime) -> Result<(), Fail> {
+    for count in [0, 1, 2, 3, 8, 17, 40] {
+        try_count(rt, &rt, count)?;
+    }
+    Ok(())
+}

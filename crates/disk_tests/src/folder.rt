@@ -1,0 +1,191 @@
+//! Which files and folders a disk over a folder syncs, and when.
+
+use crate::asserts::same_at;
+use crate::maps::{Change, make, make_all};
+use crate::watched::{Record, Watched};
+use disk_trait::{Disk, DiskError};
+use file_disk::FileDisk;
+use std::alloc::{AllocError, Global};
+use std::fs;
+use std::process::Abort;
+use std::test::Fail;
+
+type WatchedDisk<'a> = FileDisk<Watched<'a>, Watched<'a>>;
+
+const ROOT: &str = "disk_tests_synced";
+
+fn watched_disk<'a>(rt: HostRuntime, record: &'a Record) -> Result<WatchedDisk<'a>, AllocError> {
+    let watched = Watched { rt, record };
+    FileDisk::alone(watched, watched, rt.alloc(), ROOT)
+}
+
+// What was synced since the record was last taken, in byte order, below the root, which is a point.
+fn taken(alloc: Global, record: &Record) -> Result<String, Fail> {
+    let all = record.taken(alloc)?;
+    let mut names: Vec<&str> = Vec::new(alloc);
+    for path in all.as_str().lines() {
+        let name = path.strip_prefix(ROOT).unwrap_or(path);
+        let name = name.strip_prefix("/").unwrap_or(name);
+        names.push(if name.is_empty() { "." } else { name })?;
+    }
+    names.sort()?;
+    let mut text = String::new(alloc);
+    for name in &names {
+        if !text.is_empty() {
+            text.push(' ')?;
+        }
+        text.push_str(name)?;
+    }
+    Ok(text)
+}
+
+// How a change goes: as it should, or it fails: on a full disk, or on one that syncs nothing.
+#[derive(Clone, Copy, PartialEq, Eq)]
+enum Fault {
+    None,
+    Full,
+    Unsynced,
+}
+
+// All folders that the rows leave.
+const ALL: &str = ". 1 2 3 4 5 6 7 u u/v x x/y";
+
+// A change, how it goes, and what is synced in it.
+static ROWS: [(Change, Fault, &str); 37] = [
+    // what was there before
+    (Change::Sync, Fault::None, ". x x/y"),
+    (Change::Sync, Fault::None, ""),
+    // a file as it is put, its folder by the sync
+    (Change::Put("x/a.tmp", b"one"), Fault::None, "x/a.tmp"),
+    (Change::Put("x/a.tmp", b"two"), Fault::None, "x/a.tmp"),
+    (Change::Sync, Fault::None, "x"),
+    (Change::Rename("x/a.tmp", "x/a"), Fault::None, ""),
+    (Change::Rename("x/a.tmp", "x/b"), Fault::None, ""),
+    (Change::Sync, Fault::None, "x"),
+    (Change::Sync, Fault::None, ""),
+    // two folders, the root among them
+    (Change::Rename("x/a", "b"), Fault::None, ""),
+    (Change::Sync, Fault::None, ". x"),
+    (Change::Remove("b"), Fault::None, ""),
+    (Change::Remove("b"), Fault::None, ""),
+    (Change::Sync, Fault::None, "."),
+    // folders that are made, by those above them
+    (Change::Put("u/v/c", b""), Fault::None, "u/v/c"),
+    (Change::Put("u/v/d", b""), Fault::None, "u/v/d"),
+    (Change::Sync, Fault::None, ". u u/v"),
+    // eight wait, and a ninth has no room beside them
+    (Change::Put("1/f", b""), Fault::None, "1/f"),
+    (Change::Put("2/f", b""), Fault::None, "2/f"),
+    (Change::Put("3/f", b""), Fault::None, "3/f"),
+    (Change::Put("4/f", b""), Fault::None, "4/f"),
+    (Change::Put("5/f", b""), Fault::None, "5/f"),
+    (Change::Put("6/f", b""), Fault::None, "6/f"),
+    (Change::Put("7/f", b""), Fault::None, "7/f"),
+    (Change::Put("x/f", b""), Fault::None, ". 1 2 3 4 5 6 7 x/f"),
+    (Change::Remove("u/v/d"), Fault::None, ""),
+    (Change::Sync, Fault::None, "u/v x"),
+    // a call that failed: all again
+    (Change::Put("1/f", b"one"), Fault::Full, ""),
+    (Change::Put("2/f", b"one"), Fault::None, "2/f"),
+    (Change::Sync, Fault::None, ALL),
+    (Change::Remove("2/f"), Fault::None, ""),
+    (Change::Sync, Fault::Unsynced, ""),
+    (Change::Sync, Fault::Unsynced, ""),
+    (Change::Sync, Fault::None, ALL),
+    (Change::Put("x", b""), Fault::Full, ""),
+    (Change::Sync, Fault::None, ALL),
+    (Change::Sync, Fault::None, ""),
+];
+
+fn try_rows(rt: HostRuntime, abort: &impl Abort) -> Result<(), Fail> {
+    let alloc = rt.alloc();
+    let record = Record::new(alloc);
+    let mut disk = watched_disk(rt, &record)?;
+    for (row, (change, fault, want)) in ROWS.iter().enumerate() {
+        record.full.set(*fault == Fault::Full);
+        record.fails.set(*fault == Fault::Unsynced);
+        let outcome = make(abort, alloc, &mut disk, *change);
+        let failed = Err(DiskError::Failed);
+        same_at(
+            abort,
+            row,
+            outcome,
+            if *fault == Fault::None {
+                Ok(())
+            } else {
+                failed
+            },
+        );
+        same_at(abort, row, taken(alloc, &record)?.as_str(), *want);
+    }
+    Ok(())
+}
+
+fn make_root(rt: HostRuntime, below: &str) -> Result<(), Fail> {
+    let _ = fs::remove_dir_all(&rt, ROOT);
+    fs::create_dir_all(&rt, below)?;
+    Ok(())
+}
+
+#[test]
+fn names_wait_for_the_sync(rt: HostRuntime) -> Result<(), Fail> {
+    make_root(rt, "disk_tests_synced/x/y")?;
+    try_rows(rt, &rt)?;
+    fs::remove_dir_all(&rt, ROOT)?;
+    Ok(())
+}
+
+// What a run made that was then killed, and what the next one's first sync syncs.
+static LEFT: [(&[Change], &str); 3] = [
+    // a chunk that was renamed
+    (
+        &[
+            Change::Put("c/1/k.tmp", b"k"),
+            Change::Sync,
+            Change::Rename("c/1/k.tmp", "c/1/k"),
+        ],
+        ". c c/1",
+    ),
+    // a folder that was made
+    (&[Change::Sync, Change::Put("n/f.tmp", b"f")], ". n"),
+    // a manifest that was removed
+    (
+        &[
+            Change::Put("h/m", b"m"),
+            Change::Sync,
+            Change::Remove("h/m"),
+        ],
+        ". h",
+    ),
+];
+
+// The next run finds the folder as it is to be, and puts nothing: only its syncs count.
+fn try_left(
+    rt: HostRuntime,
+    abort: &impl Abort,
+    changes: &[Change],
+    want: &str,
+) -> Result<(), Fail> {
+    let alloc = rt.alloc();
+    let record = Record::new(alloc);
+    let mut killed = watched_disk(rt, &record)?;
+    make_all(abort, alloc, &mut killed, changes)?;
+    drop(killed);
+    let _ = taken(alloc, &record)?;
+    let mut next = watched_disk(rt, &record)?;
+    for want in [want, ""] {
+        next.sync()?;
+        same_at(abort, want, taken(alloc, &record)?.as_str(), want);
+    }
+    Ok(())
+}
+
+#[test]
+fn what_a_killed_run_left_is_synced(rt: HostRuntime) -> Result<(), Fail> {
+    for (changes, want) in &LEFT {
+        make_root(rt, ROOT)?;
+        try_left(rt, &rt, changes, want)?;
+    }
+    fs::remove_dir_all(&rt, ROOT)?;
+    Ok(())
+}
