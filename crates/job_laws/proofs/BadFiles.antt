@@ -1,7 +1,7 @@
 -- A SYNC ends its writer for a file exactly where it has just read this file, and it is none.
-use Rattle.std.proofs.Common.{◌≡◌, ◌<◌, ℕ, Bool, true, false, List, [], ◌∷◌, ◌++◌, length, Option, Some, None, IfSome, Result, Ok, Err, IsErr, refl, sym, ap, subst, ◌∙◌, if◌then◌else◌}
+use Rattle.std.proofs.Common.{◌≡◌, ◌<◌, ◌≤◌, ◌⊎◌, inl, inr, nat_lt, ℕ, Bool, true, false, List, [], ◌∷◌, ◌++◌, length, Option, Some, None, IfSome, Result, Ok, Err, IsErr, refl, sym, ap, subst, ◌∙◌, if◌then◌else◌}
 use Rattle.std.specs.Prelude.{⊤}
-use Rattle.std.proofs.lemmas.Bool.{le-ltb, lt-leb}
+use Rattle.std.proofs.lemmas.Bool.{le-ltb, lt-leb, lt-ltb}
 use Rattle.std.proofs.lemmas.List.{append-nil, append_assoc}
 use Rattle.std.proofs.lemmas.List.Sums.{fold-append}
 use Rattle.store_types.specs.declared.refusal.BadBlob.{BadBlob}
@@ -13,8 +13,9 @@ use Rattle.store_files.specs.Manifest.{Manifest}
 use Rattle.wire_commands.specs.declared.reply.Reply.{Reply}
 use Rattle.wire_commands.specs.declared.reply.Reply.TheVariants.{Part, Refused}
 use Rattle.store_model.specs.Load.{read_manifest}
+use Rattle.store_model.specs.SizeLimits.{blob_limit, size_limit}
 use Rattle.store_history.specs.Pulling.{Course, Stock, Pulling, seeking, reading_manifest, reading_file, sending_blob, rejecting, aborting, SyncJob, reports, asks, blob_read, file_part, file_read, file_told, index_in, index_read, is_index, manifest_part, manifest_read, manifest_told, next_file, rejected, rejects, stock_of, take, take_more}
-use Rattle.job_laws.specs.Pulls.{BadFilesEndIt, DoesNotDecode, DoesNotDecodeBy, EndsBad, HasReadBad, pull_after}
+use Rattle.job_laws.specs.Pulls.{BadFilesEndIt, DoesNotDecode, DoesNotDecodeBy, EndsBad, HasReadBad, IsNoManifest, pull_after}
 use Rattle.job_laws.proofs.FirstRefusals.{IsFineBehind, IsOpen, Tells, ends_tell, fine_on, refused_tells}
 
 -- ---- behind the last part of such a file
@@ -36,16 +37,36 @@ file_rejects c s name bytes bad = by_name (is_index name) bad
     by_name true h = ap (index_read c s name) h
     by_name false h = by_data (data_of bytes) h
 
+either_rejects : (b : Bool) (first next : SyncJob) → next ≡ first → (if b then first else next) ≡ first
+either_rejects true first next is = refl
+either_rejects false first next is = is
+
 bad_rejects : (x : Pulling) (r : Reply) (path : List ℕ) → EndsBad x r path → take x r ≡ asks (rejecting path)
 unfolding take manifest_told manifest_part file_told file_part
 bad_rejects (reading_manifest c bytes) (Part total more) path bad =
-    ap (λ b. if b then asks (reading_manifest c (bytes ++ more)) else manifest_read c (bytes ++ more) (read_manifest (bytes ++ more))) (le-ltb (length (bytes ++ more)) total bad.0)
-    ∙ manifest_rejects c (bytes ++ more) (read_manifest (bytes ++ more)) bad.1
-    ∙ ap (λ p. asks (rejecting p)) (sym bad.2)
+    by_cause bad.1 ∙ ap (λ p. asks (rejecting p)) (sym bad.0)
+  where
+    next : SyncJob
+    next = if nat_lt (length (bytes ++ more)) total then asks (reading_manifest c (bytes ++ more)) else manifest_read c (bytes ++ more) (read_manifest (bytes ++ more))
+
+    by_cause : (blob_limit < total) ⊎ ((total ≤ length (bytes ++ more)) × IsNoManifest (bytes ++ more)) → (if nat_lt blob_limit total then rejects c manifest_name else next) ≡ rejects c manifest_name
+    by_cause (inl long) = ap (λ b. if b then rejects c manifest_name else next) (lt-ltb blob_limit total long)
+    by_cause (inr none) =
+        either_rejects (nat_lt blob_limit total) (rejects c manifest_name) next
+        (ap (λ b. if b then asks (reading_manifest c (bytes ++ more)) else manifest_read c (bytes ++ more) (read_manifest (bytes ++ more))) (le-ltb (length (bytes ++ more)) total none.0)
+        ∙ manifest_rejects c (bytes ++ more) (read_manifest (bytes ++ more)) none.1)
 bad_rejects (reading_file c s name bytes) (Part total more) path bad =
-    ap (λ b. if b then asks (reading_file c s name (bytes ++ more)) else file_read c s name (bytes ++ more)) (le-ltb (length (bytes ++ more)) total bad.0)
-    ∙ file_rejects c s name (bytes ++ more) bad.1
-    ∙ ap (λ p. asks (rejecting p)) (sym bad.2)
+    by_cause bad.1 ∙ ap (λ p. asks (rejecting p)) (sym bad.0)
+  where
+    next : SyncJob
+    next = if nat_lt (length (bytes ++ more)) total then asks (reading_file c s name (bytes ++ more)) else file_read c s name (bytes ++ more)
+
+    by_cause : (size_limit name < total) ⊎ ((total ≤ length (bytes ++ more)) × DoesNotDecode name (bytes ++ more)) → (if nat_lt (size_limit name) total then rejects c name else next) ≡ rejects c name
+    by_cause (inl long) = ap (λ b. if b then rejects c name else next) (lt-ltb (size_limit name) total long)
+    by_cause (inr none) =
+        either_rejects (nat_lt (size_limit name) total) (rejects c name) next
+        (ap (λ b. if b then asks (reading_file c s name (bytes ++ more)) else file_read c s name (bytes ++ more)) (le-ltb (length (bytes ++ more)) total none.0)
+        ∙ file_rejects c s name (bytes ++ more) none.1)
 bad_rejects x r path bad = absurd bad
 
 -- ---- and behind nothing else

@@ -1,11 +1,11 @@
 -- What a VERIFY makes of each file of a snapshot that the store may hold.
-use Rattle.std.proofs.Common.{◌≡◌, ℕ, zero, suc, ℤ, ◌+◌, ◌<◌, Bool, true, false, List, [], ◌∷◌, map, filter, length, not, cond, Option, Some, None, is_none, Ok, Err, Result, refl, sym, ap, ap₂, subst, ◌∙◌, arith, slice_index_or, ◌&&◌, ◌||◌, ◌==◌, if◌then◌else◌, nat_lt, ◌-◌, drop, IsTrue, eq-eqb}
+use Rattle.std.proofs.Common.{◌≡◌, ◌≤◌, ℕ, zero, suc, ℤ, ◌+◌, ◌<◌, Bool, true, false, List, [], ◌∷◌, map, filter, length, not, cond, Option, Some, None, is_none, Ok, Err, Result, refl, sym, ap, ap₂, subst, ◌∙◌, arith, slice_index_or, ◌&&◌, ◌||◌, ◌==◌, if◌then◌else◌, nat_lt, ◌-◌, drop, IsTrue, eq-eqb}
 use Rattle.std.specs.List.{All, Contains, concat}
 use Rattle.std.specs.Option.{option_or}
 use Rattle.std.specs.Str.{bytes_eq}
 use Rattle.std.proofs.lemmas.Bool.{and_parts, eqb-true}
 use Rattle.std.proofs.lemmas.List.{length-append, length-map}
-use Rattle.std.proofs.lemmas.List.Elements.{All-contains, All-contains_itself, All-filter, All-nil, All-weaker}
+use Rattle.std.proofs.lemmas.List.Elements.{All-contains, All-contains_itself, All-filter, All-head, All-nil, All-tail, All-weaker}
 use Rattle.std.proofs.lemmas.Slice.Eq.{bytes_eq-Decides}
 use Rattle.std.proofs.Math.ListN.{get_or-map}
 use Rattle.sha2.specs.Sha256.{sha256}
@@ -32,9 +32,12 @@ use Rattle.wire_commands.specs.declared.rows.FileFault.TheVariants.{Differs, Unr
 use Rattle.store_model.specs.AdminSteps.{fact_shown, facts_in}
 use Rattle.store_model.specs.Manifests.{blob_data, data_in, fact_of, listed_names}
 use Rattle.store_model.specs.Stands.{fills_size, FitsContent, IsSnapshot, names_content}
-use Rattle.store_model.specs.VerifyJob.{Judged, without_entries, compared, digest, fixed_judged, dynamic_judged, blob_judged, last_end, manifest_fault, judged}
+use Rattle.store_model.specs.declared.piece.Piece.{Piece}
+use Rattle.store_model.specs.SizeLimits.{size_limit}
+use Rattle.store_model.specs.VerifyJob.{Judged, without_entries, compared, fixed_pieces, fixed_judged, dynamic_pieces, dynamic_judged, blob_judged, last_end, manifest_fault, judged}
 use Rattle.store_history.proofs.Found.{each_file}
-use Rattle.store_history.proofs.Indexes.{blob_apart}
+use Rattle.store_history.proofs.Indexes.{blob_apart, whole}
+use Rattle.store_history.proofs.SizeLimits.{file_short}
 use Rattle.job_laws.specs.Verifies.{is_as_listed, is_listed, names_snapshot}
 
 -- ---- lists
@@ -83,7 +86,7 @@ either : (a b : Bool) → b ≡ true → (a || b) ≡ true
 either true b h = refl
 either false b h = h
 
--- ---- the bytes and the digests of an archive
+-- ---- the bytes and the pieces of an archive
 
 fills_whole : (size cut end : ℕ) (ps : List (List ℕ)) → fills_size size cut end ps ≡ true → end + length (concat ps) ≡ size
 fills_whole size cut end [] fills = let e = eqb-true end size fills in omega (arith, e)
@@ -102,13 +105,27 @@ last_is : (ps : List (List ℕ)) → last_end (ends_from 0 ps) ≡ length (conca
 last_is [] = refl
 last_is (p ∷ ps) = let h = last_from 0 p ps in omega (arith, h)
 
-dynamic_digests : (start : ℕ) (ps : List (List ℕ)) → map (λ (e : dynamic_index.Ended). digest e.digest) (ends_from start ps) ≡ map digest_of ps
-dynamic_digests start [] = refl
-dynamic_digests start (p ∷ ps) = ap (λ ds. digest_of p ∷ ds) (dynamic_digests (start + length p) ps)
+-- as an index names it
+abbrev pub named_piece : List ℕ → Piece
+named_piece p = record { digest = digest_of p; length = length p }
 
-fixed_digests : (ps : List (List ℕ)) → map digest (map sha256 ps) ≡ map digest_of ps
-fixed_digests [] = refl
-fixed_digests (p ∷ ps) = ap (λ ds. digest_of p ∷ ds) (fixed_digests ps)
+dynamic_named : (start : ℕ) (ps : List (List ℕ)) → dynamic_pieces start (ends_from start ps) ≡ map named_piece ps
+dynamic_named start [] = refl
+dynamic_named start (p ∷ ps) =
+    ap₂ (λ (n : ℕ) (qs : List Piece). (let q : Piece = record { digest = digest_of p; length = n } in q) ∷ qs) (let e : start + length p - start ≡ length p = omega arith in e) (dynamic_named (start + length p) ps)
+
+fixed_named : (size cut end : ℕ) (ps : List (List ℕ)) → fills_size size cut end ps ≡ true → All IsPiece ps → fixed_pieces size cut end (map sha256 ps) ≡ map named_piece ps
+fixed_named size cut end [] fills are = refl
+fixed_named size cut end (p ∷ []) fills are =
+    let both = and_parts (length p == piece_len size cut end) (fills_size size cut (end + length p) []) fills in
+    ap (λ n. (let q : Piece = record { digest = digest_of p; length = n } in q) ∷ []) (sym (eqb-true (length p) (piece_len size cut end) both.0))
+fixed_named size cut end (p ∷ q ∷ ps) fills are =
+    let both = and_parts (length p == piece_len size cut end) (fills_size size cut (end + length p) (q ∷ ps)) fills in
+    let rest = All-tail IsPiece p (q ∷ ps) are in
+    let cut_is = whole size cut end p q ps fills (All-head IsPiece q ps rest).0 in
+    ap (λ n. (let y : Piece = record { digest = digest_of p; length = n } in y) ∷ fixed_pieces size cut (end + cut) (map sha256 (q ∷ ps))) (sym (eqb-true (length p) (piece_len size cut end) both.0))
+    ∙ ap (λ n. named_piece p ∷ fixed_pieces size cut (end + n) (map sha256 (q ∷ ps))) (sym cut_is)
+    ∙ ap (λ qs. named_piece p ∷ qs) (fixed_named size cut (end + length p) (q ∷ ps) both.1 rest)
 
 -- ---- what a file of its kind is judged
 
@@ -122,7 +139,7 @@ abbrev pub fact : List ℕ → ℕ → Digest32 → Fact
 fact name size csum = record { name = name; size = size; csum = csum }
 
 abbrev pub with_pieces : Option FileFault → Content → Judged
-with_pieces fault c = record { fault = fault; bytes = length (concat (pieces_of c)); digests = map digest_of (pieces_of c) }
+with_pieces fault c = record { fault = fault; bytes = length (concat (pieces_of c)); entries = map named_piece (pieces_of c) }
 
 module _ (text name : List ℕ) (size : ℕ) (csum : Digest32) where
   abbrev r : FileRow
@@ -145,23 +162,23 @@ module _ (text name : List ℕ) (size : ℕ) (csum : Digest32) where
         ∙ ap (λ b. if b then dynamic_judged r t else blob_judged text r t) named
         ∙ ap (λ (y : Result dynamic_index.DynamicIndex IndexFault). elim y as (λ z. Judged) [
           | Err cause ↦ without_entries (Some Unreadable)
-          | Ok d ↦ record { fault = compared r (last_end d.entries) (dynamic_index.csum_of d); bytes = last_end d.entries; digests = map (λ e. digest e.digest) d.entries }
+          | Ok d ↦ record { fault = compared r (last_end d.entries) (dynamic_index.csum_of d); bytes = last_end d.entries; entries = dynamic_pieces 0 d.entries }
         ]) (dynamic_of-dynamic_text x fits.0)
-        ∙ ap₂ (λ (n : ℕ) (ds : List Digest32). (let j : Judged = record { fault = compared r n (dynamic_index.csum_of x); bytes = n; digests = ds } in j)) (last_is pieces) (dynamic_digests 0 pieces)
+        ∙ ap₂ (λ (n : ℕ) (es : List Piece). (let j : Judged = record { fault = compared r n (dynamic_index.csum_of x); bytes = n; entries = es } in j)) (last_is pieces) (dynamic_named 0 pieces)
 
-    judged_fixed : (whole cut : ℕ) → is_fixed_name name ≡ true → FitsContent (archive (made (fixed whole cut)))
-        → judged text r (file_text (archive (made (fixed whole cut)))) ≡ with_pieces (as_compared (archive (made (fixed whole cut)))) (archive (made (fixed whole cut)))
+    judged_fixed : (size_is cut : ℕ) → is_fixed_name name ≡ true → FitsContent (archive (made (fixed size_is cut)))
+        → judged text r (file_text (archive (made (fixed size_is cut)))) ≡ with_pieces (as_compared (archive (made (fixed size_is cut)))) (archive (made (fixed size_is cut)))
     unfolding judged fixed_judged file_text archive_text
-    judged_fixed whole cut named fits =
-        let x = fixed_of_archive (made (fixed whole cut)) whole cut in
+    judged_fixed size_is cut named fits =
+        let x = fixed_of_archive (made (fixed size_is cut)) size_is cut in
         let t = fixed_index.fixed_text x in
-        let bytes : whole ≡ length (concat pieces) = (let h = fills_whole whole cut 0 pieces (fits.0).1 in omega (arith, h)) in
+        let bytes : size_is ≡ length (concat pieces) = (let h = fills_whole size_is cut 0 pieces (fits.0).1 in omega (arith, h)) in
         ap (λ b. if b then fixed_judged r t else (if is_dynamic_name name then dynamic_judged r t else blob_judged text r t)) named
         ∙ ap (λ (y : Result fixed_index.FixedIndex IndexFault). elim y as (λ z. Judged) [
           | Err cause ↦ without_entries (Some Unreadable)
-          | Ok d ↦ record { fault = compared r d.size (fixed_index.csum_of d); bytes = d.size; digests = map digest d.digests }
+          | Ok d ↦ record { fault = compared r d.size (fixed_index.csum_of d); bytes = d.size; entries = fixed_pieces d.size d.chunk_size 0 d.digests }
         ]) (fixed_of-fixed_text x (fits.0).0)
-        ∙ ap₂ (λ (n : ℕ) (ds : List Digest32). (let j : Judged = record { fault = compared r whole (fixed_index.csum_of x); bytes = n; digests = ds } in j)) bytes (fixed_digests pieces)
+        ∙ ap₂ (λ (n : ℕ) (es : List Piece). (let j : Judged = record { fault = compared r size_is (fixed_index.csum_of x); bytes = n; entries = es } in j)) bytes (fixed_named size_is cut 0 pieces (fits.0).1 fits.1)
 
   abbrev IsJudged : Archive → Type 0
   IsJudged b = judged text r (file_text (archive b)) ≡ with_pieces (as_compared (archive b)) (archive b)
@@ -243,6 +260,7 @@ pub record Shows (x : Snapshot) (f : File) : Type 0 where
   pub shown : fact_shown (facts_in x.files) f ≡ Some (fact f.name size csum)
   pub told : judged (key_text x.key) (row f.name size csum) (file_text f.content) ≡ with_pieces (fault_shown (is_as_listed x f)) f.content
   pub pieces : All (λ p. IsPiece p × (is_index_name f.name ≡ true)) (pieces_of f.content)
+  pub short : length (file_text f.content) ≤ size_limit f.name
 
 module _ (x : Snapshot) (fits : IsSnapshot x) where
   abbrev bytes : List ℕ
@@ -326,6 +344,7 @@ module _ (x : Snapshot) (fits : IsSnapshot x) where
         told = judged_archive (key_text x.key) name listed.0 listed.1 a (named_as f there) (content_fits f there)
             ∙ ap (λ fault. with_pieces fault (archive a)) (fault_listed f there listed.0 listed.1 other listed.2);
         pieces = All-weaker IsPiece (λ p. IsPiece p × (is_index_name name ≡ true)) (λ p h. (h, indexed)) a.pieces (content_fits f there).1;
+        short = file_short name (archive a) (named_as f there) (content_fits f there);
       }
     where
       no_manifest : (b : Bool) → bytes_eq name manifest_name ≡ b → bytes_eq name manifest_name ≡ false
@@ -365,6 +384,7 @@ module _ (x : Snapshot) (fits : IsSnapshot x) where
                 ∙ ap (λ d. without_entries (manifest_fault (key_text x.key) d)) same
                 ∙ ap without_entries (manifest_fault_is ∙ ap fault_shown (sym (ap (λ b. if b then names_snapshot x else is_listed (facts_in x.files) (file name (blob held))) is)));
             pieces = All-nil (λ p. IsPiece p × (is_index_name name ≡ true));
+            short = file_short name (blob held) (named_as (file name (blob held)) there) (content_fits (file name (blob held)) there);
           }
       by_name false is =
           let listed = its_fact (file name (blob held)) there is in
@@ -378,6 +398,7 @@ module _ (x : Snapshot) (fits : IsSnapshot x) where
                 ∙ ap (λ b. without_entries (option_or (compared (row name listed.0 listed.1) (size_of (blob held)) (csum_of (blob held)).0) (if b then manifest_fault (key_text x.key) held else None))) is
                 ∙ ap without_entries (first_fault (compared (row name listed.0 listed.1) (size_of (blob held)) (csum_of (blob held)).0) ∙ fault_listed (file name (blob held)) there listed.0 listed.1 is listed.2);
             pieces = All-nil (λ p. IsPiece p × (is_index_name name ≡ true));
+            short = file_short name (blob held) (named_as (file name (blob held)) there) (content_fits (file name (blob held)) there);
           }
 
   pub each_shows : All (Shows x) x.files

@@ -1,21 +1,26 @@
 -- SYNCs that report a refusal; and one of a snapshot, beside a list that has it.
-use Rattle.std.proofs.Common.{◌≡◌, ◌≤◌, ◌<◌, inr, ℕ, pos, Bool, true, false, cond, List, [], ◌∷◌, ◌++◌, length, Some, Ok, codes, refl, arith, nat_lt, IsTrue}
+use Rattle.std.proofs.Common.{◌≡◌, ◌≤◌, ◌<◌, inr, ℕ, pos, Bool, true, false, cond, List, [], ◌∷◌, ◌++◌, length, Some, Ok, codes, refl, arith, nat_lt, IsTrue, Option, None, ap, ◌==◌, if◌then◌else◌}
 use Rattle.std.specs.Prelude.{⊤}
 use Rattle.std.specs.List.{All, fold}
+use Rattle.std.specs.FinMap.{get-from_entries}
+use Rattle.std.proofs.lemmas.Cmp.{nat_list_cmp_total}
 use Rattle.std.proofs.lemmas.Bool.{ltb-true}
 use Rattle.std.proofs.lemmas.List.Elements.{All-cons, All-nil, All-weaker}
 use Rattle.std.proofs.lemmas.List.Sums.{AllPass-from_list_all}
 use Rattle.store_types.specs.declared.names.Kind.TheVariants.{Host}
-use Rattle.store_types.specs.declared.refusal.Refusal.TheVariants.{NoMemory, NoRemote, RemoteFault, Unreadable, WrongState}
+use Rattle.sha2.specs.Sha256.{sha256}
+use Rattle.store_types.specs.declared.append.AppendEntry.{AppendEntry}
+use Rattle.store_types.specs.declared.refusal.ChunkFault.TheVariants.{Other}
+use Rattle.store_types.specs.declared.refusal.Refusal.TheVariants.{Damaged, NoMemory, NoRemote, RemoteFault, Unreadable, WrongState}
 use Rattle.store_types.specs.declared.refusal.SessionState.TheVariants.{Idle}
 use Rattle.store_types.specs.FileNames.{manifest_name}
-use Rattle.store_types.specs.Names.{IsKey, group_of_key, same_group}
+use Rattle.store_types.specs.Names.{IsKey, group_of_key, same_group, text_cmp}
 use Rattle.blob_codec.specs.Blob as blobs
 use Rattle.store_files.specs.Archive.{dynamic, archive, blob, File, Snapshot, digest_of, file_text}
 use Rattle.store_files.specs.Manifest.{Manifest}
 use Rattle.wire_commands.specs.declared.command.Command.TheVariants.{Sync}
 use Rattle.wire_commands.specs.declared.reply.Reply.{Reply}
-use Rattle.wire_commands.specs.declared.reply.Reply.TheVariants.{Base, Done, Keys, Part, Refused}
+use Rattle.wire_commands.specs.declared.reply.Reply.TheVariants.{Base, Data, Done, Keys, Part, Refused}
 use Rattle.store_model.specs.AdminSteps.{group as group_here}
 use Rattle.store_model.specs.Jobs.{take_more as job_takes}
 use Rattle.store_model.specs.Manifests.{listing_of}
@@ -26,14 +31,14 @@ use Rattle.store_model.proofs.ListingLemmas.{listing_lists}
 use Rattle.store_model.proofs.OnLiterals.{digests_on_literals, manifests_on_literals, store_model_on_literals}
 use Rattle.store_history.specs.declared.act.Act.TheVariants.{RemoteList}
 use Rattle.store_history.specs.Acts.{reaching, stepping}
-use Rattle.store_history.specs.Pulling.{Course, Stock, reading_file, rejecting, SyncJob, reports, asks, blob_read, compared, file_part, file_read, file_told, finished, index_in, index_read, manifest_part, manifest_read, manifest_told, next_file, next_snapshot, sought, started, take, take_more}
+use Rattle.store_history.specs.Pulling.{Course, Stock, reading_file, rejecting, SyncJob, reports, asks, blob_read, compared, file_part, file_read, file_told, finished, index_in, index_read, manifest_part, manifest_read, manifest_told, next_file, next_snapshot, sought, started, take, take_more, Index, reading_manifest, opening, reading_chunk, sending_chunk, appending, aborting, chunk_told, next_chunk, next_append, with_chunk, size_sent, blob_size, mismatched}
 use Rattle.store_history.specs.Remote.{IsList, Reads, text_in}
 use Rattle.job_laws.specs.Pulls.{AreToldBy, IsAlike, IsFirstRefusal, digests_sent, pull_after, replies_to_job}
 use Rattle.job_laws.proofs.ByTheList.{pulls_by_the_list}
 use Rattle.job_laws.proofs.FirstRefusals.{first_refusal_told}
 
 unfoldable on_pulls : ⊤
-unfolding take sought compared started manifest_told manifest_part manifest_read file_told file_part file_read index_read index_in blob_read next_file finished next_snapshot store_model_on_literals
+unfolding take sought compared started manifest_told manifest_part manifest_read file_told file_part file_read index_read index_in blob_read chunk_told next_chunk next_append next_file finished next_snapshot store_model_on_literals
 on_pulls = tt
 
 abbrev host : List ℕ
@@ -100,6 +105,62 @@ bad_blob = refl
 bad_index : take (reading_file course stock (codes "a.didx") []) (Part 0 []) ≡ asks (rejecting (newer ++ codes "/a.didx"))
 unfolding on_pulls
 bad_index = refl
+
+-- what is too long is not read on
+long_index : take (reading_file course stock (codes "a.didx") []) (Part 41947137 (codes "abc")) ≡ asks (rejecting (newer ++ codes "/a.didx"))
+unfolding on_pulls
+long_index = refl
+
+long_index_part : take (reading_file course stock (codes "a.didx") []) (Part 41947136 (codes "abc")) ≡ asks (reading_file course stock (codes "a.didx") (codes "abc"))
+unfolding on_pulls
+long_index_part = refl
+
+long_manifest : take (reading_manifest course []) (Part 16777229 (codes "abc")) ≡ asks (rejecting name)
+unfolding on_pulls
+long_manifest = refl
+
+-- ---- chunks of another length than the index says
+
+abbrev abc : AppendEntry
+abc = record { digest = digest_of (codes "abc"); offset = 0 }
+
+-- an archive of one piece, of so many bytes
+abbrev index : ℕ → Index
+index size = record { name = codes "a.didx"; layout = dynamic; entries = abc ∷ []; size = size; csum = digest_of [] }
+
+abbrev abc_blob : List ℕ
+abc_blob = blobs.blob (codes "abc")
+
+as_long : take (reading_chunk course stock (index 3) abc []) (Data abc_blob) ≡ asks (sending_chunk course (with_chunk abc abc_blob stock) (index 3) abc [] abc_blob)
+unfolding on_pulls
+as_long = refl
+
+another_length : take (reading_chunk course stock (index 2000) abc []) (Data abc_blob) ≡ asks (aborting (Damaged (abc.digest) (Other abc.digest)))
+unfolding on_pulls digests_on_literals
+another_length = refl
+
+-- of one that was sent before too
+abbrev sent_abc : Stock
+sent_abc = record { manifest = []; names = []; sent = (sha256 (codes "abc"), 15) ∷ [] }
+
+kept : size_sent sent_abc abc ≡ Some 15
+unfolding digests_on_literals
+kept = get-from_entries {R = text_cmp} nat_list_cmp_total ((sha256 (codes "abc"), 15) ∷ []) (sha256 (codes "abc"))
+
+abbrev walks : ℕ → Option ℕ → SyncJob
+walks size k =
+    elim k [
+      | None ↦ asks (reading_chunk course sent_abc (index size) abc [])
+      | Some n ↦ if n == blob_size (index size) abc [] then next_chunk course sent_abc (index size) [] else mismatched abc
+    ]
+
+sent_before : take (opening course sent_abc (index 3)) Done ≡ asks (appending course sent_abc (index 3) abc [])
+unfolding on_pulls
+sent_before = ap (walks 3) kept
+
+another_before : take (opening course sent_abc (index 2000)) Done ≡ asks (aborting (Damaged abc.digest (Other abc.digest)))
+unfolding on_pulls
+another_before = ap (walks 2000) kept
 
 -- ---- a whole SYNC, of a snapshot with its manifest alone
 

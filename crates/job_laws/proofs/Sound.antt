@@ -1,16 +1,15 @@
 -- A VERIFY of a snapshot that the store may hold: what each step is answered, and how the job comes to its end.
-use Rattle.std.proofs.Common.{◌≡◌, ℕ, zero, suc, ◌+◌, ◌≤◌, ◌<◌, Bool, true, false, List, [], ◌∷◌, ◌++◌, map, length, Option, Some, None, Result, Ok, Err, ◌&&◌, refl, sym, ap, subst, ◌∙◌, arith, take as take_first, drop, nat_lt, slice_get, if◌then◌else◌}
+use Rattle.std.proofs.Common.{◌≡◌, ℕ, zero, suc, ◌+◌, ◌≤◌, ◌<◌, Bool, true, false, List, [], ◌∷◌, ◌++◌, map, length, Option, Some, None, Result, Ok, Err, ◌&&◌, refl, sym, ap, subst, ◌∙◌, arith, take as take_first, drop, nat_lt, slice_get, if◌then◌else◌, ◌==◌}
 use Rattle.std.specs.List.{All, concat, cons_option, filter_map, flat_map}
 use Rattle.std.specs.Option.{option_map, option_or}
 use Rattle.std.specs.Str.{bytes_eq}
-use Rattle.std.proofs.lemmas.Bool.{le-leb, lt-ltb, ltb-false, ltb-true}
+use Rattle.std.proofs.lemmas.Bool.{eq-eqb, le-leb, le-ltb, lt-ltb, ltb-false, ltb-true}
 use Rattle.std.proofs.lemmas.List.{append_assoc, append-nil, get_or-set_same, length-append, length-drop, length-map, length-set, take-append-drop}
 use Rattle.std.proofs.lemmas.List.Folds.{concat-append}
 use Rattle.std.proofs.lemmas.List.Elements.{All-head, All-tail}
 use Rattle.std.proofs.lemmas.Slice.Eq.{bytes_eq-Decides}
 use Rattle.std.proofs.Math.Seq.{drop-append_seam}
 use Rattle.sha2.specs.Sha256.{sha256}
-use Rattle.store_types.specs.declared.names.Digest32.{Digest32}
 use Rattle.store_types.specs.declared.names.SnapshotKey.{SnapshotKey}
 use Rattle.store_types.specs.declared.refusal.BadBlob.{BadBlob}
 use Rattle.store_types.specs.declared.refusal.Refusal.TheVariants as refusals
@@ -32,6 +31,8 @@ use Rattle.wire_commands.specs.declared.reply.Reply.{Reply}
 use Rattle.wire_commands.specs.declared.reply.Reply.TheVariants.{Data, Done, Files, Part, Refused, Verified}
 use Rattle.store_model.specs.declared.step.Step.{Step}
 use Rattle.store_model.specs.AdminSteps.{fact_shown, facts_in, file_row, file_rows, files}
+use Rattle.store_model.specs.declared.piece.Piece.{Piece}
+use Rattle.store_model.specs.SizeLimits.{size_limit}
 use Rattle.store_model.specs.Job.{Visit, opening, listing, reading, checking, closing, Asking, Job, asking, step_of}
 use Rattle.store_model.specs.Jobs.{take}
 use Rattle.store_model.specs.JobSteps.{step_outcome}
@@ -39,38 +40,40 @@ use Rattle.store_model.specs.ReaderSteps.{open_reader, reader_files, download, r
 use Rattle.store_model.specs.Stands.{IsSnapshot, pieces_in}
 use Rattle.store_model.specs.Steps.{answered, outcome}
 use Rattle.store_model.specs.Store.{Reader, Session, none, reader, Store, Outcome, session, with_session, ended, snapshot_named, want_idle, want_reader}
-use Rattle.store_model.specs.VerifyJob.{Judged, digest, judged, next_file, file_done, file_read, next_chunk, opened, listed, part_read, read_part, checked, chunk_fault, is_piece_of}
+use Rattle.store_model.specs.VerifyJob.{Judged, digest, judged, next_file, file_done, file_read, next_chunk, opened, listed, too_long, part_read, read_part, checked, chunk_fault, is_piece, is_piece_of}
 use Rattle.store_model.specs.WriterSteps.{part_limit, part_of}
 use Rattle.job_laws.specs.Verifies.{Damage, ReadAs, MayReply, EndsIn, chunk_read, chunk_reads, damage_from, fault_in, first_fault, is_as_listed, reads_from, reads_of_file, report_of, row_of, IsOther, SoundSnapshotsVerify}
-use Rattle.job_laws.proofs.Judged.{Shows, each_shows, fault_shown, row}
+use Rattle.job_laws.proofs.Judged.{Shows, each_shows, fault_shown, named_piece, row}
 
 -- ---- damage
 
-whole_chunk : (p : List ℕ) → IsPiece p → chunk_fault (digest_of p) (blobs.blob p) ≡ None
+whole_chunk : (p : List ℕ) → IsPiece p → chunk_fault (named_piece p) (blobs.blob p) ≡ None
 whole_chunk p is =
     ap (λ (r : Result (List ℕ) BadBlob). elim r as (λ z. Option FileFault) [
       | Err cause ↦ Some (Damaged (digest_of p))
-      | Ok piece ↦ if is_piece_of (digest_of p) piece then None else Some (Damaged (digest_of p))
+      | Ok piece ↦ if is_piece (named_piece p) piece then None else Some (Damaged (digest_of p))
     ]) (data_of-blob p is.2 is.1)
+    ∙ ap (λ b. if b && is_piece_of (digest_of p) p then None else Some (Damaged (digest_of p))) (eq-eqb (length p) (length p) refl)
     ∙ ap (λ b. if b && bytes_eq (sha256 p) (sha256 p) then None else Some (Damaged (digest_of p))) (lt-ltb 0 (length p) is.0)
     ∙ ap (λ b. if b then None else Some (Damaged (digest_of p))) ((bytes_eq-Decides (sha256 p) (sha256 p)).1 refl)
 
-other_chunk : (p bytes : List ℕ) → IsPiece p → IsOther (blobs.blob p) bytes → chunk_fault (digest_of p) bytes ≡ Some (Damaged (digest_of p))
+other_chunk : (p bytes : List ℕ) → IsPiece p → IsOther (blobs.blob p) bytes → chunk_fault (named_piece p) bytes ≡ Some (Damaged (digest_of p))
 other_chunk p bytes is other = by_data (blobs.data_of bytes) refl
   where
-    by_test : (q : List ℕ) (b c : Bool) → (digest_of q ≡ digest_of p → ⊥) → bytes_eq (sha256 q) (sha256 p) ≡ c
-        → (if b && c then None else Some (Damaged (digest_of p))) ≡ Some (Damaged (digest_of p))
-    by_test q true true off same = absurd (off (ap digest ((bytes_eq-Decides (sha256 q) (sha256 p)).0 same)))
-    by_test q true false off same = refl
-    by_test q false c off same = refl
+    by_test : (q : List ℕ) (a b c : Bool) → (digest_of q ≡ digest_of p → ⊥) → bytes_eq (sha256 q) (sha256 p) ≡ c
+        → (if a && (b && c) then None else Some (Damaged (digest_of p))) ≡ Some (Damaged (digest_of p))
+    by_test q true true true off same = absurd (off (ap digest ((bytes_eq-Decides (sha256 q) (sha256 p)).0 same)))
+    by_test q true true false off same = refl
+    by_test q true false c off same = refl
+    by_test q false b c off same = refl
 
     by_data : (r : Result (List ℕ) BadBlob) → blobs.data_of bytes ≡ r
         → (elim r as (λ z. Option FileFault) [
           | Err cause ↦ Some (Damaged (digest_of p))
-          | Ok piece ↦ if is_piece_of (digest_of p) piece then None else Some (Damaged (digest_of p))
+          | Ok piece ↦ if is_piece (named_piece p) piece then None else Some (Damaged (digest_of p))
         ]) ≡ Some (Damaged (digest_of p))
     by_data (Err cause) read = refl
-    by_data (Ok q) read = by_test q (nat_lt 0 (length q)) (bytes_eq (sha256 q) (sha256 p)) (other p q (data_of-blob p is.2 is.1) read) refl
+    by_data (Ok q) read = by_test q (length q == length p) (nat_lt 0 (length q)) (bytes_eq (sha256 q) (sha256 p)) (other p q (data_of-blob p is.2 is.1) read) refl
 
 -- the first of three
 first_of : (fault : Option FileFault) (b : Bool) (its : FileFault) (later : Option FileFault)
@@ -195,20 +198,20 @@ module _ (x : Snapshot) (fits : IsSnapshot x) (lane : ℕ) (bad : Damage) where
     r = row f.name shows.size shows.csum
 
     -- what a read of the chunk at this place brings it to
-    chunk_goes : (v : Visit) (fault : Option FileFault) (place : ℕ) (p : List ℕ) (ds : List Digest32) → IsPiece p → (b : Bool) (q : Reply) → ReadAs b (Data (blobs.blob p)) q
-        → take (checking v r fault place (digest_of p) ds) q ≡ next_chunk v r (option_or fault (if b then Some (Damaged (digest_of p)) else None)) (place + 1) ds
+    chunk_goes : (v : Visit) (fault : Option FileFault) (place : ℕ) (p : List ℕ) (later : List Piece) → IsPiece p → (b : Bool) (q : Reply) → ReadAs b (Data (blobs.blob p)) q
+        → take (checking v r fault place (named_piece p) later) q ≡ next_chunk v r (option_or fault (if b then Some (Damaged (digest_of p)) else None)) (place + 1) later
     unfolding take checked
-    chunk_goes v fault place p ds piece false q is =
-        ap (take (checking v r fault place (digest_of p) ds)) is
-        ∙ ap (λ o. next_chunk v r (option_or fault o) (place + 1) ds) (whole_chunk p piece)
-    chunk_goes v fault place p ds piece true (Refused (refusals.Damaged asked found)) is = refl
-    chunk_goes v fault place p ds piece true (Data bytes) is = ap (λ o. next_chunk v r (option_or fault o) (place + 1) ds) (other_chunk p bytes piece is)
-    chunk_goes v fault place p ds piece true q is = absurd is
+    chunk_goes v fault place p later piece false q is =
+        ap (take (checking v r fault place (named_piece p) later)) is
+        ∙ ap (λ o. next_chunk v r (option_or fault o) (place + 1) later) (whole_chunk p piece)
+    chunk_goes v fault place p later piece true (Refused (refusals.Damaged asked found)) is = refl
+    chunk_goes v fault place p later piece true (Data bytes) is = ap (λ o. next_chunk v r (option_or fault o) (place + 1) later) (other_chunk p bytes piece is)
+    chunk_goes v fault place p later piece true q is = absurd is
 
     -- its chunks from a place on
     chunks : (v : Visit) (fault : Option FileFault) (place : ℕ) (ps : List (List ℕ)) → ((i : ℕ) → slice_get (pieces_of f.content) (place + i) ≡ slice_get ps i)
         → All (λ p. IsPiece p × (is_index_name f.name ≡ true)) ps → Leads behind report (file_done v r (option_or fault (damage_from bad f.name place ps)))
-        → Leads (reads_from f.name place ps ++ behind) report (next_chunk v r fault place (map digest_of ps))
+        → Leads (reads_from f.name place ps ++ behind) report (next_chunk v r fault place (map named_piece ps))
     unfolding next_chunk
     chunks v fault place [] here are done = subst (λ o. Leads behind report (file_done v r o)) (no_other fault) done
     chunks v fault place (p ∷ ps) here are done =
@@ -218,9 +221,9 @@ module _ (x : Snapshot) (fits : IsSnapshot x) (lane : ℕ) (bad : Damage) where
         let later = chunks v its (place + 1) ps (λ i. (let e : (place + 1) + i ≡ place + suc i = omega arith in ap (slice_get (pieces_of f.content)) e ∙ here (suc i)))
         (All-tail (λ p. IsPiece p × (is_index_name f.name ≡ true)) p ps are)
         (subst (λ o. Leads behind report (file_done v r o)) (sym (first_of fault (bad f.name place) (Damaged (digest_of p)) (damage_from bad f.name (place + 1) ps))) done) in
-        by_step (reads_from f.name (place + 1) ps ++ behind) report (checking v r fault place (digest_of p) (map digest_of ps)) (Data (blobs.blob p)) (next_chunk v r its (place + 1) (map digest_of ps))
+        by_step (reads_from f.name (place + 1) ps ++ behind) report (checking v r fault place (named_piece p) (map named_piece ps)) (Data (blobs.blob p)) (next_chunk v r its (place + 1) (map named_piece ps))
         (λ t moment reads there. chunk_told t moment there reads f shows.found place p first.1 first_is)
-        (chunk_goes v fault place p (map digest_of ps) first.0 (bad f.name place)) later
+        (chunk_goes v fault place p (map named_piece ps) first.0 (bad f.name place)) later
 
     no_rest : (xs ys : List ℕ) → nat_lt (length xs) (length (xs ++ ys)) ≡ false → xs ++ ys ≡ xs
     no_rest xs [] h = append-nil xs
@@ -252,7 +255,12 @@ module _ (x : Snapshot) (fits : IsSnapshot x) (lane : ℕ) (bad : Damage) where
       one_part go done =
           by_step its report (reading v r bytes) (Part (length (file_text f.content)) more)
           (take (reading v r bytes) (Part (length (file_text f.content)) more)) told (λ q is. ap (take (reading v r bytes)) is)
-          (by_test (nat_lt (length (bytes ++ more)) (length (file_text f.content))) refl)
+          (subst (λ b. Leads its report (
+          if b then file_done v r (Some (too_long r (length (file_text f.content)))) else
+          if nat_lt (length (bytes ++ more)) (length (file_text f.content)) then asking (reading v r (bytes ++ more)) else
+          file_read v r (judged v.snapshot r (bytes ++ more))))
+          (sym (le-ltb (size_limit f.name) (length (file_text f.content)) shows.short))
+          (by_test (nat_lt (length (bytes ++ more)) (length (file_text f.content))) refl))
         where
           by_test : (b : Bool) → nat_lt (length (bytes ++ more)) (length (file_text f.content)) ≡ b
               → Leads its report (if b then asking (reading v r (bytes ++ more)) else file_read v r (judged v.snapshot r (bytes ++ more)))
@@ -279,7 +287,7 @@ module _ (x : Snapshot) (fits : IsSnapshot x) (lane : ℕ) (bad : Damage) where
     whole : (files entries bytes : ℕ) (faults : List FaultRow) (later : List FileRow) (fs : List File) (all : List FaultRow)
         → faults ++ filter_map (fault_in bad x) (f ∷ fs) ≡ all
         → ((more : List FaultRow) → more ++ filter_map (fault_in bad x) fs ≡ all
-        → Leads behind report (next_file (at (files + 1) (entries + length (map digest_of (pieces_of f.content))) (bytes + length (concat (pieces_of f.content))) more later) later))
+        → Leads behind report (next_file (at (files + 1) (entries + length (map named_piece (pieces_of f.content))) (bytes + length (concat (pieces_of f.content))) more later) later))
         → Leads its report (asking (reading (at files entries bytes faults later) r []))
     unfolding file_read file_done
     whole files entries bytes faults later fs all are next =
@@ -291,7 +299,7 @@ module _ (x : Snapshot) (fits : IsSnapshot x) (lane : ℕ) (bad : Damage) where
         v = at files entries bytes faults later
 
         counted : Visit
-        counted = at files (entries + length (map digest_of (pieces_of f.content))) (bytes + length (concat (pieces_of f.content))) faults later
+        counted = at files (entries + length (map named_piece (pieces_of f.content))) (bytes + length (concat (pieces_of f.content))) faults later
 
         from_first : (i : ℕ) → slice_get (pieces_of f.content) (0 + i) ≡ slice_get (pieces_of f.content) i
         from_first i = (let e : 0 + i ≡ i = omega arith in ap (slice_get (pieces_of f.content)) e)
@@ -320,11 +328,11 @@ module _ (x : Snapshot) (fits : IsSnapshot x) (lane : ℕ) (bad : Damage) where
       let report = Verified all_files all_entries all_bytes all in
       let ps = pieces_of g.content in
       let count = length-append ps (pieces_from fs) in
-      let own_count = length-map ps digest_of in
+      let own_count = length-map ps named_piece in
       let joined = ap length (concat-append ps (pieces_from fs)) ∙ length-append (concat ps) (concat (pieces_from fs)) in
       subst (λ (o : Option Fact). Leads (flat_map reads_of_file (g ∷ fs)) report (next_file (at files entries bytes faults before) (map file_row (cons_option o (filter_map (fact_shown (facts_in x.files)) fs))))) (sym shows.shown)
       (whole (flat_map reads_of_file fs) report g shows files entries bytes faults (rows fs) fs all are (λ more is.
-      walk fs (All-tail (Shows x) g fs shown) (files + 1) (entries + length (map digest_of ps)) (bytes + length (concat ps)) more (rows fs) all_files all_entries all_bytes all
+      walk fs (All-tail (Shows x) g fs shown) (files + 1) (entries + length (map named_piece ps)) (bytes + length (concat ps)) more (rows fs) all_files all_entries all_bytes all
       (omega (arith, f)) (omega (arith, e, count, own_count)) (omega (arith, b, joined)) is))
 
   verified : Leads (chunk_reads x) (report_of bad x) (asking (listing (key_text x.key)))

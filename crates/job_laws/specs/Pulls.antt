@@ -1,9 +1,11 @@
 -- What holds of a SYNC, as the machine that its lane runs (`Pulling`).
 use Rattle.std.specs.Prelude.{◌≡◌, ◌≤◌, ◌<◌, ◌⊎◌, ◌↔◌, ⊤, ℕ, Bool, true, false, not, ◌&&◌, MatchBool, List, [], ◌∷◌, ◌++◌, map, length, Some, None, IfSome, Ok, IsErr}
 use Rattle.std.specs.List.{All, AllPairs, Contains, flat_map, fold}
+use Rattle.store_types.specs.declared.append.AppendEntry.{AppendEntry}
 use Rattle.store_types.specs.declared.names.Digest32.{Digest32}
+use Rattle.store_types.specs.declared.refusal.ChunkFault.TheVariants.{Other}
 use Rattle.store_types.specs.declared.refusal.Refusal.{Refusal}
-use Rattle.store_types.specs.declared.refusal.Refusal.TheVariants.{DiskFault, Halted, NoMemory, Unreadable}
+use Rattle.store_types.specs.declared.refusal.Refusal.TheVariants.{Damaged, DiskFault, Halted, NoMemory, Unreadable}
 use Rattle.store_types.specs.FileNames.{manifest_name}
 use Rattle.store_types.specs.Names.{IsKey, key_text}
 use Rattle.blob_codec.specs.Blob.{data_of}
@@ -11,17 +13,18 @@ use Rattle.store_files.specs.Archive.{Snapshot, digest_of, pieces_of}
 use Rattle.wire_commands.specs.declared.command.Command.{Command}
 use Rattle.wire_commands.specs.declared.command.Command.TheVariants.{NewFixed, NewDynamic, Chunk, Blob, Abort, Sync}
 use Rattle.wire_commands.specs.declared.reply.Reply.{Reply}
-use Rattle.wire_commands.specs.declared.reply.Reply.TheVariants.{Part, Refused}
+use Rattle.wire_commands.specs.declared.reply.Reply.TheVariants.{Data, Part, Refused}
 use Rattle.store_model.specs.AdminSteps.{group as group_here}
 use Rattle.store_model.specs.Job.{Pull, Asking, sending, Job, over, asking, step_of}
 use Rattle.store_model.specs.Jobs.{take_more as job_takes}
 use Rattle.store_model.specs.Load.{read_manifest}
+use Rattle.store_model.specs.SizeLimits.{blob_limit, size_limit}
 use Rattle.store_model.specs.Store.{Store}
 use Rattle.store_model.specs.SyncJob.{commands_of, listed_files, next_snapshot, to_pull}
 use Rattle.store_history.specs.declared.act.Act.{Act}
 use Rattle.store_history.specs.declared.act.Act.TheVariants.{Plain, RemoteList, RemoteFile, RemoteChunk}
 use Rattle.store_history.specs.Acts.{Class, reaching, class_of, act_of_step}
-use Rattle.store_history.specs.Pulling.{Pulling, seeking, reading_manifest, reading_file, rejecting, SyncJob, reports, asks, act_of, has_writer, index_in, is_index, path_of, take_more}
+use Rattle.store_history.specs.Pulling.{Stock, Index, Pulling, seeking, reading_manifest, reading_file, opening, reading_chunk, sending_chunk, rejecting, aborting, SyncJob, reports, asks, act_of, blob_size, has_writer, index_in, is_index, path_of, size_sent, take_more}
 use Rattle.store_history.specs.Remote.{IsList, Reads}
 
 abbrev pub is_refusal : Reply → Bool
@@ -113,12 +116,15 @@ DoesNotDecodeBy false name bytes = IsErr (data_of bytes)
 abbrev pub DoesNotDecode : List ℕ → List ℕ → Type 0
 DoesNotDecode name bytes = DoesNotDecodeBy (is_index name) name bytes
 
--- The reply has the last part of the file that was asked for, and the whole is none. This is its full name.
+-- The reply has a part of the file that was asked for, and this is longer than one of its kind may be; or it has the last
+-- part, and the whole is none. This is its full name.
 abbrev pub EndsBad : Pulling → Reply → List ℕ → Type 0
 EndsBad (reading_manifest c bytes) (Part total more) path =
-    (total ≤ length (bytes ++ more)) × IsNoManifest (bytes ++ more) × (path ≡ path_of c manifest_name)
+    (path ≡ path_of c manifest_name)
+    × ((blob_limit < total) ⊎ ((total ≤ length (bytes ++ more)) × IsNoManifest (bytes ++ more)))
 EndsBad (reading_file c s name bytes) (Part total more) path =
-    (total ≤ length (bytes ++ more)) × DoesNotDecode name (bytes ++ more) × (path ≡ path_of c name)
+    (path ≡ path_of c name)
+    × ((size_limit name < total) ⊎ ((total ≤ length (bytes ++ more)) × DoesNotDecode name (bytes ++ more)))
 EndsBad x reply path = ⊥
 
 -- with the last of these replies such a file was read
@@ -130,20 +136,54 @@ pub record HasReadBad (group : List ℕ) (replies : List Reply) (path : List ℕ
   pub asked : pull_after group before ≡ asks state
   pub bad : EndsBad state last path
 
--- What the reply gives the SYNC to report is the refusal that it is. But where the writer is ended for a file that is none, it is that file's name,
--- whatever is replied, unless memory is wanting.
+-- each of these entries was sent, before the rest, with the size that the index says
+abbrev pub AreSent : Stock → Index → List AppendEntry → List AppendEntry → Type 0
+AreSent s i [] rest = ⊤
+AreSent s i (e ∷ es) rest = (size_sent s e ≡ Some (blob_size i e (es ++ rest))) × AreSent s i es rest
+
+-- of these entries the first that was not so was sent with another size; this is its digest
+pub record HasOther (s : Stock) (i : Index) (entries : List AppendEntry) (digest : Digest32) : Type 0 where
+  pub before : List AppendEntry
+  pub entry : AppendEntry
+  pub later : List AppendEntry
+  pub size : ℕ
+  pub are : entries ≡ before ++ entry ∷ later
+  pub names : digest ≡ entry.digest
+  pub sent : AreSent s i before (entry ∷ later)
+  pub kept : size_sent s entry ≡ Some size
+  pub other : size ≡ blob_size i entry later → ⊥
+
+-- behind a reply that is no refusal: the chunk that was read has another length than the index says of its entry, or that
+-- of a later entry, which was sent before, has
+abbrev pub FindsOther : Pulling → Reply → Digest32 → Type 0
+FindsOther (reading_chunk c s i e later) (Data blob) digest =
+    (digest ≡ e.digest) × (length blob ≡ blob_size i e later → ⊥)
+FindsOther (opening c s i) reply digest = HasOther s i i.entries digest
+FindsOther (sending_chunk c s i e later blob) reply digest = HasOther s i later digest
+FindsOther state reply digest = ⊥
+
+pub record IsMismatch (state : Pulling) (reply : Reply) (refusal : Refusal) : Type 0 where
+  pub digest : Digest32
+  pub fine : is_refusal reply ≡ false
+  pub finds : FindsOther state reply digest
+  pub is : refusal ≡ Damaged digest (Other digest)
+
+-- What the reply gives the SYNC to report is the refusal that it is, or that a chunk has another length than its index
+-- says. But where the writer is ended for a file that is none, it is that file's name, whatever is replied, unless memory
+-- is wanting. Where it is ended for a refusal this came before.
 abbrev pub IsCause : Pulling → Reply → Refusal → Type 0
 IsCause (rejecting path) (Refused NoMemory) refusal = refusal ≡ NoMemory
 IsCause (rejecting path) reply refusal = refusal ≡ Unreadable path
-IsCause state reply refusal = reply ≡ Refused refusal
+IsCause (aborting first) reply refusal = ⊥
+IsCause state reply refusal = (reply ≡ Refused refusal) ⊎ IsMismatch state reply refusal
 
--- A SYNC is to end its writer for a file exactly where this was read just before and is none.
+-- A SYNC is to end its writer for a file exactly where this was read just before and is none, or is too long to be one.
 abbrev pub BadFilesEndIt : Type 0
 BadFilesEndIt =
     (group : List ℕ) (replies : List Reply) (path : List ℕ)
     → (pull_after group replies ≡ asks (rejecting path)) ↔ HasReadBad group replies path
 
--- No reply before this one is a refusal, and it gives this refusal. Where the writer is ended for a file, this was read just before and is none.
+-- No reply before this one is a refusal, and it gives this one. Where the writer is ended for a file, this was read just before and is none.
 pub record IsFirstRefusal (group : List ℕ) (replies : List Reply) (refusal : Refusal) : Type 0 where
   pub before : List Reply
   pub reply : Reply

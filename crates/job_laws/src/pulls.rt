@@ -9,14 +9,15 @@ pub fn syncs_pull_by_the_list()
 {}
 
 /// Beside any remote, a SYNC is about to end its writer for a file exactly where it has just read this file, and it is none,
-/// or a manifest of more than 63 files. It keeps the file's full name.
+/// or a manifest of more than 63 files, or where it has read a part of it and it is too long for its kind. It keeps the file's
+/// full name.
 pub fn bad_files_end_it()
     ensures { BadFilesEndIt }
 {}
 
-/// Beside any remote, a SYNC that is over reports a refusal exactly where this was the first that it was given; or, where it
-/// was ending its writer for a file that is none, or a manifest of more than 63 files, the name of that file, or that memory
-/// was wanting for that step.
+/// Beside any remote, a SYNC that is over reports a refusal exactly where this was the first that it was given, or a chunk was
+/// found to have another length than its index says; or, where it was ending its writer for a file that is none, or a manifest
+/// of more than 63 files, the name of that file, or that memory was wanting for that step.
 pub fn first_refusals_are_told()
     ensures { FirstRefusalIsTold }
 {}

@@ -1,27 +1,27 @@
 -- The chunks that wait, and their first fault.
-use Rattle.std.proofs.Common.{◌≡◌, ℕ, suc, ◌+◌, ◌-◌, ◌<◌, ◌≤◌, Bool, true, false, cond, List, [], ◌∷◌, ◌++◌, length, get_or, drop, Option, None, Some, Result, Ok, Err, refl, sym, ap, subst, ◌∙◌, arith, length-drop}
-use Rattle.std.specs.Prelude.{◌&&◌, All, is_none, is_ok, is_some, nat_le, nat_lt, slice_index_or}
+use Rattle.std.proofs.Common.{◌≡◌, ℕ, suc, ◌+◌, ◌<◌, ◌≤◌, Bool, true, false, cond, List, [], ◌∷◌, ◌++◌, length, get_or, drop, Option, None, Some, Result, Ok, Err, refl, sym, ap, subst, ◌∙◌, arith, length-drop}
+use Rattle.std.specs.Prelude.{◌&&◌, ◌==◌, All, is_none, is_ok, is_some, nat_le, nat_lt, slice_index_or}
 use Rattle.std.specs.Option.{option_or}
 use Rattle.std.specs.Str.{bytes_eq}
-use Rattle.std.proofs.lemmas.Bool.{ltb-true, leb-true, lt-ltb, le-leb}
-use Rattle.std.proofs.lemmas.List.{drop-map, drop-drop, drop_all, drop_more, length-map}
+use Rattle.std.proofs.lemmas.Bool.{true≢false, eq-eqb, eqb-true, ltb-true, leb-true, lt-ltb, le-leb}
+use Rattle.std.proofs.lemmas.List.{drop-drop, drop_all, drop_more}
 use Rattle.sha2.specs.Sha256.{sha256}
-use Rattle.store_types.specs.declared.names.Digest32.{Digest32}
 use Rattle.store_types.specs.declared.refusal.BadBlob.{BadBlob}
 use Rattle.store_types.specs.declared.refusal.ChunkFault.{ChunkFault}
 use Rattle.blob_codec.specs.Blob.{data_of}
+use Rattle.blob_codec.proofs.Reading.{HasParts-from_data_of}
 use Rattle.chunk_store.specs.Pieces.{TestsPiece, by_data, checked}
 use Rattle.wire_commands.specs.declared.rows.FileFault.{FileFault}
 use Rattle.wire_commands.specs.declared.rows.FileFault.TheVariants as faults
-use Rattle.store_model.specs.VerifyJob.{chunk_fault, digest, is_piece_of}
+use Rattle.store_model.specs.declared.piece.Piece.{Piece}
+use Rattle.store_model.specs.VerifyJob.{chunk_fault, digest, is_piece, is_piece_of}
 use Rattle.job_steps.specs.declared.chunks.Chunks.{Chunks}
-use Rattle.job_steps.specs.declared.chunks.Entry.{Entry}
 use Rattle.job_steps.specs.declared.part.Waiting.{Waiting}
 use Rattle.job_steps.specs.declared.tested.TestOf.{TestOf}
 use Rattle.job_steps.specs.declared.tested.Tested.{Tested}
 use Rattle.std.specs.declared.thread.PromisedHandle.{PromisedHandle}
 use Rattle.job_steps.specs.Parts.{parts_fault}
-use Rattle.job_steps.specs.Visits.{HasNext, IsSettled, ReadsOne, StaysAt, digests_left, digests_of, lengths_of, fault_in, next_digest, next_length, place_in}
+use Rattle.job_steps.specs.Visits.{HasNext, IsSettled, ReadsOne, StaysAt, fault_in, is_as_long, next_piece, pieces_left, place_in}
 use Rattle.job_steps.specs.Waits.{IsTested, fault_with}
 
 -- ---- the test of a chunk
@@ -38,51 +38,80 @@ not_empty n =
     (λ h. let above : 1 ≤ n = leb-true 1 n h in lt-ltb 0 n (omega arith))
     (λ h. let above : 0 < n = ltb-true 0 n h in le-leb 1 n (omega arith))
 
-module _ (d : Digest32) (bytes : List ℕ) where
-  fault_of_none : (cause : BadBlob) → data_of bytes ≡ Err cause → chunk_fault d bytes ≡ Some (faults.Damaged d)
+-- the data of a blob are all but its first 12 bytes
+piece_length : (bytes piece : List ℕ) → data_of bytes ≡ Ok piece → length bytes ≡ length piece + 12
+piece_length bytes piece e =
+    let parts = HasParts-from_data_of bytes piece e in
+    omega (arith, parts.long, length-drop 8 bytes, length-drop 4 (drop 8 bytes), ap length parts.rest)
+
+as_long : (n k : ℕ) (bytes : List ℕ) → length bytes ≡ n + 12 → length bytes ≡ k + 12 → (n == k) ≡ true
+as_long n k bytes has wants = eq-eqb n k (omega (arith, has, wants))
+
+module _ (p : Piece) (bytes : List ℕ) where
+  fault_of_none : (cause : BadBlob) → data_of bytes ≡ Err cause → chunk_fault p bytes ≡ Some (faults.Damaged p.digest)
   fault_of_none cause e = rw (chunk_fault, e) refl
 
-  fault_of_piece : (piece : List ℕ) (t : Bool) → data_of bytes ≡ Ok piece → is_piece_of d piece ≡ t → chunk_fault d bytes ≡ cond t None (Some (faults.Damaged d))
+  fault_of_piece : (piece : List ℕ) (t : Bool) → data_of bytes ≡ Ok piece → is_piece p piece ≡ t → chunk_fault p bytes ≡ cond t None (Some (faults.Damaged p.digest))
   fault_of_piece piece t e h = rw (chunk_fault, e, h) refl
 
-  checked_is : (piece : List ℕ) (t : Bool) → is_piece_of d piece ≡ t → is_ok (checked (d.0) piece) ≡ t
+  -- of another length than the index says
+  pub fault_of_other : is_as_long p bytes ≡ false → chunk_fault p bytes ≡ Some (faults.Damaged p.digest)
+  fault_of_other other = by_data_of (data_of bytes) refl
+    where
+      by_data_of : (held : Result (List ℕ) BadBlob) → data_of bytes ≡ held → chunk_fault p bytes ≡ Some (faults.Damaged p.digest)
+      by_data_of (Err cause) e = fault_of_none cause e
+      by_data_of (Ok piece) e = fault_of_piece piece false e (by_length (length piece == p.length) refl)
+        where
+          by_length : (b : Bool) → (length piece == p.length) ≡ b → (b && is_piece_of p.digest piece) ≡ false
+          by_length true same =
+              let one : length piece ≡ p.length = eqb-true (length piece) p.length same in
+              let long : is_as_long p bytes ≡ true = eq-eqb (length bytes) (p.length + 12) (piece_length bytes piece e ∙ ap (λ n. n + 12) one) in
+              absurd (true≢false (sym long ∙ other))
+          by_length false same = refl
+
+  checked_is : (piece : List ℕ) (t : Bool) → is_piece_of p.digest piece ≡ t → is_ok (checked (p.digest).0 piece) ≡ t
   checked_is piece t h =
-      let same : (nat_le 1 (length piece) && bytes_eq (sha256 piece) (d.0)) ≡ t = ap (λ b. b && bytes_eq (sha256 piece) (d.0)) (not_empty (length piece)) ∙ h in
+      let same : (nat_le 1 (length piece) && bytes_eq (sha256 piece) (p.digest).0) ≡ t = ap (λ b. b && bytes_eq (sha256 piece) (p.digest).0) (not_empty (length piece)) ∙ h in
       by_test t same
     where
-      by_test : (t : Bool) → (nat_le 1 (length piece) && bytes_eq (sha256 piece) (d.0)) ≡ t → is_ok (checked (d.0) piece) ≡ t
+      by_test : (t : Bool) → (nat_le 1 (length piece) && bytes_eq (sha256 piece) (p.digest).0) ≡ t → is_ok (checked (p.digest).0 piece) ≡ t
       by_test true same = rw (same, checked) refl
       by_test false same = rw (same, checked) refl
 
-  none_of : (t : Bool) → is_none (cond t None (Some (faults.Damaged d))) ≡ t
+  none_of : (t : Bool) → is_none (cond t None (Some (faults.Damaged p.digest))) ≡ t
   none_of true = refl
   none_of false = refl
 
-  found_is : (held : Result (List ℕ) BadBlob) → data_of bytes ≡ held → is_ok (by_data (d.0) held) ≡ is_none (chunk_fault d bytes)
-  found_is (Err cause) e = sym (ap is_none (fault_of_none cause e))
-  found_is (Ok piece) e =
-      let t = is_piece_of d piece in
-      checked_is piece t refl ∙ sym (ap is_none (fault_of_piece piece t e refl) ∙ none_of t)
+  module _ (sized : length bytes ≡ p.length + 12) where
+    -- as long as the index says, it is the piece by its digest
+    piece_is : (piece : List ℕ) → data_of bytes ≡ Ok piece → is_piece p piece ≡ is_piece_of p.digest piece
+    piece_is piece e = ap (λ b. b && is_piece_of p.digest piece) (as_long (length piece) p.length bytes (piece_length bytes piece e) sized)
 
-  -- what the test says is whether the model has a fault
-  pub tested_is : {A : Type 0} (result : Result A ChunkFault) → TestsPiece (d.0) bytes result → is_ok result ≡ is_none (chunk_fault d bytes)
-  tested_is (Ok x) h = sym h ∙ found_is (data_of bytes) refl
-  tested_is (Err fault) h = sym (ap is_ok h) ∙ found_is (data_of bytes) refl
+    found_is : (held : Result (List ℕ) BadBlob) → data_of bytes ≡ held → is_ok (by_data (p.digest).0 held) ≡ is_none (chunk_fault p bytes)
+    found_is (Err cause) e = sym (ap is_none (fault_of_none cause e))
+    found_is (Ok piece) e =
+        let t = is_piece_of p.digest piece in
+        checked_is piece t refl ∙ sym (ap is_none (fault_of_piece piece t e (piece_is piece e)) ∙ none_of t)
+
+    -- what the test says is whether the model has a fault
+    pub tested_is : {A : Type 0} (result : Result A ChunkFault) → TestsPiece (p.digest).0 bytes result → is_ok result ≡ is_none (chunk_fault p bytes)
+    tested_is (Ok x) h = sym h ∙ found_is (data_of bytes) refl
+    tested_is (Err fault) h = sym (ap is_ok h) ∙ found_is (data_of bytes) refl
 
   -- a chunk has no fault, or that it is damaged
-  pub fault_cases : (t : Bool) → is_none (chunk_fault d bytes) ≡ t → chunk_fault d bytes ≡ cond t None (Some (faults.Damaged d))
+  pub fault_cases : (t : Bool) → is_none (chunk_fault p bytes) ≡ t → chunk_fault p bytes ≡ cond t None (Some (faults.Damaged p.digest))
   fault_cases t h = by_data_of (data_of bytes) refl
     where
-      by_data_of : (held : Result (List ℕ) BadBlob) → data_of bytes ≡ held → chunk_fault d bytes ≡ cond t None (Some (faults.Damaged d))
+      by_data_of : (held : Result (List ℕ) BadBlob) → data_of bytes ≡ held → chunk_fault p bytes ≡ cond t None (Some (faults.Damaged p.digest))
       by_data_of (Err cause) e =
           let is = fault_of_none cause e in
           let no : false ≡ t = sym (ap is_none is) ∙ h in
-          is ∙ ap (λ b. cond b None (Some (faults.Damaged d))) no
+          is ∙ ap (λ b. cond b None (Some (faults.Damaged p.digest))) no
       by_data_of (Ok piece) e =
-          let s = is_piece_of d piece in
+          let s = is_piece p piece in
           let is = fault_of_piece piece s e refl in
           let same : s ≡ t = sym (none_of s) ∙ sym (ap is_none is) ∙ h in
-          is ∙ ap (λ b. cond b None (Some (faults.Damaged d))) same
+          is ∙ ap (λ b. cond b None (Some (faults.Damaged p.digest))) same
 
 -- ---- the first of some faults
 
@@ -98,16 +127,16 @@ or_assoc (Some f) b c = refl
 pub fault_first : (fault : Option FileFault) (ws : List Waiting) → option_or fault (fault_with None ws) ≡ fault_with fault ws
 fault_first fault [] = or_none fault
 fault_first fault (w ∷ ws) =
-    let one = chunk_fault w.digest w.blob in
+    let one = chunk_fault w.piece w.blob in
     ap (option_or fault) (sym (fault_first one ws)) ∙ sym (or_assoc fault one (fault_with None ws)) ∙ fault_first (option_or fault one) ws
 
 pub fault_some : (f : FileFault) (ws : List Waiting) → fault_with (Some f) ws ≡ Some f
 fault_some f ws = sym (fault_first (Some f) ws)
 
 -- one more waits
-pub fault_push : (fault : Option FileFault) (ws : List Waiting) (w : Waiting) → fault_with fault (ws ++ w ∷ []) ≡ option_or (fault_with fault ws) (chunk_fault w.digest w.blob)
+pub fault_push : (fault : Option FileFault) (ws : List Waiting) (w : Waiting) → fault_with fault (ws ++ w ∷ []) ≡ option_or (fault_with fault ws) (chunk_fault w.piece w.blob)
 fault_push fault [] w = refl
-fault_push fault (x ∷ ws) w = fault_push (option_or fault (chunk_fault x.digest x.blob)) ws w
+fault_push fault (x ∷ ws) w = fault_push (option_or fault (chunk_fault x.piece x.blob)) ws w
 
 -- ---- the parts at threads
 
@@ -152,7 +181,7 @@ fault_settled fault c settled =
 
 -- the same chunk, tested or not
 pub record IsSameChunk (x y : Waiting) : Type 0 where
-  pub digest : y.digest ≡ x.digest
+  pub piece : y.piece ≡ x.piece
   pub blob : y.blob ≡ x.blob
 
 pub same_faults : (xs ys : List Waiting) → length ys ≡ length xs → ((i : ℕ) (d : Waiting) → i < length xs → IsSameChunk (slice_index_or xs i d) (slice_index_or ys i d))
@@ -162,9 +191,9 @@ same_faults [] (y ∷ ys) len each fault = absurd (omega (arith, len))
 same_faults (x ∷ xs) [] len each fault = absurd (omega (arith, len))
 same_faults (x ∷ xs) (y ∷ ys) len each fault =
     let first : IsSameChunk x y = each 0 x (omega arith) in
-    let one : chunk_fault y.digest y.blob ≡ chunk_fault x.digest x.blob = ap (λ d. chunk_fault d y.blob) first.digest ∙ ap (chunk_fault x.digest) first.blob in
+    let one : chunk_fault y.piece y.blob ≡ chunk_fault x.piece x.blob = ap (λ p. chunk_fault p y.blob) first.piece ∙ ap (chunk_fault x.piece) first.blob in
     ap (λ f. fault_with (option_or fault f) ys) one
-    ∙ same_faults xs ys (omega (arith, len)) (λ i d lt. each (suc i) d (omega (arith, lt))) (option_or fault (chunk_fault x.digest x.blob))
+    ∙ same_faults xs ys (omega (arith, len)) (λ i d lt. each (suc i) d (omega (arith, lt))) (option_or fault (chunk_fault x.piece x.blob))
 
 -- ---- the next of the entries
 
@@ -173,42 +202,29 @@ head_is [] d h = absurd (omega (arith, h))
 head_is (x ∷ xs) d h = refl
 
 module _ (c : Chunks) where
-  left_length : length (digests_left c) ≡ length (c.entries.items) - place_in c
-  left_length = simp (length-map, length-drop) refl
+  pub left_is : HasNext c → pieces_left c ≡ next_piece c ∷ drop 1 (pieces_left c)
+  left_is next = head_is (pieces_left c) (record { digest = digest []; length = 0 }) (omega (arith, length-drop (place_in c) c.entries.items, next))
 
-  pub left_is : HasNext c → digests_left c ≡ next_digest c ∷ drop 1 (digests_left c)
-  left_is next = head_is (digests_left c) (digest []) (omega (arith, left_length, next))
-
-  pub none_left : length (c.entries.items) ≤ place_in c → digests_left c ≡ []
-  none_left h = ap digests_of (drop_all (place_in c) c.entries.items h)
+  pub none_left : length (c.entries.items) ≤ place_in c → pieces_left c ≡ []
+  none_left h = drop_all (place_in c) c.entries.items h
 
   -- the entry that is read next
-  next_first : HasNext c → (e : Entry) → e ≡ get_or c.entries.items (place_in c) e → drop (place_in c) c.entries.items ≡ e ∷ drop (place_in c + 1) c.entries.items
-  next_first next e is = drop_more c.entries.items (place_in c) e next ∙ ap (λ x. x ∷ drop (place_in c + 1) c.entries.items) (sym is)
-
-  pub next_is : HasNext c → (e : Entry) → e ≡ get_or c.entries.items (place_in c) e → e.digest ≡ next_digest c
-  next_is next e is = sym (ap (λ xs. slice_index_or (digests_of xs) 0 (digest [])) (next_first next e is))
-
-  pub next_len_is : HasNext c → (e : Entry) → e ≡ get_or c.entries.items (place_in c) e → e.length ≡ next_length c
-  next_len_is next e is = sym (ap (λ xs. slice_index_or (lengths_of xs) 0 0) (next_first next e is))
-
--- one more is read
-pub left_more : (entries : List Entry) (n : ℕ) → digests_of (drop (n + 1) entries) ≡ drop 1 (digests_of (drop n entries))
-left_more entries n = ap digests_of (sym (drop-drop 1 n entries)) ∙ sym (drop-map (λ (e : Entry). e.digest) 1 (drop n entries))
+  pub next_is : HasNext c → (e : Piece) → e ≡ get_or c.entries.items (place_in c) e → e ≡ next_piece c
+  next_is next e is =
+      let none : Piece = record { digest = digest []; length = 0 } in
+      sym (ap (λ xs. slice_index_or xs 0 none) (drop_more c.entries.items (place_in c) e next) ∙ sym is)
 
 -- ---- what a call leaves
 
-pub reads_one : (old new : Chunks) → new.entries.items ≡ old.entries.items → place_in new ≡ place_in old + 1 → ReadsOne old new
-reads_one old new same more = record {
-  place = more;
-  left =
-      ap (λ (xs : List Entry). digests_of (drop (place_in new) xs)) same ∙ ap (λ n. digests_of (drop n old.entries.items)) more
-      ∙ left_more old.entries.items (place_in old);
-}
+-- those that are left behind one that was read
+pub left_more : (old new : Chunks) → ReadsOne old new → pieces_left new ≡ drop 1 (pieces_left old)
+left_more old new reads =
+    ap (λ (xs : List Piece). drop (place_in new) xs) reads.entries ∙ ap (λ n. drop n old.entries.items) reads.place
+    ∙ sym (drop-drop 1 (place_in old) old.entries.items)
 
 module _ (old new : Chunks) (stays : StaysAt old new) where
-  pub left_stays : digests_left new ≡ digests_left old
-  left_stays = ap (λ (xs : List Entry). digests_of (drop (place_in new) xs)) stays.entries ∙ ap (λ n. digests_of (drop n old.entries.items)) stays.place
+  pub left_stays : pieces_left new ≡ pieces_left old
+  left_stays = ap (λ (xs : List Piece). drop (place_in new) xs) stays.entries ∙ ap (λ n. drop n old.entries.items) stays.place
 
   pub next_stays : HasNext old → HasNext new
   next_stays next = omega (arith, next, stays.place, ap length stays.entries)
@@ -224,13 +240,13 @@ module _ (ws : List Waiting) (i : ℕ) (w : Waiting) (lt : i < length ws) (is : 
   at_place : drop i ws ≡ w ∷ drop (i + 1) ws
   at_place = drop_more ws i w lt ∙ ap (λ x. x ∷ drop (i + 1) ws) (sym is)
 
-  pub whole_there : is_none (chunk_fault w.digest w.blob) ≡ true → fault_with None (drop i ws) ≡ fault_with None (drop (i + 1) ws)
-  whole_there h = ap (fault_with None) at_place ∙ ap (λ f. fault_with f (drop (i + 1) ws)) (fault_cases w.digest w.blob true h)
+  pub whole_there : is_none (chunk_fault w.piece w.blob) ≡ true → fault_with None (drop i ws) ≡ fault_with None (drop (i + 1) ws)
+  whole_there h = ap (fault_with None) at_place ∙ ap (λ f. fault_with f (drop (i + 1) ws)) (fault_cases w.piece w.blob true h)
 
-  pub damaged_there : is_none (chunk_fault w.digest w.blob) ≡ false → fault_with None (drop i ws) ≡ Some (faults.Damaged w.digest)
+  pub damaged_there : is_none (chunk_fault w.piece w.blob) ≡ false → fault_with None (drop i ws) ≡ Some (faults.Damaged w.piece.digest)
   damaged_there h =
-      ap (fault_with None) at_place ∙ ap (λ f. fault_with f (drop (i + 1) ws)) (fault_cases w.digest w.blob false h)
-      ∙ fault_some (faults.Damaged w.digest) (drop (i + 1) ws)
+      ap (fault_with None) at_place ∙ ap (λ f. fault_with f (drop (i + 1) ws)) (fault_cases w.piece w.blob false h)
+      ∙ fault_some (faults.Damaged w.piece.digest) (drop (i + 1) ws)
 
   tested_there : All IsTested ws → IsTested w
   tested_there tested = subst IsTested (sym is) (tested i w lt)
@@ -238,5 +254,5 @@ module _ (ws : List Waiting) (i : ℕ) (w : Waiting) (lt : i < length ws) (is : 
   pub whole_at : All IsTested ws → w.is_whole ≡ true → fault_with None (drop i ws) ≡ fault_with None (drop (i + 1) ws)
   whole_at tested h = whole_there (sym (tested_there tested) ∙ h)
 
-  pub damaged_at : All IsTested ws → w.is_whole ≡ false → fault_with None (drop i ws) ≡ Some (faults.Damaged w.digest)
+  pub damaged_at : All IsTested ws → w.is_whole ≡ false → fault_with None (drop i ws) ≡ Some (faults.Damaged w.piece.digest)
   damaged_at tested h = damaged_there (sym (tested_there tested) ∙ h)

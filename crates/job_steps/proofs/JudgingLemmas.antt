@@ -1,10 +1,9 @@
 -- What whole files say.
-use Rattle.std.proofs.Common.{◌≡◌, ℕ, ◌*◌, ◌/◌, ◌-◌, ◌≤◌, IsTrue, List, [], ◌∷◌, ◌++◌, length, map, take, Ok, refl, sym, ap, subst, ◌∙◌, arith}
+use Rattle.std.proofs.Common.{◌≡◌, ℕ, ◌*◌, ◌/◌, ◌-◌, ◌≤◌, suc, IsTrue, List, [], ◌∷◌, ◌++◌, length, take, Ok, refl, sym, ap, subst, ◌∙◌, arith}
 use Rattle.std.specs.Prelude.{◌+◌, ◌<◌, ◌^◌, ◌&&◌, ◌==◌, nat_le, nat_lt, slice_index_or}
 use Rattle.std.proofs.Math.Nat.{mul-le-mul, mul-le-mul_right}
 use Rattle.std.proofs.lemmas.Bool.{and_parts, eqb-true, leb-true}
-use Rattle.std.proofs.lemmas.List.{length-map, map_more, map_push}
-use Rattle.store_types.specs.declared.names.Digest32.{Digest32}
+use Rattle.std.proofs.lemmas.List.{length-take-le, take_more}
 use Rattle.store_files.specs.FixedIndex.{FixedIndex, fixed_of}
 use Rattle.store_files.specs.FixedIndex as fixed_index
 use Rattle.store_files.specs.DynamicIndex.{Ended, DynamicIndex, dynamic_of}
@@ -13,10 +12,10 @@ use Rattle.fixed_index.specs.Viewing.{start_of, stop_of}
 use Rattle.fixed_index.proofs.Reading.{fixed_of-fits, fixed_of-ok}
 use Rattle.dynamic_index.specs.Pieces as pieces
 use Rattle.dynamic_index.proofs.Reading.{dynamic_of-fits}
-use Rattle.store_model.specs.VerifyJob.{digest, last_end}
-use Rattle.job_steps.specs.declared.chunks.Entry.{Entry}
-use Rattle.job_steps.specs.Lengths.{HaveLengths}
-use Rattle.job_steps.specs.Visits.{HasPieces, digests_of}
+use Rattle.store_model.specs.declared.piece.Piece.{Piece}
+use Rattle.store_model.specs.VerifyJob.{last_end, fixed_pieces, dynamic_pieces}
+use Rattle.store_model.proofs.VerifyLemmas.{piece, fixed_pieces_more, end_behind, dynamic_pieces_more}
+use Rattle.job_steps.specs.Visits.{HasPieces}
 
 -- where the entries of a dynamic index end
 pub last_same : (es : List Ended) → pieces.last_end 0 es ≡ last_end es
@@ -26,31 +25,49 @@ last_same (e ∷ f ∷ es) = last_same (f ∷ es)
 
 -- ---- the entries of an index, one by one
 
-pub fixed_more : (es new : List Entry) (e : Entry) (x : FixedIndex) (i : ℕ) → i < length x.digests → new ≡ es ++ e ∷ [] → (e.digest).0 ≡ slice_index_or x.digests i []
-    → digests_of es ≡ map digest (take i x.digests) → digests_of new ≡ map digest (take (i + 1) x.digests)
-fixed_more es new e x i lt pushed read before =
-    ap digests_of pushed ∙ map_push (λ (y : Entry). y.digest) es e ∙ ap (λ ds. ds ++ e.digest ∷ []) before
-    ∙ ap (λ d. map digest (take i x.digests) ++ digest d ∷ []) read ∙ sym (map_more digest x.digests i [] lt)
+as_piece : (e : Piece) (d : List ℕ) (len : ℕ) → (e.digest).0 ≡ d → e.length ≡ len → e ≡ piece d len
+as_piece e d len named sized = λ k. record { digest = record { 0 = named k }; length = sized k }
 
-pub dynamic_more : (es new : List Entry) (e : Entry) (x : DynamicIndex) (i : ℕ) → i < length x.entries → new ≡ es ++ e ∷ [] → (e.digest).0 ≡ (pieces.entry_at x i).digest
-    → digests_of es ≡ map (λ y. digest y.digest) (take i x.entries) → digests_of new ≡ map (λ y. digest y.digest) (take (i + 1) x.entries)
-dynamic_more es new e x i lt pushed read before =
+fixed_len : (x : FixedIndex) (i n : ℕ) → n ≡ i → stop_of x i - start_of x i ≡ fixed_index.piece_len x.size x.chunk_size (0 + n * x.chunk_size)
+fixed_len x i n is =
+    let same : fixed_index.piece_len x.size x.chunk_size (0 + n * x.chunk_size) ≡ fixed_index.piece_len x.size x.chunk_size (i * x.chunk_size) =
+    ap (fixed_index.piece_len x.size x.chunk_size) (let at : n * x.chunk_size ≡ i * x.chunk_size = ap (λ k. k * x.chunk_size) is in omega (arith, at)) in
+    omega arith ∙ sym same
+
+pub fixed_more : (es new : List Piece) (e : Piece) (x : FixedIndex) (i : ℕ) → i < length x.digests → new ≡ es ++ e ∷ []
+    → (e.digest).0 ≡ slice_index_or x.digests i [] → e.length ≡ stop_of x i - start_of x i
+    → es ≡ fixed_pieces x.size x.chunk_size 0 (take i x.digests) → new ≡ fixed_pieces x.size x.chunk_size 0 (take (i + 1) x.digests)
+fixed_more es new e x i lt pushed named sized before =
+    let front = take i x.digests in
+    let d = slice_index_or x.digests i [] in
+    let many : length front ≡ i = length-take-le i x.digests (omega (arith, lt)) in
+    let is = as_piece e d (fixed_index.piece_len x.size x.chunk_size (0 + length front * x.chunk_size)) named (sized ∙ fixed_len x i (length front) many) in
+    pushed ∙ ap (λ l. l ++ e ∷ []) before ∙ ap (λ p. fixed_pieces x.size x.chunk_size 0 front ++ p ∷ []) is
+    ∙ sym (fixed_pieces_more x.size x.chunk_size 0 front d) ∙ ap (fixed_pieces x.size x.chunk_size 0) (sym (take_more x.digests i [] lt))
+
+ends_same : (start : ℕ) (es : List Ended) → pieces.last_end start es ≡ end_behind start es
+ends_same start [] = refl
+ends_same start (e ∷ es) = ends_same e.end es
+
+pub dynamic_more : (es new : List Piece) (e : Piece) (x : DynamicIndex) (i : ℕ) → i < length x.entries → new ≡ es ++ e ∷ []
+    → (e.digest).0 ≡ (pieces.entry_at x i).digest → e.length ≡ pieces.stop_of x i - pieces.start_of x i
+    → es ≡ dynamic_pieces 0 (take i x.entries) → new ≡ dynamic_pieces 0 (take (i + 1) x.entries)
+dynamic_more es new e x i lt pushed named sized before =
     let none : Ended = record { end = 0; digest = [] } in
-    ap digests_of pushed ∙ map_push (λ (y : Entry). y.digest) es e ∙ ap (λ ds. ds ++ e.digest ∷ []) before
-    ∙ ap (λ d. map (λ (y : Ended). digest y.digest) (take i x.entries) ++ digest d ∷ []) read
-    ∙ sym (map_more (λ (y : Ended). digest y.digest) x.entries i none lt)
+    let front = take i x.entries in
+    let last = pieces.entry_at x i in
+    let is = as_piece e last.digest (last.end - end_behind 0 front) named (sized ∙ ap (λ n. last.end - n) (ends_same 0 front)) in
+    pushed ∙ ap (λ l. l ++ e ∷ []) before ∙ ap (λ p. dynamic_pieces 0 front ++ p ∷ []) is
+    ∙ sym (dynamic_pieces_more 0 front last) ∙ ap (dynamic_pieces 0) (sym (take_more x.entries i none lt))
 
-lengths_push : (len : ℕ → ℕ) (place : ℕ) (es : List Entry) (e : Entry) → HaveLengths len place es → e.length ≡ len (place + length es)
-    → HaveLengths len place (es ++ e ∷ [])
-lengths_push len place [] e have is = (is ∙ ap len (omega arith), tt)
-lengths_push len place (x ∷ xs) e have is = (have.0, lengths_push len (place + 1) xs e have.1 (is ∙ ap len (omega arith)))
+-- as many as the index has
+pub length-fixed_pieces : (size chunk_size offset : ℕ) (ds : List (List ℕ)) → length (fixed_pieces size chunk_size offset ds) ≡ length ds
+length-fixed_pieces size chunk_size offset [] = refl
+length-fixed_pieces size chunk_size offset (d ∷ ds) = ap suc (length-fixed_pieces size chunk_size (offset + chunk_size) ds)
 
-pub lengths_more : (len : ℕ → ℕ) (es new : List Entry) (e : Entry) → new ≡ es ++ e ∷ [] → HaveLengths len 0 es → e.length ≡ len (length es) → HaveLengths len 0 new
-lengths_more len es new e pushed have is = subst (HaveLengths len 0) (sym pushed) (lengths_push len 0 es e have (is ∙ ap len (omega arith)))
-
--- as many as there are digests
-pub counted : (es : List Entry) (ds : List Digest32) → digests_of es ≡ ds → length es ≡ length ds
-counted es ds is = sym (length-map es (λ (y : Entry). y.digest)) ∙ ap length is
+pub length-dynamic_pieces : (start : ℕ) (es : List Ended) → length (dynamic_pieces start es) ≡ length es
+length-dynamic_pieces start [] = refl
+length-dynamic_pieces start (e ∷ es) = ap suc (length-dynamic_pieces e.end es)
 
 -- ---- the pieces of an index are in range
 

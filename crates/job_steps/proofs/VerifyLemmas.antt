@@ -1,9 +1,8 @@
 -- What a VERIFY makes of the replies to its steps.
-use Rattle.std.proofs.Common.{◌≡◌, ℕ, ◌≤◌, Bool, true, false, List, ◌∷◌, ◌++◌, drop, length, Option, None, Some, refl, sym, ap, subst, ◌∙◌, arith}
+use Rattle.std.proofs.Common.{◌≡◌, ℕ, ◌≤◌, Bool, true, false, List, ◌∷◌, ◌++◌, drop, length, Option, None, Some, refl, sym, ap, subst, ◌∙◌, arith, if◌then◌else◌}
 use Rattle.std.specs.Prelude.{◌+◌, ◌<◌, is_some, nat_lt}
 use Rattle.std.specs.Option.{option_map, option_or}
 use Rattle.std.proofs.lemmas.Bool.{true≢false, false≢true, ltb-true, ltb-false, lt-ltb, le-ltb, eq-eqb}
-use Rattle.std.proofs.lemmas.List.{length-map}
 use Rattle.store_types.specs.declared.names.Digest32.{Digest32}
 use Rattle.store_types.specs.declared.refusal.Refusal.TheVariants.{Damaged, Unreadable}
 use Rattle.wire_commands.specs.declared.rows.FileRow.{FileRow}
@@ -12,12 +11,13 @@ use Rattle.wire_commands.specs.declared.rows.FileFault.TheVariants as faults
 use Rattle.wire_commands.specs.declared.reply.Reply.{Reply}
 use Rattle.wire_commands.specs.declared.reply.Reply.TheVariants.{Part, Data, Refused}
 use Rattle.store_model.specs.declared.step.Step.TheVariants.{ReadChunk}
+use Rattle.store_model.specs.declared.piece.Piece.{Piece}
+use Rattle.store_model.specs.SizeLimits.{size_limit}
 use Rattle.store_model.specs.Job.{Visit, asking, reading, closing, next, ended_by}
 use Rattle.store_model.specs.Jobs.{take, take_more}
-use Rattle.store_model.specs.VerifyJob.{Judged, file_done, next_chunk, with_fault, judged, file_read, part_read, read_part, checked}
-use Rattle.store_model.proofs.VerifyLemmas.{part_more, part_whole}
+use Rattle.store_model.specs.VerifyJob.{Judged, file_done, next_chunk, with_fault, judged, file_read, too_long, part_read, read_part, checked}
+use Rattle.store_model.proofs.VerifyLemmas.{part_more, part_too_long, part_whole}
 use Rattle.job_steps.specs.declared.chunks.Chunks.{Chunks}
-use Rattle.job_steps.specs.declared.chunks.Entry.{Entry}
 use Rattle.job_steps.specs.declared.stages.Checking.{Checking}
 use Rattle.job_steps.specs.declared.stages.Reading.{Reading}
 use Rattle.job_steps.specs.declared.stages.Whole.{Whole}
@@ -26,7 +26,7 @@ use Rattle.job_steps.specs.Checks.{checked_by, fault_of, fault_told, found_by, j
 use Rattle.job_steps.specs.FaultRows.{IsFitFault}
 use Rattle.job_steps.specs.Replies.{EndsInText}
 use Rattle.job_steps.specs.States.{chunks_of}
-use Rattle.job_steps.specs.Visits.{HasNext, IsRead, IsSettled, digests_left, digests_of, fault_in, judged_by, next_digest, place_in, shown_visit}
+use Rattle.job_steps.specs.Visits.{HasNext, IsRead, IsSettled, fault_in, judged_by, long_fault, next_piece, pieces_left, place_in, shown_visit}
 use Rattle.job_steps.proofs.BatchLemmas.{fault_settled, left_is, none_left}
 
 -- the files to come are as they were
@@ -46,6 +46,22 @@ module _ (v : Visit) (row : FileRow) (bytes : List ℕ) (total : ℕ) where
   pub judged_whole : total ≤ length bytes → judged_by v row bytes total ≡ Some (judged v.snapshot row bytes)
   judged_whole within = rw (le-ltb (length bytes) total within, judged_by) refl
 
+-- of a file that is not too long, or is
+pub not_long : (row : FileRow) (total : ℕ) → None ≡ long_fault row total → total ≤ size_limit row.file
+not_long row total is = by_test (nat_lt (size_limit row.file) total) refl is
+  where
+    by_test : (b : Bool) → nat_lt (size_limit row.file) total ≡ b → None ≡ (if b then Some (too_long row total) else None) → total ≤ size_limit row.file
+    by_test true h none = let clash : None ≡ Some (too_long row total) = none in absurd cc
+    by_test false h none = ltb-false (size_limit row.file) total h
+
+pub long_done : (v : Visit) (row : FileRow) (bytes : List ℕ) (total : ℕ) (fault : FileFault) → Some fault ≡ long_fault row total
+    → file_done v row (Some fault) ≡ part_read v row bytes total
+long_done v row bytes total fault is = by_test (nat_lt (size_limit row.file) total) refl is
+  where
+    by_test : (b : Bool) → nat_lt (size_limit row.file) total ≡ b → Some fault ≡ (if b then Some (too_long row total) else None) → file_done v row (Some fault) ≡ part_read v row bytes total
+    by_test true h some = ap (file_done v row) some ∙ part_too_long v row bytes total (ltb-true (size_limit row.file) total h)
+    by_test false h some = let clash : Some fault ≡ None = some in absurd cc
+
 -- a part is behind the bytes of the same file
 module _ (r after : Reading) (visit : after.visit ≡ r.visit) (row : after.row ≡ r.row) where
   pub same_reading : after.bytes.items ≡ r.bytes.items → reading_of after ≡ reading_of r
@@ -53,7 +69,7 @@ module _ (r after : Reading) (visit : after.visit ≡ r.visit) (row : after.row 
       ap (λ (x : stages.Visit). asking (reading (shown_visit x) after.row after.bytes.items)) visit
       ∙ ap (λ x. asking (reading (shown_visit r.visit) x after.bytes.items)) row ∙ ap (λ x. asking (reading (shown_visit r.visit) r.row x)) bytes
 
-  module _ (more : List ℕ) (total : ℕ) (bytes : after.bytes.items ≡ r.bytes.items ++ more) where
+  module _ (more : List ℕ) (total : ℕ) (fits : total ≤ size_limit r.row.file) (bytes : after.bytes.items ≡ r.bytes.items ++ more) where
     goes_on : asking (reading (shown_visit r.visit) r.row (r.bytes.items ++ more)) ≡ reading_of after
     goes_on =
         sym
@@ -69,7 +85,7 @@ module _ (r after : Reading) (visit : after.visit ≡ r.visit) (row : after.row 
         → read_on after whole ≡ part_read (shown_visit r.visit) r.row (r.bytes.items ++ more) total
     by_test None told true h =
         let short : length (r.bytes.items ++ more) < total = ltb-true (length (r.bytes.items ++ more)) total h in
-        sym goes_on ∙ part_more (shown_visit r.visit) r.row (r.bytes.items ++ more) total short
+        sym goes_on ∙ part_more (shown_visit r.visit) r.row (r.bytes.items ++ more) total fits short
     by_test None told false h =
         let within : total ≤ length (r.bytes.items ++ more) = ltb-false (length (r.bytes.items ++ more)) total h in
         let is = told ∙ judged_whole (shown_visit r.visit) r.row (r.bytes.items ++ more) total within in
@@ -82,7 +98,7 @@ module _ (r after : Reading) (visit : after.visit ≡ r.visit) (row : after.row 
         let within : total ≤ length (r.bytes.items ++ more) = ltb-false (length (r.bytes.items ++ more)) total h in
         let is = told ∙ judged_whole (shown_visit r.visit) r.row (r.bytes.items ++ more) total within in
         let same : shown_whole w ≡ judged (shown_visit r.visit).snapshot r.row (r.bytes.items ++ more) = inner is in
-        sym (ends_so (shown_whole w)) ∙ ap (file_read (shown_visit r.visit) r.row) same ∙ part_whole (shown_visit r.visit) r.row (r.bytes.items ++ more) total within
+        sym (ends_so (shown_whole w)) ∙ ap (file_read (shown_visit r.visit) r.row) same ∙ part_whole (shown_visit r.visit) r.row (r.bytes.items ++ more) total fits within
 
     pub part_taken : (whole : Option Whole) → option_map shown_whole whole ≡ judged_by (shown_visit r.visit) r.row (r.bytes.items ++ more) total
         → read_on after whole ≡ part_read (shown_visit r.visit) r.row (r.bytes.items ++ more) total
@@ -91,14 +107,13 @@ module _ (r after : Reading) (visit : after.visit ≡ r.visit) (row : after.row 
 -- the file is whole, and its chunks come next
 pub chunks_first : (v after : Visit) (row : FileRow) (w : Whole)
     → after ≡ (let y : Visit = record v { entries = v.entries + length (w.chunks.entries.items); bytes = v.bytes + w.bytes } in y)
-    → next_chunk after row (fault_in w.fault w.chunks) (place_in w.chunks) (digests_left w.chunks) ≡ file_read v row (shown_whole w)
+    → next_chunk after row (fault_in w.fault w.chunks) (place_in w.chunks) (pieces_left w.chunks) ≡ file_read v row (shown_whole w)
 unfolding file_read
 chunks_first v after row w is =
     let at : place_in w.chunks ≡ 0 = omega (arith, w.unread.0, ap length w.unread.1.1) in
-    let counted = ap (λ n. (let y : Visit = record v { entries = v.entries + n; bytes = v.bytes + w.bytes } in y)) (sym (length-map w.chunks.entries.items (λ (e : Entry). e.digest))) in
-    ap (λ f. next_chunk after row f (place_in w.chunks) (digests_left w.chunks)) (fault_settled w.fault w.chunks w.unread.1)
-    ∙ ap (λ n. next_chunk after row w.fault n (digests_of (drop n w.chunks.entries.items))) at
-    ∙ ap (λ (x : Visit). next_chunk x row w.fault 0 (digests_of w.chunks.entries.items)) (is ∙ counted)
+    ap (λ f. next_chunk after row f (place_in w.chunks) (pieces_left w.chunks)) (fault_settled w.fault w.chunks w.unread.1)
+    ∙ ap (λ n. next_chunk after row w.fault n (drop n w.chunks.entries.items)) at
+    ∙ ap (λ (x : Visit). next_chunk x row w.fault 0 w.chunks.entries.items) is
 
 -- a fault ends the file
 module _ (r : Reading) (reply : Reply) where
@@ -119,14 +134,14 @@ read_is r reply = refl
 
 -- ---- a chunk
 
-taken : (v : Visit) (row : FileRow) (fault : Option FileFault) (place : ℕ) (d : Digest32) (left later : List Digest32) (reply : Reply) → left ≡ d ∷ later
-    → checked v row fault place d later reply ≡ take_more (next_chunk v row fault place left) reply
+taken : (v : Visit) (row : FileRow) (fault : Option FileFault) (place : ℕ) (p : Piece) (left later : List Piece) (reply : Reply) → left ≡ p ∷ later
+    → checked v row fault place p later reply ≡ take_more (next_chunk v row fault place left) reply
 unfolding take next_chunk
-taken v row fault place d left later reply is = sym (ap (λ xs. take_more (next_chunk v row fault place xs) reply) is)
+taken v row fault place p left later reply is = sym (ap (λ xs. take_more (next_chunk v row fault place xs) reply) is)
 
 module _ (c : Checking) where
   by_reply : (reply : Reply)
-      → checked_by c reply ≡ checked (shown_visit c.visit) c.row (fault_of c) (place_in c.chunks) (next_digest c.chunks) (drop 1 (digests_left c.chunks)) reply
+      → checked_by c reply ≡ checked (shown_visit c.visit) c.row (fault_of c) (place_in c.chunks) (next_piece c.chunks) (drop 1 (pieces_left c.chunks)) reply
   unfolding checked
   by_reply (Data bytes) = refl
   by_reply (Refused (Damaged asked found)) = refl
@@ -138,11 +153,11 @@ module _ (c : Checking) where
   pub checked_is : (reply : Reply) → checked_by c reply ≡ take_more (job_of c) reply
   checked_is reply =
       by_reply reply
-      ∙ taken (shown_visit c.visit) c.row (fault_of c) (place_in c.chunks) (next_digest c.chunks) (digests_left c.chunks) (drop 1 (digests_left c.chunks)) reply (left_is c.chunks c.next)
+      ∙ taken (shown_visit c.visit) c.row (fault_of c) (place_in c.chunks) (next_piece c.chunks) (pieces_left c.chunks) (drop 1 (pieces_left c.chunks)) reply (left_is c.chunks c.next)
 
   -- the next chunk is read, with this fault of it
-  pub found_so : (fault : Option FileFault) (place : ℕ) (left : List Digest32) (found : Option FileFault)
-      → fault ≡ option_or (fault_of c) found → place ≡ place_in c.chunks + 1 → left ≡ drop 1 (digests_left c.chunks)
+  pub found_so : (fault : Option FileFault) (place : ℕ) (left : List Piece) (found : Option FileFault)
+      → fault ≡ option_or (fault_of c) found → place ≡ place_in c.chunks + 1 → left ≡ drop 1 (pieces_left c.chunks)
       → next_chunk (shown_visit c.visit) c.row fault place left ≡ found_by c found
   found_so fault place left found told at later =
       ap (λ f. next_chunk (shown_visit c.visit) c.row f place left) told
@@ -166,7 +181,7 @@ pub chunks_done : (v : stages.Visit) (row : FileRow) (fault : Option FileFault) 
 unfolding next_chunk
 chunks_done v row fault chunks read settled =
     sym
-    (ap (λ f. next_chunk (shown_visit v) row f (place_in chunks) (digests_left chunks)) (fault_settled fault chunks settled)
+    (ap (λ f. next_chunk (shown_visit v) row f (place_in chunks) (pieces_left chunks)) (fault_settled fault chunks settled)
     ∙ ap (next_chunk (shown_visit v) row fault (place_in chunks)) (none_left chunks read))
 
 -- a job that reads chunks has a text

@@ -2,7 +2,7 @@
 use Rattle.std.specs.Prelude.{◌≡◌, ◌⊎◌, ◌+◌, ◌≤◌, ◌<◌, ℕ, length, Option, is_some, MatchBool}
 use Rattle.wire_commands.specs.declared.rows.FileFault.{FileFault}
 use Rattle.job_steps.specs.declared.chunks.Chunks.{Chunks}
-use Rattle.job_steps.specs.Visits.{HasNext, IsRead, IsSettled, next_length}
+use Rattle.job_steps.specs.Visits.{HasNext, IsRead, IsSettled, next_piece}
 
 -- how many chunks of the batch were read, and what they have together by the index
 abbrev pub batch_count : Chunks → ℕ
@@ -26,7 +26,7 @@ pub record BatchHas (old new : Chunks) (count bytes : ℕ) : Type 0 where
 -- a chunk that was read joins the batch, unless the file has a fault already
 abbrev pub PutsOne : Option FileFault → Chunks → Chunks → Type 0
 PutsOne fault old new =
-    MatchBool (is_some fault) (BatchHas old new 0 0) (BatchHas old new 1 (next_length old))
+    MatchBool (is_some fault) (BatchHas old new 0 0) (BatchHas old new 1 (next_piece old).length)
 
 -- all that was read is tested, and a batch begins
 pub record BeginsBatch (c : Chunks) : Type 0 where

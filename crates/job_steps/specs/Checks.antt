@@ -15,8 +15,7 @@ use Rattle.job_steps.specs.declared.stages.Checking.{Checking}
 use Rattle.job_steps.specs.declared.stages.Reading.{Reading}
 use Rattle.job_steps.specs.declared.stages.Whole.{Whole}
 use Rattle.job_steps.specs.States.{chunks_of}
-use Rattle.job_steps.specs.Lengths.{HaveTheirs}
-use Rattle.job_steps.specs.Visits.{digests_left, digests_of, fault_in, next_digest, place_in, shown_visit}
+use Rattle.job_steps.specs.Visits.{fault_in, next_piece, pieces_left, place_in, shown_visit}
 
 abbrev pub IsPart : Reply → Type 0
 IsPart (Part total bytes) = Unit {0}
@@ -34,14 +33,10 @@ stops (asking j) = false
 -- ---- a file
 
 abbrev pub shown_whole : Whole → verify.Judged
-shown_whole w = record { fault = w.fault; bytes = w.bytes; digests = digests_of w.chunks.entries.items }
+shown_whole w = record { fault = w.fault; bytes = w.bytes; entries = w.chunks.entries.items }
 
 abbrev pub GivesWhole : {E : Type 0} → Result Whole E → verify.Judged → Type 0
 GivesWhole result judged = IfOk result (λ given. shown_whole given ≡ judged)
-
--- its chunks are of the lengths that its index has
-abbrev pub GivesTheirs : {E : Type 0} → Result Whole E → Reading → Type 0
-GivesTheirs result r = IfOk result (λ w. HaveTheirs r.row.file r.bytes.items w.chunks.entries.items)
 
 -- what its bytes say, where they are all of the file
 abbrev pub judged_of : Reading → verify.Judged
@@ -71,8 +66,12 @@ abbrev pub unread_by : Reading → Reply → Job
 unread_by r reply =
     elim (fault_told reply) [ Some fault ↦ verify.file_done (shown_visit r.visit) r.row (Some fault) | None ↦ ended_by closing reply ]
 
+-- a part was read, of a file of this size
+abbrev pub part_by : Reading → List ℕ → ℕ → Job
+part_by r more total = verify.part_read (shown_visit r.visit) r.row (r.bytes.items ++ more) total
+
 abbrev pub read_by : Reading → Reply → Job
-read_by r (Part total more) = verify.part_read (shown_visit r.visit) r.row (r.bytes.items ++ more) total
+read_by r (Part total more) = part_by r more total
 read_by r reply = unread_by r reply
 
 -- ---- a chunk
@@ -88,13 +87,13 @@ fault_of c = fault_in c.fault c.chunks
 -- the next chunk is read, with this fault of it
 abbrev pub found_by : Checking → Option FileFault → Job
 found_by c found =
-    verify.next_chunk (shown_visit c.visit) c.row (option_or (fault_of c) found) (place_in c.chunks + 1) (drop 1 (digests_left c.chunks))
+    verify.next_chunk (shown_visit c.visit) c.row (option_or (fault_of c) found) (place_in c.chunks + 1) (drop 1 (pieces_left c.chunks))
 
 abbrev pub held_by : Checking → List ℕ → Job
-held_by c blob = found_by c (verify.chunk_fault (next_digest c.chunks) blob)
+held_by c blob = found_by c (verify.chunk_fault (next_piece c.chunks) blob)
 
 abbrev pub damaged_by : Checking → Job
-damaged_by c = found_by c (Some (faults.Damaged (next_digest c.chunks)))
+damaged_by c = found_by c (Some (faults.Damaged (next_piece c.chunks).digest))
 
 abbrev pub unreadable_by : Checking → Job
 unreadable_by c = verify.file_done (shown_visit c.visit) c.row (option_or (fault_of c) (Some faults.Unreadable))

@@ -7,4 +7,3 @@ pub mod Rows
 pub mod States
 pub mod Visits
 pub mod Waits
-pub mod Lengths

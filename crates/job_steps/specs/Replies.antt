@@ -24,7 +24,7 @@ EndsInText (asking (forgetting before snapshot later)) =
 EndsInText (asking (opening snapshot)) = ⊤
 EndsInText (asking (listing snapshot)) = ⊤
 EndsInText (asking (reading v row bytes)) = ⊤
-EndsInText (asking (checking v row fault place digest later)) = ⊤
+EndsInText (asking (checking v row fault place piece later)) = ⊤
 EndsInText (asking (closing report)) = ReplyHasText report
 -- there are no other jobs here
 EndsInText _ = ⊥

@@ -11,11 +11,11 @@ use Rattle.job_steps.specs.declared.prune.Forgetting as prune
 use Rattle.job_steps.specs.declared.job.State.TheVariants.{Over, Grouping, Forgetting, Opening, Listing, Reading, Checking, Closing}
 use Rattle.job_steps.specs.declared.visit.Visit.{Visit}
 use Rattle.job_steps.specs.Rows.{asked_at}
-use Rattle.job_steps.specs.Visits.{digests_left, fault_in, place_in, shown_visit}
+use Rattle.job_steps.specs.Visits.{fault_in, pieces_left, place_in, shown_visit}
 
 -- a VERIFY that reads the chunks of an index, of which those that were read count as tested; behind the last the file is done
 abbrev pub chunks_of : Visit → FileRow → Option FileFault → Chunks → Job
-chunks_of v row fault c = verify.next_chunk (shown_visit v) row (fault_in fault c) (place_in c) (digests_left c)
+chunks_of v row fault c = verify.next_chunk (shown_visit v) row (fault_in fault c) (place_in c) (pieces_left c)
 
 -- a PRUNE that is to forget the snapshot of a row
 abbrev pub forgetting_of : prune.Forgetting → Job

@@ -1,20 +1,20 @@
 -- A VERIFY's state.
-use Rattle.std.specs.Prelude.{◌≡◌, ℕ, ◌+◌, ◌*◌, ◌^◌, ◌<◌, ◌≤◌, true, List, [], drop, length, map, nat_lt, Option, Some, None, is_some, Result, Vec, IfOk, if◌then◌else◌, slice_index_or}
+use Rattle.std.specs.Prelude.{◌≡◌, ℕ, ◌+◌, ◌*◌, ◌^◌, ◌<◌, ◌≤◌, Bool, true, ◌==◌, List, [], drop, length, nat_lt, Option, Some, None, is_some, Result, Vec, IfOk, if◌then◌else◌, slice_index_or}
 use Rattle.std.specs.declared.alloc.Global.{Global}
 use Rattle.std.specs.Option.{option_or}
 use Rattle.sha2.specs.Sha256.{sha256}
-use Rattle.store_types.specs.declared.names.Digest32.{Digest32}
 use Rattle.store_files.specs.FixedIndex.{FixedIndex}
 use Rattle.store_files.specs.DynamicIndex.{DynamicIndex}
 use Rattle.wire_commands.specs.declared.rows.FileFault.{FileFault}
 use Rattle.wire_commands.specs.declared.rows.FileRow.{FileRow}
 use Rattle.wire_commands.specs.declared.reply.Reply.{Reply}
 use Rattle.wire_commands.specs.declared.reply.Reply.TheVariants.{Part}
+use Rattle.store_model.specs.declared.piece.Piece.{Piece}
 use Rattle.store_model.specs.declared.step.Step.{Step}
 use Rattle.store_model.specs.declared.step.Step.TheVariants.{ReadFile}
+use Rattle.store_model.specs.SizeLimits.{size_limit}
 use Rattle.store_model.specs.Job as model
 use Rattle.store_model.specs.VerifyJob as verify
-use Rattle.job_steps.specs.declared.chunks.Entry.{Entry}
 use Rattle.job_steps.specs.declared.chunks.Chunks.{Chunks}
 use Rattle.job_steps.specs.declared.chunks.Judged.{Judged}
 use Rattle.job_steps.specs.declared.visit.Visit.{Visit}
@@ -33,22 +33,16 @@ shown_visit v = record {
 
 -- ---- the chunks of an index
 
-abbrev pub digests_of : List Entry → List Digest32
-digests_of entries = map (λ e. e.digest) entries
-
-abbrev pub GivesDigests : {E : Type 0} → List Digest32 → Result (Vec Entry Global) E → Type 0
-GivesDigests digests result = IfOk result (λ entries. digests_of entries.items ≡ digests)
-
-abbrev pub lengths_of : List Entry → List ℕ
-lengths_of entries = map (λ e. e.length) entries
+abbrev pub GivesPieces : {E : Type 0} → List Piece → Result (Vec Piece Global) E → Type 0
+GivesPieces pieces result = IfOk result (λ entries. entries.items ≡ pieces)
 
 -- how many of its chunks were read: those that are tested or at a thread, and those that wait
 abbrev pub place_in : Chunks → ℕ
 place_in c = c.tested + length c.waiting.chunks.items
 
--- the digests of those to be read
-abbrev pub digests_left : Chunks → List Digest32
-digests_left c = digests_of (drop (place_in c) c.entries.items)
+-- those to be read
+abbrev pub pieces_left : Chunks → List Piece
+pieces_left c = drop (place_in c) c.entries.items
 
 -- the first fault of a file whose fault so far is this, with the chunks that were read: what they hold counts, tested or not
 abbrev pub fault_in : Option FileFault → Chunks → Option FileFault
@@ -58,15 +52,16 @@ fault_in fault c = fault_with (option_or fault (parts_fault c.handed.parts.items
 abbrev pub IsRead : Chunks → Type 0
 IsRead c = length c.entries.items ≤ place_in c
 
--- there is a chunk to be read, and its digest
+-- there is a chunk to be read, and its piece
 abbrev pub HasNext : Chunks → Type 0
 HasNext c = place_in c < length c.entries.items
 
-abbrev pub next_digest : Chunks → Digest32
-next_digest c = slice_index_or (digests_left c) 0 (verify.digest [])
+abbrev pub next_piece : Chunks → Piece
+next_piece c = slice_index_or (pieces_left c) 0 (record { digest = verify.digest []; length = 0 })
 
-abbrev pub next_length : Chunks → ℕ
-next_length c = slice_index_or (lengths_of (drop (place_in c) c.entries.items)) 0 0
+-- a blob is as long as that of this piece
+abbrev pub is_as_long : Piece → List ℕ → Bool
+is_as_long p blob = length blob == p.length + 12
 
 -- ---- what a call leaves
 
@@ -84,8 +79,13 @@ FindsFault c found = (fault : Option FileFault) → option_or fault found ≡ fa
 
 -- one more was read
 pub record ReadsOne (old new : Chunks) : Type 0 where
+  pub entries : new.entries.items ≡ old.entries.items
   pub place : place_in new ≡ place_in old + 1
-  pub left : digests_left new ≡ drop 1 (digests_left old)
+
+-- it waits: whatever the fault of the file so far, this comes before what is wrong with the chunk
+abbrev pub HoldsOne : Chunks → Chunks → List ℕ → Type 0
+HoldsOne old new blob =
+    (fault : Option FileFault) → fault_in fault new ≡ option_or (fault_in fault old) (verify.chunk_fault (next_piece old) blob)
 
 -- as many were read
 pub record StaysAt (old new : Chunks) : Type 0 where
@@ -120,7 +120,7 @@ IsUncounted v = (v.entries ≤ v.files * 2 ^ 20) × (v.bytes ≤ v.files * 2 ^ 4
 -- ---- a whole file
 
 abbrev pub shown_judged : Judged → verify.Judged
-shown_judged j = record { fault = j.fault; bytes = j.bytes; digests = digests_of j.entries.items }
+shown_judged j = record { fault = j.fault; bytes = j.bytes; entries = j.entries.items }
 
 abbrev pub GivesJudged : {E : Type 0} → Result Judged E → verify.Judged → Type 0
 GivesJudged result judged = IfOk result (λ given. shown_judged given ≡ judged)
@@ -132,12 +132,12 @@ pub record HasPieces (x : FixedIndex) : Type 0 where
   pub size : x.size ≤ length x.digests * x.chunk_size
   pub reach : length x.digests * x.chunk_size < x.size + x.chunk_size
 
--- the digests of an index
-abbrev pub fixed_digests_of : FixedIndex → List Digest32
-fixed_digests_of x = map verify.digest x.digests
+-- the pieces of an index
+abbrev pub fixed_pieces_of : FixedIndex → List Piece
+fixed_pieces_of x = verify.fixed_pieces x.size x.chunk_size 0 x.digests
 
-abbrev pub dynamic_digests_of : DynamicIndex → List Digest32
-dynamic_digests_of x = map (λ e. verify.digest e.digest) x.entries
+abbrev pub dynamic_pieces_of : DynamicIndex → List Piece
+dynamic_pieces_of x = verify.dynamic_pieces 0 x.entries
 
 -- the fault of a blob of this name: that it differs from what is listed comes first
 abbrev pub blob_fault_of : List ℕ → List ℕ → FileRow → List ℕ → Option FileFault
@@ -145,6 +145,10 @@ blob_fault_of snapshot name row bytes = option_or (verify.compared row (length b
 
 abbrev pub GivesFault : {E : Type 0} → Result (Option FileFault) E → Option FileFault → Type 0
 GivesFault result fault = IfOk result (λ given. given ≡ fault)
+
+-- the fault of a file that is longer than one of its kind may be
+abbrev pub long_fault : FileRow → ℕ → Option FileFault
+long_fault row total = if nat_lt (size_limit row.file) total then Some (verify.too_long row total) else None
 
 -- a part of a file was read: the one reply that is taken only where there is memory
 abbrev pub IsPartRead : Option Step → Reply → Type 0

@@ -1,19 +1,21 @@
 //! The chunks of an index that a VERIFY reads, which are tested in batches, and of a batch in parts, by threads of their own.
 
-ghost use Rattle.std.specs.Prelude.{◌≡◌, ◌<◌, ◌≤◌, [], vec_len, IfOk, MatchBool, Option};
+ghost use Rattle.std.specs.Prelude.{◌≡◌, ◌<◌, ◌≤◌, [], vec_len, IfOk, IsTrue, MatchBool};
 ghost use Rattle.std.specs.Bool.{OnFalse};
 ghost use Rattle.std.specs.Option.{option_or};
 ghost use Rattle.job_steps.specs.FaultRows.{IsFitFault};
 ghost use Rattle.store_model.specs.VerifyJob.{chunk_fault};
 ghost use Rattle.job_steps.specs.Batches.{BatchHas, BeginsBatch, GoesOn, IsBatch, PutsOne, SettlesBatch};
-ghost use Rattle.job_steps.specs.Visits.{EndsTested, FindsFault, HasNext, IsRead, IsUnread, KeepsFault, ReadsOne, SameFault, StaysAt, TestsAll, WaitsFor, fault_in, next_digest, next_length, place_in};
+ghost use Rattle.job_steps.specs.Visits.{EndsTested, FindsFault, HasNext, HoldsOne, IsRead, IsUnread, KeepsFault, ReadsOne, SameFault, StaysAt, TestsAll, WaitsFor, fault_in, is_as_long as as_long, next_piece, place_in};
 
-use crate::chunks::{Chunks, Entry};
+use crate::chunks::Chunks;
 use crate::handed::Handed;
 use crate::part::{Part, Waiting};
 use crate::testing::{PART_LIMIT, first_of};
+use blob_codec::HEADER_SIZE;
 use std::alloc::{AllocError, Global};
 use std::thread::Threads;
+use store_model::Piece;
 use store_types::Bytes;
 use wire_commands::FileFault;
 
@@ -28,7 +30,7 @@ const PART_BYTES: u64 = 2 * 1024 * 1024;
 
 impl Chunks {
     /// The chunks of an index with these entries, of which none was read, with room for a batch.
-    pub fn new(alloc: Global, entries: Vec<Entry>) -> Result<Chunks, AllocError>
+    pub fn new(alloc: Global, entries: Vec<Piece>) -> Result<Chunks, AllocError>
         requires { vec_len entries ≤ 1_048_576 }
         ensures entries { IfOk result (λ c. c.entries.items ≡ entries.items) }
         ensures unread { IfOk result IsUnread }
@@ -61,13 +63,20 @@ impl Chunks {
         self.place() >= self.entries.len()
     }
 
-    /// The entry whose chunk is read next.
-    pub fn next(&self) -> Entry
+    /// The piece whose chunk is read next.
+    pub fn next(&self) -> Piece
         requires { HasNext self.now }
-        ensures digest { result.digest ≡ next_digest self.now }
-        ensures length { result.length ≡ next_length self.now }
+        ensures { result ≡ next_piece self.now }
     {
         self.entries[self.place()]
+    }
+
+    /// The next chunk is as long as its index says.
+    pub fn is_as_long(&self, blob: &Bytes) -> bool
+        requires { HasNext self.now }
+        ensures { result ≡ as_long (next_piece self.now) blob.now }
+    {
+        blob.as_slice().len() == self.next().length as usize + HEADER_SIZE
     }
 
     /// The next chunk was read, and is not to be tested. None waits before it.
@@ -87,29 +96,30 @@ impl Chunks {
     fn hold(&mut self, blob: Bytes)
         requires few { vec_len self.old.waiting.chunks < 128 }
         requires next { HasNext self.old }
+        requires sized { IsTrue (as_long (next_piece self.old) blob) }
         ensures reads { ReadsOne self.old self.new }
-        ensures fault { (fault : Option FileFault) →
-            fault_in fault self.new ≡ option_or (fault_in fault self.old) (chunk_fault (next_digest self.old) blob) }
-        ensures batch { BatchHas self.old self.new 1 (next_length self.old) }
+        ensures fault { HoldsOne self.old self.new blob }
+        ensures batch { BatchHas self.old self.new 1 (next_piece self.old).length }
     {
-        let Entry { digest, length } = self.next();
-        self.bytes += u64::from(length);
+        let piece = self.next();
+        self.bytes += u64::from(piece.length);
         self.waiting.chunks.push_reserved(Waiting {
-            digest,
+            piece,
             blob,
             is_whole: false,
         });
     }
 
-    /// The next chunk was read, and these are its bytes. It waits for its part: where the file has a fault already it is
-    /// not tested. It takes no memory.
+    /// The next chunk was read, and these are its bytes, as many as its index says. It waits for its part: where the file has
+    /// a fault already it is not tested. It takes no memory.
     pub fn put(&mut self, fault: &Option<FileFault>, blob: Bytes)
         requires waits { WaitsFor fault.now self.old }
         requires few { vec_len self.old.waiting.chunks < 128 }
         requires next { HasNext self.old }
+        requires sized { IsTrue (as_long (next_piece self.old) blob) }
         ensures reads { ReadsOne self.old self.new }
         ensures fault { fault_in fault.now self.new
-            ≡ option_or (fault_in fault.now self.old) (chunk_fault (next_digest self.old) blob) }
+            ≡ option_or (fault_in fault.now self.old) (chunk_fault (next_piece self.old) blob) }
         ensures waits { WaitsFor fault.now self.new }
         ensures batch { PutsOne fault.now self.old self.new }
     {

@@ -5,21 +5,13 @@ ghost use Rattle.job_steps.specs.FaultRows.{IsFitFault};
 
 use crate::handed::Handed;
 use crate::part::Part;
-use store_types::Digest32;
+use store_model::Piece;
 use wire_commands::FileFault;
 
-/// An entry of an index.
-#[derive(Clone, Copy)]
-pub struct Entry {
-    pub digest: Digest32,
-    /// In bytes.
-    pub length: u32,
-}
-
-/// The entries of an index, how many of their chunks are tested or at a thread, and those behind them that wait.
+/// The pieces that an index names, how many of their chunks are tested or at a thread, and those behind them that wait.
 #[derive(Drop)]
 pub struct Chunks {
-    pub entries: Vec<Entry>,
+    pub entries: Vec<Piece>,
     pub tested: usize,
     pub handed: Handed,
     /// How many chunks of the batch are at a thread, and what they have together, by the index.
@@ -40,7 +32,7 @@ pub struct Chunks {
 pub struct Judged {
     pub fault: Option<FileFault>,
     pub bytes: u64,
-    pub entries: Vec<Entry>,
+    pub entries: Vec<Piece>,
     ghost count: { vec_len entries ≤ 1_048_576 },
     ghost size: { bytes ≤ 2 ^ 44 },
     ghost fits: { IsFitFault fault },

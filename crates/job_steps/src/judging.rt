@@ -1,24 +1,23 @@
 //! What whole files say, beside what is listed of them.
 
-ghost use Rattle.std.specs.Prelude.{◌≡◌, [], IfOk};
+ghost use Rattle.std.specs.Prelude.{◌≡◌, IfOk};
 ghost use Rattle.job_steps.specs.FaultRows.{IsFitFault};
 ghost use Rattle.store_model.specs.VerifyJob as model;
-ghost use Rattle.job_steps.specs.Lengths.{GivesLengths, HaveDynamic, HaveFixed, HaveTheirs, dynamic_length, fixed_length};
-ghost use Rattle.job_steps.specs.Visits.{GivesDigests, GivesFault, GivesJudged, HasPieces, blob_fault_of, fixed_digests_of, dynamic_digests_of, shown_judged};
+ghost use Rattle.job_steps.specs.Visits.{GivesFault, GivesJudged, GivesPieces, HasPieces, blob_fault_of, dynamic_pieces_of, fixed_pieces_of, long_fault, shown_judged};
 
-use crate::chunks::{Entry, Judged};
+use crate::chunks::Judged;
 use blob_codec::decode;
 use dynamic_index::DynamicView;
 use fixed_index::FixedView;
 use sha2::{Digest, Sha256};
 use std::alloc::{AllocError, Global};
+use store_model::{Piece, size_limit};
 use store_types::FileName;
 use wire_commands::{FileFault, FileRow};
 
 fn without_entries(alloc: Global, fault: Option<FileFault>) -> Judged
     requires { IsFitFault fault }
-    ensures judged { shown_judged result ≡ model.without_entries fault }
-    ensures none { result.entries.items ≡ [] }
+    ensures { shown_judged result ≡ model.without_entries fault }
 {
     Judged {
         fault,
@@ -39,15 +38,14 @@ fn compared(row: &FileRow, size: u64, csum: &[u8; 32]) -> Option<FileFault>
     }
 }
 
-fn fixed_entries(alloc: Global, view: &FixedView) -> Result<Vec<Entry>, AllocError>
+fn fixed_entries(alloc: Global, view: &FixedView) -> Result<Vec<Piece>, AllocError>
     requires { HasPieces view.now }
-    ensures digests { GivesDigests (fixed_digests_of view.now) result }
-    ensures lengths { GivesLengths (fixed_length view.now) result }
+    ensures { GivesPieces (fixed_pieces_of view.now) result }
 {
     let mut entries = Vec::with_capacity(alloc, view.len() as usize)?;
     for i in 0..view.len() {
         let (start, end) = view.span(i);
-        entries.push_reserved(Entry {
+        entries.push_reserved(Piece {
             digest: view.digest(i),
             length: (end - start) as u32,
         });
@@ -55,14 +53,13 @@ fn fixed_entries(alloc: Global, view: &FixedView) -> Result<Vec<Entry>, AllocErr
     Ok(entries)
 }
 
-fn dynamic_entries(alloc: Global, view: &DynamicView) -> Result<Vec<Entry>, AllocError>
-    ensures digests { GivesDigests (dynamic_digests_of view.now) result }
-    ensures lengths { GivesLengths (dynamic_length view.now) result }
+fn dynamic_entries(alloc: Global, view: &DynamicView) -> Result<Vec<Piece>, AllocError>
+    ensures { GivesPieces (dynamic_pieces_of view.now) result }
 {
     let mut entries = Vec::with_capacity(alloc, view.len() as usize)?;
     for i in 0..view.len() {
         let (start, end) = view.span(i);
-        entries.push_reserved(Entry {
+        entries.push_reserved(Piece {
             digest: view.digest(i),
             length: (end - start) as u32,
         });
@@ -72,8 +69,7 @@ fn dynamic_entries(alloc: Global, view: &DynamicView) -> Result<Vec<Entry>, Allo
 
 #[tactic(auto, unfolding(store_model::specs::VerifyJob::fixed_judged))]
 fn fixed_judged(alloc: Global, row: &FileRow, bytes: &[u8]) -> Result<Judged, AllocError>
-    ensures judged { GivesJudged result (model.fixed_judged row.now bytes.now) }
-    ensures lengths { IfOk result (λ given. HaveFixed bytes.now given.entries.items) }
+    ensures { GivesJudged result (model.fixed_judged row.now bytes.now) }
 {
     let Ok(view) = FixedView::open_on(bytes) else {
         return Ok(without_entries(alloc, Some(FileFault::Unreadable)));
@@ -89,8 +85,7 @@ fn fixed_judged(alloc: Global, row: &FileRow, bytes: &[u8]) -> Result<Judged, Al
 
 #[tactic(auto, unfolding(store_model::specs::VerifyJob::dynamic_judged))]
 fn dynamic_judged(alloc: Global, row: &FileRow, bytes: &[u8]) -> Result<Judged, AllocError>
-    ensures judged { GivesJudged result (model.dynamic_judged row.now bytes.now) }
-    ensures lengths { IfOk result (λ given. HaveDynamic bytes.now given.entries.items) }
+    ensures { GivesJudged result (model.dynamic_judged row.now bytes.now) }
 {
     let Ok(view) = DynamicView::open_on(bytes) else {
         return Ok(without_entries(alloc, Some(FileFault::Unreadable)));
@@ -170,6 +165,22 @@ pub fn file_name(alloc: Global, text: &[u8]) -> Result<FileName, AllocError>
     }
 }
 
+/// The fault of a listed file of so many bytes that is longer than one of its kind may be: it is no index and no blob, and that a
+/// blob has another size than is listed comes first.
+pub fn too_long(alloc: Global, row: &FileRow, total: u64) -> Result<Option<FileFault>, AllocError>
+    ensures fault { GivesFault result (long_fault row.now total) }
+    ensures fits { IfOk result IsFitFault }
+{
+    let name = file_name(alloc, row.file.as_slice())?;
+    if total <= size_limit(&name) {
+        return Ok(None);
+    }
+    if name.is_index() || row.size == total {
+        return Ok(Some(FileFault::Unreadable));
+    }
+    Ok(Some(FileFault::Differs))
+}
+
 /// What a whole file says, of the snapshot with this text.
 pub fn judge(
     alloc: Global,
@@ -177,8 +188,7 @@ pub fn judge(
     row: &FileRow,
     bytes: &[u8],
 ) -> Result<Judged, AllocError>
-    ensures judged { GivesJudged result (model.judged snapshot.now row.now bytes.now) }
-    ensures lengths { IfOk result (λ given. HaveTheirs row.now.file bytes.now given.entries.items) }
+    ensures { GivesJudged result (model.judged snapshot.now row.now bytes.now) }
 {
     let name = file_name(alloc, row.file.as_slice())?;
     if name.is_fixed() {

@@ -17,13 +17,13 @@ use wire_commands::FileFault;
 /// How many chunks a part has at most.
 pub const PART_LIMIT: usize = 128;
 
-/// The chunk is the blob of a piece with its digest, or it is not.
+/// The chunk is the blob of its piece, or it is not.
 fn test_one(waiting: &mut Waiting)
-    ensures digest { waiting.new.digest ≡ waiting.old.digest }
+    ensures piece { waiting.new.piece ≡ waiting.old.piece }
     ensures blob { waiting.new.blob ≡ waiting.old.blob }
     ensures tested { IsTested waiting.new }
 {
-    waiting.is_whole = test(&waiting.digest, waiting.blob.as_slice()).is_ok();
+    waiting.is_whole = test(&waiting.piece.digest, waiting.blob.as_slice()).is_ok();
 }
 
 /// Tests each, by as many threads as there are processors, up to 32. It takes no memory, and the answer is that of one thread.
@@ -36,7 +36,7 @@ fn test_all<R: Threads + Sync>(rt: &R, waiting: &mut [Waiting])
         rt,
         waiting,
         |_, one: &mut Waiting|
-            ensures digest { one.new.digest ≡ one.old.digest }
+            ensures piece { one.new.piece ≡ one.old.piece }
             ensures blob { one.new.blob ≡ one.old.blob }
             ensures tested { IsTested one.new }
         { test_one(one) },
@@ -51,7 +51,7 @@ fn first_fault(waiting: &[Waiting]) -> Option<FileFault>
 {
     for one in waiting {
         if !one.is_whole {
-            return Some(FileFault::Damaged(one.digest));
+            return Some(FileFault::Damaged(one.piece.digest));
         }
     }
     None
@@ -63,8 +63,8 @@ fn first_damaged(waiting: &[Waiting]) -> Option<FileFault>
     ensures fits { IsFitFault result }
 {
     for one in waiting {
-        if test(&one.digest, one.blob.as_slice()).is_err() {
-            return Some(FileFault::Damaged(one.digest));
+        if test(&one.piece.digest, one.blob.as_slice()).is_err() {
+            return Some(FileFault::Damaged(one.piece.digest));
         }
     }
     None

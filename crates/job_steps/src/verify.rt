@@ -1,20 +1,20 @@
 //! VERIFY: each file of a snapshot is read, and each chunk that its indexes name.
 
-ghost use Rattle.std.specs.Prelude.{◌≡◌, ◌+◌, ◌<◌, ◌++◌, length, vec_len, IfErr, IfOk, OnErr, OnOk};
+ghost use Rattle.std.specs.Prelude.{◌≡◌, ◌+◌, ◌<◌, ◌++◌, length, vec_len, IfErr, IfOk, OnErr, OnOk, Some};
 ghost use Rattle.std.specs.Option.{option_map};
 ghost use Rattle.wire_commands.specs.HasText.{FitsFileRow, ReplyHasText};
 ghost use Rattle.store_model.specs.VerifyJob as model;
 ghost use Rattle.job_steps.specs.Replies.{EitherEndsInText, EndsInText};
 ghost use Rattle.job_steps.specs.States.{chunks_of, job_in};
-ghost use Rattle.job_steps.specs.Checks.{CountsFile, GivesStep, GivesTheirs, GivesWhole, IsPart, checked_by, damaged_by, fault_told as told_of, held_by, judged_of, read_by, read_on, reading_of, shown_whole, unheld_by, unread_by, unreadable_by};
+ghost use Rattle.job_steps.specs.Checks.{CountsFile, GivesStep, GivesWhole, IsPart, checked_by, damaged_by, fault_told as told_of, held_by, judged_of, part_by, read_by, read_on, reading_of, shown_whole, unheld_by, unread_by, unreadable_by};
 ghost use Rattle.store_model.specs.Job.{ended_by, closing};
 ghost use Rattle.job_steps.specs.FaultRows.{IsFitFault};
 ghost use Rattle.job_steps.specs.Visits.{EndsTested, IsUncounted, WaitsFor, judged_by, place_in, shown_visit as shown};
 
-use crate::chunks::{Chunks, Entry, Judged};
+use crate::chunks::{Chunks, Judged};
 use crate::ending::ended;
 use crate::job::State;
-use crate::judging::{file_name, judge};
+use crate::judging::{file_name, judge, too_long};
 use crate::stages::{Checking, Reading, Whole};
 use crate::testing::first_of;
 use crate::visit::{Opening, Visit};
@@ -182,8 +182,7 @@ impl Reading {
 
     /// What the bytes say, where they are all of the file.
     fn whole(&self, alloc: Global) -> Result<Whole, AllocError>
-        ensures judged { GivesWhole result (judged_of self.now) }
-        ensures lengths { GivesTheirs result self.now }
+        ensures { GivesWhole result (judged_of self.now) }
     {
         let judged = judge(
             alloc,
@@ -253,6 +252,16 @@ impl Reading {
         next_chunk(alloc, visit, row, fault, chunks)
     }
 
+    /// The state where the file is not read any more, and has this fault. It takes no memory.
+    fn done(self, alloc: Global, fault: FileFault) -> State
+        requires { IsFitFault (Some fault) }
+        ensures job { job_in result ≡ model.file_done (shown self.visit) self.row (Some fault) }
+        ensures text { EndsInText (job_in result) }
+    {
+        let Reading { visit, row, .. } = self;
+        file_done(alloc, visit, row, Some(fault))
+    }
+
     /// The state after any other reply to the read of a part. It takes no memory.
     fn unread(self, alloc: Global, reply: Reply) -> State
         requires { ReplyHasText reply }
@@ -262,22 +271,36 @@ impl Reading {
         let Some(fault) = fault_told(&reply) else {
             return ended(reply);
         };
-        let Reading { visit, row, .. } = self;
-        file_done(alloc, visit, row, Some(fault))
+        self.done(alloc, fault)
+    }
+
+    /// The state after a part of a file of so many bytes. What is too long for its kind is not read on. Where memory is
+    /// wanting, the state before.
+    fn part(mut self, alloc: Global, total: u64, more: &[u8]) -> Result<State, State>
+        ensures ok { IfOk result (λ state. job_in state ≡ part_by self more.now total) }
+        ensures err { IfErr result (λ state. job_in state ≡ reading_of self) }
+        ensures ends { EitherEndsInText result }
+    {
+        match too_long(alloc, &self.row, total) {
+            Ok(None) => {}
+            Ok(Some(fault)) => return Ok(self.done(alloc, fault)),
+            Err(AllocError) => return Err(State::Reading(self)),
+        }
+        match self.append(alloc, total, more) {
+            Ok(whole) => Ok(self.read(alloc, whole)),
+            Err(AllocError) => Err(State::Reading(self)),
+        }
     }
 
     /// The state after the reply to the read of a part. Where memory is wanting for a part, the state before.
-    pub fn take(mut self, alloc: Global, reply: Reply) -> Result<State, State>
+    pub fn take(self, alloc: Global, reply: Reply) -> Result<State, State>
         requires { ReplyHasText reply }
         ensures ok { IfOk result (λ state. job_in state ≡ read_by self reply) }
         ensures err { IfErr result (λ state. (job_in state ≡ reading_of self) × IsPart reply) }
         ensures ends { EitherEndsInText result }
     {
         match reply {
-            Reply::Part { total, bytes } => match self.append(alloc, total, bytes.as_slice()) {
-                Ok(whole) => Ok(self.read(alloc, whole)),
-                Err(AllocError) => Err(State::Reading(self)),
-            },
+            Reply::Part { total, bytes } => self.part(alloc, total, bytes.as_slice()),
             reply => Ok(self.unread(alloc, reply)),
         }
     }
@@ -342,11 +365,15 @@ impl Checking {
         ended(reply)
     }
 
-    /// The next chunk is there, with these bytes. Where its batch has ended it is tested.
+    /// The next chunk is there, with these bytes. One that is not as long as its index says is damaged, and not held. Where
+    /// its batch has ended it is tested.
     fn held<R: Threads + Sync>(self, rt: &R, alloc: Global, blob: Bytes) -> State
         ensures job { job_in result ≡ held_by self blob }
         ensures text { EndsInText (job_in result) }
     {
+        if !self.chunks.is_as_long(&blob) {
+            return self.damaged(rt, alloc);
+        }
         let Checking {
             visit,
             row,
@@ -369,10 +396,10 @@ impl Checking {
             fault,
             mut chunks,
         } = self;
-        let Entry { digest, .. } = chunks.next();
+        let piece = chunks.next();
         let before = first_of(fault, chunks.test(rt));
         chunks.skip();
-        let fault = first_of(before, Some(FileFault::Damaged(digest)));
+        let fault = first_of(before, Some(FileFault::Damaged(piece.digest)));
         next_chunk(alloc, visit, row, fault, chunks)
     }
 

@@ -1,10 +1,9 @@
 -- What a VERIFY makes of the replies to its steps.
-use Rattle.std.proofs.Common.{◌≡◌, ℕ, true, false, List, [], ◌∷◌, length, Option, None, Some, refl, sym, ap, arith}
-use Rattle.std.specs.Prelude.{◌+◌, ◌<◌, ◌&&◌}
+use Rattle.std.proofs.Common.{◌≡◌, ℕ, true, false, List, [], ◌∷◌, length, Option, None, Some, refl, sym, ap, ◌∙◌, arith}
+use Rattle.std.specs.Prelude.{◌+◌, ◌<◌, ◌≤◌, ◌&&◌, Bool, if◌then◌else◌}
 use Rattle.std.specs.Option.{option_or}
 use Rattle.std.specs.Prelude.{nat_lt}
-use Rattle.std.proofs.lemmas.Bool.{lt-ltb, eq-eqb}
-use Rattle.store_types.specs.declared.names.Digest32.{Digest32}
+use Rattle.std.proofs.lemmas.Bool.{lt-ltb, ltb-false, ltb-true, eq-eqb}
 use Rattle.store_types.specs.declared.refusal.Refusal.TheVariants.{Damaged, Unreadable}
 use Rattle.wire_commands.specs.declared.rows.FileRow.{FileRow}
 use Rattle.wire_commands.specs.declared.rows.FileFault.{FileFault}
@@ -12,10 +11,12 @@ use Rattle.wire_commands.specs.declared.rows.FileFault.TheVariants as faults
 use Rattle.wire_commands.specs.declared.reply.Reply.{Reply}
 use Rattle.wire_commands.specs.declared.reply.Reply.TheVariants.{Done, Part, Data, Files, Refused}
 use Rattle.wire_commands.specs.HasText.{FitsFileFault}
+use Rattle.store_model.specs.declared.piece.Piece.{Piece}
+use Rattle.store_model.specs.SizeLimits.{size_limit}
 use Rattle.store_model.specs.Job.{Visit, over, asking, listing, checking, closing, ended_by}
-use Rattle.store_model.specs.VerifyJob.{file_done, next_chunk, with_fault, opened, listed, read_part, chunk_fault, checked}
+use Rattle.store_model.specs.VerifyJob.{file_done, next_chunk, with_fault, opened, listed, read_part, chunk_fault, checked, too_long}
 use Rattle.store_model.specs.FaultRows.{fault_fits}
-use Rattle.plain_lanes.specs.Visits.{is_done, is_files, is_part, is_data, fault_told, chunk_told, unreadable_told, chunk_judged, with_faults, read_by, checked_by}
+use Rattle.plain_lanes.specs.Visits.{is_done, is_files, is_part, is_data, fault_told, long_fault_of, chunk_told, unreadable_told, chunk_judged, with_faults, read_by, checked_by}
 
 -- ---- the report
 
@@ -36,14 +37,36 @@ fault_pushed v row (Some fault) = refl
 
 -- on to the next chunk of a file
 module _ (v : Visit) (row : FileRow) (fault : Option FileFault) (place : ℕ) where
-  pub no_chunk : (digests : List Digest32) → length digests ≡ 0 → file_done v row fault ≡ next_chunk v row fault place digests
+  pub no_chunk : (pieces : List Piece) → length pieces ≡ 0 → file_done v row fault ≡ next_chunk v row fault place pieces
   unfolding next_chunk
   no_chunk [] h = refl
-  no_chunk (d ∷ ds) h = absurd (omega arith)
+  no_chunk (p ∷ ps) h = absurd (omega arith)
 
-  pub a_chunk : (digests rest : List Digest32) (d : Digest32) → digests ≡ d ∷ rest → asking (checking v row fault place d rest) ≡ next_chunk v row fault place digests
+  pub a_chunk : (pieces rest : List Piece) (p : Piece) → pieces ≡ p ∷ rest → asking (checking v row fault place p rest) ≡ next_chunk v row fault place pieces
   unfolding next_chunk
-  a_chunk digests rest d is = sym (ap (next_chunk v row fault place) is)
+  a_chunk pieces rest p is = sym (ap (next_chunk v row fault place) is)
+
+-- ---- a part
+
+-- whether the file is longer than one of its kind may be
+module _ (row : FileRow) (total : ℕ) where
+  long_by : (b : Bool) → nat_lt (size_limit row.file) total ≡ b → (fault : Option FileFault) → long_fault_of row total ≡ fault
+      → (if b then Some (too_long row total) else None) ≡ fault
+  long_by b is fault told = sym (ap (λ x. if x then Some (too_long row total) else None) is) ∙ told
+
+  pub long_some : (f : FileFault) → long_fault_of row total ≡ Some f → (size_limit row.file < total) × (f ≡ too_long row total)
+  long_some f told = by_test (nat_lt (size_limit row.file) total) refl
+    where
+      by_test : (b : Bool) → nat_lt (size_limit row.file) total ≡ b → (size_limit row.file < total) × (f ≡ too_long row total)
+      by_test true is = let same = long_by true is (Some f) told in (ltb-true (size_limit row.file) total is, cc)
+      by_test false is = let same = long_by false is (Some f) told in absurd (cc)
+
+  pub long_none : long_fault_of row total ≡ None → total ≤ size_limit row.file
+  long_none told = by_test (nat_lt (size_limit row.file) total) refl
+    where
+      by_test : (b : Bool) → nat_lt (size_limit row.file) total ≡ b → total ≤ size_limit row.file
+      by_test true is = let same = long_by true is None told in absurd (cc)
+      by_test false is = ltb-false (size_limit row.file) total is
 
 -- ---- the replies
 
@@ -90,16 +113,16 @@ module _ (v : Visit) (row : FileRow) where
     checked_ended (Refused refusal) h = refl
     checked_ended reply h = refl
 
-    module _ (place : ℕ) (d : Digest32) (later : List Digest32) where
-      pub chunk_checked : (reply : Reply) (found : Option FileFault) → chunk_judged reply d ≡ Some found
-          → next_chunk v row (option_or fault found) (place + 1) later ≡ checked v row fault place d later reply
+    module _ (place : ℕ) (p : Piece) (later : List Piece) where
+      pub chunk_checked : (reply : Reply) (found : Option FileFault) → chunk_judged reply p ≡ Some found
+          → next_chunk v row (option_or fault found) (place + 1) later ≡ checked v row fault place p later reply
       unfolding checked
-      chunk_checked (Data bytes) found h = ap (λ x. next_chunk v row (option_or fault x) (place + 1) later) (let is : found ≡ chunk_fault d bytes = cc in is)
-      chunk_checked (Refused (Damaged asked given)) found h = ap (λ x. next_chunk v row (option_or fault x) (place + 1) later) (let is : found ≡ Some (faults.Damaged d) = cc in is)
+      chunk_checked (Data bytes) found h = ap (λ x. next_chunk v row (option_or fault x) (place + 1) later) (let is : found ≡ chunk_fault p bytes = cc in is)
+      chunk_checked (Refused (Damaged asked given)) found h = ap (λ x. next_chunk v row (option_or fault x) (place + 1) later) (let is : found ≡ Some (faults.Damaged p.digest) = cc in is)
       chunk_checked (Refused refusal) found h = cc
       chunk_checked reply found h = cc
 
-      pub not_checked : (reply : Reply) → chunk_judged reply d ≡ None → checked_by v row fault reply ≡ checked v row fault place d later reply
+      pub not_checked : (reply : Reply) → chunk_judged reply p ≡ None → checked_by v row fault reply ≡ checked v row fault place p later reply
       unfolding checked
       not_checked (Data bytes) h = cc
       not_checked (Refused (Damaged asked given)) h = cc
@@ -108,14 +131,14 @@ module _ (v : Visit) (row : FileRow) where
       not_checked reply h = refl
 
 -- the fault of a chunk that a reply tells
-pub fault_judged : (reply : Reply) (d : Digest32) (f : FileFault) → chunk_told reply d ≡ Some f → chunk_judged reply d ≡ Some (Some f)
-fault_judged (Data bytes) d f h = cc
-fault_judged (Refused (Damaged asked given)) d f h = ap (λ o. (let x : Option (Option FileFault) = Some o in x)) h
-fault_judged (Refused refusal) d f h = cc
-fault_judged reply d f h = cc
+pub fault_judged : (reply : Reply) (p : Piece) (f : FileFault) → chunk_told reply p.digest ≡ Some f → chunk_judged reply p ≡ Some (Some f)
+fault_judged (Data bytes) p f h = cc
+fault_judged (Refused (Damaged asked given)) p f h = ap (λ o. (let x : Option (Option FileFault) = Some o in x)) h
+fault_judged (Refused refusal) p f h = cc
+fault_judged reply p f h = cc
 
-pub none_judged : (reply : Reply) (d : Digest32) → is_data reply ≡ false → chunk_told reply d ≡ None → chunk_judged reply d ≡ None
-none_judged (Data bytes) d other h = cc
-none_judged (Refused (Damaged asked given)) d other h = cc
-none_judged (Refused refusal) d other h = refl
-none_judged reply d other h = refl
+pub none_judged : (reply : Reply) (p : Piece) → is_data reply ≡ false → chunk_told reply p.digest ≡ None → chunk_judged reply p ≡ None
+none_judged (Data bytes) p other h = cc
+none_judged (Refused (Damaged asked given)) p other h = cc
+none_judged (Refused refusal) p other h = refl
+none_judged reply p other h = refl

@@ -14,7 +14,7 @@ shown_stage (Forgetting before snapshot later) = model.forgetting before.items s
 shown_stage (Opening snapshot) = model.opening snapshot
 shown_stage (Listing snapshot) = model.listing snapshot
 shown_stage (Reading visit row bytes) = model.reading (shown_visit visit) row bytes.items
-shown_stage (Checking visit row fault place digest later) = model.checking (shown_visit visit) row fault place digest later.items
+shown_stage (Checking visit row fault place piece later) = model.checking (shown_visit visit) row fault place piece later.items
 shown_stage (Closing report) = model.closing report
 shown_stage (Beginning pull) = model.beginning (shown_pull pull)
 shown_stage (Sending pull command later) = model.sending (shown_pull pull) command later.items
@@ -25,7 +25,7 @@ abbrev pub FitsStage : Stage → Type 0
 FitsStage (Forgetting before snapshot later) =
     (length before.items + length later.items < 4096) × All FitsPruneRow before.items × IsText snapshot × All FitsPruneRow later.items
 FitsStage (Reading visit row bytes) = FitsFileRow row
-FitsStage (Checking visit row fault place digest later) = FitsFileRow row × IfSome fault FitsFileFault
+FitsStage (Checking visit row fault place piece later) = FitsFileRow row × IfSome fault FitsFileFault
 FitsStage (Closing report) = ReplyHasText report
 FitsStage (Aborting report) = ReplyHasText report
 FitsStage _ = Unit {0}

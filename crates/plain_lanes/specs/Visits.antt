@@ -1,16 +1,20 @@
 -- What a VERIFY makes of the replies to its steps.
-use Rattle.std.specs.Prelude.{◌≡◌, ℕ, ◌+◌, Bool, true, false, List, [], ◌∷◌, ◌++◌, map, length, Option, Some, None, Result, IfOk, MatchResult}
+use Rattle.std.specs.Prelude.{◌≡◌, ℕ, ◌+◌, ◌*◌, ◌<◌, ◌≤◌, Bool, true, false, List, [], ◌∷◌, ◌++◌, length, nat_lt, if◌then◌else◌, Option, Some, None, Result, IfOk, MatchResult, Vec}
+use Rattle.std.specs.declared.alloc.Global.{Global}
 use Rattle.std.specs.Option.{option_or}
 use Rattle.sha2.specs.Sha256.{sha256}
 use Rattle.store_types.specs.declared.names.Digest32.{Digest32}
 use Rattle.store_types.specs.declared.refusal.Refusal.TheVariants.{Damaged, Unreadable}
-use Rattle.store_files.specs.DynamicIndex.{Ended}
+use Rattle.store_files.specs.FixedIndex.{FixedIndex}
+use Rattle.store_files.specs.DynamicIndex.{DynamicIndex}
 use Rattle.wire_commands.specs.declared.rows.FileRow.{FileRow}
 use Rattle.wire_commands.specs.declared.rows.FileFault.{FileFault}
 use Rattle.wire_commands.specs.declared.rows.FileFault.TheVariants as faults
 use Rattle.wire_commands.specs.declared.rows.FaultRow.{FaultRow}
 use Rattle.wire_commands.specs.declared.reply.Reply.{Reply}
 use Rattle.wire_commands.specs.declared.reply.Reply.TheVariants.{Done, Part, Data, Files, Refused}
+use Rattle.store_model.specs.declared.piece.Piece.{Piece}
+use Rattle.store_model.specs.SizeLimits.{size_limit}
 use Rattle.store_model.specs.Job.{ended_by}
 use Rattle.store_model.specs.Job as model
 use Rattle.store_model.specs.VerifyJob as verify
@@ -28,19 +32,34 @@ shown_visit v = record {
 }
 
 abbrev pub shown_judged : Judged → verify.Judged
-shown_judged j = record { fault = j.fault; bytes = j.bytes; digests = j.digests.items }
+shown_judged j = record { fault = j.fault; bytes = j.bytes; entries = j.entries.items }
 
 -- where memory is not wanting, this is what the file says
 abbrev pub GivesJudged : {E : Type 0} → Result Judged E → verify.Judged → Type 0
 GivesJudged result judged = IfOk result (λ given. shown_judged given ≡ judged)
 
--- the digests of a dynamic index's entries
-abbrev pub digests_of : List Ended → List Digest32
-digests_of entries = map (λ e. verify.digest e.digest) entries
+-- the pieces of an index's entries
+abbrev pub fixed_pieces_of : FixedIndex → List Piece
+fixed_pieces_of x = verify.fixed_pieces x.size x.chunk_size 0 x.digests
+
+abbrev pub dynamic_pieces_of : DynamicIndex → List Piece
+dynamic_pieces_of x = verify.dynamic_pieces 0 x.entries
+
+abbrev pub GivesPieces : {E : Type 0} → Result (Vec Piece Global) E → List Piece → Type 0
+GivesPieces result pieces = IfOk result (λ given. given.items ≡ pieces)
+
+-- no piece of a fixed index is longer than a piece may be, and the last begins within its size
+pub record HasPieces (x : FixedIndex) : Type 0 where
+  pub longest : x.chunk_size ≤ 16_777_216
+  pub reach : length x.digests * x.chunk_size < x.size + x.chunk_size
 
 -- where memory is not wanting, this is the fault
 abbrev pub GivesFault : {E : Type 0} → Result (Option FileFault) E → Option FileFault → Type 0
 GivesFault result fault = IfOk result (λ given. given ≡ fault)
+
+-- the fault of a file that is longer than one of its kind may be
+abbrev pub long_fault_of : FileRow → ℕ → Option FileFault
+long_fault_of row total = if nat_lt (size_limit row.file) total then Some (verify.too_long row total) else None
 
 -- the fault of a blob of this name: that it differs from what is listed comes first
 abbrev pub blob_fault_of : List ℕ → List ℕ → FileRow → List ℕ → Option FileFault
@@ -95,15 +114,15 @@ abbrev pub chunk_told : Reply → Digest32 → Option FileFault
 chunk_told (Refused (Damaged asked found)) d = Some (faults.Damaged d)
 chunk_told _ d = None
 
--- the fault of a chunk of this digest, or that it has none, where the file goes on
-abbrev pub chunk_judged : Reply → Digest32 → Option (Option FileFault)
-chunk_judged (Data bytes) d = Some (verify.chunk_fault d bytes)
-chunk_judged (Refused (Damaged asked found)) d = Some (Some (faults.Damaged d))
-chunk_judged _ d = None
+-- the fault of the piece's chunk, or that it has none, where the file goes on
+abbrev pub chunk_judged : Reply → Piece → Option (Option FileFault)
+chunk_judged (Data bytes) p = Some (verify.chunk_fault p bytes)
+chunk_judged (Refused (Damaged asked found)) p = Some (Some (faults.Damaged p.digest))
+chunk_judged _ p = None
 
-abbrev pub JudgesChunk : Reply → Digest32 → Result (Option FileFault) Reply → Type 0
-JudgesChunk reply d result =
-    MatchResult result (λ fault. chunk_judged reply d ≡ Some fault) (λ back. (chunk_judged reply d ≡ None) × (back ≡ reply))
+abbrev pub JudgesChunk : Reply → Piece → Result (Option FileFault) Reply → Type 0
+JudgesChunk reply p result =
+    MatchResult result (λ fault. chunk_judged reply p ≡ Some fault) (λ back. (chunk_judged reply p ≡ None) × (back ≡ reply))
 
 -- ---- the job, by a reply that gives nothing of what was read
 

@@ -13,8 +13,8 @@ use crate::{prune, sync, verify};
 use std::alloc::{AllocError, Global};
 use std::collections::VecDeque;
 use std::marker::Model;
-use store_model::Step;
-use store_types::{Bytes, Digest32, Keep};
+use store_model::{Piece, Step};
+use store_types::{Bytes, Keep};
 use wire_commands::{Command, FileFault, FileRow, PruneRow, Reply};
 
 /// Where a job is that asks for a step.
@@ -46,14 +46,14 @@ pub(crate) enum Stage {
         row: FileRow,
         bytes: Vec<u8>,
     },
-    /// VERIFY, with this file's fault so far, reads the chunk at a place, of this digest, before those of the others.
+    /// VERIFY, with this file's fault so far, reads the chunk at a place, of this piece, before those of the others.
     Checking {
         visit: Visit,
         row: FileRow,
         fault: Option<FileFault>,
         place: u32,
-        digest: Digest32,
-        later: VecDeque<Digest32>,
+        piece: Piece,
+        later: VecDeque<Piece>,
     },
     /// VERIFY closes its reader, and then this is its report.
     Closing {
@@ -189,9 +189,9 @@ impl Asking {
                 row,
                 fault,
                 place,
-                digest,
+                piece,
                 later,
-            } => verify::checked(alloc, visit, row, fault, place, digest, later, reply),
+            } => verify::checked(alloc, visit, row, fault, place, piece, later, reply),
             Stage::Closing { report } => Ok(closed(Close::Reader, report, reply)),
             Stage::Beginning { pull } => sync::begun(alloc, pull, reply),
             Stage::Sending {

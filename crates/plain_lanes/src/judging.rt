@@ -1,9 +1,9 @@
 //! What whole files and chunks say, beside what is listed of them.
 
-ghost use Rattle.std.specs.Prelude.{◌≡◌, map, IfOk, IfSome};
+ghost use Rattle.std.specs.Prelude.{◌≡◌, IfOk, IfSome};
 ghost use Rattle.wire_commands.specs.HasText.{FitsFileFault};
 ghost use Rattle.store_model.specs.VerifyJob as model;
-ghost use Rattle.plain_lanes.specs.Visits.{shown_judged, digests_of, blob_fault_of, GivesFault, GivesJudged};
+ghost use Rattle.plain_lanes.specs.Visits.{shown_judged, blob_fault_of, fixed_pieces_of, dynamic_pieces_of, long_fault_of, GivesFault, GivesJudged, GivesPieces, HasPieces};
 
 use crate::asked::file_name;
 use blob_codec::decode;
@@ -12,15 +12,16 @@ use fixed_index::FixedView;
 use sha2::{Digest, Sha256};
 use std::alloc::{AllocError, Global};
 use std::collections::VecDeque;
-use store_types::{Digest32, FileName};
+use store_model::{Piece, size_limit};
+use store_types::FileName;
 use wire_commands::{FileFault, FileRow};
 
-/// A file's fault, and of an index how many bytes its entries have together, and their digests.
+/// A file's fault, and of an index how many bytes its entries have together, and each of them.
 #[derive(Drop)]
 pub struct Judged {
     pub fault: Option<FileFault>,
     pub bytes: u64,
-    pub digests: VecDeque<Digest32>,
+    pub entries: VecDeque<Piece>,
 }
 
 fn without_entries(alloc: Global, fault: Option<FileFault>) -> Judged
@@ -29,7 +30,7 @@ fn without_entries(alloc: Global, fault: Option<FileFault>) -> Judged
     Judged {
         fault,
         bytes: 0,
-        digests: VecDeque::from_vec(Vec::new(alloc)),
+        entries: VecDeque::from_vec(Vec::new(alloc)),
     }
 }
 
@@ -45,24 +46,48 @@ fn compared(row: &FileRow, size: u64, csum: &[u8; 32]) -> Option<FileFault>
     }
 }
 
-fn fixed_digests(alloc: Global, view: &FixedView) -> Result<Vec<Digest32>, AllocError>
-    ensures { IfOk result (λ digests. digests.items ≡ map model.digest view.now.digests) }
+/// The fault of a file of so many bytes, where it is longer than one of its kind may be.
+pub fn long_fault(alloc: Global, row: &FileRow, total: u64) -> Result<Option<FileFault>, AllocError>
+    ensures fault { GivesFault result (long_fault_of row.now total) }
+    ensures fits { IfOk result (λ fault. IfSome fault FitsFileFault) }
 {
-    let mut digests = Vec::new(alloc);
-    for i in 0..view.len() {
-        digests.push(view.digest(i))?;
+    let name = file_name(alloc, row.file.as_slice())?;
+    if total <= size_limit(&name) {
+        return Ok(None);
     }
-    Ok(digests)
+    if name.is_index() || row.size == total {
+        return Ok(Some(FileFault::Unreadable));
+    }
+    Ok(Some(FileFault::Differs))
 }
 
-fn dynamic_digests(alloc: Global, view: &DynamicView) -> Result<Vec<Digest32>, AllocError>
-    ensures { IfOk result (λ digests. digests.items ≡ digests_of view.now.entries) }
+fn fixed_pieces(alloc: Global, view: &FixedView) -> Result<Vec<Piece>, AllocError>
+    requires { HasPieces view.now }
+    ensures { GivesPieces result (fixed_pieces_of view.now) }
 {
-    let mut digests = Vec::new(alloc);
+    let mut pieces = Vec::new(alloc);
     for i in 0..view.len() {
-        digests.push(view.digest(i))?;
+        let (start, end) = view.span(i);
+        pieces.push(Piece {
+            digest: view.digest(i),
+            length: (end - start) as u32,
+        })?;
     }
-    Ok(digests)
+    Ok(pieces)
+}
+
+fn dynamic_pieces(alloc: Global, view: &DynamicView) -> Result<Vec<Piece>, AllocError>
+    ensures { GivesPieces result (dynamic_pieces_of view.now) }
+{
+    let mut pieces = Vec::new(alloc);
+    for i in 0..view.len() {
+        let (start, end) = view.span(i);
+        pieces.push(Piece {
+            digest: view.digest(i),
+            length: (end - start) as u32,
+        })?;
+    }
+    Ok(pieces)
 }
 
 #[tactic(auto, unfolding(store_model::specs::VerifyJob::fixed_judged))]
@@ -73,12 +98,12 @@ fn fixed_judged(alloc: Global, row: &FileRow, bytes: &[u8]) -> Result<Judged, Al
     let Ok(view) = FixedView::open_on(bytes) else {
         return Ok(without_entries(alloc, Some(FileFault::Unreadable)));
     };
-    let digests = fixed_digests(alloc, &view)?;
+    let pieces = fixed_pieces(alloc, &view)?;
     let total = view.size();
     Ok(Judged {
         fault: compared(row, total, &view.csum().0),
         bytes: total,
-        digests: VecDeque::from_vec(digests),
+        entries: VecDeque::from_vec(pieces),
     })
 }
 
@@ -90,12 +115,12 @@ fn dynamic_judged(alloc: Global, row: &FileRow, bytes: &[u8]) -> Result<Judged, 
     let Ok(view) = DynamicView::open_on(bytes) else {
         return Ok(without_entries(alloc, Some(FileFault::Unreadable)));
     };
-    let digests = dynamic_digests(alloc, &view)?;
+    let pieces = dynamic_pieces(alloc, &view)?;
     let total = view.size();
     Ok(Judged {
         fault: compared(row, total, &view.csum().0),
         bytes: total,
-        digests: VecDeque::from_vec(digests),
+        entries: VecDeque::from_vec(pieces),
     })
 }
 
@@ -176,17 +201,26 @@ pub fn judge(
     Ok(without_entries(alloc, fault))
 }
 
-/// The bytes are the blob of a piece with this digest, or the chunk is damaged. A piece is not empty.
-pub fn chunk_fault(digest: Digest32, bytes: &[u8]) -> Option<FileFault>
-    ensures fault { result ≡ model.chunk_fault digest bytes.now }
+/// It is the piece that the index names: of this length and with this digest. A piece is not empty.
+fn is_piece(named: Piece, piece: &[u8]) -> bool
+    ensures { result ≡ model.is_piece named piece.now }
+{
+    piece.len() as u64 == u64::from(named.length)
+        && !piece.is_empty()
+        && Sha256::digest(piece) == named.digest.0
+}
+
+/// The bytes are the blob of the piece that the index names, or the chunk is damaged.
+pub fn chunk_fault(named: Piece, bytes: &[u8]) -> Option<FileFault>
+    ensures fault { result ≡ model.chunk_fault named bytes.now }
     ensures fits { IfSome result FitsFileFault }
 {
     let Ok(piece) = decode(bytes) else {
-        return Some(FileFault::Damaged(digest));
+        return Some(FileFault::Damaged(named.digest));
     };
-    if !piece.is_empty() && Sha256::digest(piece) == digest.0 {
+    if is_piece(named, piece) {
         None
     } else {
-        Some(FileFault::Damaged(digest))
+        Some(FileFault::Damaged(named.digest))
     }
 }

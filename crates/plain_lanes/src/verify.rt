@@ -11,10 +11,11 @@ ghost use Rattle.plain_lanes.specs.Visits.{GivesOrBack, GivesVisit, JudgesChunk,
 
 use crate::ending::{Close, asked, ended};
 use crate::job::{Asking, Job, Stage};
-use crate::judging::{Judged, chunk_fault, judge};
+use crate::judging::{Judged, chunk_fault, judge, long_fault};
 use crate::visit::Visit;
 use std::alloc::{AllocError, Global};
 use std::collections::VecDeque;
+use store_model::Piece;
 use store_types::{Bytes, Digest32, Refusal, Rows};
 use wire_commands::{FaultRow, FileFault, FileRow, Reply};
 
@@ -124,15 +125,15 @@ fn next_chunk(
     row: FileRow,
     fault: Option<FileFault>,
     place: u32,
-    digests: VecDeque<Digest32>,
+    pieces: VecDeque<Piece>,
 ) -> Result<Job, AllocError>
     requires row { FitsFileRow row }
     requires fault { IfSome fault FitsFileFault }
-    ensures job { GivesJob result (model.next_chunk (shown visit) row fault place digests.items) }
+    ensures job { GivesJob result (model.next_chunk (shown visit) row fault place pieces.items) }
     ensures spelled { IfOk result IsSpelledJob }
 {
-    let mut later = digests;
-    let Some(digest) = later.pop_front() else {
+    let mut later = pieces;
+    let Some(piece) = later.pop_front() else {
         return file_done(alloc, visit, row, fault);
     };
     let stage = Stage::Checking {
@@ -140,7 +141,7 @@ fn next_chunk(
         row,
         fault,
         place,
-        digest,
+        piece,
         later,
     };
     Ok(Job::Asking(Asking { stage }))
@@ -180,10 +181,10 @@ fn file_read(alloc: Global, visit: Visit, row: FileRow, judged: Judged) -> Resul
     let Judged {
         fault,
         bytes,
-        digests,
+        entries,
     } = judged;
-    let visit = counted(visit, digests.len() as u64, bytes)?;
-    next_chunk(alloc, visit, row, fault, 0, digests)
+    let visit = counted(visit, entries.len() as u64, bytes)?;
+    next_chunk(alloc, visit, row, fault, 0, entries)
 }
 
 // ---- the replies
@@ -273,7 +274,7 @@ pub fn listed(alloc: Global, snapshot: Bytes, reply: Reply) -> Job
     }
 }
 
-/// A part of the file is read, of which these bytes are behind.
+/// A part of the file is read, of which these bytes are behind. A file that is too long is not read on.
 fn part_read(
     alloc: Global,
     visit: Visit,
@@ -285,6 +286,9 @@ fn part_read(
     ensures job { GivesJob result (model.part_read (shown visit) row bytes.items total) }
     ensures spelled { IfOk result IsSpelledJob }
 {
+    if let Some(fault) = long_fault(alloc, &row, total)? {
+        return file_done(alloc, visit, row, Some(fault));
+    }
     let so_far = bytes.len() as u64;
     if so_far < total {
         let stage = Stage::Reading { visit, row, bytes };
@@ -381,41 +385,41 @@ fn unchecked(
     Ok(ended(Close::Reader, reply))
 }
 
-/// The fault that the reply to the read of a chunk tells, where the file goes on: the reply back where it does not.
-fn chunk_in(reply: Reply, digest: Digest32) -> Result<Option<FileFault>, Reply>
+/// The fault that the reply to the read of the piece's chunk tells, where the file goes on: the reply back where it does not.
+fn chunk_in(reply: Reply, piece: Piece) -> Result<Option<FileFault>, Reply>
     requires { ReplyHasText reply }
-    ensures fault { JudgesChunk reply digest result }
+    ensures fault { JudgesChunk reply piece result }
     ensures fits { IfOk result (λ fault. IfSome fault FitsFileFault) }
 {
     let reply = match data_in(reply) {
-        Ok(bytes) => return Ok(chunk_fault(digest, bytes.as_slice())),
+        Ok(bytes) => return Ok(chunk_fault(piece, bytes.as_slice())),
         Err(reply) => reply,
     };
-    match chunk_told(&reply, digest) {
+    match chunk_told(&reply, piece.digest) {
         Some(fault) => Ok(Some(fault)),
         None => Err(reply),
     }
 }
 
-/// The job after the reply to the read of the chunk at a place, of this digest.
+/// The job after the reply to the read of the chunk at a place, of this piece.
 pub fn checked(
     alloc: Global,
     visit: Visit,
     row: FileRow,
     fault: Option<FileFault>,
     place: u32,
-    digest: Digest32,
-    later: VecDeque<Digest32>,
+    piece: Piece,
+    later: VecDeque<Piece>,
     reply: Reply,
 ) -> Result<Job, AllocError>
     requires row { FitsFileRow row }
     requires fault { IfSome fault FitsFileFault }
     requires reply { ReplyHasText reply }
     ensures job { GivesJob result
-        (model.checked (shown visit) row fault place digest later.items reply) }
+        (model.checked (shown visit) row fault place piece later.items reply) }
     ensures spelled { IfOk result IsSpelledJob }
 {
-    match chunk_in(reply, digest) {
+    match chunk_in(reply, piece) {
         Ok(found) => {
             let place = place.checked_add(1).ok_or(AllocError)?;
             let fault = first_fault(fault, found);

@@ -2,6 +2,7 @@ pub mod Texts
 pub mod Ends
 pub mod Chosen
 pub mod Sent
+pub mod Sizes
 pub mod Placed
 pub mod Entered
 pub mod Parts

@@ -1,5 +1,5 @@
 -- A file of the remote that a SYNC reads in parts.
-use Rattle.std.proofs.Common.{◌≡◌, ◌<◌, ◌≤◌, ℕ, Bool, true, false, List, [], ◌++◌, length, Option, None, Some, Result, Ok, Err, refl, sym, ap, ◌∙◌}
+use Rattle.std.proofs.Common.{◌≡◌, ◌<◌, ◌≤◌, ℕ, Bool, true, false, List, [], length, Option, None, Some, Result, Ok, Err, refl, sym, ap, ◌∙◌}
 use Rattle.std.specs.Prelude.{IfOk, map, nat_le, ◌||◌}
 use Rattle.std.proofs.lemmas.Bool.{lt-ltb, lt-leb, le-ltb, le-leb}
 use Rattle.store_types.specs.declared.refusal.BadBlob.{BadBlob}
@@ -9,6 +9,7 @@ use Rattle.store_files.specs.Manifest.{Manifest}
 use Rattle.wire_commands.specs.declared.reply.Reply.{Reply}
 use Rattle.wire_commands.specs.declared.reply.Reply.TheVariants.{Part, Refused}
 use Rattle.store_model.specs.Load.{read_manifest}
+use Rattle.store_model.specs.SizeLimits.{blob_limit, size_limit}
 use Rattle.store_history.specs.Pulling as model
 use Rattle.store_history.specs.Pulling.{asks, blob_read, file_part, file_read, file_told, index_in, index_read, manifest_part, manifest_read, manifest_told, next_file, opening, rejects, sending_blob, stock_of}
 use Rattle.pull_steps.specs.declared.course.Course.{Course}
@@ -18,20 +19,25 @@ use Rattle.pull_steps.specs.declared.stages.FileRead.{FileRead}
 use Rattle.pull_steps.specs.declared.stages.Index.{Index}
 use Rattle.pull_steps.specs.declared.stages.ManifestRead.{ManifestRead}
 use Rattle.pull_steps.specs.declared.stages.Stock.{Stock}
-use Rattle.pull_steps.specs.Files.{RejectsFile, RejectsManifest, TellsFile, TellsManifest, behind_manifest_part, behind_part}
+use Rattle.pull_steps.specs.Files.{RejectsFile, RejectsManifest, TellsFile, TellsManifest, TellsManifestPart, TellsPart, behind_manifest_part, behind_part}
 use Rattle.pull_steps.specs.States.{file_of, manifest_of, shown_course, shown_index, shown_stock}
 use Rattle.pull_steps.specs.Taken.{ended_by}
 
 -- ---- a manifest
 
 module _ (c : model.Course) (bytes : List ℕ) (total : ℕ) where
-  pub manifest_more : length bytes < total → asks (model.reading_manifest c bytes) ≡ manifest_part c bytes total
+  pub manifest_long : blob_limit < total → rejects c manifest_name ≡ manifest_part c bytes total
   unfolding manifest_part
-  manifest_more h = rw (lt-ltb (length bytes) total h) refl
+  manifest_long h = rw (lt-ltb blob_limit total h) refl
 
-  pub manifest_whole : total ≤ length bytes → manifest_read c bytes (read_manifest bytes) ≡ manifest_part c bytes total
-  unfolding manifest_part
-  manifest_whole within = rw (le-ltb (length bytes) total within) refl
+  module _ (fits : total ≤ blob_limit) where
+    pub manifest_more : length bytes < total → asks (model.reading_manifest c bytes) ≡ manifest_part c bytes total
+    unfolding manifest_part
+    manifest_more h = rw (le-ltb blob_limit total fits, lt-ltb (length bytes) total h) refl
+
+    pub manifest_whole : total ≤ length bytes → manifest_read c bytes (read_manifest bytes) ≡ manifest_part c bytes total
+    unfolding manifest_part
+    manifest_whole within = rw (le-ltb blob_limit total fits, le-ltb (length bytes) total within) refl
 
 module _ (c : model.Course) (bytes : List ℕ) where
   pub listed_none : None ≡ read_manifest bytes → rejects c manifest_name ≡ manifest_read c bytes (read_manifest bytes)
@@ -61,13 +67,18 @@ module _ (c : model.Course) (bytes : List ℕ) where
 
 module _ (c : model.Course) (s : model.Stock) (name bytes : List ℕ) where
   module _ (total : ℕ) where
-    pub file_more : length bytes < total → asks (model.reading_file c s name bytes) ≡ file_part c s name bytes total
+    pub file_long : size_limit name < total → rejects c name ≡ file_part c s name bytes total
     unfolding file_part
-    file_more h = rw (lt-ltb (length bytes) total h) refl
+    file_long h = rw (lt-ltb (size_limit name) total h) refl
 
-    pub file_whole : total ≤ length bytes → file_read c s name bytes ≡ file_part c s name bytes total
-    unfolding file_part
-    file_whole within = rw (le-ltb (length bytes) total within) refl
+    module _ (fits : total ≤ size_limit name) where
+      pub file_more : length bytes < total → asks (model.reading_file c s name bytes) ≡ file_part c s name bytes total
+      unfolding file_part
+      file_more h = rw (le-ltb (size_limit name) total fits, lt-ltb (length bytes) total h) refl
+
+      pub file_whole : total ≤ length bytes → file_read c s name bytes ≡ file_part c s name bytes total
+      unfolding file_part
+      file_whole within = rw (le-ltb (size_limit name) total fits, le-ltb (length bytes) total within) refl
 
   by_kind : (fixed dynamic : Bool) → is_fixed_name name ≡ fixed → is_dynamic_name name ≡ dynamic → (index : Bool) → is_index_name name ≡ index → model.is_index name ≡ index
   by_kind true dynamic f d index is = rw f refl ∙ sym (ap (λ b. b || is_dynamic_name name) f) ∙ is
@@ -134,27 +145,23 @@ file_ended r reply other = refl
 
 -- ---- a part was read
 
-pub manifest_taken : (r after : ManifestRead) (more : List ℕ) (total : ℕ) (listing : Option Listing) → after.course ≡ r.course → after.bytes.items ≡ r.bytes.items ++ more
-    → behind_manifest_part (shown_course r.course) (r.bytes.items ++ more) listing ≡ manifest_part (shown_course r.course) (r.bytes.items ++ more) total
+pub manifest_taken : (r after : ManifestRead) (more : List ℕ) (total : ℕ) (listing : Option Listing) → after.course ≡ r.course → TellsManifestPart r after more total listing
     → behind_manifest_part (shown_course after.course) after.bytes.items listing ≡ model.take (manifest_of r) (Part total more)
 unfolding model.take manifest_told
-manifest_taken r after more total listing course bytes told =
-    ap (λ (x : Course). behind_manifest_part (shown_course x) after.bytes.items listing) course ∙ ap (λ b. behind_manifest_part (shown_course r.course) b listing) bytes ∙ told
+manifest_taken r after more total listing course told = ap (λ (x : Course). behind_manifest_part (shown_course x) after.bytes.items listing) course ∙ told
 
 pub manifest_same : (r after : ManifestRead) → after.course ≡ r.course → after.bytes.items ≡ r.bytes.items → asks (manifest_of after) ≡ asks (manifest_of r)
 manifest_same r after course bytes =
     ap (λ (x : Course). asks (model.reading_manifest (shown_course x) after.bytes.items)) course ∙ ap (λ b. asks (model.reading_manifest (shown_course r.course) b)) bytes
 
 module _ (r after : FileRead) (course : after.course ≡ r.course) (stock : after.stock ≡ r.stock) (name : after.name ≡ r.name) where
-  pub file_taken : (more : List ℕ) (total : ℕ) (whole : Option Whole) → after.bytes.items ≡ r.bytes.items ++ more
-      → behind_part (shown_course r.course) (shown_stock r.stock) r.name (r.bytes.items ++ more) whole ≡ file_part (shown_course r.course) (shown_stock r.stock) r.name (r.bytes.items ++ more) total
+  pub file_taken : (more : List ℕ) (total : ℕ) (whole : Option Whole) → TellsPart r after more total whole
       → behind_part (shown_course after.course) (shown_stock after.stock) after.name after.bytes.items whole ≡ model.take (file_of r) (Part total more)
   unfolding model.take file_told
-  file_taken more total whole bytes told =
+  file_taken more total whole told =
       ap (λ (x : Course). behind_part (shown_course x) (shown_stock after.stock) after.name after.bytes.items whole) course
       ∙ ap (λ (x : Stock). behind_part (shown_course r.course) (shown_stock x) after.name after.bytes.items whole) stock
-      ∙ ap (λ n. behind_part (shown_course r.course) (shown_stock r.stock) n after.bytes.items whole) name
-      ∙ ap (λ b. behind_part (shown_course r.course) (shown_stock r.stock) r.name b whole) bytes ∙ told
+      ∙ ap (λ n. behind_part (shown_course r.course) (shown_stock r.stock) n after.bytes.items whole) name ∙ told
 
   pub file_same : after.bytes.items ≡ r.bytes.items → asks (file_of after) ≡ asks (file_of r)
   file_same bytes =

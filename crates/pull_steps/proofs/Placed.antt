@@ -1,8 +1,9 @@
 -- A SYNC at an entry of an index.
-use Rattle.std.proofs.Common.{◌≡◌, ◌+◌, ◌-◌, ℕ, List, ◌∷◌, drop, take, length, get_or, Result, Ok, Err, refl, sym, ap, subst, ◌∙◌, arith, length-drop}
-use Rattle.std.specs.Prelude.{OnErr, OnOk, min}
+use Rattle.std.proofs.lemmas.Bool.{eqb-true}
+use Rattle.std.proofs.Common.{◌≡◌, ◌+◌, ◌-◌, ℕ, Bool, true, false, List, ◌∷◌, drop, take, length, get_or, Result, Ok, Err, refl, sym, ap, subst, ◌∙◌, arith, length-drop}
+use Rattle.std.specs.Prelude.{IfErr, OnErr, OnOk, min, ◌==◌, if◌then◌else◌}
 use Rattle.std.specs.FinMap.{FinMap, entries, insert}
-use Rattle.std.proofs.lemmas.List.{drop_min, drop_more, take_min}
+use Rattle.std.proofs.lemmas.List.{drop_min, take_min}
 use Rattle.store_types.specs.declared.append.AppendEntry.{AppendEntry}
 use Rattle.store_types.specs.declared.refusal.Refusal.{Refusal}
 use Rattle.store_types.specs.Names.{text_cmp}
@@ -13,11 +14,13 @@ use Rattle.store_history.specs.Acts.{act_of_command}
 use Rattle.store_history.specs.Pulling as model
 use Rattle.store_history.specs.Pulling.{SyncJob, asks, batch, chunk_told, goes_on, sending_chunk, take_more, with_chunk}
 use Rattle.pull_steps.specs.declared.ask.Ask.TheVariants as ask
+use Rattle.pull_steps.specs.declared.pull.State.{State}
 use Rattle.pull_steps.specs.declared.stages.AtEntry.{AtEntry}
-use Rattle.pull_steps.specs.States.{CourseHasText, EndsInText, appending_at, asks_at, course_at, entries_at, index_at, reading_at, stock_at}
-use Rattle.pull_steps.specs.Entries.{AsksAt, chunk_told_at}
-use Rattle.pull_steps.specs.Taken.{ended_by}
-use Rattle.pull_steps.proofs.Sent.{asks_first, at_entry, entered, entries_are, head_at, tail_at}
+use Rattle.pull_steps.specs.States.{CourseHasText, EndsInText, appending_at, asks_at, course_at, entries_at, index_at, pull_in, reading_at, stock_at}
+use Rattle.pull_steps.specs.Entries.{AsksAt, chunk_read_at, chunk_told_at, IsAsLong, size_at}
+use Rattle.pull_steps.specs.Indexes.{fits_at, size_first}
+use Rattle.pull_steps.specs.Taken.{IsData, ended_by, mismatched_of}
+use Rattle.pull_steps.proofs.Sent.{asks_first, at_entry, entered, entries_are, first_is, head_at, tail_at}
 
 -- what a result gives, and what follows of that
 pub map_ok : {A E P Q : Type 0} (r : Result A E) → (P → Q) → OnOk r P → OnOk r Q
@@ -42,9 +45,6 @@ take_end : (xs : List AppendEntry) (n m : ℕ) → m ≡ min (length xs) n → t
 take_end xs n m is =
     let so : m ≡ min n (length xs) = omega (arith, is) in
     ap (λ k. take k xs) so ∙ take_min n xs
-
-heads : (x y : AppendEntry) (xs ys : List AppendEntry) → x ∷ xs ≡ y ∷ ys → x ≡ y
-heads x y xs ys e = cc
 
 module _ (a : AtEntry) where
   -- ---- the entries of an APPEND
@@ -77,13 +77,27 @@ module _ (a : AtEntry) where
       by_reply r other = refl
 
   module _ (blob : List ℕ) where
+    -- by whether its length is that of the entry
+    read_by : (fits : Bool) → fits_at (a.sending).index a.place (length blob) ≡ fits
+        → (if fits then asks (sending_chunk (course_at a) (with_chunk (head_at a) blob (stock_at a)) (index_at a) (head_at a) (tail_at a) blob) else mismatched_of (head_at a).digest)
+        ≡ chunk_read_at a blob
+    unfolding model.take chunk_told
+    read_by fits is =
+        let after = λ (b : Bool). if b then asks (sending_chunk (course_at a) (with_chunk (head_at a) blob (stock_at a)) (index_at a) (head_at a) (tail_at a) blob)
+        else mismatched_of (head_at a).digest in
+        let told = sym is ∙ ap (λ es. length blob == size_first (index_at a) es) (entries_are a) in
+        ap after told ∙ sym (ap (λ j. take_more j (Data blob)) (asks_first (λ e later. model.reading_chunk (course_at a) (stock_at a) (index_at a) e later) a))
+
+    pub mismatch_read : (item : AppendEntry) → item ≡ get_or (a.sending).index.entries.items a.place item → fits_at (a.sending).index a.place (length blob) ≡ false
+        → mismatched_of item.digest ≡ chunk_read_at a blob
+    mismatch_read item is fits = sym (ap (λ (x : AppendEntry). mismatched_of x.digest) (first_is a item (head_at a) (tail_at a) is (entries_are a))) ∙ read_by false fits
+
     -- the chunk's length is noted
     pub noted : (m : FinMap text_cmp ℕ) (item : AppendEntry) (n : ℕ) → item ≡ get_or (a.sending).index.entries.items a.place item
         → m ≡ insert (a.sending).stock.sent (item.digest).0 n → n ≡ length blob → (e : AppendEntry) (later : List AppendEntry) → entries_at a ≡ e ∷ later
         → (let s : model.Stock = record (stock_at a) { sent = entries m } in s) ≡ with_chunk e blob (stock_at a)
     noted m item n is added long e later left =
-        let head : e ≡ item = heads e item later _ (sym left ∙ drop_more (a.sending).index.entries.items a.place item (omega (arith, a.within, (a.sending).index.entries.ok.0))
-        ∙ ap (λ x. x ∷ drop (a.place + 1) (a.sending).index.entries.items) (sym is)) in
+        let head : e ≡ item = first_is a item e later is left in
         let with : (x : FinMap text_cmp ℕ) → model.Stock = λ x. record (stock_at a) { sent = entries x } in
         ap with added ∙ ap (λ k. with (insert (a.sending).stock.sent (item.digest).0 k)) long
         ∙ ap (λ (x : AppendEntry). with (insert (a.sending).stock.sent (x.digest).0 (length blob))) (sym head)
@@ -100,16 +114,20 @@ module _ (a : AtEntry) where
         ap (asks_at (λ e later. model.reading_chunk (course_at new) (stock_at new) (index_at new) e later)) same_entries
         ∙ ap (λ c. now c (stock_at new) (index_at new)) course ∙ ap (λ s. now (course_at a) s (index_at new)) stock ∙ ap (λ x. now (course_at a) (stock_at a) x) index
 
-    module _ (blob : List ℕ) (stock : stock_at new ≡ with_chunk (head_at a) blob (stock_at a)) where
+    module _ (blob : List ℕ) (stock : stock_at new ≡ with_chunk (head_at a) blob (stock_at a)) (fits : fits_at (a.sending).index a.place (length blob) ≡ true) where
       -- the chunk is sent
-      pub chunk_sent : asks_at (λ e later. sending_chunk (course_at new) (stock_at new) (index_at new) e later blob) (entries_at new) ≡ chunk_told_at a (Data blob)
-      unfolding model.take chunk_told
+      pub chunk_sent : asks_at (λ e later. sending_chunk (course_at new) (stock_at new) (index_at new) e later blob) (entries_at new) ≡ chunk_read_at a blob
       chunk_sent =
           let now = λ (c : model.Course) (s : model.Stock) (x : model.Index). asks (sending_chunk c s x (head_at a) (tail_at a) blob) in
           ap (asks_at (λ e later. sending_chunk (course_at new) (stock_at new) (index_at new) e later blob)) (same_entries ∙ entries_are a)
           ∙ ap (λ c. now c (stock_at new) (index_at new)) course ∙ ap (λ s. now (course_at a) s (index_at new)) stock
-          ∙ ap (λ x. now (course_at a) (with_chunk (head_at a) blob (stock_at a)) x) index
-          ∙ sym (ap (λ j. take_more j (Data blob)) (asks_first (λ e later. model.reading_chunk (course_at a) (stock_at a) (index_at a) e later) a))
+          ∙ ap (λ x. now (course_at a) (with_chunk (head_at a) blob (stock_at a)) x) index ∙ read_by blob true fits
+
+-- and the reply was its blob
+pub kept_data : (a : AtEntry) (blob : List ℕ) (reply : Reply) (result : Result State State) → reply ≡ Data blob
+    → IfErr result (λ s. (pull_in s ≡ reading_at a) × IsAsLong a blob) → IfErr result (λ s. (pull_in s ≡ reading_at a) × IsData (size_at a) reply)
+kept_data a blob reply (Ok s) is h = tt
+kept_data a blob reply (Err s) is h = (h.0, subst (IsData (size_at a)) (sym is) (eqb-true (length blob) (size_at a) h.1))
 
 -- what is reported in the end has a text as before
 module _ (a new : AtEntry) where

@@ -1,17 +1,20 @@
 -- The entries of an index from a place on, and which of their chunks are sent.
-use Rattle.std.proofs.Common.{◌≡◌, ◌<◌, ◌≤◌, ◌+◌, ℕ, true, false, List, [], ◌∷◌, drop, length, get_or, None, Some, refl, sym, ap, ◌∙◌, arith, length-drop}
-use Rattle.std.specs.Prelude.{is_some}
+use Rattle.std.proofs.Common.{◌≡◌, ◌<◌, ◌≤◌, ◌+◌, ℕ, Bool, true, false, List, [], ◌∷◌, drop, length, get_or, None, Some, refl, sym, ap, ◌∙◌, arith, length-drop}
+use Rattle.std.specs.Prelude.{◌==◌, if◌then◌else◌}
 use Rattle.std.specs.FinMap.{FinMap, empty, entries, len-empty, len-entries, from_entries, get, get-entries, get-from_entries, nat_cmp-IsAntisymmetric, same_map, slice_cmp-IsAntisymmetric}
 use Rattle.std.proofs.lemmas.Cmp.{nat_list_cmp_total}
 use Rattle.std.proofs.lemmas.List.{drop_all, drop_more, nil_from_length}
 use Rattle.store_types.specs.declared.append.AppendEntry.{AppendEntry}
 use Rattle.store_types.specs.Names.{text_cmp}
 use Rattle.store_history.specs.Pulling as model
-use Rattle.store_history.specs.Pulling.{Pulling, SyncJob, asks, is_sent, next_append, next_chunk}
+use Rattle.store_history.specs.Pulling.{Pulling, SyncJob, asks, next_append, next_chunk, size_sent}
+use Rattle.pull_steps.specs.declared.sending.Next.TheVariants as nexts
 use Rattle.pull_steps.specs.declared.stages.Sending.{Sending}
 use Rattle.pull_steps.specs.declared.stages.AtEntry.{AtEntry}
 use Rattle.pull_steps.specs.States.{asks_at, entries_at, shown_course, shown_index, shown_stock}
-use Rattle.pull_steps.specs.Entries.{append_from, chunk_from, from_place}
+use Rattle.pull_steps.specs.Entries.{append_from, chunk_from, from_next}
+use Rattle.pull_steps.specs.Indexes.{fits_at, size_first}
+use Rattle.pull_steps.specs.Taken.{mismatched_of}
 
 -- a map by its entries is the map
 pub entered : (m : FinMap text_cmp ℕ) → from_entries {R = text_cmp} (entries m) ≡ m
@@ -26,24 +29,35 @@ left_some : (xs : List AppendEntry) (i : ℕ) → i < length xs → 0 < length (
 left_some xs i lt = simp length-drop (omega (arith, lt))
 
 module _ (s : Sending) where
-  pub sent_is : (e : AppendEntry) → is_sent (shown_stock s.stock) e ≡ is_some (get s.stock.sent (e.digest).0)
-  sent_is e = ap (λ m. is_some (get m (e.digest).0)) (entered s.stock.sent)
+  pub size_is : (e : AppendEntry) → size_sent (shown_stock s.stock) e ≡ get s.stock.sent (e.digest).0
+  size_is e = ap (λ m. get m (e.digest).0) (entered s.stock.sent)
 
   module _ (i : ℕ) (e : AppendEntry) (lt : i < length s.index.entries.items) (is : e ≡ get_or s.index.entries.items i e) where
     pub left_from : drop i s.index.entries.items ≡ e ∷ drop (i + 1) s.index.entries.items
     left_from = drop_more s.index.entries.items i e lt ∙ ap (λ x. x ∷ drop (i + 1) s.index.entries.items) (sym is)
 
-    pub goes_past : is_sent (shown_stock s.stock) e ≡ true → chunk_from s (drop i s.index.entries.items) ≡ chunk_from s (drop (i + 1) s.index.entries.items)
-    unfolding next_chunk
-    goes_past sent = ap (chunk_from s) left_from ∙ rw sent refl
+    module _ (size : ℕ) (sent : size_sent (shown_stock s.stock) e ≡ Some size) where
+      by_size : (fits : Bool) → fits_at s.index i size ≡ fits
+          → chunk_from s (drop i s.index.entries.items) ≡ (if fits then chunk_from s (drop (i + 1) s.index.entries.items) else mismatched_of e.digest)
+      unfolding next_chunk
+      by_size fits is =
+          let after = λ (b : Bool). if b then chunk_from s (drop (i + 1) s.index.entries.items) else mismatched_of e.digest in
+          let told = sym (ap (λ es. size == size_first (shown_index s.index) es) left_from) ∙ is in
+          ap (chunk_from s) left_from ∙ rw (sent, next_chunk) refl ∙ ap after told
 
-    pub stops_at : is_sent (shown_stock s.stock) e ≡ false → chunk_from s (drop i s.index.entries.items) ≡ from_place s (Some i)
+      pub goes_past : fits_at s.index i size ≡ true → chunk_from s (drop i s.index.entries.items) ≡ chunk_from s (drop (i + 1) s.index.entries.items)
+      goes_past is = by_size true is
+
+      pub mismatches : fits_at s.index i size ≡ false → chunk_from s (drop i s.index.entries.items) ≡ from_next s (nexts.Mismatched e.digest)
+      mismatches is = by_size false is
+
+    pub stops_at : size_sent (shown_stock s.stock) e ≡ None → chunk_from s (drop i s.index.entries.items) ≡ from_next s (nexts.Unsent i)
     unfolding next_chunk
-    stops_at sent =
-        ap (chunk_from s) left_from ∙ rw sent refl
+    stops_at unsent =
+        ap (chunk_from s) left_from ∙ rw (unsent, next_chunk) refl
         ∙ sym (ap (asks_at (λ x later. model.reading_chunk (shown_course s.course) (shown_stock s.stock) (shown_index s.index) x later)) left_from)
 
-  pub chunks_end : (i : ℕ) → length s.index.entries.items ≤ i → chunk_from s (drop i s.index.entries.items) ≡ from_place s None
+  pub chunks_end : (i : ℕ) → length s.index.entries.items ≤ i → chunk_from s (drop i s.index.entries.items) ≡ from_next s nexts.End
   unfolding next_chunk
   chunks_end i le = ap (chunk_from s) (drop_all i s.index.entries.items le)
 
@@ -84,6 +98,15 @@ head_at a = get_or (a.sending).index.entries.items a.place none_entry
 
 abbrev pub tail_at : AtEntry → List AppendEntry
 tail_at a = drop (a.place + 1) (a.sending).index.entries.items
+
+heads : (x y : AppendEntry) (xs ys : List AppendEntry) → x ∷ xs ≡ y ∷ ys → x ≡ y
+heads x y xs ys e = cc
+
+-- it is the first of those at hand
+pub first_is : (a : AtEntry) (item e : AppendEntry) (later : List AppendEntry) → item ≡ get_or (a.sending).index.entries.items a.place item → entries_at a ≡ e ∷ later → e ≡ item
+first_is a item e later is left =
+    heads e item later _ (sym left ∙ drop_more (a.sending).index.entries.items a.place item (omega (arith, a.within, (a.sending).index.entries.ok.0))
+    ∙ ap (λ x. x ∷ drop (a.place + 1) (a.sending).index.entries.items) (sym is))
 
 pub entries_are : (a : AtEntry) → entries_at a ≡ head_at a ∷ tail_at a
 entries_are a = drop_more (a.sending).index.entries.items a.place none_entry (omega (arith, a.within, (a.sending).index.entries.ok.0))

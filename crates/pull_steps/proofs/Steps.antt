@@ -11,7 +11,8 @@ use Rattle.pull_steps.specs.declared.stages.AtEntry.{AtEntry}
 use Rattle.pull_steps.specs.declared.stages.HasChunk.{HasChunk}
 use Rattle.pull_steps.specs.Asked.{IsAsking, IsOver}
 use Rattle.pull_steps.specs.States.{CourseHasText, EndsInText, appending_at, course_at, index_at, pull_in, reading_at, sending_at, stock_at}
-use Rattle.pull_steps.specs.Entries.{appended_behind, chunk_behind}
+use Rattle.pull_steps.specs.Entries.{appended_behind, chunk_behind, size_at}
+use Rattle.pull_steps.specs.Indexes.{size_first}
 use Rattle.pull_steps.specs.Taken.{IsData, IsReadOf}
 use Rattle.pull_steps.proofs.Sent.{asks_first, entries_are, head_at, tail_at}
 
@@ -29,10 +30,11 @@ module _ (a : AtEntry) where
   appending_texts ends = subst EndsInText appends ends
 
   -- memory was wanting for the chunk
-  pub reading_kept : (reply : Reply) (result : Result State State) → IfErr result (λ s. (pull_in s ≡ reading_at a) × IsData reply)
+  pub reading_kept : (reply : Reply) (result : Result State State) → IfErr result (λ s. (pull_in s ≡ reading_at a) × IsData (size_at a) reply)
       → IfErr result (λ s. (pull_in s ≡ reading_at a) × IsReadOf (reading_at a) reply)
   reading_kept reply (Ok s) h = tt
-  reading_kept reply (Err s) h = (h.0, subst (λ j. IsReadOf j reply) (sym reads) h.1)
+  reading_kept reply (Err s) h =
+      (h.0, subst (λ j. IsReadOf j reply) (sym reads) (subst (λ es. IsData (size_first (index_at a) es) reply) (entries_are a) h.1))
 
   -- the entries were appended
   pub appended_is : (reply : Reply) → goes_on reply (appended_behind a) ≡ take_more (appending_at a) reply

@@ -1,5 +1,5 @@
 -- A file of the remote that a SYNC reads.
-use Rattle.std.specs.Prelude.{◌≡◌, ℕ, List, Option, Some, None, ⊤, Result, IfOk}
+use Rattle.std.specs.Prelude.{◌≡◌, ℕ, List, ◌++◌, Option, Some, None, ⊤, Result, IfOk}
 use Rattle.wire_commands.specs.HasText.{IsText}
 use Rattle.store_types.specs.FileNames.{manifest_name}
 use Rattle.store_model.specs.Load.{read_manifest}
@@ -10,6 +10,7 @@ use Rattle.pull_steps.specs.declared.files.Listing.TheVariants as listings
 use Rattle.pull_steps.specs.declared.files.Whole.{Whole}
 use Rattle.pull_steps.specs.declared.files.Whole.TheVariants as wholes
 use Rattle.pull_steps.specs.declared.stages.FileRead.{FileRead}
+use Rattle.pull_steps.specs.declared.stages.ManifestRead.{ManifestRead}
 use Rattle.pull_steps.specs.States.{shown_course, shown_index, shown_stock}
 
 -- ---- the manifest
@@ -37,8 +38,11 @@ abbrev pub behind_manifest_part : model.Course → List ℕ → Option Listing �
 behind_manifest_part c bytes None = asks (model.reading_manifest c bytes)
 behind_manifest_part c bytes (Some listing) = behind_manifest c listing
 
-abbrev pub TellsManifestPart : model.Course → List ℕ → ℕ → Option Listing → Type 0
-TellsManifestPart c bytes total listing = behind_manifest_part c bytes listing ≡ model.manifest_part c bytes total
+-- what comes behind a part of so many bytes in all, by the bytes that are kept
+abbrev pub TellsManifestPart : ManifestRead → ManifestRead → List ℕ → ℕ → Option Listing → Type 0
+TellsManifestPart old new more total listing =
+    behind_manifest_part (shown_course old.course) new.bytes.items listing
+    ≡ model.manifest_part (shown_course old.course) (old.bytes.items ++ more) total
 
 -- ---- another file
 
@@ -69,6 +73,7 @@ behind_part c s name bytes (Some whole) = behind_file c s name bytes whole
 abbrev pub behind_bytes : FileRead → List ℕ → Option Whole → SyncJob
 behind_bytes r bytes whole = behind_part (shown_course r.course) (shown_stock r.stock) r.name bytes whole
 
-abbrev pub TellsPart : FileRead → List ℕ → ℕ → Option Whole → Type 0
-TellsPart r bytes total whole =
-    behind_bytes r bytes whole ≡ model.file_part (shown_course r.course) (shown_stock r.stock) r.name bytes total
+abbrev pub TellsPart : FileRead → FileRead → List ℕ → ℕ → Option Whole → Type 0
+TellsPart old new more total whole =
+    behind_bytes old new.bytes.items whole
+    ≡ model.file_part (shown_course old.course) (shown_stock old.stock) old.name (old.bytes.items ++ more) total

@@ -1,6 +1,8 @@
 -- What a SYNC takes of the replies.
-use Rattle.std.specs.Prelude.{Bool, true, false, List, [], ◌∷◌, ⊤}
-use Rattle.store_types.specs.declared.refusal.Refusal.TheVariants.{RemoteFault, NoMemory}
+use Rattle.std.specs.Prelude.{◌≡◌, ℕ, Bool, true, false, List, [], ◌∷◌, length, ⊤}
+use Rattle.store_types.specs.declared.names.Digest32.{Digest32}
+use Rattle.store_types.specs.declared.refusal.ChunkFault.TheVariants.{Other}
+use Rattle.store_types.specs.declared.refusal.Refusal.TheVariants.{Damaged, RemoteFault, NoMemory}
 use Rattle.wire_commands.specs.declared.reply.Reply.{Reply}
 use Rattle.wire_commands.specs.declared.reply.Reply.TheVariants.{Part, Data, Refused}
 use Rattle.wire_commands.specs.HasText.{ReplyHasText}
@@ -15,15 +17,16 @@ abbrev pub IsPart : Reply → Type 0
 IsPart (Part total more) = Unit {0}
 IsPart reply = ⊥
 
-abbrev pub IsData : Reply → Type 0
-IsData (Data blob) = Unit {0}
-IsData reply = ⊥
+-- the blob has this size
+abbrev pub IsData : ℕ → Reply → Type 0
+IsData size (Data blob) = length blob ≡ size
+IsData size reply = ⊥
 
--- a part of a file, or a chunk, was read
+-- a part of a file was read, or a chunk that is as long as its entry says
 abbrev pub IsReadOf : SyncJob → Reply → Type 0
 IsReadOf (asks (model.reading_manifest c bytes)) reply = IsPart reply
 IsReadOf (asks (model.reading_file c s name bytes)) reply = IsPart reply
-IsReadOf (asks (model.reading_chunk c s x e later)) reply = IsData reply
+IsReadOf (asks (model.reading_chunk c s x e later)) reply = IsData (model.blob_size x e later) reply
 IsReadOf job reply = ⊥
 
 -- ---- the replies
@@ -43,6 +46,10 @@ AreReplies job (r ∷ rs) = IsReplyTo job r × AreReplies (take_more job r) rs
 abbrev pub ended_by : Reply → SyncJob
 ended_by (Refused refusal) = model.stops refusal
 ended_by reply = reports reply
+
+-- the chunk with this digest has another length than its entry
+abbrev pub mismatched_of : Digest32 → SyncJob
+mismatched_of digest = model.stops (Damaged digest (Other digest))
 
 -- memory was wanting
 abbrev pub is_short : Reply → Bool

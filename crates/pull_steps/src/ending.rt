@@ -5,10 +5,10 @@ ghost use Rattle.wire_commands.specs.HasText.{IsText, ReplyHasText};
 ghost use Rattle.wire_commands.specs.declared.reply.Reply.TheVariants.{Refused};
 ghost use Rattle.store_history.specs.Pulling.{ends, rejected, stops};
 ghost use Rattle.pull_steps.specs.States.{EndsInText, pull_in};
-ghost use Rattle.pull_steps.specs.Taken.{ended_by, is_short as tells_short, is_unread as tells_unread};
+ghost use Rattle.pull_steps.specs.Taken.{ended_by, is_short as tells_short, is_unread as tells_unread, mismatched_of};
 
 use crate::pull::State;
-use store_types::{Bytes, Refusal};
+use store_types::{Bytes, ChunkFault, Digest32, Refusal};
 use wire_commands::Reply;
 
 /// A refusal ends the job, behind the step that ends its writer. After a fault of the disk none follows.
@@ -21,6 +21,17 @@ pub fn stopped(refusal: Refusal) -> State
         Refusal::DiskFault | Refusal::Halted { .. } => State::Over(Reply::Refused(refusal)),
         refusal => State::Aborting(refusal),
     }
+}
+
+/// The chunk with this digest has another length than an index gives its entry.
+pub fn mismatched(digest: Digest32) -> State
+    ensures job { pull_in result ≡ mismatched_of digest }
+    ensures text { EndsInText (pull_in result) }
+{
+    stopped(Refusal::Damaged {
+        digest,
+        fault: ChunkFault::Other(digest),
+    })
 }
 
 /// The job ends by this reply.

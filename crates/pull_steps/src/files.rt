@@ -20,6 +20,7 @@ use manifest::FileFact;
 use snapshot_files::read_manifest;
 use std::alloc::{AllocError, Global};
 use std::collections::VecDeque;
+use store_model::{BLOB_LIMIT, size_limit};
 use store_types::{Bytes, FileName, LISTED_LIMIT};
 use wire_commands::{Command, Reply};
 
@@ -153,8 +154,8 @@ impl ManifestRead {
         })
     }
 
-    /// Puts a part behind the bytes, and tells what is sent where all of the file is there. At want of memory nothing has
-    /// changed.
+    /// Puts a part behind the bytes, and tells what is sent where all of the file is there. Of a manifest that is too long
+    /// nothing is kept: it is none. At want of memory nothing has changed.
     fn append(
         &mut self,
         alloc: Global,
@@ -163,12 +164,13 @@ impl ManifestRead {
     ) -> Result<Option<Listing>, AllocError>
         requires { IsShort self.old.course.snapshot }
         ensures course { self.new.course ≡ self.old.course }
-        ensures ok { OnOk result (self.new.bytes.items ≡ self.old.bytes.items ++ more.now) }
-        ensures whole { IfOk result
-            (TellsManifestPart (shown_course self.old.course) (self.old.bytes.items ++ more.now) total) }
+        ensures part { IfOk result (TellsManifestPart self.old self.new more.now total) }
         ensures text { IfOk result (λ listing. IfSome listing ListingHasText) }
         ensures err { OnErr result (self.new.bytes.items ≡ self.old.bytes.items) }
     {
+        if total > BLOB_LIMIT {
+            return Ok(Some(bad_manifest(alloc, &self.course)?));
+        }
         let before = self.bytes.len();
         self.bytes.extend_from_slice(more)?;
         if (self.bytes.len() as u64) < total {
@@ -232,8 +234,8 @@ impl FileRead {
         })
     }
 
-    /// Puts a part behind the bytes, and tells what the file is where all of it is there. At want of memory nothing has
-    /// changed.
+    /// Puts a part behind the bytes, and tells what the file is where all of it is there. Of a file that is too long nothing
+    /// is kept: it is none. At want of memory nothing has changed.
     fn append(
         &mut self,
         alloc: Global,
@@ -244,11 +246,13 @@ impl FileRead {
         ensures course { self.new.course ≡ self.old.course }
         ensures stock { self.new.stock ≡ self.old.stock }
         ensures name { self.new.name ≡ self.old.name }
-        ensures ok { OnOk result (self.new.bytes.items ≡ self.old.bytes.items ++ more.now) }
-        ensures whole { IfOk result (TellsPart self.old (self.old.bytes.items ++ more.now) total) }
+        ensures part { IfOk result (TellsPart self.old self.new more.now total) }
         ensures text { IfOk result (λ whole. IfSome whole WholeHasText) }
         ensures err { OnErr result (self.new.bytes.items ≡ self.old.bytes.items) }
     {
+        if total > size_limit(&self.name) {
+            return Ok(Some(bad_file(alloc, &self.course, &self.name)?));
+        }
         let before = self.bytes.len();
         self.bytes.extend_from_slice(more)?;
         if (self.bytes.len() as u64) < total {

@@ -1,10 +1,11 @@
 //! An index of the remote, as it is sent.
 
-ghost use Rattle.std.specs.Prelude.{◌≡◌, IfOk};
+ghost use Rattle.std.specs.Prelude.{◌≡◌, ◌<◌, vec_len, IfOk};
 ghost use Rattle.store_history.specs.Pulling as model;
-ghost use Rattle.pull_steps.specs.Indexes.{GivesIndex};
+ghost use Rattle.pull_steps.specs.Indexes.{GivesIndex, end_at, fits_at};
 
 use crate::stages::Index;
+use blob_codec::HEADER_SIZE;
 use dynamic_index::DynamicView;
 use fixed_index::FixedView;
 use std::alloc::{AllocError, Global};
@@ -79,5 +80,27 @@ pub fn index_in(alloc: Global, name: &FileName, bytes: &[u8]) -> Result<Option<I
         fixed_in(alloc, name, bytes)
     } else {
         dynamic_in(alloc, name, bytes)
+    }
+}
+
+impl Index {
+    /// Where the piece of the entry at a place ends in the archive.
+    fn end(&self, place: usize) -> u64
+        requires { place < vec_len self.now.entries }
+        ensures { result ≡ end_at self.now place }
+    {
+        if place + 1 < self.entries.len() {
+            return self.entries[place + 1].offset;
+        }
+        self.size
+    }
+
+    /// A blob of this size in bytes is as long as the index gives the piece of the entry at a place.
+    pub fn fits(&self, place: usize, size: u64) -> bool
+        requires { place < vec_len self.now.entries }
+        ensures { result ≡ fits_at self.now place size }
+    {
+        let length = self.end(place).saturating_sub(self.entries[place].offset);
+        size >= HEADER_SIZE as u64 && size - HEADER_SIZE as u64 == length
     }
 }

@@ -4,21 +4,32 @@ ghost use Rattle.std.specs.Prelude.{◌≡◌, ◌<◌, ◌≤◌, ◌^◌, drop
 ghost use Rattle.wire_commands.specs.HasText.{ReplyHasText};
 ghost use Rattle.store_history.specs.Pulling as model;
 ghost use Rattle.pull_steps.specs.Asked.{AsksFor};
-ghost use Rattle.pull_steps.specs.Entries.{AsksAt, IsFirstUnsent, NotesChunk, append_from, appended_behind, chunk_behind, chunk_from, chunk_told_at, opened_by};
+ghost use Rattle.pull_steps.specs.Entries.{AsksAt, IsNext, NotesChunk, append_from, appended_behind, chunk_behind, chunk_from, chunk_read_at, chunk_told_at, opened_by, IsAsLong, size_at};
 ghost use Rattle.pull_steps.specs.States.{CourseHasText, EndsInText, appending_at, closing_of, opening_of, pull_in, reading_at, sending_at, shown_course, shown_stock};
 ghost use Rattle.pull_steps.specs.Taken.{IsData};
 
 use crate::ask::Ask;
-use crate::ending::ended;
+use crate::ending::{ended, mismatched};
 use crate::files::next_file;
 use crate::pull::State;
 use crate::stages::{AtEntry, HasChunk, Sending};
 use std::alloc::{AllocError, Global};
-use store_types::{Bytes, Rows};
+use store_types::{Bytes, Digest32, Rows};
 use wire_commands::{Command, Reply};
 
 /// How many entries an APPEND has at most.
 const BATCH: usize = 4096;
+
+/// What the entries from a place on come to first.
+#[derive(Clone, Copy)]
+pub enum Next {
+    /// The chunk of the entry at this place was not sent for the snapshot.
+    Unsent(usize),
+    /// The chunk with this digest was sent, and has another length than its entry.
+    Mismatched(Digest32),
+    /// All were sent.
+    End,
+}
 
 impl Sending {
     /// The NEW_FIXED or NEW_DYNAMIC of the index.
@@ -48,22 +59,21 @@ impl Sending {
         })
     }
 
-    /// The place of the first entry, from one on, whose chunk was not sent for the snapshot.
-    fn first_unsent(&self, from: usize) -> Option<usize>
+    /// The first entry, from a place on, whose chunk was not sent for the snapshot, or is as long as another entry.
+    fn next_entry(&self, from: usize) -> Next
         requires { from ≤ vec_len self.now.index.entries }
-        ensures { IsFirstUnsent self.now from result }
+        ensures { IsNext self.now from result }
     {
         for place in from..self.index.entries.len() {
-            if self
-                .stock
-                .sent
-                .find(&self.index.entries[place].digest)
-                .is_none()
-            {
-                return Some(place);
+            let digest = self.index.entries[place].digest;
+            let Some(size) = self.stock.sent.find(&digest) else {
+                return Next::Unsent(place);
+            };
+            if !self.index.fits(place, u64::from(size)) {
+                return Next::Mismatched(digest);
             }
         }
-        None
+        Next::End
     }
 
     /// On to the next APPEND, of the entries from a place on, or to the CLOSE_INDEX. It takes no memory.
@@ -83,19 +93,21 @@ impl Sending {
         State::ClosingIndex(self)
     }
 
-    /// On to the next chunk that was not sent, of the entries from a place on, or to the first APPEND. It takes no memory.
+    /// On to the next chunk that was not sent, of the entries from a place on, or to the first APPEND. A chunk that was sent
+    /// and has another length than its entry ends the job. It takes no memory.
     fn next_chunk(self, from: usize) -> State
         requires from { from ≤ vec_len self.index.entries }
         requires texts { CourseHasText (shown_course self.course) }
         ensures job { pull_in result ≡ chunk_from self (drop from self.index.entries.items) }
         ensures text { EndsInText (pull_in result) }
     {
-        match self.first_unsent(from) {
-            Some(place) => State::ReadingChunk(AtEntry {
+        match self.next_entry(from) {
+            Next::Unsent(place) => State::ReadingChunk(AtEntry {
                 sending: self,
                 place,
             }),
-            None => self.next_append(0),
+            Next::Mismatched(digest) => mismatched(digest),
+            Next::End => self.next_append(0),
         }
     }
 
@@ -160,20 +172,39 @@ impl AtEntry {
         self.sending.stock.sent.add(&digest, length)
     }
 
+    /// The state after the chunk's blob was read: it is sent, unless it has another length than the entry. Where memory is
+    /// wanting, the state before.
+    fn blob_read(mut self, blob: Bytes) -> Result<State, State>
+        requires small { length blob < 2 ^ 32 }
+        requires texts { CourseHasText (shown_course self.sending.course) }
+        ensures ok { IfOk result (λ state. pull_in state ≡ chunk_read_at self blob) }
+        ensures err { IfErr result
+            (λ state. (pull_in state ≡ reading_at self) × IsAsLong self blob) }
+        ensures text { MatchResult result (λ state. EndsInText (pull_in state))
+            (λ state. EndsInText (pull_in state)) }
+    {
+        let size = blob.as_slice().len() as u64;
+        if !self.sending.index.fits(self.place, size) {
+            return Ok(mismatched(self.sending.index.entries[self.place].digest));
+        }
+        match self.note(&blob) {
+            Ok(()) => Ok(State::SendingChunk(HasChunk { at: self, blob })),
+            Err(AllocError) => Err(State::ReadingChunk(self)),
+        }
+    }
+
     /// The state after the reply to the read of the chunk. Where memory is wanting for a chunk, the state before.
-    pub fn chunk_read(mut self, reply: Reply) -> Result<State, State>
+    pub fn chunk_read(self, reply: Reply) -> Result<State, State>
         requires text { ReplyHasText reply }
         requires texts { CourseHasText (shown_course self.sending.course) }
         ensures ok { IfOk result (λ state. pull_in state ≡ chunk_told_at self reply) }
-        ensures err { IfErr result (λ state. (pull_in state ≡ reading_at self) × IsData reply) }
+        ensures err { IfErr result
+            (λ state. (pull_in state ≡ reading_at self) × IsData (size_at self) reply) }
         ensures text { MatchResult result (λ state. EndsInText (pull_in state))
             (λ state. EndsInText (pull_in state)) }
     {
         match reply {
-            Reply::Data(blob) => match self.note(&blob) {
-                Ok(()) => Ok(State::SendingChunk(HasChunk { at: self, blob })),
-                Err(AllocError) => Err(State::ReadingChunk(self)),
-            },
+            Reply::Data(blob) => self.blob_read(blob),
             reply => Ok(ended(reply)),
         }
     }

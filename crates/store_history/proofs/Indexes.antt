@@ -27,6 +27,7 @@ pub record IsIndexOf (i : Index) (name : List ℕ) (a : Archive) : Type 0 where
   pub layout : i.layout ≡ a.layout
   pub entries : i.entries ≡ entries_from 0 a.pieces
   pub size : i.size ≡ size_of (archive a)
+  pub ends : i.size ≡ length (concat a.pieces)
   pub csum : i.csum ≡ csum_of (archive a)
 
 -- ---- names
@@ -73,13 +74,21 @@ last_is (p ∷ ps) = let h = last_from 0 p ps in omega (arith, h)
 
 module _ (size cut : ℕ) where
   -- a piece before another is as long as the chunk size
-  whole : (end : ℕ) (p q : List ℕ) (qs : List (List ℕ)) → fills_size size cut end (p ∷ q ∷ qs) ≡ true → 1 ≤ length q → length p ≡ cut
+  pub whole : (end : ℕ) (p q : List ℕ) (qs : List (List ℕ)) → fills_size size cut end (p ∷ q ∷ qs) ≡ true → 1 ≤ length q → length p ≡ cut
   whole end p q qs fills one =
       let first = and_parts (length p == piece_len size cut end) (fills_size size cut (end + length p) (q ∷ qs)) fills in
       let second = and_parts (length q == piece_len size cut (end + length p)) (fills_size size cut (end + length p + length q) qs) first.1 in
       let p_len : length p ≡ min cut (size - end) = eqb-true (length p) (piece_len size cut end) first.0 in
       let q_len : length q ≡ min cut (size - (end + length p)) = eqb-true (length q) (piece_len size cut (end + length p)) second.0 in
       omega (arith, p_len, q_len, one)
+
+  -- the last ends at the size
+  filled : (end : ℕ) (ps : List (List ℕ)) → fills_size size cut end ps ≡ true → size ≡ end + length (concat ps)
+  filled end [] fills = let is = eqb-true end size fills in omega (arith, is)
+  filled end (p ∷ ps) fills =
+      let rest = filled (end + length p) ps (and_parts (length p == piece_len size cut end) (fills_size size cut (end + length p) ps) fills).1 in
+      let len = length-append p (concat ps) in
+      omega (arith, rest, len)
 
   fixed_from : (end : ℕ) (ps : List (List ℕ)) → fills_size size cut end ps ≡ true → All IsPiece ps
       → fixed_entries cut end (map sha256 ps) ≡ entries_from end ps
@@ -114,6 +123,7 @@ module _ (name uuid reserved : List ℕ) (ctime : ℤ) (pieces : List (List ℕ)
           layout = refl;
           entries = dynamic_from 0 pieces;
           size = last_is pieces;
+          ends = last_is pieces;
           csum = refl;
         },
       )
@@ -131,6 +141,7 @@ module _ (name uuid reserved : List ℕ) (ctime : ℤ) (pieces : List (List ℕ)
           layout = refl;
           entries = fixed_from size cut 0 pieces (fits.0).1 fits.1;
           size = refl;
+          ends = let h = filled size cut 0 pieces (fits.0).1 in omega (arith, h);
           csum = refl;
         },
       )

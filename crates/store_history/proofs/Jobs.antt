@@ -9,12 +9,13 @@ use Rattle.wire_commands.specs.declared.reply.Reply.TheVariants as replies
 use Rattle.wire_commands.specs.declared.rows.PruneMark.TheVariants.{Removed, Held, Gone}
 use Rattle.wire_commands.specs.declared.rows.PruneRow.{PruneRow}
 use Rattle.store_types.specs.declared.names.Keep.{Keep}
-use Rattle.store_types.specs.declared.names.Digest32.{Digest32}
 use Rattle.store_types.specs.declared.refusal.Refusal.{Refusal}
 use Rattle.store_types.specs.declared.refusal.Refusal.TheVariants.{SnapshotBusy, NoSnapshot, Damaged, Unreadable, NoMemory, RemoteFault, DiskFault, Halted}
 use Rattle.wire_commands.specs.declared.rows.FileRow.{FileRow}
 use Rattle.wire_commands.specs.declared.rows.FileFault.{FileFault}
 use Rattle.wire_commands.specs.declared.rows.FileFault.TheVariants as faults
+use Rattle.store_model.specs.declared.piece.Piece.{Piece}
+use Rattle.store_model.specs.SizeLimits.{size_limit}
 use Rattle.store_model.specs.Job.{Visit, Asking, grouping, forgetting, opening, listing, reading, checking, closing, step_of, Job, over, asking, stopped, closed}
 use Rattle.store_model.specs.Jobs.{job_of, IsJob, take as job_take}
 use Rattle.store_model.specs.PruneJob as prune
@@ -97,23 +98,27 @@ done_begun : (v : Visit) (row : FileRow) (fault : Option FileFault) → IsBegun 
 unfolding verify.file_done
 done_begun v row fault = file_begun (verify.with_fault row fault (record v { files = v.files + 1 })) v.later
 
-chunk_begun : (v : Visit) (row : FileRow) (fault : Option FileFault) (place : ℕ) (ds : List Digest32) → IsBegun (verify.next_chunk v row fault place ds)
+chunk_begun : (v : Visit) (row : FileRow) (fault : Option FileFault) (place : ℕ) (ps : List Piece) → IsBegun (verify.next_chunk v row fault place ps)
 unfolding verify.next_chunk
 chunk_begun v row fault place [] = done_begun v row fault
-chunk_begun v row fault place (d ∷ ds) = tt
+chunk_begun v row fault place (p ∷ ps) = tt
 
 judged_begun : (v : Visit) (row : FileRow) (j : verify.Judged) → IsBegun (verify.file_read v row j)
 unfolding verify.file_read
 judged_begun v row j =
-    chunk_begun (record v { entries = v.entries + length j.digests; bytes = v.bytes + j.bytes }) row j.fault 0 j.digests
+    chunk_begun (record v { entries = v.entries + length j.entries; bytes = v.bytes + j.bytes }) row j.fault 0 j.entries
 
 part_begun : (v : Visit) (row : FileRow) (bytes : List ℕ) (total : ℕ) → IsBegun (verify.part_read v row bytes total)
 unfolding verify.part_read
-part_begun v row bytes total = by_test (nat_lt (length bytes) total)
+part_begun v row bytes total = by_tests (nat_lt (size_limit row.file) total) (nat_lt (length bytes) total)
   where
-    by_test : (b : Bool) → IsBegun (if b then asking (reading v row bytes) else verify.file_read v row (verify.judged v.snapshot row bytes))
-    by_test true = tt
-    by_test false = judged_begun v row (verify.judged v.snapshot row bytes)
+    by_tests : (long more : Bool) → IsBegun (
+        if long then verify.file_done v row (Some (verify.too_long row total)) else
+        if more then asking (reading v row bytes) else
+        verify.file_read v row (verify.judged v.snapshot row bytes))
+    by_tests true more = done_begun v row (Some (verify.too_long row total))
+    by_tests false true = tt
+    by_tests false false = judged_begun v row (verify.judged v.snapshot row bytes)
 
 opened_begun : (snapshot : List ℕ) (r : Reply) → IsBegun (verify.opened snapshot r)
 unfolding verify.opened
@@ -134,13 +139,13 @@ read_begun v row bytes (replies.Refused (Unreadable name)) = done_begun v row (S
 read_begun v row bytes (replies.Refused refusal) = stopped_begun refusal
 read_begun v row bytes r = tt
 
-checked_begun : (v : Visit) (row : FileRow) (fault : Option FileFault) (place : ℕ) (d : Digest32) (later : List Digest32) (r : Reply) → IsBegun (verify.checked v row fault place d later r)
+checked_begun : (v : Visit) (row : FileRow) (fault : Option FileFault) (place : ℕ) (p : Piece) (later : List Piece) (r : Reply) → IsBegun (verify.checked v row fault place p later r)
 unfolding verify.checked
-checked_begun v row fault place d later (replies.Data bytes) = chunk_begun v row (option_or fault (verify.chunk_fault d bytes)) (place + 1) later
-checked_begun v row fault place d later (replies.Refused (Damaged asked found)) = chunk_begun v row (option_or fault (Some (faults.Damaged d))) (place + 1) later
-checked_begun v row fault place d later (replies.Refused (Unreadable name)) = done_begun v row (option_or fault (Some faults.Unreadable))
-checked_begun v row fault place d later (replies.Refused refusal) = stopped_begun refusal
-checked_begun v row fault place d later r = tt
+checked_begun v row fault place p later (replies.Data bytes) = chunk_begun v row (option_or fault (verify.chunk_fault p bytes)) (place + 1) later
+checked_begun v row fault place p later (replies.Refused (Damaged asked found)) = chunk_begun v row (option_or fault (Some (faults.Damaged p.digest))) (place + 1) later
+checked_begun v row fault place p later (replies.Refused (Unreadable name)) = done_begun v row (option_or fault (Some faults.Unreadable))
+checked_begun v row fault place p later (replies.Refused refusal) = stopped_begun refusal
+checked_begun v row fault place p later r = tt
 
 pub take_begun : (j : Asking) (r : Reply) → IsBegun (asking j) → IsBegun (job_take j r)
 unfolding job_take
@@ -149,7 +154,7 @@ take_begun (forgetting before snapshot later) r h = forgot_begun before snapshot
 take_begun (opening snapshot) r h = opened_begun snapshot r
 take_begun (listing snapshot) r h = listed_begun snapshot r
 take_begun (reading v row bytes) r h = read_begun v row bytes r
-take_begun (checking v row fault place d later) r h = checked_begun v row fault place d later r
+take_begun (checking v row fault place p later) r h = checked_begun v row fault place p later r
 take_begun (closing report) r h = closed_begun report r
 take_begun j r h = absurd h
 
@@ -160,7 +165,7 @@ step_formed (forgetting before snapshot later) h = tt
 step_formed (opening snapshot) h = tt
 step_formed (listing snapshot) h = tt
 step_formed (reading v row bytes) h = tt
-step_formed (checking v row fault place d later) h = tt
+step_formed (checking v row fault place p later) h = tt
 step_formed (closing report) h = tt
 step_formed j h = absurd h
 

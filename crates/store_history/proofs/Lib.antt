@@ -8,6 +8,7 @@ pub mod Events
 pub mod Keeping
 pub mod Found
 pub mod Indexes
+pub mod SizeLimits
 pub mod Listed
 pub mod Sending
 pub mod Meaning
@@ -26,7 +27,6 @@ pub mod Jobs
 pub mod Collecting
 pub mod Prefixes
 pub mod Alone
-pub mod Lasting
 pub mod Apart
 pub mod LastTouches
 pub mod SweptLonger

@@ -19,11 +19,13 @@ use Rattle.store_files.specs.Manifest.Fields.{Fact}
 use Rattle.store_model.specs.AdminSteps.{facts_in}
 use Rattle.store_model.specs.Load.{read_manifest}
 use Rattle.store_model.specs.Manifests.{blob_data, data_in}
+use Rattle.store_model.specs.SizeLimits.{blob_limit}
 use Rattle.store_model.specs.Stands.{IsSnapshot, FitsContent, pieces_in}
 use Rattle.store_model.specs.Store.{snapshot_named}
 use Rattle.store_model.specs.SyncJob.{listed_files, text_of}
 use Rattle.store_history.specs.Remote.{IsList, piece_in, snapshot_in, text_in, text_named}
 use Rattle.store_history.proofs.Found.{each_file, each_named}
+use Rattle.store_history.proofs.SizeLimits.{blob_short}
 
 -- ---- lists
 
@@ -106,6 +108,9 @@ kept_name names name h = by_test (bytes_eq name manifest_name) refl
 
 -- ---- a snapshot of the list
 
+pub piece_there : (L : List Snapshot) (x : Snapshot) (f : File) (p : List ℕ) → Contains L x → Contains x.files f → Contains (pieces_of f.content) p → Contains (flat_map pieces_in L) p
+piece_there L x f p there h k = in_flat_map pieces_in L x p there (in_flat_map (λ g. pieces_of g.content) x.files f p h k)
+
 module _ (L : List Snapshot) (list : IsList L) (x : Snapshot) (there : Contains L x) where
   abbrev fits : IsSnapshot x
   fits = All-contains IsSnapshot L x list.each there
@@ -167,6 +172,9 @@ module _ (L : List Snapshot) (list : IsList L) (x : Snapshot) (there : Contains 
       subst FitsContent the_file.2
       (All-contains (λ f. FitsContent f.content) x.files the_file.0 fits.contents (found_in manifest_name x.files the_file.0 the_file.1))
 
+  pub manifest_short : length (text_of (file_named manifest_name x.files)) ≤ blob_limit
+  manifest_short = subst (λ (t : List ℕ). length t ≤ blob_limit) (sym text_is) (blob_short bytes bytes_fit.0)
+
   pub manifest_read : read_manifest (text_of (file_named manifest_name x.files)) ≡ Some manifest
   manifest_read =
       ap read_manifest text_is
@@ -219,5 +227,5 @@ module _ (L : List Snapshot) (list : IsList L) (x : Snapshot) (there : Contains 
 
   pub piece_here : (f : File) (p : List ℕ) → Contains x.files f → Contains (pieces_of f.content) p → piece_in L (digest_of p) ≡ Some p
   piece_here f p h k =
-      let here : Contains (flat_map pieces_in L) p = in_flat_map pieces_in L x p there (in_flat_map (λ g. pieces_of g.content) x.files f p h k) in
+      let here = piece_there L x f p there h k in
       find_only (flat_map pieces_in L) p here (λ q within same. list.clear q p within here same)

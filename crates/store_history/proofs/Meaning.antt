@@ -1,11 +1,11 @@
 -- What `weave` has for a SYNC that reads the remote: each of its states stands for one of the job that knows the remote's list.
-use Rattle.std.proofs.Common.{◌≡◌, ℕ, zero, suc, ◌+◌, ◌≤◌, Bool, true, false, List, [], ◌∷◌, ◌++◌, map, length, Option, Some, Ok, Err, Result, refl, sym, ap, subst, ◌∙◌, arith, take as take_first, drop, nat_lt, if◌then◌else◌, is_some, IsTrue, IfSome}
-use Rattle.std.specs.List.{All, Contains}
-use Rattle.std.proofs.lemmas.Bool.{le-leb, ltb-false}
+use Rattle.std.proofs.Common.{◌≡◌, ℕ, zero, suc, ◌+◌, ◌≤◌, Bool, true, false, List, [], ◌∷◌, ◌++◌, map, length, Option, Some, Ok, Err, Result, refl, sym, ap, subst, ◌∙◌, arith, take as take_first, drop, nat_lt, if◌then◌else◌, is_some, IsTrue, IfSome, None, ◌==◌}
+use Rattle.std.specs.List.{All, Contains, concat, flat_map}
+use Rattle.std.proofs.lemmas.Bool.{eq-eqb, le-leb, le-ltb, ltb-false}
 use Rattle.std.proofs.lemmas.List.{append_assoc, append-nil, take-append-drop, length-append, length-drop}
 use Rattle.std.proofs.lemmas.List.Elements.{All-contains, All-contains_itself, All-head, All-tail}
 use Rattle.std.proofs.Math.Seq.{drop-append_seam}
-use Rattle.std.specs.FinMap.{get-from_entries}
+use Rattle.std.specs.FinMap.{get, get-from_entries}
 use Rattle.std.proofs.lemmas.Cmp.{nat_list_cmp_total}
 use Rattle.sha2.specs.Sha256.{sha256}
 use Rattle.store_types.specs.declared.append.AppendEntry.{AppendEntry}
@@ -24,18 +24,20 @@ use Rattle.wire_commands.specs.declared.reply.Reply.TheVariants.{Base, Data, Par
 use Rattle.wire_commands.specs.declared.command.Command.TheVariants as commands
 use Rattle.store_files.specs.Manifest.{Manifest}
 use Rattle.store_model.specs.Load.{read_manifest}
-use Rattle.store_model.specs.Stands.{FitsContent, IsSnapshot, names_content}
+use Rattle.store_model.specs.SizeLimits.{blob_limit, size_limit}
+use Rattle.store_model.specs.Stands.{FitsContent, IsSnapshot, names_content, pieces_in}
 use Rattle.store_model.specs.WriterSteps.{part_limit, part_of}
 use Rattle.store_model.specs.Job.{Pull, Asking, beginning, sending, aborting as job_aborting, step_of, Job, over, asking, stopped}
 use Rattle.store_model.specs.Jobs.{take as job_take}
 use Rattle.store_model.specs.SyncJob.{unsent, entries_from, appends, new_index, uploads, listed_files, text_of, commands_of, next_snapshot as job_next_snapshot, next_command, begun, replied}
-use Rattle.store_history.specs.Pulling.{Course, Stock, Index, Pulling, seeking, comparing, starting, reading_manifest, reading_file, opening, reading_chunk, sending_chunk, appending, closing_index, sending_blob, sending_manifest, finishing, rejecting, aborting, SyncJob, reports, asks, act_of, stops, goes_on, ends, take, next_snapshot, finished, next_append, next_chunk, next_file, with_chunk, stock_of, started, manifest_told, file_told, chunk_told, manifest_part, file_part, manifest_read, file_read, index_read, blob_read, index_in, rejects}
+use Rattle.store_history.specs.Pulling.{Course, Stock, Index, Pulling, seeking, comparing, starting, reading_manifest, reading_file, opening, reading_chunk, sending_chunk, appending, closing_index, sending_blob, sending_manifest, finishing, rejecting, aborting, SyncJob, reports, asks, act_of, stops, goes_on, ends, take, next_snapshot, finished, next_append, next_chunk, next_file, with_chunk, stock_of, started, manifest_told, file_told, chunk_told, manifest_part, file_part, manifest_read, file_read, index_read, blob_read, index_in, rejects, sent_in, end_before, blob_size, mismatched}
 use Rattle.store_history.specs.Acts.{Class, stepping, reaching, class_of, act_of_command, act_of_step}
 use Rattle.store_history.specs.Remote.{IsList, part_told, piece_in, Reads, text_in}
 use Rattle.store_history.proofs.Events.{command_class}
-use Rattle.store_history.proofs.Listed.{few, files_listed, manifest, manifest_here, manifest_read as manifest_told_as, names_listed, piece_here, text_here}
+use Rattle.store_history.proofs.Listed.{few, files_listed, manifest, manifest_here, manifest_read as manifest_told_as, manifest_short, names_listed, piece_here, piece_there, text_here}
 use Rattle.store_history.proofs.Indexes.{IsIndexOf, archive_read, blob_apart}
-use Rattle.store_history.proofs.Sending.{Alike, IsBehind, all_behind, behind_known, behind_sent, known, known_sent, uploads_same, was}
+use Rattle.store_history.proofs.SizeLimits.{file_short}
+use Rattle.store_history.proofs.Sending.{Alike, HasSizes, sizes_sent, IsBehind, all_behind, behind_known, behind_sent, known, known_sent, uploads_same, was}
 
 -- ---- the commands to come
 
@@ -90,18 +92,19 @@ pub record IsCourse (L : List Snapshot) (c : Course) (p : Pull) : Type 0 where
   pub pulled : c.pulled ≡ p.pulled
 
 -- these files of it are to come, and these pieces were sent
-pub record IsStock (x : Snapshot) (s : Stock) (fs : List File) (sent : List (List ℕ)) : Type 0 where
+pub record IsStock (L : List Snapshot) (x : Snapshot) (s : Stock) (fs : List File) (sent : List (List ℕ)) : Type 0 where
   pub manifest : s.manifest ≡ manifest_text x
   pub names : s.names ≡ map (λ f. f.name) fs
   pub files : All (Contains x.files) fs
   pub are_sent : Alike (known s) (was sent)
+  pub sizes : HasSizes (flat_map pieces_in L) s
 
 pub record AtFiles (L : List Snapshot) (c : Course) (s : Stock) : Type 0 where
   pub pull : Pull
   pub files : List File
   pub sent : List (List ℕ)
   pub course : IsCourse L c pull
-  pub stock : IsStock pull.snapshot s files sent
+  pub stock : IsStock L pull.snapshot s files sent
 
 -- and of this archive's pieces the last are to come
 pub record AtIndex (L : List Snapshot) (c : Course) (s : Stock) (i : Index) : Type 0 where
@@ -114,10 +117,14 @@ pub record AtIndex (L : List Snapshot) (c : Course) (s : Stock) (i : Index) : Ty
   pub after : List (List ℕ)
   pub to_come : List (List ℕ)
   pub course : IsCourse L c pull
-  pub stock : IsStock pull.snapshot s files sent
+  pub stock : IsStock L pull.snapshot s files sent
   pub index : IsIndexOf i name from
   pub file : Contains (pull.snapshot).files (let f : File = record { name = name; content = archive from } in f)
   pub pieces : All (Contains from.pieces) to_come
+
+-- the pieces to come begin at this offset of the archive
+abbrev pub BeginAt : Index → ℕ → List (List ℕ) → Type 0
+BeginAt i o ps = i.size ≡ o + length (concat ps)
 
 -- the bytes are the first of the text
 abbrev pub IsPart : List ℕ → List ℕ → Type 0
@@ -141,9 +148,11 @@ Shows L (reading_chunk c s i e later) j =
     (a : AtIndex L c s i) × (p : List ℕ) × (o : ℕ) × Contains (a.from).pieces p × (e.digest ≡ digest_of p) × (later ≡ entries_from o a.to_come)
     × IsBehind (p ∷ a.to_come) a.sent a.after
     × Sends a.pull (Chunk (digest_of p) (blobs.blob p) ∷ chunks_from (p ∷ a.sent) a.to_come (behind_chunks a.from a.after a.files (a.pull).snapshot)) j
+    × (o ≡ e.offset + length p) × BeginAt i o a.to_come
 Shows L (sending_chunk c s i e later bytes) j =
     (a : AtIndex L c s i) × (o : ℕ) × (later ≡ entries_from o a.to_come) × IsBehind a.to_come a.sent a.after
     × Sends a.pull (Chunk e.digest bytes ∷ chunks_from a.sent a.to_come (behind_chunks a.from a.after a.files (a.pull).snapshot)) j
+    × BeginAt i o a.to_come
 Shows L (appending c s i e later) j =
     (a : AtIndex L c s i) × (n : ℕ) × (length later ≤ n) × Alike (was a.after) (was a.sent)
     × Sends a.pull (Append 0 (take_first 4096 (e ∷ later)) ∷ appends n (drop 4096 (e ∷ later)) ++ behind_appends a.from a.after a.files (a.pull).snapshot) j
@@ -206,7 +215,7 @@ shows_snapshots L pulled (x ∷ xs) there =
     )
 
 module _ (L : List Snapshot) (c : Course) (s : Stock) where
-  shows_files : (p : Pull) (fs : List File) (sent : List (List ℕ)) → IsCourse L c p → IsStock p.snapshot s fs sent
+  shows_files : (p : Pull) (fs : List File) (sent : List (List ℕ)) → IsCourse L c p → IsStock L p.snapshot s fs sent
       → ShowsJob L (next_file c s) (next_command p (files_from sent fs p.snapshot))
   unfolding next_file next_command uploads
   shows_files p [] sent course stock =
@@ -220,12 +229,25 @@ module _ (L : List Snapshot) (c : Course) (s : Stock) where
         files = fs;
         sent = sent;
         course = course;
-        stock = record { manifest = stock.manifest; names = refl; files = All-tail (Contains (p.snapshot).files) f fs stock.files; are_sent = stock.are_sent };
+        stock = record { manifest = stock.manifest; names = refl; files = All-tail (Contains (p.snapshot).files) f fs stock.files; are_sent = stock.are_sent; sizes = stock.sizes };
       } in
       let first = asks_one p (uploads sent (f ∷ fs)) (Blob manifest_name (manifest_text p.snapshot)) (Finish ∷ []) in
       subst (λ (names : List (List ℕ)). ShowsJob L (elim names [ [] ↦ asks (sending_manifest c s) | name ∷ later ↦ asks (reading_file c (record s { names = later }) name []) ]) (next_command p (files_from sent (f ∷ fs) p.snapshot)))
       (sym stock.names)
       (first.0, first.1, (at, f, All-head (Contains (p.snapshot).files) f fs stock.files, refl, (file_text f.content, refl), first.1))
+
+begins_first : (size : ℕ) (bytes : List ℕ) → size ≡ length bytes → size ≡ 0 + length bytes
+begins_first size bytes is = omega (arith, is)
+
+-- a chunk of the remote has the size that its entry asks
+end_is : (i : Index) (o : ℕ) (ps : List (List ℕ)) → BeginAt i o ps → end_before i (entries_from o ps) ≡ o
+end_is i o [] begins = omega (arith, begins)
+end_is i o (p ∷ ps) begins = refl
+
+pub size_is : (i : Index) (e : AppendEntry) (p : List ℕ) (o : ℕ) (ps : List (List ℕ)) → o ≡ e.offset + length p → BeginAt i o ps
+    → length (blobs.blob p) ≡ blob_size i e (entries_from o ps)
+unfolding blobs.blob
+size_is i e p o ps at begins = let end = end_is i o ps begins in omega (arith, at, end)
 
 length-entries : (o : ℕ) (ps : List (List ℕ)) → length (entries_from o ps) ≡ length ps
 length-entries o [] = refl
@@ -248,7 +270,7 @@ module _ (L : List Snapshot) (c : Course) (s : Stock) (i : Index) where
 
   module _ (p : Pull) (name : List ℕ) (from : Archive) (fs : List File) (after : List (List ℕ)) (course : IsCourse L c p) (index : IsIndexOf i name from)
       (file : Contains (p.snapshot).files (let f : File = record { name = name; content = archive from } in f)) where
-    abbrev at : (sent qs : List (List ℕ)) → IsStock p.snapshot s fs sent → All (Contains from.pieces) qs → AtIndex L c s i
+    abbrev at : (sent qs : List (List ℕ)) → IsStock L p.snapshot s fs sent → All (Contains from.pieces) qs → AtIndex L c s i
     at sent qs stock pieces = record {
       pull = p;
       name = name;
@@ -264,15 +286,14 @@ module _ (L : List Snapshot) (c : Course) (s : Stock) (i : Index) where
       pieces = pieces;
     }
 
-    shows_chunks : (sent : List (List ℕ)) (o : ℕ) (qs : List (List ℕ)) → IsStock p.snapshot s fs sent → All (Contains from.pieces) qs → IsBehind qs sent after
+    shows_chunks : (sent : List (List ℕ)) (o : ℕ) (qs : List (List ℕ)) → IsStock L p.snapshot s fs sent → All (Contains from.pieces) qs → IsBehind qs sent after → BeginAt i o qs
         → ShowsJob L (next_chunk c s i (entries_from o qs)) (next_command p (chunks_from sent qs (behind_chunks from after fs p.snapshot)))
     unfolding next_chunk next_command
-    shows_chunks sent o [] stock pieces behind =
+    shows_chunks sent o [] stock pieces behind begins =
         subst (λ es. ShowsJob L (next_append c s i es) (next_command p (behind_chunks from after fs p.snapshot))) (sym index.entries)
         (shows_appends (at sent [] stock pieces) behind (entries_from 0 from.pieces) (length from.pieces) (let len = length-entries 0 from.pieces in omega (arith, len)))
-    shows_chunks sent o (q ∷ qs) stock pieces behind =
-        subst (λ b. ShowsJob L (if b then next_chunk c s i later else asks (reading_chunk c s i e later)) (next_command p (chunks_from sent (q ∷ qs) (behind_chunks from after fs p.snapshot))))
-        (sym (stock.are_sent q)) (by_test (was sent q) refl (shows_chunks sent (o + length q) qs stock (All-tail (Contains from.pieces) q qs pieces)))
+    shows_chunks sent o (q ∷ qs) stock pieces behind begins =
+        by_kept (get (sent_in s) (sha256 q)) refl (shows_chunks sent (o + length q) qs stock rest)
       where
         e : AppendEntry
         e = record { digest = digest_of q; offset = o }
@@ -283,19 +304,39 @@ module _ (L : List Snapshot) (c : Course) (s : Stock) (i : Index) where
         rest : All (Contains from.pieces) qs
         rest = All-tail (Contains from.pieces) q qs pieces
 
-        chunk : List ℕ → Command
-        chunk r = Chunk (digest_of r) (blobs.blob r)
+        here : Contains from.pieces q
+        here = All-head (Contains from.pieces) q qs pieces
 
-        by_test : (b : Bool) → was sent q ≡ b
-            → (IsBehind qs sent after → ShowsJob L (next_chunk c s i later) (next_command p (chunks_from sent qs (behind_chunks from after fs p.snapshot))))
-            → ShowsJob L (if b then next_chunk c s i later else asks (reading_chunk c s i e later))
-            (next_command p (map (λ r. Chunk (digest_of r) (blobs.blob r)) (if b then unsent sent qs else q ∷ unsent (q ∷ sent) qs) ++ behind_chunks from after fs p.snapshot))
-        by_test true is go = go (behind_known q qs sent after is behind)
-        by_test false is go = (
-          sending p (Chunk (digest_of q) (blobs.blob q)) (chunks_from (q ∷ sent) qs (behind_chunks from after fs p.snapshot)),
-          refl,
-          (at sent qs stock rest, q, o + length q, All-head (Contains from.pieces) q qs pieces, refl, refl, behind, refl),
-        )
+        on : BeginAt i (o + length q) qs
+        on = let len = length-append q (concat qs) in omega (arith, begins, len)
+
+        -- what is kept of the piece is its blob's size
+        sized : (n : ℕ) → get (sent_in s) (sha256 q) ≡ Some n → (n == blob_size i e later) ≡ true
+        sized n kept =
+            let is = stock.sizes q n (piece_there L p.snapshot (let f : File = record { name = name; content = archive from } in f) q course.there file here) kept in
+            eq-eqb n (blob_size i e later) (is ∙ size_is i e q (o + length q) qs refl on)
+
+        was_so : (k : Option ℕ) → get (sent_in s) (sha256 q) ≡ k → was sent q ≡ is_some k
+        was_so k kept = sym (stock.are_sent q) ∙ ap is_some kept
+
+        -- the commands to come, where the piece was sent, or was not
+        commands : Bool → List Command
+        commands b = map (λ r. Chunk (digest_of r) (blobs.blob r)) (if b then unsent sent qs else q ∷ unsent (q ∷ sent) qs) ++ behind_chunks from after fs p.snapshot
+
+        by_kept : (k : Option ℕ) → get (sent_in s) (sha256 q) ≡ k
+            → (IsBehind qs sent after → BeginAt i (o + length q) qs → ShowsJob L (next_chunk c s i later) (next_command p (chunks_from sent qs (behind_chunks from after fs p.snapshot))))
+            → ShowsJob L (elim k [ None ↦ asks (reading_chunk c s i e later) | Some size ↦ if size == blob_size i e later then next_chunk c s i later else mismatched e ])
+            (next_command p (commands (was sent q)))
+        by_kept None kept go =
+            subst (λ b. ShowsJob L (asks (reading_chunk c s i e later)) (next_command p (commands b))) (sym (was_so None kept)) (
+              sending p (Chunk (digest_of q) (blobs.blob q)) (chunks_from (q ∷ sent) qs (behind_chunks from after fs p.snapshot)),
+              refl,
+              (at sent qs stock rest, q, o + length q, here, refl, refl, behind, refl, refl, on),
+            )
+        by_kept (Some n) kept go =
+            subst (λ b. ShowsJob L (if b then next_chunk c s i later else mismatched e) (next_command p (commands (was sent q)))) (sym (sized n kept))
+            (subst (λ b. ShowsJob L (next_chunk c s i later) (next_command p (commands b))) (sym (was_so (Some n) kept))
+            (go (behind_known q qs sent after (was_so (Some n) kept) behind) on))
 
 -- ---- the reply to a command of the snapshot's, or to the step that opens or ends its writer
 
@@ -307,9 +348,9 @@ module _ (L : List Snapshot) where
       subst (λ cs. ShowsJob L (next_file c s) (next_command a.pull (cs ++ last_of (a.pull).snapshot))) (sym (uploads_same a.after a.sent a.files all))
       (shows_files L c s a.pull a.files a.sent a.course a.stock)
 
-  chunks_on : (c : Course) (s : Stock) (i : Index) (a : AtIndex L c s i) (o : ℕ) → IsBehind a.to_come a.sent a.after
+  chunks_on : (c : Course) (s : Stock) (i : Index) (a : AtIndex L c s i) (o : ℕ) → IsBehind a.to_come a.sent a.after → BeginAt i o a.to_come
       → ShowsJob L (next_chunk c s i (entries_from o a.to_come)) (next_command a.pull (chunks_from a.sent a.to_come (behind_chunks a.from a.after a.files (a.pull).snapshot)))
-  chunks_on c s i a o behind = shows_chunks L c s i a.pull a.name a.from a.files a.after a.course a.index a.file a.sent o a.to_come a.stock a.pieces behind
+  chunks_on c s i a o behind begins = shows_chunks L c s i a.pull a.name a.from a.files a.after a.course a.index a.file a.sent o a.to_come a.stock a.pieces behind begins
 
   shows_begun : (c : Course) (p : Pull) (r : Reply) → IsCourse L c p → ShowsJob L (started c r) (begun p r)
   unfolding started begun commands_of
@@ -341,12 +382,12 @@ module _ (L : List Snapshot) where
       let a = h.0 in
       shows_taken L a.pull (new_index (a.from).layout a.name) (chunks_from a.sent a.to_come (behind_chunks a.from a.after a.files (a.pull).snapshot)) j (next_chunk c s i i.entries) r h.3
       (subst (λ es. ShowsJob L (next_chunk c s i es) (next_command a.pull (chunks_from a.sent a.to_come (behind_chunks a.from a.after a.files (a.pull).snapshot))))
-      (ap (entries_from 0) h.1 ∙ sym (a.index).entries) (chunks_on c s i a 0 h.2))
+      (ap (entries_from 0) h.1 ∙ sym (a.index).entries) (chunks_on c s i a 0 h.2 (subst (BeginAt i 0) (sym h.1) (begins_first i.size (concat (a.from).pieces) (a.index).ends))))
   taken (sending_chunk c s i e later bytes) j r h local =
       let a = h.0 in
       shows_taken L a.pull (Chunk e.digest bytes) (chunks_from a.sent a.to_come (behind_chunks a.from a.after a.files (a.pull).snapshot)) j (next_chunk c s i later) r h.4
       (subst (λ es. ShowsJob L (next_chunk c s i es) (next_command a.pull (chunks_from a.sent a.to_come (behind_chunks a.from a.after a.files (a.pull).snapshot))))
-      (sym h.2) (chunks_on c s i a h.1 h.3))
+      (sym h.2) (chunks_on c s i a h.1 h.3 h.5))
   taken (appending c s i e later) j r h local =
       let a = h.0 in
       shows_taken L a.pull (Append 0 (take_first 4096 (e ∷ later))) (appends h.1 (drop 4096 (e ∷ later)) ++ behind_appends a.from a.after a.files (a.pull).snapshot) j
@@ -496,12 +537,19 @@ module _ (L : List Snapshot) (list : IsList L) where
     none_sent : (q : List ℕ) → known (stock_of (manifest_text x) m) q ≡ false
     none_sent q = ap is_some (get-from_entries {R = text_cmp} nat_list_cmp_total [] (sha256 q))
 
-    listed_stock : IsStock x (stock_of (manifest_text x) m) (listed_files x) []
+    none_sized : HasSizes (flat_map pieces_in L) (stock_of (manifest_text x) m)
+    none_sized q n here got = absurd (nothing (sym (get-from_entries {R = text_cmp} nat_list_cmp_total [] (sha256 q)) ∙ got))
+      where
+        nothing : {k : ℕ} → None ≡ Some k → ⊥
+        nothing e = cc
+
+    listed_stock : IsStock L x (stock_of (manifest_text x) m) (listed_files x) []
     listed_stock = record {
       manifest = refl;
       names = names_listed L list x course.there;
       files = files_listed L list x course.there;
       are_sent = none_sent;
+      sizes = none_sized;
     }
 
     commands_are : commands_of x ≡ files_from [] (listed_files x) x
@@ -518,8 +566,13 @@ module _ (L : List Snapshot) (list : IsList L) where
 
     manifest_on : (bytes rest : List ℕ) → bytes ++ rest ≡ manifest_text x → ShowsJob L (manifest_part c bytes (length (bytes ++ rest))) (asking j)
     unfolding manifest_part
-    manifest_on bytes rest is = by_test (nat_lt (length bytes) (length (bytes ++ rest))) refl
+    manifest_on bytes rest is =
+        subst (λ b. ShowsJob L (if b then rejects c manifest_name else if nat_lt (length bytes) (length (bytes ++ rest)) then asks (reading_manifest c bytes) else manifest_read c bytes (read_manifest bytes)) (asking j)) (sym short)
+        (by_test (nat_lt (length bytes) (length (bytes ++ rest))) refl)
       where
+        short : nat_lt blob_limit (length (bytes ++ rest)) ≡ false
+        short = le-ltb blob_limit (length (bytes ++ rest)) (subst (λ (t : List ℕ). length t ≤ blob_limit) (sym is) (manifest_short L list x course.there))
+
         by_test : (b : Bool) → nat_lt (length bytes) (length (bytes ++ rest)) ≡ b
             → ShowsJob L (if b then asks (reading_manifest c bytes) else manifest_read c bytes (read_manifest bytes)) (asking j)
         by_test true h = (j, refl, (p, course, (rest, is), asked))
@@ -572,8 +625,16 @@ module _ (L : List Snapshot) (list : IsList L) where
     file_on : (f : File) → Contains y.files f → Sends a.pull (files_from a.sent (f ∷ a.files) y) j
         → (bytes rest : List ℕ) → bytes ++ rest ≡ file_text f.content → ShowsJob L (file_part c s f.name bytes (length (bytes ++ rest))) (asking j)
     unfolding file_part
-    file_on f there asked bytes rest is = by_test (nat_lt (length bytes) (length (bytes ++ rest))) refl
+    file_on f there asked bytes rest is =
+        subst (λ b. ShowsJob L (if b then rejects c f.name else if nat_lt (length bytes) (length (bytes ++ rest)) then asks (reading_file c s f.name bytes) else file_read c s f.name bytes) (asking j)) (sym short)
+        (by_test (nat_lt (length bytes) (length (bytes ++ rest))) refl)
       where
+        fits : IsTrue (names_content f.content f.name) × FitsContent f.content
+        fits = fits_file f there
+
+        short : nat_lt (size_limit f.name) (length (bytes ++ rest)) ≡ false
+        short = le-ltb (size_limit f.name) (length (bytes ++ rest)) (subst (λ (t : List ℕ). length t ≤ size_limit f.name) (sym is) (file_short f.name f.content fits.0 fits.1))
+
         by_test : (b : Bool) → nat_lt (length bytes) (length (bytes ++ rest)) ≡ b
             → ShowsJob L (if b then asks (reading_file c s f.name bytes) else file_read c s f.name bytes) (asking j)
         by_test true h = (j, refl, (a, f, there, refl, (rest, is), asked))
@@ -617,6 +678,7 @@ module _ (L : List Snapshot) (list : IsList L) where
       let a = h.0 in
       let p = h.1 in
       let y = (a.pull).snapshot in
+      let there = piece_there L y (let f : File = record { name = a.name; content = archive a.from } in f) p (a.course).there a.file h.3 in
       let named = ap (piece_in L) h.4 ∙ piece_here L list y (a.course).there (record { name = a.name; content = archive a.from }) p a.file h.3 in
       let told = given (piece_in L e.digest) p r (λ q. Data (blobs.blob q)) named reads.1 in
       let s' = with_chunk e (blobs.blob p) s in
@@ -634,12 +696,16 @@ module _ (L : List Snapshot) (list : IsList L) where
           names = (a.stock).names;
           files = (a.stock).files;
           are_sent = known_sent s e p (blobs.blob p) a.sent h.4 (a.stock).are_sent;
+          sizes = sizes_sent (flat_map pieces_in L) s e p list.clear there h.4 (a.stock).sizes;
         };
         index = a.index;
         file = a.file;
         pieces = a.pieces;
       } in
+      let sized : (length (blobs.blob p) == blob_size i e later) ≡ true =
+      eq-eqb (length (blobs.blob p)) (blob_size i e later) (size_is i e p h.2 a.to_come h.8 h.9 ∙ ap (blob_size i e) (sym h.5)) in
       subst (λ w. ShowsJob L (chunk_told c s i e later w) (asking j)) (sym told) (
+      subst (λ b. ShowsJob L (if b then asks (sending_chunk c s' i e later (blobs.blob p)) else mismatched e) (asking j)) (sym sized) (
         j,
         refl,
         (
@@ -648,8 +714,9 @@ module _ (L : List Snapshot) (list : IsList L) where
           h.5,
           behind_sent p a.to_come a.sent a.after h.6,
           subst (λ d. Sends a.pull (Chunk d (blobs.blob p) ∷ chunks_from (p ∷ a.sent) a.to_come (behind_chunks a.from a.after a.files y)) j) (sym h.4) h.7,
+          h.9,
         ),
-      )
+      ))
   reads_on (seeking group) j r h away reads = absurd h
   reads_on (comparing group remote) j r h away reads = absurd h
   reads_on (rejecting path) j r h away reads = absurd h

@@ -1,7 +1,6 @@
 -- No command and no job tells a collector's report.
 use Rattle.std.proofs.Common.{◌≡◌, ℕ, ◌+◌, Bool, true, false, List, [], ◌∷◌, ◌++◌, length, map, Option, Some, None, Result, Ok, Err, refl, if◌then◌else◌, nat_le, nat_lt, slice_get}
 use Rattle.std.specs.Option.{option_or}
-use Rattle.store_types.specs.declared.names.Digest32.{Digest32}
 use Rattle.store_types.specs.declared.names.Keep.{Keep}
 use Rattle.store_types.specs.declared.refusal.Refusal.{Refusal}
 use Rattle.store_types.specs.declared.refusal.Refusal.TheVariants.{BadName, GroupBusy, SnapshotBusy, TooMany, NoFile, NoSnapshot, BadRange, NotAllowed, Damaged, Unreadable, NoMemory, RemoteFault, DiskFault, Halted}
@@ -18,6 +17,8 @@ use Rattle.wire_commands.specs.declared.rows.FileFault.{FileFault}
 use Rattle.wire_commands.specs.declared.rows.FileFault.TheVariants as faults
 use Rattle.wire_commands.specs.declared.rows.PruneMark.TheVariants.{Removed, Held, Gone}
 use Rattle.wire_commands.specs.declared.rows.PruneRow.{PruneRow}
+use Rattle.store_model.specs.declared.piece.Piece.{Piece}
+use Rattle.store_model.specs.SizeLimits.{size_limit}
 use Rattle.store_model.specs.Store.{Store, Outcome, session, want_writer, want_reader, want_idle, group_holder, in_group, latest_in, snapshot_named}
 use Rattle.store_model.specs.Uploads.{want_room}
 use Rattle.store_model.specs.Manifests.{finish_check}
@@ -224,22 +225,26 @@ done_plainly : (v : Visit) (row : FileRow) (fault : Option FileFault) → IsPlai
 unfolding verify.file_done
 done_plainly v row fault = file_plainly (verify.with_fault row fault (record v { files = v.files + 1 })) v.later
 
-next_plainly : (v : Visit) (row : FileRow) (fault : Option FileFault) (place : ℕ) (ds : List Digest32) → IsPlainJob (verify.next_chunk v row fault place ds)
+next_plainly : (v : Visit) (row : FileRow) (fault : Option FileFault) (place : ℕ) (ps : List Piece) → IsPlainJob (verify.next_chunk v row fault place ps)
 unfolding verify.next_chunk
 next_plainly v row fault place [] = done_plainly v row fault
-next_plainly v row fault place (d ∷ ds) = tt
+next_plainly v row fault place (p ∷ ps) = tt
 
 read_plainly : (v : Visit) (row : FileRow) (j : verify.Judged) → IsPlainJob (verify.file_read v row j)
 unfolding verify.file_read
-read_plainly v row j = next_plainly (record v { entries = v.entries + length j.digests; bytes = v.bytes + j.bytes }) row j.fault 0 j.digests
+read_plainly v row j = next_plainly (record v { entries = v.entries + length j.entries; bytes = v.bytes + j.bytes }) row j.fault 0 j.entries
 
 part_plainly : (v : Visit) (row : FileRow) (bytes : List ℕ) (total : ℕ) → IsPlainJob (verify.part_read v row bytes total)
 unfolding verify.part_read
-part_plainly v row bytes total = by_test (nat_lt (length bytes) total)
+part_plainly v row bytes total = by_tests (nat_lt (size_limit row.file) total) (nat_lt (length bytes) total)
   where
-    by_test : (b : Bool) → IsPlainJob (if b then asking (reading v row bytes) else verify.file_read v row (verify.judged v.snapshot row bytes))
-    by_test true = tt
-    by_test false = read_plainly v row (verify.judged v.snapshot row bytes)
+    by_tests : (long more : Bool) → IsPlainJob (
+        if long then verify.file_done v row (Some (verify.too_long row total)) else
+        if more then asking (reading v row bytes) else
+        verify.file_read v row (verify.judged v.snapshot row bytes))
+    by_tests true more = done_plainly v row (Some (verify.too_long row total))
+    by_tests false true = tt
+    by_tests false false = read_plainly v row (verify.judged v.snapshot row bytes)
 
 opened_plainly : (snapshot : List ℕ) (r : Reply) → IsPlainReply r → IsPlainJob (verify.opened snapshot r)
 unfolding verify.opened
@@ -260,14 +265,14 @@ told_part v row bytes (replies.Refused (Unreadable name)) h = done_plainly v row
 told_part v row bytes (replies.Refused refusal) h = stopped_plainly closing refusal (λ r p. p)
 told_part v row bytes r h = h
 
-told_chunk : (v : Visit) (row : FileRow) (fault : Option FileFault) (place : ℕ) (d : Digest32) (later : List Digest32) (r : Reply)
-    → IsPlainReply r → IsPlainJob (verify.checked v row fault place d later r)
+told_chunk : (v : Visit) (row : FileRow) (fault : Option FileFault) (place : ℕ) (p : Piece) (later : List Piece) (r : Reply)
+    → IsPlainReply r → IsPlainJob (verify.checked v row fault place p later r)
 unfolding verify.checked
-told_chunk v row fault place d later (replies.Data bytes) h = next_plainly v row (option_or fault (verify.chunk_fault d bytes)) (place + 1) later
-told_chunk v row fault place d later (replies.Refused (Damaged asked found)) h = next_plainly v row (option_or fault (Some (faults.Damaged d))) (place + 1) later
-told_chunk v row fault place d later (replies.Refused (Unreadable name)) h = done_plainly v row (option_or fault (Some faults.Unreadable))
-told_chunk v row fault place d later (replies.Refused refusal) h = stopped_plainly closing refusal (λ r p. p)
-told_chunk v row fault place d later r h = h
+told_chunk v row fault place p later (replies.Data bytes) h = next_plainly v row (option_or fault (verify.chunk_fault p bytes)) (place + 1) later
+told_chunk v row fault place p later (replies.Refused (Damaged asked found)) h = next_plainly v row (option_or fault (Some (faults.Damaged p.digest))) (place + 1) later
+told_chunk v row fault place p later (replies.Refused (Unreadable name)) h = done_plainly v row (option_or fault (Some faults.Unreadable))
+told_chunk v row fault place p later (replies.Refused refusal) h = stopped_plainly closing refusal (λ r h. h)
+told_chunk v row fault place p later r h = h
 
 -- SYNC
 
@@ -299,7 +304,7 @@ take_plainly (forgetting before snapshot later) r kept h = forgot_plainly before
 take_plainly (opening snapshot) r kept h = opened_plainly snapshot r h
 take_plainly (listing snapshot) r kept h = listed_plainly snapshot r h
 take_plainly (reading v row bytes) r kept h = told_part v row bytes r h
-take_plainly (checking v row fault place digest later) r kept h = told_chunk v row fault place digest later r h
+take_plainly (checking v row fault place piece later) r kept h = told_chunk v row fault place piece later r h
 take_plainly (closing report) r kept h = closed_plainly closing report r (λ x p. p) kept
 take_plainly (beginning p) r kept h = begins_plainly p r h
 take_plainly (sending p c later) r kept h = replied_plainly p later r h

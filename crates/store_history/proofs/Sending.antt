@@ -3,7 +3,7 @@ use Rattle.std.proofs.Common.{◌≡◌, ℕ, Bool, true, false, List, [], ◌�
 use Rattle.std.specs.FinMap.{FinMap, get, insert, entries as entries_of, get-from_entries, get-entries, get-insert}
 use Rattle.std.proofs.lemmas.Cmp.{nat_list_cmp_total}
 use Rattle.std.specs.Ordering.{eq_by_cmp}
-use Rattle.std.specs.List.{list_any}
+use Rattle.std.specs.List.{Contains, list_any}
 use Rattle.std.specs.Str.{bytes_eq}
 use Rattle.std.proofs.lemmas.Slice.Eq.{bytes_eq-Decides}
 use Rattle.std.proofs.lemmas.List.Folds.{list_any-append}
@@ -16,6 +16,7 @@ use Rattle.blob_codec.specs.Blob as blobs
 use Rattle.store_files.specs.Archive.{Content, archive, blob, File, digest_of, pieces_of, size_of, csum_of}
 use Rattle.wire_commands.specs.declared.command.Command.{Command}
 use Rattle.wire_commands.specs.declared.command.Command.TheVariants.{Chunk, CloseIndex}
+use Rattle.store_model.specs.Clash.{NoClash}
 use Rattle.store_model.specs.SyncJob.{has_digest_of, new_index, unsent, entries_from, appends, file_commands, uploads}
 use Rattle.store_history.specs.Pulling.{Stock, sent_in, with_chunk}
 
@@ -43,18 +44,22 @@ same_digest p q h sent = each sent
     each [] = refl
     each (x ∷ xs) = ap (λ d. bytes_eq (sha256 x) d || list_any (has_digest_of p) xs) (sym same) ∙ ap (λ b. bytes_eq (sha256 x) (sha256 q) || b) (each xs)
 
--- the digest of a chunk is kept behind its reading
-pub known_more : (s : Stock) (e : AppendEntry) (p q bytes : List ℕ) → e.digest ≡ digest_of p → known (with_chunk e bytes s) q ≡ (bytes_eq (sha256 q) (sha256 p) || known s q)
-known_more s e p q bytes is =
-    ap is_some (get-from_entries {R = text_cmp} nat_list_cmp_total (entries_of more) (sha256 q) ∙ sym (get-entries more (sha256 q))
-    ∙ get-insert {R = text_cmp} nat_list_cmp_total (sent_in s) (e.digest).0 (length bytes) (sha256 q))
-    ∙ ap (λ (d : Digest32). is_some (cond (eq_by_cmp text_cmp (sha256 q) d.0) (Some (length bytes)) (get (sent_in s) (sha256 q)))) is
-    ∙ ap (λ b. is_some (cond b (Some (length bytes)) (get (sent_in s) (sha256 q)))) (is_eq-slice_cmp (sha256 q) (sha256 p))
-    ∙ by_test (bytes_eq (sha256 q) (sha256 p)) (get (sent_in s) (sha256 q))
+-- what is kept behind the reading of a chunk
+size_more : (s : Stock) (e : AppendEntry) (p q bytes : List ℕ) → e.digest ≡ digest_of p
+    → get (sent_in (with_chunk e bytes s)) (sha256 q) ≡ cond (bytes_eq (sha256 q) (sha256 p)) (Some (length bytes)) (get (sent_in s) (sha256 q))
+size_more s e p q bytes is =
+    get-from_entries {R = text_cmp} nat_list_cmp_total (entries_of more) (sha256 q) ∙ sym (get-entries more (sha256 q))
+    ∙ get-insert {R = text_cmp} nat_list_cmp_total (sent_in s) (e.digest).0 (length bytes) (sha256 q)
+    ∙ ap (λ (d : Digest32). cond (eq_by_cmp text_cmp (sha256 q) d.0) (Some (length bytes)) (get (sent_in s) (sha256 q))) is
+    ∙ ap (λ b. cond b (Some (length bytes)) (get (sent_in s) (sha256 q))) (is_eq-slice_cmp (sha256 q) (sha256 p))
   where
     more : FinMap text_cmp ℕ
     more = insert (sent_in s) (e.digest).0 (length bytes)
 
+-- so its digest is
+known_more : (s : Stock) (e : AppendEntry) (p q bytes : List ℕ) → e.digest ≡ digest_of p → known (with_chunk e bytes s) q ≡ (bytes_eq (sha256 q) (sha256 p) || known s q)
+known_more s e p q bytes is = ap is_some (size_more s e p q bytes is) ∙ by_test (bytes_eq (sha256 q) (sha256 p)) (get (sent_in s) (sha256 q))
+  where
     by_test : (b : Bool) (o : Option ℕ) → is_some (cond b (Some (length bytes)) o) ≡ (b || is_some o)
     by_test true o = refl
     by_test false o = refl
@@ -73,6 +78,26 @@ known_sent s e p bytes sent is h q =
     known_more s e p q bytes is
     ∙ ap (λ b. b || known s q) (turned_eq (sha256 q) (sha256 p))
     ∙ ap (λ b. bytes_eq (sha256 p) (sha256 q) || b) (h q)
+
+-- ---- the sizes that are kept
+
+-- of these pieces, of which no two have one digest, each that was sent is kept with the size of its blob
+abbrev pub HasSizes : List (List ℕ) → Stock → Type 0
+HasSizes ps s = (q : List ℕ) (n : ℕ) → Contains ps q → get (sent_in s) (sha256 q) ≡ Some n → n ≡ length (blobs.blob q)
+
+pub sizes_sent : (ps : List (List ℕ)) (s : Stock) (e : AppendEntry) (p : List ℕ) → NoClash ps → Contains ps p → e.digest ≡ digest_of p
+    → HasSizes ps s → HasSizes ps (with_chunk e (blobs.blob p) s)
+sizes_sent ps s e p clear there is h q n here got =
+    by_test (bytes_eq (sha256 q) (sha256 p)) refl (sym (size_more s e p q (blobs.blob p) is) ∙ got)
+  where
+    by_test : (b : Bool) → bytes_eq (sha256 q) (sha256 p) ≡ b → cond b (Some (length (blobs.blob p))) (get (sent_in s) (sha256 q)) ≡ Some n → n ≡ length (blobs.blob q)
+    by_test true same has =
+        let one : q ≡ p = clear q p here there ((bytes_eq-Decides (sha256 q) (sha256 p)).0 same) in
+        (let sized : length (blobs.blob p) ≡ n = some_same has in sym sized) ∙ ap (λ x. length (blobs.blob x)) (sym one)
+      where
+        some_same : {x y : ℕ} → Some x ≡ Some y → x ≡ y
+        some_same e = cc
+    by_test false other has = h q n here has
 
 -- ---- what is sent then
 

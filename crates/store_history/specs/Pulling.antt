@@ -1,11 +1,12 @@
 -- A SYNC as its lane does it: it reads the remote between its steps. What it asks next is told by all replies so far, those of the reads among them.
-use Rattle.std.specs.Prelude.{ℕ, ◌+◌, Bool, true, false, List, [], ◌∷◌, ◌++◌, map, filter, length, take as take_first, drop, nat_le, nat_lt, if◌then◌else◌, Option, Some, None, is_some, option_map, Ok, Err, codes}
+use Rattle.std.specs.Prelude.{ℕ, ◌+◌, ◌-◌, Bool, true, false, List, [], ◌∷◌, ◌++◌, map, filter, length, take as take_first, drop, nat_le, nat_lt, ◌==◌, if◌then◌else◌, Option, Some, None, is_some, option_map, Ok, Err, codes}
 use Rattle.std.specs.FinMap.{FinMap, entries as entries_of, from_entries, get, insert}
 use Rattle.std.specs.List.{last_or}
 use Rattle.store_types.specs.declared.append.AppendEntry.{AppendEntry}
 use Rattle.store_types.specs.declared.names.Digest32.{Digest32}
 use Rattle.store_types.specs.declared.refusal.Refusal.{Refusal}
-use Rattle.store_types.specs.declared.refusal.Refusal.TheVariants.{Unreadable, RemoteFault, DiskFault, Halted, NoMemory}
+use Rattle.store_types.specs.declared.refusal.ChunkFault.TheVariants.{Other}
+use Rattle.store_types.specs.declared.refusal.Refusal.TheVariants.{Damaged, Unreadable, RemoteFault, DiskFault, Halted, NoMemory}
 use Rattle.store_types.specs.FileNames.{manifest_name, is_fixed_name, is_dynamic_name}
 use Rattle.store_types.specs.Names.{key_of, text_cmp}
 use Rattle.blob_codec.specs.Blob.{data_of}
@@ -16,6 +17,7 @@ use Rattle.store_files.specs.Manifest.{Manifest}
 use Rattle.wire_commands.specs.declared.command.Command.TheVariants as commands
 use Rattle.wire_commands.specs.declared.reply.Reply.{Reply}
 use Rattle.wire_commands.specs.declared.reply.Reply.TheVariants.{Base, Keys, Part, Data, Refused}
+use Rattle.store_model.specs.SizeLimits.{blob_limit, size_limit}
 use Rattle.store_model.specs.Load.{read_manifest}
 use Rattle.store_model.specs.SyncJob.{new_index}
 use Rattle.store_model.specs.VerifyJob.{digest, last_end}
@@ -158,8 +160,9 @@ rejects c name = asks (rejecting (path_of c name))
 abbrev pub sent_in : Stock → FinMap text_cmp ℕ
 sent_in s = from_entries s.sent
 
-abbrev pub is_sent : Stock → AppendEntry → Bool
-is_sent s e = is_some (get (sent_in s) (e.digest).0)
+-- the size of the blob that was sent with the digest of an entry
+abbrev pub size_sent : Stock → AppendEntry → Option ℕ
+size_sent s e = get (sent_in s) (e.digest).0
 
 abbrev pub with_chunk : AppendEntry → List ℕ → Stock → Stock
 with_chunk e blob s = record s { sent = entries_of (insert (sent_in s) (e.digest).0 (length blob)) }
@@ -168,10 +171,27 @@ unfoldable pub next_append : Course → Stock → Index → List AppendEntry →
 next_append c s x [] = asks (closing_index c s x)
 next_append c s x (e ∷ later) = asks (appending c s x e later)
 
--- a chunk is sent at the first use of its digest
+-- the piece of an entry ends where that of the next begins, or with the archive
+abbrev pub end_before : Index → List AppendEntry → ℕ
+end_before x [] = x.size
+end_before x (e ∷ later) = e.offset
+
+-- so its blob has this size by the index
+abbrev pub blob_size : Index → AppendEntry → List AppendEntry → ℕ
+blob_size x e later = 12 + (end_before x later - e.offset)
+
+-- The chunk has another length than the index says of its entry. The digest that was found is the entry's own.
+abbrev pub mismatched : AppendEntry → SyncJob
+mismatched e = stops (Damaged e.digest (Other e.digest))
+
+-- A chunk is sent at the first use of its digest. At each use its length is that of the entry.
 unfoldable pub next_chunk : Course → Stock → Index → List AppendEntry → SyncJob
 next_chunk c s x [] = next_append c s x x.entries
-next_chunk c s x (e ∷ later) = if is_sent s e then next_chunk c s x later else asks (reading_chunk c s x e later)
+next_chunk c s x (e ∷ later) =
+    elim (size_sent s e) [
+      | None ↦ asks (reading_chunk c s x e later)
+      | Some size ↦ if size == blob_size x e later then next_chunk c s x later else mismatched e
+    ]
 
 -- each piece of a fixed index begins at a multiple of the chunk size
 abbrev pub fixed_entries : ℕ → ℕ → List (List ℕ) → List AppendEntry
@@ -258,14 +278,18 @@ unfoldable pub started : Course → Reply → SyncJob
 started c (Base snapshot) = asks (reading_manifest c [])
 started c reply = reports reply
 
--- a part of a file was read: behind it the next comes, or all of it is there
+-- A part of a file was read: behind it the next comes, or all of it is there. What is longer than a file of its kind may be isn't read on.
 unfoldable pub manifest_part : Course → List ℕ → ℕ → SyncJob
 manifest_part c bytes total =
-    if nat_lt (length bytes) total then asks (reading_manifest c bytes) else manifest_read c bytes (read_manifest bytes)
+    if nat_lt blob_limit total then rejects c manifest_name else
+    if nat_lt (length bytes) total then asks (reading_manifest c bytes) else
+    manifest_read c bytes (read_manifest bytes)
 
 unfoldable pub file_part : Course → Stock → List ℕ → List ℕ → ℕ → SyncJob
 file_part c s name bytes total =
-    if nat_lt (length bytes) total then asks (reading_file c s name bytes) else file_read c s name bytes
+    if nat_lt (size_limit name) total then rejects c name else
+    if nat_lt (length bytes) total then asks (reading_file c s name bytes) else
+    file_read c s name bytes
 
 unfoldable pub manifest_told : Course → List ℕ → Reply → SyncJob
 manifest_told c bytes (Part total more) = manifest_part c (bytes ++ more) total
@@ -277,8 +301,12 @@ file_told c s name bytes (Part total more) = file_part c s name (bytes ++ more) 
 file_told c s name bytes (Refused refusal) = stops refusal
 file_told c s name bytes reply = reports reply
 
+abbrev pub chunk_read : Course → Stock → Index → AppendEntry → List AppendEntry → List ℕ → SyncJob
+chunk_read c s x e later blob =
+    if length blob == blob_size x e later then asks (sending_chunk c (with_chunk e blob s) x e later blob) else mismatched e
+
 unfoldable pub chunk_told : Course → Stock → Index → AppendEntry → List AppendEntry → Reply → SyncJob
-chunk_told c s x e later (Data blob) = asks (sending_chunk c (with_chunk e blob s) x e later blob)
+chunk_told c s x e later (Data blob) = chunk_read c s x e later blob
 chunk_told c s x e later (Refused refusal) = stops refusal
 chunk_told c s x e later reply = reports reply
 

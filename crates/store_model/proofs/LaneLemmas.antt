@@ -1,7 +1,6 @@
 -- What an entry finds at a lane: a collector's act, or what its job and its input have next; and how jobs take want of memory.
-use Rattle.std.proofs.Common.{◌≡◌, ℕ, ◌+◌, ◌-◌, length, Bool, true, false, List, [], ◌∷◌, ◌++◌, nat_lt, if◌then◌else◌, Option, None, Some, Result, Ok, Err, refl, sym, ap, ◌∙◌}
+use Rattle.std.proofs.Common.{◌≡◌, ℕ, ◌+◌, ◌-◌, length, Bool, true, false, List, [], ◌∷◌, ◌++◌, nat_lt, if◌then◌else◌, Option, None, Some, Ok, Err, refl}
 use Rattle.std.specs.Prelude.{◌==◌}
-use Rattle.store_types.specs.declared.names.Digest32.{Digest32}
 use Rattle.store_types.specs.declared.order.Entry.{Entry}
 use Rattle.store_types.specs.declared.refusal.Refusal.{Refusal}
 use Rattle.store_types.specs.declared.refusal.Refusal.TheVariants.{NoMemory}
@@ -9,11 +8,12 @@ use Rattle.wire_commands.specs.declared.command.Command.{Command}
 use Rattle.wire_commands.specs.declared.command.Command.TheVariants.{OpenWriter, Previous, NewFixed, NewDynamic, Chunk, Append, CloseIndex, Blob, Finish, Abort, OpenReader, Download, GetChunk, Range, CloseReader, List as ListAll, Files, Forget, Prune, Verify, Sync, Gc, Group, Bye}
 use Rattle.wire_commands.specs.declared.rows.FileRow.{FileRow}
 use Rattle.wire_commands.specs.declared.rows.FileFault.{FileFault}
-use Rattle.wire_commands.specs.declared.reply.Reply.{Reply}
 use Rattle.wire_commands.specs.declared.reply.Reply.TheVariants.{Part, Verified, Refused}
 use Rattle.wire_commands.specs.Inputs.{InputFront}
 use Rattle.wire_commands.specs.Inputs as inputs
 use Rattle.wire_commands.specs.Inputs.{front}
+use Rattle.store_model.specs.declared.piece.Piece.{Piece}
+use Rattle.store_model.specs.SizeLimits.{size_limit}
 use Rattle.store_model.specs.Job.{Visit, Pull, Asking, listing, reading, checking, closing, sending, aborting, Job, over, asking}
 use Rattle.store_model.specs.Jobs.{take, take_more}
 use Rattle.store_model.specs.VerifyJob.{listed, read_part, checked}
@@ -155,9 +155,9 @@ module _ (v : Visit) (row : FileRow) where
   unfolding take read_part
   reading_short bytes = refl
 
-  pub checking_short : (fault : Option FileFault) (place : ℕ) (d : Digest32) (ds : List Digest32) → ClosesShort (checking v row fault place d ds)
+  pub checking_short : (fault : Option FileFault) (place : ℕ) (p : Piece) (ps : List Piece) → ClosesShort (checking v row fault place p ps)
   unfolding take checked
-  checking_short fault place d ds = refl
+  checking_short fault place p ps = refl
 
   pub closing_short : (files entries bytes : ℕ) → ClosesShort (closing (Verified files entries bytes v.faults))
   unfolding take
@@ -186,16 +186,24 @@ unfolding verify.next_file take read_part
 file_dropped v [] = (tt, refl)
 file_dropped v (row ∷ later) = (tt, refl)
 
-chunk_dropped : (v : Visit) (row : FileRow) (fault : Option FileFault) (place : ℕ) (ds : List Digest32) → IsDropped (verify.next_chunk v row fault place ds)
-unfolding verify.next_chunk verify.file_done take checked
-chunk_dropped v row fault place [] = file_dropped (verify.with_fault row fault (record v { files = v.files + 1 })) v.later
-chunk_dropped v row fault place (d ∷ ds) = (tt, refl)
+done_dropped : (v : Visit) (row : FileRow) (fault : Option FileFault) → IsDropped (verify.file_done v row fault)
+unfolding verify.file_done
+done_dropped v row fault = file_dropped (verify.with_fault row fault (record v { files = v.files + 1 })) v.later
+
+chunk_dropped : (v : Visit) (row : FileRow) (fault : Option FileFault) (place : ℕ) (ps : List Piece) → IsDropped (verify.next_chunk v row fault place ps)
+unfolding verify.next_chunk take checked
+chunk_dropped v row fault place [] = done_dropped v row fault
+chunk_dropped v row fault place (p ∷ ps) = (tt, refl)
 
 pub part_dropped : (v : Visit) (row : FileRow) (bytes more : List ℕ) (total : ℕ) → IsDropped (take (reading v row bytes) (Part total more))
 unfolding take read_part verify.part_read verify.file_read
-part_dropped v row bytes more total = by_test (nat_lt (length (bytes ++ more)) total)
+part_dropped v row bytes more total = by_tests (nat_lt (size_limit row.file) total) (nat_lt (length (bytes ++ more)) total)
   where
-    by_test : (b : Bool) → IsDropped (if b then asking (reading v row (bytes ++ more)) else verify.file_read v row (verify.judged v.snapshot row (bytes ++ more)))
-    by_test true = (tt, refl)
-    by_test false = let j = verify.judged v.snapshot row (bytes ++ more) in
-        chunk_dropped (record v { entries = v.entries + length j.digests; bytes = v.bytes + j.bytes }) row j.fault 0 j.digests
+    by_tests : (long goes_on : Bool) → IsDropped (
+        if long then verify.file_done v row (Some (verify.too_long row total)) else
+        if goes_on then asking (reading v row (bytes ++ more)) else
+        verify.file_read v row (verify.judged v.snapshot row (bytes ++ more)))
+    by_tests true goes_on = done_dropped v row (Some (verify.too_long row total))
+    by_tests false true = (tt, refl)
+    by_tests false false = let j = verify.judged v.snapshot row (bytes ++ more) in
+        chunk_dropped (record v { entries = v.entries + length j.entries; bytes = v.bytes + j.bytes }) row j.fault 0 j.entries

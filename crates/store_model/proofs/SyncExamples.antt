@@ -1,21 +1,19 @@
 -- SYNC, woven: a snapshot is pulled from the remote, its reads stand in the order or fail, and a remote's manifest that lists itself.
-use Rattle.std.specs.Prelude.{◌≡◌, ℕ, List, [], ◌∷◌, ◌++◌, codes, refl, replicate, length, take, None, Option, Some, Result, Ok, Err}
-use Rattle.std.specs.List.{list_any}
+use Rattle.std.specs.Prelude.{◌≡◌, ℕ, List, [], ◌∷◌, ◌++◌, codes, refl, replicate, length, None, Option, Some, Result, Ok, Err}
 use Rattle.store_types.specs.declared.names.Kind.TheVariants.{Host}
 use Rattle.store_types.specs.declared.order.Entry.{Entry}
 use Rattle.store_types.specs.declared.refusal.Refusal.TheVariants as refusals
-use Rattle.store_files.specs.Archive.{blob, File, Snapshot}
+use Rattle.store_files.specs.Archive.{blob, Snapshot}
 use Rattle.wire_commands.specs.declared.command.Command.TheVariants as commands
 use Rattle.wire_commands.specs.declared.reply.Reply.TheVariants.{Refused}
 use Rattle.wire_commands.proofs.Hexadecimal.{hex}
-use Rattle.store_model.specs.declared.ending.Ending.{Ending}
 use Rattle.store_model.specs.declared.ending.Ending.TheVariants as endings
 use Rattle.store_model.specs.Job.{aborting, sending, over, asking}
 use Rattle.store_model.specs.Jobs.{take as taken}
 use Rattle.store_model.specs.SyncJob.{commands_of}
 use Rattle.store_model.specs.Weave.{Misfit, weave}
 use Rattle.store_model.proofs.OnLiterals.{store_model_on_literals, digests_on_literals, uuids_on_literals, manifests_on_literals}
-use Rattle.store_model.proofs.ExampleBytes.{k, later_k, manifest, entry, put, put_replies}
+use Rattle.store_model.proofs.ExampleBytes.{k, manifest, entry}
 use Rattle.store_model.proofs.VerifyExamples.{snapshot}
 
 abbrev sync : List ℕ

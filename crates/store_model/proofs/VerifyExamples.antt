@@ -10,11 +10,12 @@ use Rattle.store_files.specs.Archive.{Archive, archive, blob, dynamic, Snapshot}
 use Rattle.wire_commands.specs.declared.rows.FileRow.{FileRow}
 use Rattle.wire_commands.specs.declared.rows.FileFault.{FileFault}
 use Rattle.wire_commands.specs.declared.rows.FileFault.TheVariants as faults
-use Rattle.wire_commands.specs.declared.reply.Reply.TheVariants.{Data, Verified, Refused}
+use Rattle.wire_commands.specs.declared.reply.Reply.TheVariants.{Data, Part, Verified, Refused}
 use Rattle.wire_commands.proofs.Hexadecimal.{hex}
 use Rattle.store_model.specs.declared.ending.Ending.{Ending}
 use Rattle.store_model.specs.declared.ending.Ending.TheVariants as endings
-use Rattle.store_model.specs.Job.{Visit, checking, closing, over, asking, Job}
+use Rattle.store_model.specs.declared.piece.Piece.{Piece}
+use Rattle.store_model.specs.Job.{reading, checking, closing, over, asking, Job}
 use Rattle.store_model.specs.Jobs.{take}
 use Rattle.store_model.specs.VerifyJob.{begun, judged}
 use Rattle.store_model.specs.Weave.{Misfit, weave}
@@ -107,12 +108,15 @@ other_manifest = refl
 abbrev abc : Digest32
 abc = record { 0 = sha256 (codes "abc") }
 
+abbrev piece : Digest32 → ℕ → Piece
+piece d len = record { digest = d; length = len }
+
 abbrev index : FileRow
 index = row (codes "root.didx") 3 []
 
 -- the last chunk of the last file, by the file's fault before
 abbrev last_chunk : Option FileFault → Job
-last_chunk fault = take (checking (begun k) index fault 0 abc []) (Data (blobs.blob (codes "abd")))
+last_chunk fault = take (checking (begun k) index fault 0 (piece abc 3) []) (Data (blobs.blob (codes "abd")))
 
 abbrev told : FileFault → Job
 told fault = asking (closing (Verified 1 0 0 (record { file = codes "root.didx"; fault = fault } ∷ [])))
@@ -121,8 +125,17 @@ another_piece : last_chunk None ≡ told (faults.Damaged abc)
 unfolding store_model_on_literals digests_on_literals
 another_piece = refl
 
+whole_piece : take (checking (begun k) index None 0 (piece abc 3) []) (Data (blobs.blob (codes "abc"))) ≡ asking (closing (Verified 1 0 0 []))
+unfolding store_model_on_literals digests_on_literals
+whole_piece = refl
+
+-- it is the piece with this digest, and the index says that it has 2,000 bytes
+another_length : take (checking (begun k) index None 0 (piece abc 2000) []) (Data (blobs.blob (codes "abc"))) ≡ told (faults.Damaged abc)
+unfolding store_model_on_literals digests_on_literals
+another_length = refl
+
 -- the blob of nothing is no piece's
-no_piece : take (checking (begun k) index None 0 (record { 0 = sha256 [] }) []) (Data (blobs.blob [])) ≡ told (faults.Damaged (record { 0 = sha256 [] }))
+no_piece : take (checking (begun k) index None 0 (piece (record { 0 = sha256 [] }) 0) []) (Data (blobs.blob [])) ≡ told (faults.Damaged (record { 0 = sha256 [] }))
 unfolding store_model_on_literals digests_on_literals
 no_piece = refl
 
@@ -143,3 +156,24 @@ refused_again = refl
 closed_again : take (closing (Verified 0 0 0 [])) (Refused refusals.NoMemory) ≡ asking (closing (Refused refusals.NoMemory))
 unfolding store_model_on_literals
 closed_again = refl
+
+-- a file that is longer than one of its kind may be is done with its first part
+long_fixed : take (reading (begun k) (row (codes "a.fidx") 0 []) []) (Part 33558529 (codes "abc")) ≡ asking (closing (Verified 1 0 0 (record { file = codes "a.fidx"; fault = faults.Unreadable } ∷ [])))
+unfolding store_model_on_literals
+long_fixed = refl
+
+long_fixed_part : take (reading (begun k) (row (codes "a.fidx") 0 []) []) (Part 33558528 (codes "abc")) ≡ asking (reading (begun k) (row (codes "a.fidx") 0 []) (codes "abc"))
+unfolding store_model_on_literals
+long_fixed_part = refl
+
+long_dynamic : take (reading (begun k) index []) (Part 41947137 (codes "abc")) ≡ told faults.Unreadable
+unfolding store_model_on_literals
+long_dynamic = refl
+
+long_blob : take (reading (begun k) (row (codes "a.blob") 16777229 []) []) (Part 16777229 (codes "abc")) ≡ asking (closing (Verified 1 0 0 (record { file = codes "a.blob"; fault = faults.Unreadable } ∷ [])))
+unfolding store_model_on_literals
+long_blob = refl
+
+long_blob_differs : take (reading (begun k) (row (codes "a.blob") 15 []) []) (Part 16777229 (codes "abc")) ≡ asking (closing (Verified 1 0 0 (record { file = codes "a.blob"; fault = faults.Differs } ∷ [])))
+unfolding store_model_on_literals
+long_blob_differs = refl

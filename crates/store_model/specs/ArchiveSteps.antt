@@ -1,5 +1,5 @@
 -- The commands of a writer on its archives, with their refusals in order.
-use Rattle.std.specs.Prelude.{ℕ, List, ◌∷◌, length, map, nat_lt, Result, Ok}
+use Rattle.std.specs.Prelude.{ℕ, List, length, map, nat_lt, Result, Ok}
 use Rattle.std.specs.Str.{bytes_eq}
 use Rattle.store_types.specs.declared.append.AppendEntry.{AppendEntry}
 use Rattle.store_types.specs.declared.names.Digest32.{Digest32}

@@ -1,6 +1,5 @@
 -- Where a job is: what it asks next, and what it still needs of the replies before.
 use Rattle.std.specs.Prelude.{Bool, true, false, ℕ, List, length, Option, Some, None}
-use Rattle.store_types.specs.declared.names.Digest32.{Digest32}
 use Rattle.store_types.specs.declared.names.Keep.{Keep}
 use Rattle.store_types.specs.declared.refusal.Refusal.{Refusal}
 use Rattle.store_types.specs.declared.refusal.Refusal.TheVariants.{RemoteFault, DiskFault, Halted, NoMemory}
@@ -14,6 +13,7 @@ use Rattle.wire_commands.specs.declared.rows.FaultRow.{FaultRow}
 use Rattle.wire_commands.specs.declared.rows.PruneRow.{PruneRow}
 use Rattle.wire_commands.specs.declared.reply.Reply.{Reply}
 use Rattle.wire_commands.specs.declared.reply.Reply.TheVariants.{Done, Refused}
+use Rattle.store_model.specs.declared.piece.Piece.{Piece}
 use Rattle.store_model.specs.declared.step.Step.{Step}
 use Rattle.store_model.specs.declared.step.Step.TheVariants as steps
 
@@ -43,8 +43,8 @@ pub data Asking : Type 0 where
   listing : List ℕ → Asking
   -- VERIFY reads this file, behind these bytes of it
   reading : Visit → FileRow → List ℕ → Asking
-  -- VERIFY, with this file's fault so far, reads the chunk at a place, of this digest, before those of the others
-  checking : Visit → FileRow → Option FileFault → ℕ → Digest32 → List Digest32 → Asking
+  -- VERIFY, with this file's fault so far, reads the chunk at a place, of this piece, before those of the others
+  checking : Visit → FileRow → Option FileFault → ℕ → Piece → List Piece → Asking
   -- VERIFY closes its reader, and then this is its report
   closing : Reply → Asking
   -- SYNC asks for a writer of its snapshot, and then for this command of the snapshot's, before the others
@@ -65,7 +65,7 @@ step_of (forgetting before snapshot later) = steps.Command (Forget snapshot)
 step_of (opening snapshot) = steps.Command (OpenReader snapshot)
 step_of (listing snapshot) = steps.Command (Files snapshot)
 step_of (reading v row bytes) = steps.ReadFile row.file (length bytes)
-step_of (checking v row fault place digest later) = steps.ReadChunk row.file place
+step_of (checking v row fault place piece later) = steps.ReadChunk row.file place
 step_of (closing report) = steps.Command CloseReader
 step_of (beginning p) = steps.Command (OpenWriter (key_text (p.snapshot).key))
 step_of (sending p c later) = steps.Command c

@@ -1,11 +1,11 @@
--- VERIFY: reads each file of a snapshot and each chunk that its indexes name, and compares them with what the manifest lists.
-use Rattle.std.specs.Prelude.{ℕ, ◌+◌, Bool, ◌&&◌, List, [], ◌∷◌, ◌++◌, map, length, ◌==◌, nat_lt, if◌then◌else◌, Option, Some, None, Ok, Err}
+-- VERIFY: reads each file of a snapshot and each chunk that its indexes name, and compares them with what the manifest and the indexes say.
+use Rattle.std.specs.Prelude.{ℕ, ◌+◌, ◌-◌, Bool, ◌&&◌, ◌||◌, List, [], ◌∷◌, ◌++◌, length, ◌==◌, nat_lt, if◌then◌else◌, Option, Some, None, Ok, Err}
 use Rattle.std.specs.Option.{option_or}
 use Rattle.std.specs.Str.{bytes_eq}
 use Rattle.sha2.specs.Sha256.{sha256}
 use Rattle.store_types.specs.declared.names.Digest32.{Digest32}
 use Rattle.store_types.specs.declared.refusal.Refusal.TheVariants.{Damaged, Unreadable}
-use Rattle.store_types.specs.FileNames.{is_fixed_name, is_dynamic_name, manifest_name}
+use Rattle.store_types.specs.FileNames.{is_fixed_name, is_dynamic_name, is_index_name, manifest_name}
 use Rattle.store_types.specs.Names.{key_text}
 use Rattle.blob_codec.specs.Blob.{data_of}
 use Rattle.store_files.specs.FixedIndex as fixed_index
@@ -14,21 +14,22 @@ use Rattle.store_files.specs.Manifest.{manifest_of}
 use Rattle.wire_commands.specs.declared.rows.FileRow.{FileRow}
 use Rattle.wire_commands.specs.declared.rows.FileFault.{FileFault}
 use Rattle.wire_commands.specs.declared.rows.FileFault.TheVariants as faults
-use Rattle.wire_commands.specs.declared.rows.FaultRow.{FaultRow}
 use Rattle.wire_commands.specs.declared.reply.Reply.{Reply}
 use Rattle.wire_commands.specs.declared.reply.Reply.TheVariants.{Done, Part, Data, Files, Verified, Refused}
+use Rattle.store_model.specs.declared.piece.Piece.{Piece}
+use Rattle.store_model.specs.SizeLimits.{size_limit}
 use Rattle.store_model.specs.Job.{Visit, listing, reading, checking, closing, Job, over, asking, stopped}
 
 -- ---- what a whole file says
 
--- its fault, and of an index how many bytes its entries have together, and their digests
+-- its fault, and of an index how many bytes its entries have together, and each of them
 pub record Judged : Type 0 where
   pub fault : Option FileFault
   pub bytes : ℕ
-  pub digests : List Digest32
+  pub entries : List Piece
 
 abbrev pub without_entries : Option FileFault → Judged
-without_entries fault = record { fault = fault; bytes = 0; digests = [] }
+without_entries fault = record { fault = fault; bytes = 0; entries = [] }
 
 -- the size and the checksum are those that are listed
 abbrev pub compared : FileRow → ℕ → List ℕ → Option FileFault
@@ -37,11 +38,21 @@ compared row size csum = if (row.size == size) && bytes_eq (row.csum).0 csum the
 abbrev pub digest : List ℕ → Digest32
 digest d = record { 0 = d }
 
+-- the pieces with these digests, of an archive of this size and chunk size, from an offset on
+abbrev pub fixed_pieces : ℕ → ℕ → ℕ → List (List ℕ) → List Piece
+fixed_pieces size chunk_size offset [] = []
+fixed_pieces size chunk_size offset (d ∷ ds) =
+    record { digest = digest d; length = fixed_index.piece_len size chunk_size offset } ∷ fixed_pieces size chunk_size (offset + chunk_size) ds
+
 unfoldable pub fixed_judged : FileRow → List ℕ → Judged
 fixed_judged row bytes =
     elim (fixed_index.fixed_of bytes) [
       | Err cause ↦ without_entries (Some faults.Unreadable)
-      | Ok x ↦ record { fault = compared row x.size (fixed_index.csum_of x); bytes = x.size; digests = map digest x.digests }
+      | Ok x ↦ record {
+        fault = compared row x.size (fixed_index.csum_of x);
+        bytes = x.size;
+        entries = fixed_pieces x.size x.chunk_size 0 x.digests;
+      }
     ]
 
 -- where the last entry ends
@@ -50,6 +61,11 @@ last_end [] = 0
 last_end (e ∷ []) = e.end
 last_end (e ∷ f ∷ es) = last_end (f ∷ es)
 
+-- each piece begins where the one before it ends
+abbrev pub dynamic_pieces : ℕ → List dynamic_index.Ended → List Piece
+dynamic_pieces start [] = []
+dynamic_pieces start (e ∷ es) = record { digest = digest e.digest; length = e.end - start } ∷ dynamic_pieces e.end es
+
 unfoldable pub dynamic_judged : FileRow → List ℕ → Judged
 dynamic_judged row bytes =
     elim (dynamic_index.dynamic_of bytes) [
@@ -57,7 +73,7 @@ dynamic_judged row bytes =
       | Ok x ↦ record {
         fault = compared row (last_end x.entries) (dynamic_index.csum_of x);
         bytes = last_end x.entries;
-        digests = map (λ e. digest e.digest) x.entries;
+        entries = dynamic_pieces 0 x.entries;
       }
     ]
 
@@ -104,14 +120,14 @@ with_fault row (Some fault) v = record v { faults = v.faults ++ record { file = 
 unfoldable pub file_done : Visit → FileRow → Option FileFault → Job
 file_done v row fault = next_file (with_fault row fault (record v { files = v.files + 1 })) v.later
 
-unfoldable pub next_chunk : Visit → FileRow → Option FileFault → ℕ → List Digest32 → Job
+unfoldable pub next_chunk : Visit → FileRow → Option FileFault → ℕ → List Piece → Job
 next_chunk v row fault place [] = file_done v row fault
-next_chunk v row fault place (d ∷ ds) = asking (checking v row fault place d ds)
+next_chunk v row fault place (p ∷ ps) = asking (checking v row fault place p ps)
 
 -- the file is read, and of an index the chunks come next
 unfoldable pub file_read : Visit → FileRow → Judged → Job
 file_read v row j =
-    next_chunk (record v { entries = v.entries + length j.digests; bytes = v.bytes + j.bytes }) row j.fault 0 j.digests
+    next_chunk (record v { entries = v.entries + length j.entries; bytes = v.bytes + j.bytes }) row j.fault 0 j.entries
 
 -- ---- the replies
 
@@ -127,9 +143,16 @@ listed snapshot (Files rows) = next_file (begun snapshot) rows
 listed snapshot (Refused refusal) = stopped closing refusal
 listed snapshot reply = over reply
 
+-- What is longer than a file of its kind may be is no index and no blob. That a blob differs from what is listed comes first.
+abbrev pub too_long : FileRow → ℕ → FileFault
+too_long row total = if is_index_name row.file || (row.size == total) then faults.Unreadable else faults.Differs
+
+-- behind a part the next is read; of a file that is too long none is
 unfoldable pub part_read : Visit → FileRow → List ℕ → ℕ → Job
 part_read v row bytes total =
-    if nat_lt (length bytes) total then asking (reading v row bytes) else file_read v row (judged v.snapshot row bytes)
+    if nat_lt (size_limit row.file) total then file_done v row (Some (too_long row total)) else
+    if nat_lt (length bytes) total then asking (reading v row bytes) else
+    file_read v row (judged v.snapshot row bytes)
 
 unfoldable pub read_part : Visit → FileRow → List ℕ → Reply → Job
 read_part v row bytes (Part total more) = part_read v row (bytes ++ more) total
@@ -142,18 +165,22 @@ read_part v row bytes reply = over reply
 abbrev pub is_piece_of : Digest32 → List ℕ → Bool
 is_piece_of d piece = nat_lt 0 (length piece) && bytes_eq (sha256 piece) d.0
 
--- the bytes are the blob of a piece with this digest, or the chunk is damaged
-abbrev pub chunk_fault : Digest32 → List ℕ → Option FileFault
-chunk_fault d bytes =
+-- it is the one that the index names
+abbrev pub is_piece : Piece → List ℕ → Bool
+is_piece p piece = (length piece == p.length) && is_piece_of p.digest piece
+
+-- the bytes are the blob of the piece, or the chunk is damaged
+abbrev pub chunk_fault : Piece → List ℕ → Option FileFault
+chunk_fault p bytes =
     elim (data_of bytes) [
-      | Err cause ↦ Some (faults.Damaged d)
-      | Ok piece ↦ if is_piece_of d piece then None else Some (faults.Damaged d)
+      | Err cause ↦ Some (faults.Damaged p.digest)
+      | Ok piece ↦ if is_piece p piece then None else Some (faults.Damaged p.digest)
     ]
 
 -- A file has the first fault that it shows. What can't be read ends the file.
-unfoldable pub checked : Visit → FileRow → Option FileFault → ℕ → Digest32 → List Digest32 → Reply → Job
-checked v row fault place d later (Data bytes) = next_chunk v row (option_or fault (chunk_fault d bytes)) (place + 1) later
-checked v row fault place d later (Refused (Damaged asked found)) = next_chunk v row (option_or fault (Some (faults.Damaged d))) (place + 1) later
-checked v row fault place d later (Refused (Unreadable name)) = file_done v row (option_or fault (Some faults.Unreadable))
-checked v row fault place d later (Refused refusal) = stopped closing refusal
-checked v row fault place d later reply = over reply
+unfoldable pub checked : Visit → FileRow → Option FileFault → ℕ → Piece → List Piece → Reply → Job
+checked v row fault place p later (Data bytes) = next_chunk v row (option_or fault (chunk_fault p bytes)) (place + 1) later
+checked v row fault place p later (Refused (Damaged asked found)) = next_chunk v row (option_or fault (Some (faults.Damaged p.digest))) (place + 1) later
+checked v row fault place p later (Refused (Unreadable name)) = file_done v row (option_or fault (Some faults.Unreadable))
+checked v row fault place p later (Refused refusal) = stopped closing refusal
+checked v row fault place p later reply = over reply

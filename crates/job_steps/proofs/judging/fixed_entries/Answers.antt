@@ -1,8 +1,7 @@
-use Rattle.std.proofs.Common.{◌≡◌, ◌<◌, length, map, ap, ◌∙◌, arith}
+use Rattle.std.proofs.Common.{◌<◌, length, ap, ◌∙◌, arith}
 use Rattle.std.proofs.lemmas.List.{take_all}
-use Rattle.store_model.specs.VerifyJob.{digest}
-use Rattle.job_steps.specs.Lengths.{fixed_length}
-use Rattle.job_steps.proofs.JudgingLemmas.{lengths_more, fixed_more, piece_in}
+use Rattle.store_model.specs.VerifyJob.{fixed_pieces}
+use Rattle.job_steps.proofs.JudgingLemmas.{fixed_more, piece_in}
 use Rattle.job_steps.proofs.judging.fixed_entries.Goals as goal
 
 pub overflow_sub-end : goal.overflow_sub-end
@@ -20,16 +19,15 @@ overflow_cast-end c =
 pub loop-i-preserved : goal.loop-i-preserved
 loop-i-preserved c =
     let x = c.args.view.now in
-    let long : c.loop-i.i ≡ length c.loop-i.entries.items = omega (arith, c.loop-i.invariant.long, c.loop-i.entries.ok.0) in
     let lt : c.loop-i.i < length x.digests = omega (arith, c.len-i-end.ensures) in
     record {
-      pushed = fixed_more c.loop-i.entries.items _ _ x c.loop-i.i lt c.push_reserved.ensures.items c.digest.ensures c.loop-i.invariant.pushed;
-      lengths = lengths_more (fixed_length x) c.loop-i.entries.items _ _ c.push_reserved.ensures.items c.loop-i.invariant.lengths (omega (arith, c.span-start.ensures.start, c.span-start.ensures.end) ∙ ap (fixed_length x) long);
+      pushed = fixed_more c.loop-i.entries.items _ _ x c.loop-i.i lt c.push_reserved.ensures.items c.digest.ensures
+          (omega (arith, c.span-start.ensures.start, c.span-start.ensures.end)) c.loop-i.invariant.pushed;
       long = omega arith;
       room = omega arith;
     }
 
-pub returns-clause-digests : goal.returns-clause-digests
-returns-clause-digests c =
+pub returns : goal.returns
+returns c =
     let x = c.args.view.now in
-    c.loop-i.invariant.pushed ∙ ap (map digest) (take_all c.loop-i.i x.digests (omega (arith, c.len-i-end.ensures)))
+    c.loop-i.invariant.pushed ∙ ap (fixed_pieces x.size x.chunk_size 0) (take_all c.loop-i.i x.digests (omega (arith, c.len-i-end.ensures)))

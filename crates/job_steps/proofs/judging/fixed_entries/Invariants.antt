@@ -1,14 +1,10 @@
 use Rattle.std.proofs.Common.{◌≡◌, take, length, vec_len, vec_capacity}
-use Rattle.std.specs.Prelude.{map}
-use Rattle.store_model.specs.VerifyJob.{digest}
-use Rattle.job_steps.specs.Lengths.{HaveLengths, fixed_length}
-use Rattle.job_steps.specs.Visits.{digests_of}
+use Rattle.store_model.specs.VerifyJob.{fixed_pieces}
 use Rattle.job_steps.proofs.judging.fixed_entries.Given as goal
 
 abbrev pub invariant-loop-i : goal.invariant-loop-i
 invariant-loop-i l = record {
-  pushed : digests_of l.entries.items ≡ map digest (take l.i l.view.digests);
-  lengths : HaveLengths (fixed_length l.view) 0 l.entries.items;
+  pushed : l.entries.items ≡ fixed_pieces l.view.size l.view.chunk_size 0 (take l.i l.view.digests);
   long : vec_len l.entries ≡ l.i;
   room : vec_capacity l.entries ≡ length l.view.digests;
 }

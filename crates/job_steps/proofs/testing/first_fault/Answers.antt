@@ -15,7 +15,7 @@ returns-then-not-one-clause-first c =
 pub returns-then-not-one-clause-fits : goal.returns-then-not-one-clause-fits
 returns-then-not-one-clause-fits c =
     let w = c.one-item.result in
-    damaged_fits w.digest w.fits
+    damaged_fits w.piece.digest w.fits
 
 pub loop-one-preserved : goal.loop-one-preserved
 loop-one-preserved c =

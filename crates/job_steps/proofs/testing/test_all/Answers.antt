@@ -15,7 +15,7 @@ returns-clause-same g c =
     (λ k d lt.
     let at = (c.par_for_each_mut.ensures k d lt).1 in
     record {
-      digest = sym (ap (λ (w : Waiting). w.digest) at.left) ∙ at.call.0 ∙ ap (λ (w : Waiting). w.digest) at.argument_is;
+      piece = sym (ap (λ (w : Waiting). w.piece) at.left) ∙ at.call.0 ∙ ap (λ (w : Waiting). w.piece) at.argument_is;
       blob = sym (ap (λ (w : Waiting). w.blob) at.left) ∙ at.call.1.0 ∙ ap (λ (w : Waiting). w.blob) at.argument_is;
     })
 

@@ -17,7 +17,7 @@ returns-in_ok-place-in-Ok-clause-job c =
     let told =
     ap (λ fault. next_chunk v c.args.row fault c.in_ok-place-in-Ok.place later) c.first_fault-fault.ensures.first
     ∙ ap (λ n. next_chunk v c.args.row (option_or c.args.fault c.in-Ok.found) n later) place
-    ∙ chunk_checked v c.args.row c.args.fault c.args.place c.args.digest later c.args.reply c.in-Ok.found c.in-Ok.ensures.fault in
+    ∙ chunk_checked v c.args.row c.args.fault c.args.place c.args.piece later c.args.reply c.in-Ok.found c.in-Ok.ensures.fault in
     subst (λ (x : Job). IfOk c.next_chunk.result (λ job. shown_job job ≡ x)) told c.next_chunk.ensures.job
 
 pub returns-in-Err-clause-job : goal.returns-in-Err-clause-job
@@ -25,7 +25,7 @@ returns-in-Err-clause-job c =
     let v = shown_visit c.args.visit in
     let told =
     ap (checked_by v c.args.row c.args.fault) c.in-Err.ensures.fault.1
-    ∙ not_checked v c.args.row c.args.fault c.args.place c.args.digest c.args.later.items c.args.reply c.in-Err.ensures.fault.0 in
+    ∙ not_checked v c.args.row c.args.fault c.args.place c.args.piece c.args.later.items c.args.reply c.in-Err.ensures.fault.0 in
     subst (λ (x : Job). IfOk c.unchecked.result (λ job. shown_job job ≡ x)) told c.unchecked.ensures.job
 
 pub unchecked-requires-clause-reply : goal.unchecked-requires-clause-reply

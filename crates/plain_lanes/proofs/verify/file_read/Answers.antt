@@ -11,7 +11,7 @@ unfolding file_read
 returns-clause-job c =
     let v = shown_visit c.args.visit in
     let j = c.args.judged in
-    let many : c.len.result ≡ length j.digests.items = omega (arith, c.len.ensures) in
+    let many : c.len.result ≡ length j.entries.items = omega (arith, c.len.ensures) in
     let counted = c.in_ok-visit.ensures ∙ ap (λ n. counted_of v n j.bytes) many in
-    let told = ap (λ (x : Visit). next_chunk x c.args.row j.fault 0 j.digests.items) counted in
+    let told = ap (λ (x : Visit). next_chunk x c.args.row j.fault 0 j.entries.items) counted in
     subst (λ (x : Job). IfOk c.next_chunk.result (λ job. shown_job job ≡ x)) told c.next_chunk.ensures.job

@@ -17,7 +17,7 @@ returns-in-Ok-clause-whole c =
     let r = c.args.self.now in
     let bytes = r.bytes.items ++ c.args.more.now in
     let within : c.args.total ≤ length bytes = omega (arith, c.len.ensures, ap length c.in_ok-extend_from_slice.ensures.items) in
-    ap Some (c.in-Ok.ensures.judged ∙ ap (judged r.visit.snapshot r.row) c.in_ok-extend_from_slice.ensures.items)
+    ap Some (c.in-Ok.ensures ∙ ap (judged r.visit.snapshot r.row) c.in_ok-extend_from_slice.ensures.items)
     ∙ sym (judged_whole (shown_visit r.visit) r.row bytes c.args.total within)
 
 pub returns-in-Err-clause-err : goal.returns-in-Err-clause-err

@@ -6,4 +6,4 @@ pub returns-in_default-clause-job : goal.returns-in_default-clause-job
 returns-in_default-clause-job c = c.ended.ensures.job ∙ ended_read c.args.self c.args.reply (sym c.fault_told.ensures.fault ∙ c.in_default.is)
 
 pub returns-clause-job : goal.returns-clause-job
-returns-clause-job c = c.file_done.ensures.job ∙ fault_read c.args.self c.args.reply c.in-Some.fault (sym c.fault_told.ensures.fault ∙ c.in-Some.is)
+returns-clause-job c = c.done.ensures.job ∙ fault_read c.args.self c.args.reply c.in-Some.fault (sym c.fault_told.ensures.fault ∙ c.in-Some.is)

@@ -10,7 +10,7 @@ pub returns-in-Ok-clause-ok : goal.returns-in-Ok-clause-ok
 returns-in-Ok-clause-ok c =
     let r = c.args.self in
     c.read.ensures.job
-    ∙ manifest_taken r c.append.new.self c.as_slice.result.now c.in-Part.total c.in-Ok.listing c.append.ensures.course c.in-Ok.ensures.ok c.in-Ok.ensures.whole
+    ∙ manifest_taken r c.append.new.self c.as_slice.result.now c.in-Part.total c.in-Ok.listing c.append.ensures.course c.in-Ok.ensures.part
     ∙ ap (λ more. model.take (manifest_of r) (Part c.in-Part.total more)) c.as_slice.ensures ∙ ap (model.take (manifest_of r)) (sym c.in-Part.is)
 
 pub returns-in-Part-clause-err : goal.returns-in-Part-clause-err

@@ -4,14 +4,17 @@ use Rattle.pull_steps.specs.States.{EndsInText, shown_course, shown_index, shown
 use Rattle.pull_steps.proofs.Sent.{at_entry}
 use Rattle.pull_steps.proofs.stages.Sending.next_chunk.Goals as goal
 
-pub returns-in-Some-clause-job : goal.returns-in-Some-clause-job
-returns-in-Some-clause-job c = sym c.in-Some.ensures.next
+pub returns-in-Unsent-clause-job : goal.returns-in-Unsent-clause-job
+returns-in-Unsent-clause-job c = sym c.in-Unsent.ensures.next
 
-pub returns-in-Some-clause-text : goal.returns-in-Some-clause-text
-returns-in-Some-clause-text c =
+pub returns-in-Unsent-clause-text : goal.returns-in-Unsent-clause-text
+returns-in-Unsent-clause-text c =
     let s = c.args.self in
-    at_entry (λ e later. model.reading_chunk (shown_course s.course) (shown_stock s.stock) (shown_index s.index) e later) EndsInText s.index.entries.items c.in-Some.place
-    c.in-Some.ensures.within (λ e later. c.requires.texts)
+    at_entry (λ e later. model.reading_chunk (shown_course s.course) (shown_stock s.stock) (shown_index s.index) e later) EndsInText s.index.entries.items c.in-Unsent.place
+    c.in-Unsent.ensures.within (λ e later. c.requires.texts)
 
-pub returns-in-None-clause-job : goal.returns-in-None-clause-job
-returns-in-None-clause-job c = c.next_append.ensures.job ∙ sym c.in-None.ensures.next
+pub returns-in-Mismatched-clause-job : goal.returns-in-Mismatched-clause-job
+returns-in-Mismatched-clause-job c = c.mismatched.ensures.job ∙ sym c.in-Mismatched.ensures.next
+
+pub returns-in-End-clause-job : goal.returns-in-End-clause-job
+returns-in-End-clause-job c = c.next_append.ensures.job ∙ sym c.in-End.ensures.next
