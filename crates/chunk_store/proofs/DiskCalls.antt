@@ -2,8 +2,10 @@
 use Rattle.std.proofs.Common.{◌≡◌, ◌-◌, ◌^◌, ◌<◌, ◌≤◌, ◌↔◌, inl, inr, ℕ, List, None, arith, refl, subst, ◌∙◌}
 use Rattle.std.specs.FinMap.{get}
 use Rattle.disk_trait.specs.Files.{Files}
-use Rattle.disk_trait.specs.Disk.{Leaves, Steps, Same}
-use Rattle.disk_trait.specs.Runs.{none_leaves, leaves_as, now_leaves, both_leave, step_after}
+use Rattle.disk_trait.specs.declared.disk.Disk.{Ghosts}
+use Rattle.disk_trait.specs.Disk.{Leaves, Serves, Steps, Same}
+use Rattle.disk_trait.specs.Effects.{OnlyReads, SameContent}
+use Rattle.disk_trait.specs.Runs.{both_serve, none_leaves, leaves_as, now_leaves, both_leave, step_after}
 use Rattle.file_install.specs.Install.{Installs}
 use Rattle.store_files.specs.Folder.{chunk_name}
 use Rattle.chunk_store.specs.Pieces.{Stores}
@@ -41,3 +43,12 @@ module _ {a b e : ℕ} {I J K : ℕ → Files → Type 0} where
   -- a read, and then a call that changes nothing
   pub reads_then_reads : Leaves a I b J (Since I a Same) → Leaves b J e K (Since J b Same) → Leaves a I e K (Since I a Same)
   reads_then_reads one two = step_after Same one two (λ f c same. same) (λ f g c first second. second ∙ first)
+
+-- the size of a file, and then the file
+pub size_then_read : {D : Type 0} (d : Ghosts D) (old mid new : D) (F G H : Type 0) → Serves d.honest d.faults old mid F → Serves d.honest d.faults mid new G
+    → Steps d.calls d.images old mid Same → Steps d.calls d.images mid new Same → SameContent d old mid → SameContent d mid new → (H → G) → OnlyReads d old new H
+size_then_read d old mid new F G H one two first second same read why = record {
+  serves = both_serve d.honest d.faults old mid new F G H one two (λ h. inr (why h));
+  crash = inr (reads_then_reads first second);
+  same = λ h. read (one.kept.0 h) ∙ same h;
+}

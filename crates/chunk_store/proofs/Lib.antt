@@ -4,3 +4,4 @@ pub mod Maps
 pub mod Order
 pub mod Scanning
 pub mod DiskCalls
+pub mod Reading

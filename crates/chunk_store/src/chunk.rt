@@ -5,11 +5,11 @@ ghost use Rattle.sha2.specs.Sha256.{sha256};
 ghost use Rattle.blob_codec.specs.Blob.{blob as blob_of};
 ghost use Rattle.store_files.specs.Folder.{IsPiece};
 ghost use Rattle.chunk_store.specs.Pieces.{IsChunk, TellsChecked, TellsPiece, TestsPiece, TakesBlob};
-ghost use Rattle.chunk_store.specs.declared.chunk.LoadFault.TheVariants.{NoMemory};
+ghost use Rattle.chunk_store.specs.declared.chunk.LoadFault.TheVariants.{Failed as LoadFailed, NoMemory};
 ghost use Rattle.chunk_store.specs.Faults.{load_fault};
 
 use blob_codec::{HEADER_SIZE, decode};
-use disk_trait::DiskError;
+use disk_trait::{DiskError, Failed};
 use sha2::{Digest, Sha256};
 use std::marker::Model;
 use store_types::{ChunkFault, Digest32};
@@ -35,6 +35,14 @@ impl From<DiskError> for LoadFault {
             DiskError::Failed => LoadFault::Failed,
             DiskError::NoMemory => LoadFault::NoMemory,
         }
+    }
+}
+
+impl From<Failed> for LoadFault {
+    ghost from_gives = { λ _ fault. fault ≡ LoadFailed };
+
+    fn from(_: Failed) -> Self {
+        LoadFault::Failed
     }
 }
 

@@ -1,13 +1,13 @@
 //! A map from digests to pieces, on a disk.
 
-ghost use Rattle.std.specs.Prelude.{◌≡◌, ◌⊎◌, IfOk, IfErr, IsErr, IsErrOf};
+ghost use Rattle.std.specs.Prelude.{◌≡◌, ◌≤◌, ◌⊎◌, length, IfOk, IfErr, IsErr, IsErrOf};
 ghost use Rattle.sha2.specs.Sha256.{sha256};
 ghost use Rattle.disk_trait.specs.Disk.{Serves, Ticks, MayGo};
 ghost use Rattle.disk_trait.specs.Effects.{OnlyReads, StepsOn, KeepsFiles, DiskTells, DiskDrops, DiskNoneKeeps};
 ghost use Rattle.blob_codec.specs.Blob.{blob as blob_of};
 ghost use Rattle.store_files.specs.Folder.{IsPiece, chunk_name};
 ghost use Rattle.chunk_store.specs.declared.chunk.LoadFault.TheVariants.{Damaged};
-ghost use Rattle.chunk_store.specs.Faults.{IsDamageAsked, LoadsHeld, LoadsPiece, ReadsBytes, TellsDamage};
+ghost use Rattle.chunk_store.specs.Faults.{CallsBySize, IsDamageAsked, LoadsHeld, LoadsPiece, ReadsBytes, TellsDamage};
 ghost use Rattle.chunk_store.specs.Pieces.{IsChunk, KeepsPresent, OkAdds, OkAddsBlob, OkKeepsWhole, OkStores, OkTakes, StepsStore};
 
 use crate::chunk::{Chunk, LoadFault, check};
@@ -17,6 +17,9 @@ use disk_trait::{Disk, DiskError, Failed};
 use file_install::install;
 use std::alloc::Global;
 use store_types::{ChunkFault, Digest32};
+
+/// The most bytes that the blob of a piece has.
+const BLOB_LIMIT: u64 = 16_777_228;
 
 /// Installs a piece's blob under its digest. Where a file is there, nothing is written, whatever it holds.
 ///
@@ -75,18 +78,29 @@ pub fn insert<D: Disk>(
     Ok(())
 }
 
-/// The bytes of the chunk's file under a digest, whatever they are. It is damaged where nothing is there.
+/// The bytes of the chunk's file under a digest, whatever they are. It is damaged where nothing is there, and where the
+/// file is longer than a blob: then nothing of it is read.
+///
+/// One call of the disk for the size, and one that reads.
 pub fn read<D: Disk>(disk: &mut D, alloc: Global, digest: &Digest32) -> Result<Vec<u8>, LoadFault>
     ensures reads { OnlyReads D.Disk disk.old disk.new (IsErrOf result LoadFault.Failed) }
     ensures tick { Ticks D.honest D.calls disk.old disk.new }
+    ensures calls { CallsBySize D.Disk disk.old disk.new digest.now result }
     ensures bytes { ReadsBytes D.Disk disk.old digest.now result }
+    // on any disk
+    ensures size { IfOk result (λ bytes. length bytes.items ≤ 16_777_228) }
     ensures asked { IfErr result (IsDamageAsked digest.now) }
-    ensures unchanged { IsErrOf result LoadFault.NoMemory → D.faults disk.new ≡ D.faults disk.old }
 {
     let name = ChunkName::of(digest);
+    let Some(size) = disk.size(name.as_str())? else {
+        return Err(damaged(digest, ChunkFault::Nothing));
+    };
+    if size > BLOB_LIMIT {
+        return Err(damaged(digest, ChunkFault::NotABlob));
+    }
     match disk.read(alloc, name.as_str())? {
-        Some(text) => Ok(text),
-        None => Err(damaged(digest, ChunkFault::Nothing)),
+        Some(text) if text.len() as u64 <= BLOB_LIMIT => Ok(text),
+        _ => Err(damaged(digest, ChunkFault::NotABlob)),
     }
 }
 
@@ -102,7 +116,6 @@ pub fn load<D: Disk>(disk: &mut D, alloc: Global, digest: &Digest32) -> Result<C
     // on any disk
     ensures checked { IfOk result (λ chunk. IsPiece chunk × (sha256 chunk ≡ digest.now.0)) }
     ensures asked { IfErr result (IsDamageAsked digest.now) }
-    ensures unchanged { IsErrOf result LoadFault.NoMemory → D.faults disk.new ≡ D.faults disk.old }
 {
     let text = read(disk, alloc, digest)?;
     match check(digest, text) {

@@ -7,3 +7,4 @@ pub mod Booked
 pub mod Opened
 pub mod Recovering
 pub mod Synced
+pub mod BookSizes

@@ -16,7 +16,6 @@ use Rattle.wire_commands.specs.declared.reply.Reply.TheVariants.{Data, Refused}
 use Rattle.store_history.specs.declared.act.Answer.{Answer}
 use Rattle.restore_reader.specs.declared.ranges.Part.{Part}
 use Rattle.restore_reader.specs.Cutting.{cut}
-use Rattle.chunk_store.specs.Pieces.{found_at}
 use Rattle.core_state.specs.declared.parts.Parts.{Parts}
 use Rattle.core_state.specs.declared.state.Core.{Core}
 use Rattle.core_state.specs.Begins.{Refuses, short as is_short, halted as is_halted, IsReady}
@@ -24,8 +23,8 @@ use Rattle.core_state.specs.Settles.{Settles, kind_by, reply_by}
 use Rattle.core_state.specs.Stops.{Gives, IfRefused, told}
 use Rattle.core_state.specs.declared.stop.Stop.{Stop}
 use Rattle.core_state.specs.declared.stop.Stop.TheVariants as kinds
-use Rattle.core_reader.specs.Chunks.{or_damaged, chunk_at, parts_at, IsDamageAmong, StopsAmong, StopsAt}
-use Rattle.core_reader.specs.Damages.{digests_of, first_damage, TellsDamaged}
+use Rattle.core_reader.specs.Chunks.{or_damaged, part_chunk_at, part_found, parts_at, IsDamageAmong, StopsAmong, StopsAt}
+use Rattle.core_reader.specs.Damages.{digests_of, first_wrong, TellsDamaged}
 
 -- ---- replies
 
@@ -44,52 +43,52 @@ halted_undamaged place digest found e = cc
 
 -- ---- what is read
 
-pub no_damage : (m : Files) (digest : Digest32) (rest : List Digest32) (p : List ℕ) → chunk_at m digest ≡ Ok p → first_damage m (digest ∷ rest) ≡ first_damage m rest
-no_damage m digest rest p at = by_found (found_at m digest.0) at
+no_damage : (m : Files) (x : Part) (rest : List Part) (p : List ℕ) → part_chunk_at m x ≡ Ok p → first_wrong m (x ∷ rest) ≡ first_wrong m rest
+no_damage m x rest p at = by_found (part_found m x) at
   where
-    by_found : (r : Result (List ℕ) ChunkFault) → or_damaged digest r ≡ Ok p → ◌≡◌ {A = Option (Digest32 × ChunkFault)} (elim r [ Ok piece ↦ first_damage m rest | Err found ↦ Some (digest, found) ]) (first_damage m rest)
+    by_found : (r : Result (List ℕ) ChunkFault) → or_damaged x.digest r ≡ Ok p → ◌≡◌ {A = Option (Digest32 × ChunkFault)} (elim r [ Ok piece ↦ first_wrong m rest | Err found ↦ Some (x.digest, found) ]) (first_wrong m rest)
     by_found (Ok piece) e = refl
     by_found (Err found) e = cc
 
-pub this_damage : (m : Files) (digest d : Digest32) (rest : List Digest32) (found : ChunkFault) → chunk_at m digest ≡ Err (Damaged d found) → first_damage m (digest ∷ rest) ≡ Some (d, found)
-this_damage m digest d rest found at = by_found (found_at m digest.0) at
+this_damage : (m : Files) (x : Part) (d : Digest32) (rest : List Part) (found : ChunkFault) → part_chunk_at m x ≡ Err (Damaged d found) → first_wrong m (x ∷ rest) ≡ Some (d, found)
+this_damage m x d rest found at = by_found (part_found m x) at
   where
-    by_found : (r : Result (List ℕ) ChunkFault) → or_damaged digest r ≡ Err (Damaged d found) → ◌≡◌ {A = Option (Digest32 × ChunkFault)} (elim r [ Ok piece ↦ first_damage m rest | Err fault ↦ Some (digest, fault) ]) (Some (d, found))
+    by_found : (r : Result (List ℕ) ChunkFault) → or_damaged x.digest r ≡ Err (Damaged d found) → ◌≡◌ {A = Option (Digest32 × ChunkFault)} (elim r [ Ok piece ↦ first_wrong m rest | Err fault ↦ Some (x.digest, fault) ]) (Some (d, found))
     by_found (Ok piece) e = cc
     by_found (Err fault) e = cc
 
-pub parts_whole : (m : Files) (parts : List Part) (bytes : List ℕ) → parts_at m parts ≡ Ok bytes → first_damage m (digests_of parts) ≡ None
+pub parts_whole : (m : Files) (parts : List Part) (bytes : List ℕ) → parts_at m parts ≡ Ok bytes → first_wrong m parts ≡ None
 parts_whole m [] bytes is = refl
-parts_whole m (x ∷ xs) bytes is = by_chunk (chunk_at m x.digest) refl (λ rest e. parts_whole m xs rest e) is
+parts_whole m (x ∷ xs) bytes is = by_chunk (part_chunk_at m x) refl (λ rest e. parts_whole m xs rest e) is
   where
     Later : Type 0
-    Later = (rest : List ℕ) → parts_at m xs ≡ Ok rest → first_damage m (digests_of xs) ≡ None
+    Later = (rest : List ℕ) → parts_at m xs ≡ Ok rest → first_wrong m xs ≡ None
 
-    by_rest : (r : Result (List ℕ) Refusal) (q : List ℕ) → parts_at m xs ≡ r → Later → (r >>= λ rest. Ok (cut x q ++ rest)) ≡ Ok bytes → first_damage m (digests_of xs) ≡ None
+    by_rest : (r : Result (List ℕ) Refusal) (q : List ℕ) → parts_at m xs ≡ r → Later → (r >>= λ rest. Ok (cut x q ++ rest)) ≡ Ok bytes → first_wrong m xs ≡ None
     by_rest (Ok rest) q e later is = later rest e
     by_rest (Err refusal) q e later is = cc
 
-    by_chunk : (r : Result (List ℕ) Refusal) → chunk_at m x.digest ≡ r → Later → (r >>= λ q. parts_at m xs >>= λ rest. Ok (cut x q ++ rest)) ≡ Ok bytes → first_damage m (x.digest ∷ digests_of xs) ≡ None
-    by_chunk (Ok q) e later is = no_damage m x.digest (digests_of xs) q e ∙ by_rest (parts_at m xs) q refl later is
+    by_chunk : (r : Result (List ℕ) Refusal) → part_chunk_at m x ≡ r → Later → (r >>= λ q. parts_at m xs >>= λ rest. Ok (cut x q ++ rest)) ≡ Ok bytes → first_wrong m (x ∷ xs) ≡ None
+    by_chunk (Ok q) e later is = no_damage m x xs q e ∙ by_rest (parts_at m xs) q refl later is
     by_chunk (Err refusal) e later is = cc
 
-pub parts_damage : (m : Files) (parts : List Part) (d : Digest32) (found : ChunkFault) → parts_at m parts ≡ Err (Damaged d found) → first_damage m (digests_of parts) ≡ Some (d, found)
+pub parts_damage : (m : Files) (parts : List Part) (d : Digest32) (found : ChunkFault) → parts_at m parts ≡ Err (Damaged d found) → first_wrong m parts ≡ Some (d, found)
 parts_damage m [] d found is = cc
-parts_damage m (x ∷ xs) d found is = by_chunk (chunk_at m x.digest) refl (λ e. parts_damage m xs d found e) is
+parts_damage m (x ∷ xs) d found is = by_chunk (part_chunk_at m x) refl (λ e. parts_damage m xs d found e) is
   where
     Later : Type 0
-    Later = parts_at m xs ≡ Err (Damaged d found) → first_damage m (digests_of xs) ≡ Some (d, found)
+    Later = parts_at m xs ≡ Err (Damaged d found) → first_wrong m xs ≡ Some (d, found)
 
     errs : (r : Refusal) → ◌≡◌ {A = Result (List ℕ) Refusal} (Err r) (Err (Damaged d found)) → r ≡ Damaged d found
     errs r e = cc
 
-    by_rest : (r : Result (List ℕ) Refusal) (q : List ℕ) → parts_at m xs ≡ r → Later → (r >>= λ rest. Ok (cut x q ++ rest)) ≡ Err (Damaged d found) → first_damage m (digests_of xs) ≡ Some (d, found)
+    by_rest : (r : Result (List ℕ) Refusal) (q : List ℕ) → parts_at m xs ≡ r → Later → (r >>= λ rest. Ok (cut x q ++ rest)) ≡ Err (Damaged d found) → first_wrong m xs ≡ Some (d, found)
     by_rest (Ok rest) q e later is = cc
     by_rest (Err refusal) q e later is = later (e ∙ ap (λ y. Err y) (errs refusal is))
 
-    by_chunk : (r : Result (List ℕ) Refusal) → chunk_at m x.digest ≡ r → Later → (r >>= λ q. parts_at m xs >>= λ rest. Ok (cut x q ++ rest)) ≡ Err (Damaged d found) → first_damage m (x.digest ∷ digests_of xs) ≡ Some (d, found)
-    by_chunk (Ok q) e later is = no_damage m x.digest (digests_of xs) q e ∙ by_rest (parts_at m xs) q refl later is
-    by_chunk (Err refusal) e later is = this_damage m x.digest d (digests_of xs) found (e ∙ ap (λ y. Err y) (errs refusal is))
+    by_chunk : (r : Result (List ℕ) Refusal) → part_chunk_at m x ≡ r → Later → (r >>= λ q. parts_at m xs >>= λ rest. Ok (cut x q ++ rest)) ≡ Err (Damaged d found) → first_wrong m (x ∷ xs) ≡ Some (d, found)
+    by_chunk (Ok q) e later is = no_damage m x xs q e ∙ by_rest (parts_at m xs) q refl later is
+    by_chunk (Err refusal) e later is = this_damage m x d xs found (e ∙ ap (λ y. Err y) (errs refusal is))
 
 -- ---- what is told
 
@@ -103,9 +102,9 @@ by_stopped g disk may damage stop (Ok reply) is tells = absurd is
 by_stopped g disk may damage stop (Err x) is tells =
     subst (λ y. TellsDamaged g disk may damage (kind_by (told (Err y))) (Some (reply_by (told (Err y))))) (sym is) tells
 
--- of these chunks the first that is damaged is told
-abbrev pub TellsFirst : {D : Type 0} → Ghosts D → D → List Digest32 → ℕ → Option Reply → Type 0
-TellsFirst g disk chunks kind reply = TellsDamaged g disk (λ digest. Contains chunks digest) (λ m. first_damage m chunks) kind reply
+-- of the chunks of these parts the first that is damaged, or not as long as the index says, is told
+abbrev pub TellsWrong : {D : Type 0} → Ghosts D → D → List Part → ℕ → Option Reply → Type 0
+TellsWrong g disk parts kind reply = TellsDamaged g disk (λ digest. Contains (digests_of parts) digest) (λ m. first_wrong m parts) kind reply
 
 module _ {D : Type 0} (g : Ghosts D) (disk : D) (may : Digest32 → Type 0) (damage : Files → Option (Digest32 × ChunkFault)) where
   -- nothing is damaged
@@ -183,47 +182,48 @@ module _ {D : Type 0} (g : Ghosts D) (disk : D) (may : Digest32 → Type 0) (dam
       by_stop kinds.NoMemory h first = damages_failed DiskMemory
       by_stop kinds.DiskFailed h first = damages_failed DiskFailed
 
--- ---- of a list of chunks
+-- ---- of the parts of a range
 
 module _ {D : Type 0} (g : Ghosts D) (disk : D) where
-  first_told : (chunks : List Digest32) (refusal : Refusal) → IsDamageAmong chunks refusal
-      → (g.honest disk → (d : Digest32) (f : ChunkFault) → refusal ≡ Damaged d f → first_damage (g.content disk) chunks ≡ Some (d, f)) → TellsFirst g disk chunks 0 (Some (Refused refusal))
-  first_told chunks refusal among first =
-      damages_told g disk (λ digest. Contains chunks digest) (λ m. first_damage m chunks) among.0 (among.2).0 refusal (among.2).1 among.1 (λ h. first h among.0 (among.2).0 (among.2).1)
+  wrong_told : (parts : List Part) (refusal : Refusal) → IsDamageAmong (digests_of parts) refusal
+      → (g.honest disk → (d : Digest32) (f : ChunkFault) → refusal ≡ Damaged d f → first_wrong (g.content disk) parts ≡ Some (d, f)) → TellsWrong g disk parts 0 (Some (Refused refusal))
+  wrong_told parts refusal among first =
+      damages_told g disk (λ digest. Contains (digests_of parts) digest) (λ m. first_wrong m parts) among.0 (among.2).0 refusal (among.2).1 among.1 (λ h. first h among.0 (among.2).0 (among.2).1)
 
   -- stopped before they are read: none is needed
-  pub first_unread : (chunks : List Digest32) (stop : Stop) (result : Result Reply Stop) → IsErrAnd result (λ x. x ≡ stop)
-      → IfRefused (λ refusal. (chunks ≡ []) × ((digest : Digest32) (found : ChunkFault) → refusal ≡ Damaged digest found → ⊥)) stop
-      → TellsFirst g disk chunks (kind_by (told result)) (Some (reply_by (told result)))
-  first_unread chunks stop result stops none = damages_unread g disk (λ digest. Contains chunks digest) (λ m. first_damage m chunks) stop result stops (by_stop stop none)
+  pub wrong_unread : (parts : List Part) (stop : Stop) (result : Result Reply Stop) → IsErrAnd result (λ x. x ≡ stop)
+      → IfRefused (λ refusal. (parts ≡ []) × ((digest : Digest32) (found : ChunkFault) → refusal ≡ Damaged digest found → ⊥)) stop
+      → TellsWrong g disk parts (kind_by (told result)) (Some (reply_by (told result)))
+  wrong_unread parts stop result stops none = damages_unread g disk (λ digest. Contains (digests_of parts) digest) (λ m. first_wrong m parts) stop result stops (by_stop stop none)
     where
-      by_stop : (stop : Stop) → IfRefused (λ refusal. (chunks ≡ []) × ((digest : Digest32) (found : ChunkFault) → refusal ≡ Damaged digest found → ⊥)) stop
-          → IfRefused (λ refusal. (g.honest disk → first_damage (g.content disk) chunks ≡ None) × ((digest : Digest32) (found : ChunkFault) → refusal ≡ Damaged digest found → ⊥)) stop
-      by_stop (kinds.Refused refusal) h = (λ honest. ap (first_damage (g.content disk)) h.0, h.1)
+      by_stop : (stop : Stop) → IfRefused (λ refusal. (parts ≡ []) × ((digest : Digest32) (found : ChunkFault) → refusal ≡ Damaged digest found → ⊥)) stop
+          → IfRefused (λ refusal. (g.honest disk → first_wrong (g.content disk) parts ≡ None) × ((digest : Digest32) (found : ChunkFault) → refusal ≡ Damaged digest found → ⊥)) stop
+      by_stop (kinds.Refused refusal) h = (λ honest. ap (first_wrong (g.content disk)) h.0, h.1)
       by_stop kinds.NoMemory h = tt
       by_stop kinds.DiskFailed h = tt
 
   -- by what was read
-  pub first_read : {A : Type 0} (show : A → List ℕ) (parts : List Part) (chunks : List Digest32) (stop : Stop) (result : Result Reply Stop) → IsErrAnd result (λ x. x ≡ stop)
-      → chunks ≡ digests_of parts → StopsAmong (digests_of parts) stop → (g.honest disk → Gives show (Err stop) (parts_at (g.content disk) parts))
-      → TellsFirst g disk chunks (kind_by (told result)) (Some (reply_by (told result)))
-  first_read show parts chunks stop result stops is among gives = by_stopped g disk (λ digest. Contains chunks digest) (λ m. first_damage m chunks) stop result stops (by_stop stop among gives)
+  pub wrong_read : {A : Type 0} (show : A → List ℕ) (parts read : List Part) (stop : Stop) (result : Result Reply Stop) → IsErrAnd result (λ x. x ≡ stop)
+      → parts ≡ read → StopsAmong (digests_of read) stop → (g.honest disk → Gives show (Err stop) (parts_at (g.content disk) read))
+      → TellsWrong g disk parts (kind_by (told result)) (Some (reply_by (told result)))
+  wrong_read show parts read stop result stops is among gives =
+      subst (λ ps. TellsWrong g disk ps (kind_by (told result)) (Some (reply_by (told result)))) (sym is)
+      (by_stopped g disk (λ digest. Contains (digests_of read) digest) (λ m. first_wrong m read) stop result stops (by_stop stop among gives))
     where
-      by_stop : (stop : Stop) → StopsAmong (digests_of parts) stop → (g.honest disk → Gives show (Err stop) (parts_at (g.content disk) parts))
-          → TellsFirst g disk chunks (kind_by (told (Err stop))) (Some (reply_by (told (Err stop))))
+      by_stop : (stop : Stop) → StopsAmong (digests_of read) stop → (g.honest disk → Gives show (Err stop) (parts_at (g.content disk) read))
+          → TellsWrong g disk read (kind_by (told (Err stop))) (Some (reply_by (told (Err stop))))
       by_stop (kinds.Refused refusal) h gives =
-          subst (λ c. TellsFirst g disk c 0 (Some (Refused refusal))) (sym is)
-          (first_told (digests_of parts) refusal h.0 (λ honest d f e. parts_damage (g.content disk) parts d f (gives honest ∙ ap (λ x. Err x) e)))
-      by_stop kinds.NoMemory h gives = damages_failed g disk (λ digest. Contains chunks digest) (λ m. first_damage m chunks) DiskMemory
-      by_stop kinds.DiskFailed h gives = damages_failed g disk (λ digest. Contains chunks digest) (λ m. first_damage m chunks) DiskFailed
+          wrong_told read refusal h.0 (λ honest d f e. parts_damage (g.content disk) read d f (gives honest ∙ ap (λ x. Err x) e))
+      by_stop kinds.NoMemory h gives = damages_failed g disk (λ digest. Contains (digests_of read) digest) (λ m. first_wrong m read) DiskMemory
+      by_stop kinds.DiskFailed h gives = damages_failed g disk (λ digest. Contains (digests_of read) digest) (λ m. first_wrong m read) DiskFailed
 
   -- all that is needed was given
-  pub first_given : (parts : List Part) (chunks : List Digest32) (bytes sent : List ℕ) → chunks ≡ digests_of parts → (g.honest disk → parts_at (g.content disk) parts ≡ Ok bytes)
-      → TellsFirst g disk chunks 0 (Some (Data sent))
-  first_given parts chunks bytes sent is gives =
-      subst (λ c. TellsFirst g disk c 0 (Some (Data sent))) (sym is)
-      (damages_none g disk (λ digest. Contains (digests_of parts) digest) (λ m. first_damage m (digests_of parts)) 0 (Some (Data sent)) (λ d f e. cc)
-      (λ honest. parts_whole (g.content disk) parts bytes (gives honest)))
+  pub wrong_none : (parts read : List Part) (bytes sent : List ℕ) → parts ≡ read → (g.honest disk → parts_at (g.content disk) read ≡ Ok bytes)
+      → TellsWrong g disk parts 0 (Some (Data sent))
+  wrong_none parts read bytes sent is gives =
+      subst (λ ps. TellsWrong g disk ps 0 (Some (Data sent))) (sym is)
+      (damages_none g disk (λ digest. Contains (digests_of read) digest) (λ m. first_wrong m read) 0 (Some (Data sent)) (λ d f e. cc)
+      (λ honest. parts_whole (g.content disk) read bytes (gives honest)))
 
 -- ---- acts
 

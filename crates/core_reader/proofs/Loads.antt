@@ -1,14 +1,15 @@
 -- Chunks and parts of them as they are read.
-use Rattle.std.proofs.Common.{◌≡◌, IsErrAnd, IsErrOf, IsTrue, subst, true, false, ◌<◌, ◌≤◌, ◌+◌, ℕ, zero, suc, List, [], ◌∷◌, ◌++◌, length, drop, get_or, None, Some, Result, Ok, Err, refl, sym, ap, ◌∙◌, append_assoc, append-nil, arith}
+use Rattle.std.proofs.Common.{◌≡◌, Bool, if◌then◌else◌, Option, IsErrAnd, IsErrOf, IsTrue, subst, true, false, ◌<◌, ◌≤◌, ◌+◌, ℕ, zero, suc, List, [], ◌∷◌, ◌++◌, length, drop, get_or, None, Some, Result, Ok, Err, refl, sym, ap, ◌∙◌, append_assoc, append-nil, arith}
 use Rattle.std.specs.List.{All}
 use Rattle.std.specs.FinMap.{get}
+use Rattle.std.specs.Prelude.{◌==◌, nat_lt}
 use Rattle.std.proofs.lemmas.List.Elements.{All-head, All-tail}
 use Rattle.std.proofs.lemmas.List.{length-take}
 use Rattle.disk_trait.specs.Files.{Files}
 use Rattle.store_types.specs.declared.names.Digest32.{Digest32}
 use Rattle.store_types.specs.declared.refusal.BadBlob.{BadBlob}
 use Rattle.store_types.specs.declared.refusal.ChunkFault.{ChunkFault}
-use Rattle.store_types.specs.declared.refusal.ChunkFault.TheVariants.{Nothing}
+use Rattle.store_types.specs.declared.refusal.ChunkFault.TheVariants.{Nothing, NotABlob, Other}
 use Rattle.store_types.specs.declared.refusal.Refusal.{Refusal}
 use Rattle.store_types.specs.declared.refusal.Refusal.TheVariants.{Damaged}
 use Rattle.store_types.specs.Chain.Refusing.{◌>>=◌}
@@ -16,8 +17,9 @@ use Rattle.blob_codec.specs.Blob.{blob, data_of}
 use Rattle.store_files.specs.Archive.{digest_of}
 use Rattle.store_files.specs.Folder.{chunk_name}
 use Rattle.restore_reader.specs.declared.ranges.Part.{Part}
-use Rattle.restore_reader.specs.Cutting.{ArePartsOf, cut, joined, total_of}
+use Rattle.restore_reader.specs.Cutting.{ArePartsOf, IsPartOf, cut, joined, total_of}
 use Rattle.chunk_store.specs.Pieces.{IsHeld, by_data, piece_in, found_in, found_at}
+use Rattle.chunk_store.specs.Faults as store
 use Rattle.chunk_store.specs.Faults.{IsDamageAsked, IsNotDamaged}
 use Rattle.chunk_store.specs.declared.chunk.LoadFault.{LoadFault}
 use Rattle.chunk_store.specs.declared.chunk.LoadFault.TheVariants as loads
@@ -27,7 +29,7 @@ use Rattle.core_state.specs.Unchanged.{is_uncalled}
 use Rattle.core_state.specs.Stops.{Gives, IfRefused, StopHasText}
 use Rattle.core_state.specs.declared.stop.Stop.{Stop}
 use Rattle.core_state.specs.declared.stop.Stop.TheVariants.{Refused, NoMemory, DiskFailed}
-use Rattle.core_reader.specs.Chunks.{or_damaged, bytes_at, bytes_in, chunk_at, parts_at, stop_by_load, IsDamageOf, StopsAmong, StopsAt}
+use Rattle.core_reader.specs.Chunks.{blob_limit, or_damaged, of_length, bytes_at, bytes_in, chunk_at, part_chunk_at, parts_at, stop_by_load, IsDamageOf, StopsAmong, StopsAt}
 
 -- ---- pieces that stand there
 
@@ -54,11 +56,24 @@ held_chunk m digest p q held named at =
 same_bytes : (a b : List ℕ) → ◌≡◌ {A = Result (List ℕ) Refusal} (Ok a) (Ok b) → a ≡ b
 same_bytes a b e = cc
 
+-- the same of a part's chunk
+held_part_chunk : (m : Files) (x : Part) (p q : List ℕ) → IsHeld m p → IsPartOf x p → part_chunk_at m x ≡ Ok q → q ≡ p
+held_part_chunk m x p q held is at =
+    held_chunk m x.digest p q held is.digest (by_length (found_at m x.digest.0) at)
+  where
+    by_length : (r : Result (List ℕ) ChunkFault) → or_damaged x.digest (of_length x.digest x.chunk_length r) ≡ Ok q → or_damaged x.digest r ≡ Ok q
+    by_length (Ok piece) e = by_case (length piece == x.chunk_length) e
+      where
+        by_case : (t : Bool) → or_damaged x.digest (if t then Ok piece else Err (Other x.digest)) ≡ Ok q → ◌≡◌ {A = Result (List ℕ) Refusal} (Ok piece) (Ok q)
+        by_case true e = e
+        by_case false e = cc
+    by_length (Err found) e = e
+
 pub held_joined : (m : Files) (parts : List Part) (pieces : List (List ℕ)) (bytes : List ℕ) → ArePartsOf parts pieces → All (IsHeld m) pieces → parts_at m parts ≡ Ok bytes → bytes ≡ joined parts pieces
 held_joined m [] pieces bytes are held is = sym (same_bytes [] bytes is)
 held_joined m (x ∷ xs) [] bytes are held is = absurd are
 held_joined m (x ∷ xs) (p ∷ ps) bytes are held is =
-    by_chunk (chunk_at m x.digest) refl (λ rest e. held_joined m xs ps rest are.1 (All-tail (IsHeld m) p ps held) e) is
+    by_chunk (part_chunk_at m x) refl (λ rest e. held_joined m xs ps rest are.1 (All-tail (IsHeld m) p ps held) e) is
   where
     Later : Type 0
     Later = (rest : List ℕ) → parts_at m xs ≡ Ok rest → rest ≡ joined xs ps
@@ -69,16 +84,16 @@ held_joined m (x ∷ xs) (p ∷ ps) bytes are held is =
         ∙ ap (λ y. cut x p ++ y) (later rest e)
     by_rest (Err refusal) q e same later is = cc
 
-    by_chunk : (r : Result (List ℕ) Refusal) → chunk_at m x.digest ≡ r → Later → (r >>= λ q. parts_at m xs >>= λ rest. Ok (cut x q ++ rest)) ≡ Ok bytes → bytes ≡ cut x p ++ joined xs ps
-    by_chunk (Ok q) e later is = by_rest (parts_at m xs) q refl (held_chunk m x.digest p q (All-head (IsHeld m) p ps held) ((are.0).digest) e) later is
+    by_chunk : (r : Result (List ℕ) Refusal) → part_chunk_at m x ≡ r → Later → (r >>= λ q. parts_at m xs >>= λ rest. Ok (cut x q ++ rest)) ≡ Ok bytes → bytes ≡ cut x p ++ joined xs ps
+    by_chunk (Ok q) e later is = by_rest (parts_at m xs) q refl (held_part_chunk m x p q (All-head (IsHeld m) p ps held) are.0 e) later is
     by_chunk (Err refusal) e later is = cc
 
 -- the piece of which one is a part
 pub held_part : (m : Files) (parts : List Part) (pieces : List (List ℕ)) (i : ℕ) (d : Part) → ArePartsOf parts pieces → All (IsHeld m) pieces → i < length parts
-    → (p : List ℕ) × IsHeld m p × ((get_or parts i d).digest ≡ digest_of p)
+    → (p : List ℕ) × IsHeld m p × IsPartOf (get_or parts i d) p
 held_part m [] pieces i d are held lt = absurd (omega (arith, lt))
 held_part m (x ∷ xs) [] i d are held lt = absurd are
-held_part m (x ∷ xs) (p ∷ ps) zero d are held lt = (p, All-head (IsHeld m) p ps held, (are.0).digest)
+held_part m (x ∷ xs) (p ∷ ps) zero d are held lt = (p, All-head (IsHeld m) p ps held, are.0)
 held_part m (x ∷ xs) (p ∷ ps) (suc i) d are held lt = held_part m xs ps i d are.1 (All-tail (IsHeld m) p ps held) (omega (arith, lt))
 
 -- ---- parts one after another
@@ -92,7 +107,7 @@ none_behind (Ok rest) = refl
 none_behind (Err refusal) = refl
 
 -- one part more
-pub part_more : (m : Files) (front : List ℕ) (xs rest : List Part) (x : Part) (piece : List ℕ) → xs ≡ x ∷ rest → chunk_at m x.digest ≡ Ok piece
+pub part_more : (m : Files) (front : List ℕ) (xs rest : List Part) (x : Part) (piece : List ℕ) → xs ≡ x ∷ rest → part_chunk_at m x ≡ Ok piece
     → behind front (parts_at m xs) ≡ behind (front ++ cut x piece) (parts_at m rest)
 part_more m front xs rest x piece next at =
     ap (λ l. behind front (parts_at m l)) next
@@ -104,20 +119,20 @@ part_more m front xs rest x piece next at =
     by_rest (Err refusal) = refl
 
 -- a chunk is damaged
-pub part_damaged : (m : Files) (front : List ℕ) (xs rest : List Part) (x : Part) (refusal : Refusal) → xs ≡ x ∷ rest → chunk_at m x.digest ≡ Err refusal → behind front (parts_at m xs) ≡ Err refusal
+pub part_damaged : (m : Files) (front : List ℕ) (xs rest : List Part) (x : Part) (refusal : Refusal) → xs ≡ x ∷ rest → part_chunk_at m x ≡ Err refusal → behind front (parts_at m xs) ≡ Err refusal
 part_damaged m front xs rest x refusal next at =
     ap (λ l. behind front (parts_at m l)) next
     ∙ ap (λ r. behind front (r >>= λ p. parts_at m rest >>= λ b. Ok (cut x p ++ b))) at
 
 -- what a chunk stops by stops all
 pub part_stopped : {A B : Type 0} (f : A → List ℕ) (g : B → List ℕ) (m : Files) (front : List ℕ) (all : Result (List ℕ) Refusal) (xs rest : List Part) (x : Part) (stop : Stop) → all ≡ behind front (parts_at m xs) → xs ≡ x ∷ rest
-    → Gives f (Err stop) (chunk_at m x.digest) → Gives g (Err stop) all
+    → Gives f (Err stop) (part_chunk_at m x) → Gives g (Err stop) all
 part_stopped f g m front all xs rest x (Refused refusal) is next gives = is ∙ part_damaged m front xs rest x refusal next gives
 part_stopped f g m front all xs rest x NoMemory is next gives = tt
 part_stopped f g m front all xs rest x DiskFailed is next gives = tt
 
-pub chunk_then : (m n : Files) (digest : Digest32) (stop : Stop) → m ≡ n → Gives {A = List ℕ} (λ chunk. chunk) (Err stop) (chunk_at m digest) → Gives {A = List ℕ} (λ chunk. chunk) (Err stop) (chunk_at n digest)
-chunk_then m n digest stop same gives = subst (λ f. Gives {A = List ℕ} (λ chunk. chunk) (Err stop) (chunk_at f digest)) same gives
+pub chunk_then : (m n : Files) (x : Part) (stop : Stop) → m ≡ n → Gives {A = List ℕ} (λ chunk. chunk) (Err stop) (part_chunk_at m x) → Gives {A = List ℕ} (λ chunk. chunk) (Err stop) (part_chunk_at n x)
+chunk_then m n x stop same gives = subst (λ f. Gives {A = List ℕ} (λ chunk. chunk) (Err stop) (part_chunk_at f x)) same gives
 
 pub short_only : {A : Type 0} (result : Result A Stop) → IsErrAnd result (λ x. x ≡ NoMemory) → IsErrOf result DiskFailed → ⊥
 short_only (Ok x) is failed = is
@@ -209,20 +224,32 @@ load_at digest fault stop is text asked = subst (StopsAt digest) (sym is) (by_fa
     by_fault loads.Failed text asked = tt
     by_fault loads.NoMemory text asked = tt
 
--- nothing stands there
+-- the file is not read: nothing stands there, or more than a blob may have
+unread : (digest : Digest32) (o : Option (List ℕ)) (found : ChunkFault) → store.bytes_in o ≡ Err found → bytes_in digest o ≡ Err (Damaged digest found)
+unfolding store.bytes_in
+unread digest None found is = ap (λ f. Err (Damaged digest f)) (faults Nothing found is)
+  where
+    faults : (a b : ChunkFault) → ◌≡◌ {A = Result (List ℕ) ChunkFault} (Err a) (Err b) → a ≡ b
+    faults a b e = cc
+unread digest (Some text) found is = by_case (nat_lt blob_limit (length text)) is
+  where
+    by_case : (t : Bool) → ◌≡◌ {A = Result (List ℕ) ChunkFault} (if t then Err NotABlob else Ok text) (Err found)
+        → ◌≡◌ {A = Result (List ℕ) Refusal} (if t then Err (Damaged digest NotABlob) else Ok text) (Err (Damaged digest found))
+    by_case true e = cc
+    by_case false e = cc
+
 pub bytes_stopped : (m : Files) (digest : Digest32) (fault : LoadFault) (stop : Stop) → stop ≡ stop_by_load fault → IsDamageAsked digest fault
-    → ((other : Digest32) (found : ChunkFault) → fault ≡ loads.Damaged other found → (found ≡ Nothing) × (get m (chunk_name digest.0) ≡ None))
+    → ((other : Digest32) (found : ChunkFault) → fault ≡ loads.Damaged other found → store.bytes_in (get m (chunk_name digest.0)) ≡ Err found)
     → Gives {A = List ℕ} (λ bytes. bytes) (Err stop) (bytes_at m digest)
-bytes_stopped m digest fault stop is asked none = subst (λ x. Gives {A = List ℕ} (λ bytes. bytes) (Err x) (bytes_at m digest)) (sym is) (by_fault fault asked none)
+bytes_stopped m digest fault stop is asked tells = subst (λ x. Gives {A = List ℕ} (λ bytes. bytes) (Err x) (bytes_at m digest)) (sym is) (by_fault fault asked tells)
   where
     by_fault : (fault : LoadFault) → IsDamageAsked digest fault
-        → ((other : Digest32) (found : ChunkFault) → fault ≡ loads.Damaged other found → (found ≡ Nothing) × (get m (chunk_name digest.0) ≡ None))
+        → ((other : Digest32) (found : ChunkFault) → fault ≡ loads.Damaged other found → store.bytes_in (get m (chunk_name digest.0)) ≡ Err found)
         → Gives {A = List ℕ} (λ bytes. bytes) (Err (stop_by_load fault)) (bytes_at m digest)
-    by_fault (loads.Damaged other found) asked none =
-        let (nothing, gone) = none other found refl in
-        ap (bytes_in digest) gone ∙ ap (λ f. Err (Damaged digest f)) (sym nothing) ∙ ap (λ x. Err (Damaged x found)) (sym (asked other found refl))
-    by_fault loads.Failed asked none = tt
-    by_fault loads.NoMemory asked none = tt
+    by_fault (loads.Damaged other found) asked tells =
+        unread digest (get m (chunk_name digest.0)) found (tells other found refl) ∙ ap (λ x. Err (Damaged x found)) (sym (asked other found refl))
+    by_fault loads.Failed asked tells = tt
+    by_fault loads.NoMemory asked tells = tt
 
 -- what stands there is no piece's blob
 pub chunk_stopped : (m : Files) (digest : Digest32) (fault : LoadFault) (stop : Stop) → stop ≡ stop_by_load fault
@@ -247,6 +274,35 @@ held_stopped fault stop p is whole = subst (λ x. Gives {A = List ℕ} {B = List
     by_fault loads.Failed whole = tt
     by_fault loads.NoMemory whole = tt
 
-pub bytes_there : (m : Files) (digest : Digest32) (bytes : List ℕ) (result : Result (List ℕ) Stop) → get m (chunk_name digest.0) ≡ Some bytes
-    → Gives {A = List ℕ} (λ bytes. bytes) result (bytes_in digest (Some bytes)) → Gives {A = List ℕ} (λ bytes. bytes) result (bytes_at m digest)
-bytes_there m digest bytes result there gives = subst (λ o. Gives {A = List ℕ} (λ bytes. bytes) result (bytes_in digest o)) (sym there) gives
+-- the bytes that were read
+pub bytes_given : (m : Files) (digest : Digest32) (text bytes : List ℕ) → bytes ≡ text → store.bytes_in (get m (chunk_name digest.0)) ≡ Ok text → bytes_at m digest ≡ Ok bytes
+unfolding store.bytes_in
+bytes_given m digest text bytes same is = by_file (get m (chunk_name digest.0)) is ∙ ap Ok (sym same)
+  where
+    by_file : (o : Option (List ℕ)) → store.bytes_in o ≡ Ok text → bytes_in digest o ≡ Ok text
+    by_file None e = cc
+    by_file (Some x) e = by_case (nat_lt blob_limit (length x)) e
+      where
+        by_case : (t : Bool) → ◌≡◌ {A = Result (List ℕ) ChunkFault} (if t then Err NotABlob else Ok x) (Ok text)
+            → ◌≡◌ {A = Result (List ℕ) Refusal} (if t then Err (Damaged digest NotABlob) else Ok x) (Ok text)
+        by_case true e = cc
+        by_case false e = cc
+
+-- ---- a part's chunk
+
+module _ (digest : Digest32) (len : ℕ) where
+  part_err : (r : Result (List ℕ) ChunkFault) (refusal : Refusal) → or_damaged digest r ≡ Err refusal → or_damaged digest (of_length digest len r) ≡ Err refusal
+  part_err (Ok piece) refusal is = cc
+  part_err (Err found) refusal is = is
+
+-- what its chunk stops by
+pub part_chunk_stopped : (m : Files) (x : Part) (stop : Stop) → Gives {A = List ℕ} (λ chunk. chunk) (Err stop) (chunk_at m x.digest) → Gives {A = List ℕ} (λ chunk. chunk) (Err stop) (part_chunk_at m x)
+part_chunk_stopped m x (Refused refusal) gives = part_err x.digest x.chunk_length (found_at m x.digest.0) refusal gives
+part_chunk_stopped m x NoMemory gives = tt
+part_chunk_stopped m x DiskFailed gives = tt
+
+-- a stop that is handed on
+pub stop_handed : (result : Result (List ℕ) Stop) (stop : Stop) (wanted : Result (List ℕ) Refusal) → IsErrAnd result (λ x. x ≡ stop) → Gives {A = List ℕ} (λ chunk. chunk) (Err stop) wanted
+    → Gives {A = List ℕ} (λ chunk. chunk) result wanted
+stop_handed (Ok chunk) stop wanted is gives = absurd is
+stop_handed (Err x) stop wanted is gives = subst (λ y. Gives {A = List ℕ} (λ chunk. chunk) (Err y) wanted) (sym is) gives

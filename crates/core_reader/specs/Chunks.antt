@@ -1,19 +1,19 @@
 -- Chunks as a reader's answers have them.
-use Rattle.std.specs.Prelude.{◌≡◌, ℕ, List, [], ◌∷◌, ◌++◌, length, nat_lt, if◌then◌else◌, Option, None, Some, Result, Ok, Err, Vec}
+use Rattle.std.specs.Prelude.{◌≡◌, ℕ, List, [], ◌∷◌, ◌++◌, length, ◌==◌, nat_lt, if◌then◌else◌, Option, None, Some, Result, Ok, Err, Vec}
 use Rattle.std.specs.FinMap.{get}
 use Rattle.std.specs.List.{All, Contains}
 use Rattle.std.specs.declared.alloc.Global.{Global}
 use Rattle.disk_trait.specs.Files.{Files}
 use Rattle.store_types.specs.declared.names.Digest32.{Digest32}
 use Rattle.store_types.specs.declared.refusal.ChunkFault.{ChunkFault}
-use Rattle.store_types.specs.declared.refusal.ChunkFault.TheVariants.{Nothing, NotABlob}
+use Rattle.store_types.specs.declared.refusal.ChunkFault.TheVariants.{Nothing, NotABlob, Other}
 use Rattle.store_types.specs.declared.refusal.Refusal.{Refusal}
 use Rattle.store_types.specs.declared.refusal.Refusal.TheVariants.{Damaged}
 use Rattle.store_types.specs.Chain.Refusing.{◌>>=◌}
 use Rattle.store_files.specs.Archive.{digest_of}
 use Rattle.store_files.specs.Folder.{chunk_name}
 use Rattle.restore_reader.specs.declared.ranges.Part.{Part}
-use Rattle.restore_reader.specs.Cutting.{ArePartsOf, cut, joined}
+use Rattle.restore_reader.specs.Cutting.{ArePartsOf, IsPartOf, cut, joined}
 use Rattle.wire_commands.specs.declared.reply.Reply.TheVariants.{Refused}
 use Rattle.wire_commands.specs.HasText.{ReplyHasText}
 use Rattle.chunk_store.specs.Pieces.{IsHeld, found_at}
@@ -50,11 +50,26 @@ or_damaged digest (Err found) = Err (Damaged digest found)
 abbrev pub chunk_at : Files → Digest32 → Result (List ℕ) Refusal
 chunk_at files digest = or_damaged digest (found_at files digest.0)
 
+-- ---- as long as the index says
+
+-- what is found, where it has this length; of another length it is another piece, with this digest
+abbrev pub of_length : Digest32 → ℕ → Result (List ℕ) ChunkFault → Result (List ℕ) ChunkFault
+of_length digest len (Ok piece) = if length piece == len then Ok piece else Err (Other digest)
+of_length digest len (Err found) = Err found
+
+-- the piece of a part's chunk, with the digest and the length that the index gives it, or what is found there
+abbrev pub part_found : Files → Part → Result (List ℕ) ChunkFault
+part_found files x = of_length x.digest x.chunk_length (found_at files x.digest.0)
+
+-- or that it is damaged by that
+abbrev pub part_chunk_at : Files → Part → Result (List ℕ) Refusal
+part_chunk_at files x = or_damaged x.digest (part_found files x)
+
 -- the bytes of parts of chunks, one after another
 abbrev pub parts_at : Files → List Part → Result (List ℕ) Refusal
 parts_at files [] = Ok []
 parts_at files (x ∷ xs) = do
-  piece ← chunk_at files x.digest
+  piece ← part_chunk_at files x
   rest ← parts_at files xs
   Ok (cut x piece ++ rest)
 
@@ -66,6 +81,14 @@ GivesChunk files digest result = Gives (λ chunk. chunk) result (chunk_at files 
 abbrev pub GivesHeld : Files → Digest32 → Result (List ℕ) Stop → Type 0
 GivesHeld files digest result =
     (p : List ℕ) → IsHeld files p → digest ≡ digest_of p → Gives (λ chunk. chunk) result (Ok p)
+
+-- the piece of the part's chunk is given, or its refusal
+abbrev pub GivesPartChunk : Files → Part → Result (List ℕ) Stop → Type 0
+GivesPartChunk files x result = Gives (λ chunk. chunk) result (part_chunk_at files x)
+
+-- the piece of which it is a part is given, where that stands there
+abbrev pub GivesHeldPart : Files → Part → Result (List ℕ) Stop → Type 0
+GivesHeldPart files x result = (p : List ℕ) → IsHeld files p → IsPartOf x p → Gives (λ chunk. chunk) result (Ok p)
 
 -- the bytes of these parts are given, or the first refusal
 abbrev pub GivesParts : Files → List Part → Result (Vec ℕ Global) Stop → Type 0

@@ -32,15 +32,16 @@ use Rattle.core_state.specs.Stops.{told}
 use Rattle.core_state.specs.Unreadables.{Asked, Way, at_entry}
 use Rattle.core_state.specs.Wanted.{session_at}
 use Rattle.core_reader.specs.Asked.{asked_entry, range_asked}
-use Rattle.core_reader.specs.Chunks.{blob_limit}
+use Rattle.core_reader.specs.Chunks.{blob_limit, part_found}
 
 -- ---- the chunks that an answer needs, in order
 
 abbrev pub digests_of : List Part → List Digest32
 digests_of parts = map (λ x. x.digest) parts
 
-abbrev pub planned : Result (List Part) Refusal → List Digest32
-planned (Ok parts) = digests_of parts
+-- the parts of a range that is given
+abbrev pub planned : Result (List Part) Refusal → List Part
+planned (Ok parts) = parts
 planned (Err refusal) = []
 
 -- of a GET_CHUNK, where the lane's reader may ask for it
@@ -51,7 +52,7 @@ chunk_needed digest session = []
 -- and of a RANGE, where it is given
 abbrev pub needed : Act → Session → List Listed → List Digest32
 needed (Plain (GetChunk digest)) session catalogue = chunk_needed digest session
-needed (Plain (Range file offset len)) session catalogue = planned (range_asked file offset len session catalogue)
+needed (Plain (Range file offset len)) session catalogue = digests_of (planned (range_asked file offset len session catalogue))
 needed act session catalogue = []
 
 -- ---- what is told
@@ -79,8 +80,14 @@ abbrev pub first_damage : Files → List Digest32 → Option (Digest32 × ChunkF
 first_damage files [] = None
 first_damage files (d ∷ ds) = elim (found_at files d.0) [ Ok piece ↦ first_damage files ds | Err found ↦ Some (d, found) ]
 
+-- of a range's parts the first whose chunk is damaged, or has another length than the index says
+abbrev pub first_wrong : Files → List Part → Option (Digest32 × ChunkFault)
+first_wrong files [] = None
+first_wrong files (x ∷ xs) = elim (part_found files x) [ Ok piece ↦ first_wrong files xs | Err found ↦ Some (x.digest, found) ]
+
 -- what an act's chunks are found to be
 abbrev pub damage_by : Act → Session → List Listed → Files → Option (Digest32 × ChunkFault)
+damage_by (Plain (Range file offset len)) session catalogue files = first_wrong files (planned (range_asked file offset len session catalogue))
 damage_by (ReadChunk name entry) session catalogue files = asked_damage files (asked_entry name entry session catalogue)
 damage_by act session catalogue files = first_damage files (needed act session catalogue)
 
@@ -89,8 +96,9 @@ abbrev pub MayName : Act → Session → List Listed → Digest32 → Type 0
 MayName (ReadChunk name entry) session catalogue digest = Unit {0}
 MayName act session catalogue digest = Contains (needed act session catalogue) digest
 
--- A chunk that the answer needs is told to be damaged. On an honest disk, whatever it holds, that is so exactly where one is, of the
--- first such, with what is found there: want of memory and faults of the disk, which have kinds of their own, apart.
+-- A chunk that the answer needs is told to be damaged. On an honest disk, whatever it holds, that is so exactly where one is, or, in a
+-- range, has another length than the index says, of the first such, with what is found there: want of memory and faults of the disk,
+-- which have kinds of their own, apart.
 pub record TellsDamaged {D : Type 0} (d : Ghosts D) (disk : D) (may_name : Digest32 → Type 0) (damage : Files → Option (Digest32 × ChunkFault)) (kind : ℕ) (reply : Option Reply) : Type 0 where
   pub named : (digest : Digest32) (found : ChunkFault) → reply ≡ Some (Refused (Damaged digest found)) → may_name digest
   pub cause : (digest : Digest32) (found : ChunkFault) → reply ≡ Some (Refused (Damaged digest found)) → d.honest disk → damage (d.content disk) ≡ Some (digest, found)

@@ -4,8 +4,8 @@ ghost use Rattle.std.specs.Prelude.{◌≡◌, ◌≤◌, IfOk, IfErr, IsErrOf, 
 ghost use Rattle.disk_trait.specs.Effects.{OnlyReads};
 ghost use Rattle.restore_reader.specs.Cutting.{cut, total_of};
 ghost use Rattle.core_state.specs.declared.stop.Stop.TheVariants.{DiskFailed};
-ghost use Rattle.core_state.specs.Stops.{Gives, StopHasText};
-ghost use Rattle.core_reader.specs.Chunks.{bytes_in, GivesBytes, GivesChunk, GivesHeld, GivesHeldParts, GivesParts, StopsAmong, StopsAt, stop_by_load};
+ghost use Rattle.core_state.specs.Stops.{StopHasText};
+ghost use Rattle.core_reader.specs.Chunks.{GivesBytes, GivesChunk, GivesHeld, GivesHeldPart, GivesHeldParts, GivesPartChunk, GivesParts, StopsAmong, StopsAt, stop_by_load};
 ghost use Rattle.core_reader.specs.Damages.{digests_of};
 
 use chunk_store::{Chunk, LoadFault, load, read};
@@ -14,9 +14,6 @@ use disk_trait::Disk;
 use restore_reader::Part;
 use std::alloc::Global;
 use store_types::{Bytes, ChunkFault, Digest32, Refusal};
-
-/// How many bytes a blob has at most.
-const BLOB_LIMIT: usize = 16_777_228;
 
 /// Why the chunk isn't loaded, as a stop.
 fn stopped(fault: LoadFault) -> Stop
@@ -33,22 +30,6 @@ fn stopped(fault: LoadFault) -> Stop
     }
 }
 
-/// The bytes of a chunk's file, which is damaged where it is longer than a blob may be.
-fn as_blob(digest: Digest32, bytes: Vec<u8>) -> Result<Bytes, Stop>
-    ensures value { Gives (λ bytes. bytes) result (bytes_in digest (Some bytes.items)) }
-    ensures size { IfOk result (λ bytes. length bytes ≤ 16_777_228) }
-    ensures damage { IfErr result (StopsAt digest) }
-    ensures unfailed { IsErrOf result DiskFailed → ⊥ }
-{
-    if bytes.len() > BLOB_LIMIT {
-        return Err(Stop::Refused(Refusal::Damaged {
-            digest,
-            fault: ChunkFault::NotABlob,
-        }));
-    }
-    Ok(Bytes::from_vec(bytes))
-}
-
 /// The bytes of the chunk's file, as they stand on the disk: whether they are a blob with this digest is not tested. It
 /// is refused as damaged where nothing is there, and where it is longer than a blob may be.
 pub fn read_bytes<D: Disk>(disk: &mut D, alloc: Global, digest: &Digest32) -> Result<Bytes, Stop>
@@ -59,7 +40,7 @@ pub fn read_bytes<D: Disk>(disk: &mut D, alloc: Global, digest: &Digest32) -> Re
     ensures damage { IfErr result (StopsAt digest.now) }
 {
     match read(disk, alloc, digest) {
-        Ok(bytes) => as_blob(*digest, bytes),
+        Ok(bytes) => Ok(Bytes::from_vec(bytes)),
         Err(fault) => Err(stopped(fault)),
     }
 }
@@ -81,6 +62,24 @@ pub fn read_chunk<D: Disk>(disk: &mut D, alloc: Global, digest: &Digest32) -> Re
     }
 }
 
+/// The chunk of a part, which is damaged too where its piece is not as long as the index says: it is another piece with
+/// this digest.
+fn read_part_chunk<D: Disk>(disk: &mut D, alloc: Global, part: &Part) -> Result<Chunk, Stop>
+    ensures reads { OnlyReads D.Disk disk.old disk.new (IsErrOf result DiskFailed) }
+    ensures value { D.honest disk.old → GivesPartChunk (D.content disk.old) part.now result }
+    // the piece of which it is a part is given, where that stands there
+    ensures held { D.honest disk.old → GivesHeldPart (D.content disk.old) part.now result }
+    ensures damage { IfErr result (StopsAt part.now.digest) }
+{
+    let digest = part.digest;
+    let chunk = read_chunk(disk, alloc, &digest)?;
+    if chunk.piece().len() != part.chunk_length as usize {
+        let found = ChunkFault::Other(digest);
+        return Err(stopped(LoadFault::Damaged { digest, found }));
+    }
+    Ok(chunk)
+}
+
 /// The part of a piece, as far as the piece has it.
 fn cut_from<'a>(piece: &'a [u8], part: &Part) -> &'a [u8]
     ensures { result.now ≡ cut part.now piece.now }
@@ -93,7 +92,7 @@ fn cut_from<'a>(piece: &'a [u8], part: &Part) -> &'a [u8]
 /// The bytes of parts of chunks, one after another. Beside the bytes, for which room is taken once, there is one chunk
 /// at a time.
 ///
-/// It is refused by the first chunk that is damaged.
+/// It is refused by the first chunk that is damaged, or not as long as the index says.
 pub fn read_parts<D: Disk>(
     disk: &mut D,
     alloc: Global,
@@ -110,7 +109,7 @@ pub fn read_parts<D: Disk>(
 {
     let mut bytes = Vec::with_capacity(alloc, room as usize)?;
     for part in parts {
-        let chunk = read_chunk(disk, alloc, &part.digest)?;
+        let chunk = read_part_chunk(disk, alloc, part)?;
         bytes.extend_from_slice(cut_from(chunk.piece(), part))?;
     }
     Ok(bytes)

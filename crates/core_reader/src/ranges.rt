@@ -63,7 +63,7 @@ fn range_plan<D>(
 ///
 /// The refusals, in the order in which they are tested: the lane has no reader; the text is no index's name; the snapshot
 /// has no such file; the reader did not download it; the range has more than 4,194,304 bytes; it goes beyond the
-/// content, whose size the refusal has; a chunk of it is damaged, of which the first is told.
+/// content, whose size the refusal has; a chunk of it is damaged or not as long as the index says, of which the first is told.
 pub fn range<D: Disk>(
     parts: &mut Parts<D>,
     alloc: Global,
@@ -75,7 +75,7 @@ pub fn range<D: Disk>(
     requires { at.lane < 64 }
     ensures does { RangeDoes D.Disk parts.old parts.new at file.now offset length result }
     ensures leaves { RangeLeaves D.Disk parts.old parts.new at file.now offset length result }
-    // a chunk is damaged exactly where one of the range's has no piece with its digest, as far as the disk tells
+    // a chunk is damaged exactly where one of the range's has no piece with its digest and its length by the index
     ensures damaged { ActDamaged D.Disk parts.old at (Plain (Range file.now offset length)) result }
 {
     let plan = range_plan(parts, alloc, at.lane, file, offset, length)?;

@@ -1,6 +1,6 @@
 -- CHUNK is the store's, by what the core keeps: a chunk is noted and put, or known already, or nothing changes.
 use Rattle.disk_trait.specs.declared.disk.Disk.{Ghosts}
-use Rattle.std.proofs.Common.{◌≡◌, ◌↔◌, ℕ, ◌+◌, ◌-◌, ◌<◌, ◌≤◌, Bool, true, false, if◌then◌else◌, List, [], ◌∷◌, length, get_or, set, Option, Some, None, Result, Ok, Err, OnOk, OnErr, is_some, refl, sym, ap, subst, ◌∙◌, arith, Fits, w8}
+use Rattle.std.proofs.Common.{◌≡◌, ◌↔◌, ℕ, ◌+◌, ◌-◌, ◌<◌, ◌≤◌, Bool, true, false, if◌then◌else◌, List, [], ◌∷◌, length, get_or, set, Option, Some, None, Result, Ok, Err, OnOk, OnErr, is_some, refl, sym, ap, subst, ◌∙◌, arith, Fits, w8, inr, IsErrOf}
 use Rattle.std.specs.FinMap.{get, put}
 use Rattle.std.proofs.lemmas.Bool.{and_parts, and_from}
 use Rattle.std.proofs.lemmas.List.{get_or_default}
@@ -9,6 +9,10 @@ use Rattle.std.proofs.lemmas.List.Elements.{All-nil, All-cons, All-append, All-c
 use Rattle.sha2.specs.Sha256.{sha256}
 use Rattle.disk_trait.specs.Files.{Files}
 use Rattle.disk_trait.specs.declared.disk.DiskError.{DiskError}
+use Rattle.disk_trait.specs.declared.disk.DiskError.TheVariants.{NoMemory, Failed}
+use Rattle.disk_trait.specs.Disk.{Serves}
+use Rattle.disk_trait.specs.Effects.{KeepsFiles}
+use Rattle.file_install.specs.Install.{installed}
 use Rattle.store_types.specs.declared.names.Digest32.{Digest32}
 use Rattle.store_types.specs.Names.{text_cmp}
 use Rattle.store_types.specs.declared.refusal.Refusal.{Refusal}
@@ -22,7 +26,7 @@ use Rattle.store_model.specs.ArchiveSteps.{checked_chunk}
 use Rattle.store_history.specs.declared.act.Act.TheVariants.{Chunk}
 use Rattle.store_history.specs.Acts.{IsCheckedChunk}
 use Rattle.store_history.specs.History.{data_in}
-use Rattle.chunk_store.specs.Pieces.{IsChunk, with_chunk}
+use Rattle.chunk_store.specs.Pieces.{IsChunk, OkStores, StepsStore, with_chunk}
 use Rattle.chunk_store.proofs.Blobs.{same_data}
 use Rattle.backup_session.specs.Session.{Pool, IsPool, length_at, with_length, settled}
 use Rattle.backup_session.specs.Shown.{shown, pool_of}
@@ -33,7 +37,7 @@ use Rattle.core_state.specs.declared.kept.Writing.{Writing}
 use Rattle.core_state.specs.declared.parts.Parts.{Parts}
 use Rattle.core_state.specs.Chunks.{HasChunk, MayStand, AddsChunks}
 use Rattle.core_state.specs.Holds.{HasUploads, Holds, IsOnDisk, Shows}
-use Rattle.core_state.specs.Changes.{change_of, chunk_put, stays, stores}
+use Rattle.core_state.specs.Changes.{change_of, chunk_put, stores}
 use Rattle.core_state.specs.Due.{IsDue}
 use Rattle.core_state.specs.Wanted.{session_at, want_writer}
 use Rattle.core_state.specs.declared.kept.Listed.{Listed}
@@ -43,7 +47,7 @@ use Rattle.core_state.proofs.LockLemmas.{locked_writes_on}
 use Rattle.core_state.proofs.Soundness.{IsAlone, disk_writer, shows_changed, sound_writer}
 use Rattle.core_state.specs.Named.{has_text, is_named}
 use Rattle.core_state.specs.Shown.{shown_writer, shown_files}
-use Rattle.core_uploads.specs.Noted.{MayNote, noted, with_noted}
+use Rattle.core_uploads.specs.Noted.{MayNote, PutsChunk, noted, with_noted}
 use Rattle.core_uploads.proofs.ArchiveLemmas.{settled_at}
 use Rattle.core_uploads.proofs.KeepLemmas.{found_stays, found_writer}
 use Rattle.core_uploads.proofs.ChunkLemmas.{IsRead, IsSent, read, sent, chunk_of, is_writer_more, done, adds, known_there, holds_chunk}
@@ -77,6 +81,9 @@ is_sent digest bytes fits h =
     let are : AreBytes bytes = All-from_get_or (λ b. b < 256) bytes 0 (λ i within. omega (arith, fits i)) in
     let (p, is) = read digest bytes h in
     chunk_of digest bytes p (sent digest bytes p are h is)
+
+pub sent_bytes : (bytes : List ℕ) → ((i : ℕ) → Fits w8 (get_or bytes i 0)) → AreBytes bytes
+sent_bytes bytes fits = All-from_get_or (λ b. b < 256) bytes 0 (λ i within. omega (arith, fits i))
 
 -- ---- the session
 
@@ -137,6 +144,12 @@ known_piece m v digest p known may h pool =
     let (q, in_pool, at) = known_there m v digest known h in
     subst IsPiece (same_data q p (may (blob q) at)) (All-contains IsPiece v.pool q pool in_pool)
 
+-- and nothing is put
+known_stays : (m : Files) (v : Writer) (digest : Digest32) (bytes : List ℕ) → is_some (length_at (pool_of v.pool) digest.0) ≡ true → HasUploads m v → with_chunk digest.0 bytes m ≡ m
+known_stays m v digest bytes known h =
+    let (q, in_pool, at) = known_there m v digest known h in
+    ap (λ o. if is_some o then m else installed m (chunk_name digest.0) bytes) at
+
 -- what the session has to have for its writer to note it
 pub may_note : (digest : List ℕ) (items : List Session) (lane : ℕ) (found : Session) (w : Writing) (known : Bool) → list_all is_named items ≡ true → lane < length items → found ≡ get_or items lane found → want_writer (get_or items lane Idle) ≡ Ok w
     → known ≡ is_some (length_at ((w.session).writer).pool digest) → known ≡ false → IsPool ((w.session).writer).pool → MayNote digest found
@@ -152,11 +165,22 @@ may_note digest items lane found w known named lt at wants value unknown pool =
     none_is None e = refl
     none_is (Some n) e = cc
 
--- the change of an act that puts a chunk, or of one that knows it
-pub chunk_change : (x : Session) (w : Writing) (digest : Digest32) (checked : Result (List ℕ) Refusal) (bytes : List ℕ) (known : Bool) (catalogue : List Listed) → x ≡ kept.Writer w → checked ≡ Ok bytes
-    → known ≡ is_some (length_at ((w.session).writer).pool digest.0) → change_of (Chunk digest checked) x catalogue ≡ (if known then stays else stores (chunk_name digest.0) bytes)
-chunk_change x w digest checked bytes known catalogue is was value =
-    ap (λ y. change_of (Chunk digest checked) y catalogue) is ∙ ap (λ k. chunk_put digest k w) was ∙ ap (λ b. if b then stays else stores (chunk_name digest.0) bytes) (sym value)
+-- the change of an act that puts a chunk
+pub chunk_change : (x : Session) (w : Writing) (digest : Digest32) (checked : Result (List ℕ) Refusal) (bytes : List ℕ) (catalogue : List Listed) → x ≡ kept.Writer w → checked ≡ Ok bytes
+    → change_of (Chunk digest checked) x catalogue ≡ stores (chunk_name digest.0) bytes
+chunk_change x w digest checked bytes catalogue is was =
+    ap (λ y. change_of (Chunk digest checked) y catalogue) is ∙ ap (chunk_put digest) was
+
+-- it is installed where its file isn't there
+pub puts_blob : {D : Type 0} (d : Ghosts D) (old new : D) (digest bytes : List ℕ) (result : Result (Unit {0}) DiskError) → Serves d.honest d.faults old new (IsErrOf result Failed)
+    → StepsStore d old new digest bytes → OkStores d old new digest bytes result → (IsErrOf result NoMemory → KeepsFiles d old new) → PutsChunk d old new digest bytes result
+puts_blob d old new digest bytes result serves crash stored none = record {
+  serves = serves;
+  crash = inr crash;
+  put = stored;
+  same = λ want. (none want).0;
+  unmoved = λ want. inr (none want).1;
+}
 
 -- what is put is a piece's blob
 pub chunk_due : (digest : Digest32) (checked : Result (List ℕ) Refusal) (bytes : List ℕ) → AreBytes bytes → checked ≡ Ok bytes → IsCheckedChunk digest checked
@@ -188,34 +212,36 @@ module _ {D : Type 0} (g : Ghosts D) where
       let after = holds_chunk g old new s lane v digest bytes p lt at is serves now c (l ∙ ap (set old.sessions.items lane) kept_is) k (may_put (g.content old.disk) digest checked bytes p read_is was may) holds in
       (with_session s lane (writer (calls.chunk v p)), step_done s lane v digest checked bytes p at read_is was, after.shows, after.files)
 
-  -- a chunk that is known
-  pub knows : (parts : Parts D) (s : Store) (lane : ℕ) (v : Writer) (w : Writing) (digest : Digest32) (checked : Result (List ℕ) Refusal) (bytes : List ℕ) (known : Bool)
-      → lane < 64 → session s lane ≡ writer v → shown_writer v ≡ w → want_writer (session_at parts lane) ≡ Ok w → checked ≡ Ok bytes → IsCheckedChunk digest checked
-      → known ≡ is_some (length_at ((w.session).writer).pool digest.0) → known ≡ true → MayStand (g.content parts.disk) digest (data_in checked)
-      → Holds g parts s → Reaches parts s lane checked
-  knows parts s lane v w digest checked bytes known lt at shows wants was h value there may holds =
+  -- a chunk that is known, and put
+  pub knows : (old new : Parts D) (s : Store) (lane : ℕ) (v : Writer) (w : Writing) (digest : Digest32) (checked : Result (List ℕ) Refusal) (bytes : List ℕ) (known : Bool)
+      → lane < 64 → session s lane ≡ writer v → shown_writer v ≡ w → want_writer (session_at old lane) ≡ Ok w → checked ≡ Ok bytes → IsCheckedChunk digest checked
+      → known ≡ is_some (length_at ((w.session).writer).pool digest.0) → known ≡ true → g.content new.disk ≡ with_chunk digest.0 bytes (g.content old.disk)
+      → new.catalogue.items ≡ old.catalogue.items → new.sessions.items ≡ old.sessions.items → new.locks ≡ old.locks → MayStand (g.content old.disk) digest (data_in checked)
+      → Holds g old s → Reaches new s lane checked
+  knows old new s lane v w digest checked bytes known lt at shows wants was h value there now c ss k may holds =
       let (p, is) = read digest bytes (subst (IsCheckedChunk digest) was h) in
-      let within : lane < length parts.sessions.items = omega (arith, parts.lanes, parts.sessions.ok.0, lt) in
-      let x = session_at parts lane in
+      let within : lane < length old.sessions.items = omega (arith, old.lanes, old.sessions.ok.0, lt) in
+      let x = session_at old lane in
       let x_is = is_writing x w wants in
       let pool : ((w.session).writer).pool ≡ pool_of v.pool = ap (λ u. ((u.session).writer).pool) (sym shows) ∙ pool_shown v in
       let known_is : is_some (length_at (pool_of v.pool) digest.0) ≡ true = ap (λ ps. is_some (length_at ps digest.0)) (sym pool) ∙ sym value ∙ there in
       let same : x ≡ kept.Writer (shown_writer (calls.chunk v p)) =
       x_is ∙ ap (λ u. kept.Writer u) (sym shows ∙ sym (shown_known v p (ap (λ d. is_some (length_at (pool_of v.pool) d)) is.digest_is ∙ known_is))) in
-      let stands = may_put (g.content parts.disk) digest checked bytes p is was may in
+      let stands = may_put (g.content old.disk) digest checked bytes p is was may in
       let writer_is = (holds.shows).sound.writers lane v at in
-      let uploads = uploads_known (g.content parts.disk) v digest p is.digest_is known_is stands (holds.files.writers lane v at) in
-      let piece = known_piece (g.content parts.disk) v digest p known_is stands (holds.files.writers lane v at) writer_is.pool in
+      let uploads = uploads_known (g.content old.disk) v digest p is.digest_is known_is stands (holds.files.writers lane v at) in
+      let piece = known_piece (g.content old.disk) v digest p known_is stands (holds.files.writers lane v at) writer_is.pool in
       let more = is_writer_more s v p piece writer_is in
-      let set_back : set parts.sessions.items lane x ≡ parts.sessions.items = found_stays parts.sessions.items lane x (sym (get_or_default parts.sessions.items lane x Idle within)) in
+      let set_back : set old.sessions.items lane x ≡ old.sessions.items = found_stays old.sessions.items lane x (sym (get_or_default old.sessions.items lane x Idle within)) in
       let sound = (holds.shows).sound in
       let l : lane < length s.sessions = omega (arith, sound.lanes, lt) in
-      let alone : IsAlone s lane (calls.chunk v p) = λ i u ne was same. ne (sound.apart i lane u v was at same) in (
+      let alone : IsAlone s lane (calls.chunk v p) = λ i u ne was same. ne (sound.apart i lane u v was at same) in
+      let stayed : g.content new.disk ≡ g.content old.disk = now ∙ known_stays (g.content old.disk) v digest bytes known_is (holds.files.writers lane v at) in (
         with_session s lane (writer (calls.chunk v p)),
         step_done s lane v digest checked bytes p at is was,
-        shows_changed parts parts s lane (writer (calls.chunk v p)) x refl (sym set_back) same (locked_writes_on parts.locks parts.locks s lane v (calls.chunk v p) l refl at refl refl (holds.shows).locks)
+        shows_changed old new s lane (writer (calls.chunk v p)) x c (ss ∙ sym set_back) same (locked_writes_on old.locks new.locks s lane v (calls.chunk v p) l k at refl refl (holds.shows).locks)
             (sound_writer s lane (calls.chunk v p) lt more alone sound) holds.shows,
-        disk_writer (g.content parts.disk) s lane (calls.chunk v p) l uploads holds.files,
+        subst (λ m. IsOnDisk m (with_session s lane (writer (calls.chunk v p)))) (sym stayed) (disk_writer (g.content old.disk) s lane (calls.chunk v p) l uploads holds.files),
       )
 
   -- no other chunk was put

@@ -90,8 +90,11 @@ fn take_chunk<D: Disk>(
     Ok(())
 }
 
-/// The lane's writer sends a chunk under its digest, or is refused as the check of the upload was. A chunk whose file is
-/// there is not put again.
+/// The lane's writer sends a chunk under its digest, or is refused as the check of the upload was. It is put where its
+/// file isn't there, whether the session knows the digest or not: once it is Done, the file is there. A chunk whose file
+/// is there is not put again, whatever the file holds.
+///
+/// Tests count one call of the disk where the file is there, and else four: size, put, sync and rename.
 ///
 /// The refusals, in the order in which they are tested: the lane has no writer; the bytes are no blob; the piece is empty;
 /// its digest is another. After a fault of the disk, and at want of memory, the writer may name what it might name before.
@@ -112,10 +115,12 @@ pub fn chunk<D: Disk>(
         Ok(bytes) => bytes,
         Err(refusal) => return Err(Stop::Refused(refused(digest, refusal))),
     };
+    let blob = bytes.as_slice();
     if w.session.knows(digest) {
+        insert_blob(&mut parts.disk, alloc, digest, blob)?;
         return Ok(Reply::Done);
     }
     let session = &mut parts.sessions[at.lane as usize];
-    take_chunk(&mut parts.disk, alloc, session, digest, bytes.as_slice())?;
+    take_chunk(&mut parts.disk, alloc, session, digest, blob)?;
     Ok(Reply::Done)
 }

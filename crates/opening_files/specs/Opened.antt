@@ -3,7 +3,7 @@ use Rattle.std.specs.Prelude.{◌<◌, ◌≤◌, ◌⊎◌, ℕ, Result, OnOk, 
 use Rattle.disk_trait.specs.declared.disk.Disk.{Ghosts}
 use Rattle.disk_trait.specs.declared.disk.DiskError.{DiskError}
 use Rattle.disk_trait.specs.declared.disk.DiskError.TheVariants.{NoMemory}
-use Rattle.disk_trait.specs.Disk.{LeavesOnly}
+use Rattle.disk_trait.specs.Disk.{LeavesOnly, one_up}
 use Rattle.disk_trait.specs.Files.{Files}
 use Rattle.chunk_store.specs.Listed.{Lists as ListsDigests}
 use Rattle.snapshot_files.specs.Scanned.{Lists}
@@ -14,12 +14,14 @@ use Rattle.opening_files.specs.Leaving.{MayClean, Cleans}
 abbrev pub LeavesOne : {D : Type 0} → Ghosts D → D → Files → Type 0
 LeavesOne d old c = d.images old (d.calls old) c ⊎ MayClean (d.content old) (d.content old) c
 
--- The disk was synced, and then opened. Each image since is one of the moment before, or what was read without some of the files that opening
--- takes away: up to a moment, that of the sync, the former, and from it on the latter.
+-- The disk was synced by the first call, and then opened. Each image since is one of the moment before, or what was read without some of the files
+-- that opening takes away: up to a moment the former, and from it on the latter. On an honest disk that moment is no later than the one behind
+-- the first call.
 pub record Opens {D : Type 0} (d : Ghosts D) (old new : D) : Type 0 where
   pub all : LeavesOnly d.calls d.images old new (LeavesOne d old)
   pub start : ℕ
   pub started : (d.calls old ≤ start) × (start ≤ d.calls new)
+  pub first : d.honest old → start ≤ one_up (d.calls old)
   pub until : (t : ℕ) (c : Files) → d.calls old ≤ t → t < start → d.images new t c → d.images old (d.calls old) c
   pub since : (t : ℕ) (c : Files) → start ≤ t → d.images new t c → MayClean (d.content old) (d.content old) c
 

@@ -42,7 +42,7 @@ steps_from start (e ∷ es) (suc i) fit = steps_from e.end es i (rest_steps star
 
 -- the part, where there is one
 abbrev pub part_of : ℕ → ℕ → ℕ → Ended → Part
-part_of from to start e = record { digest = record { 0 = e.digest }; from = max from start - start; length = min to e.end - max from start }
+part_of from to start e = record { digest = record { 0 = e.digest }; from = max from start - start; length = min to e.end - max from start; chunk_length = e.end - start }
 
 pub no_part : (from to start : ℕ) (e : Ended) → min to e.end ≤ max from start → part_in from to start e ≡ []
 no_part from to start e none = ap (λ b. cond b (part_of from to start e ∷ []) []) (le-ltb (max from start) (min to e.end) none)

@@ -45,7 +45,7 @@ ended start p = record { end = start + length p; digest = sha256 p }
 
 -- the part of the first piece
 first_part : (from to start : ℕ) (p : List ℕ) → max from start < min to (start + length p) → IsPartOf (part_of from to start (ended start p)) p
-first_part from to start p some = record { digest = refl; within = omega (arith, some); not_empty = omega (arith, some) }
+first_part from to start p some = record { digest = refl; whole = omega arith; within = omega (arith, some); not_empty = omega (arith, some) }
 
 -- what the parts give
 abbrev AllRead : List Part → List (List ℕ) → List ℕ → Type 0

@@ -3,9 +3,10 @@ use Rattle.std.specs.Prelude.{◌≡◌, ℕ, ◌+◌, ◌≤◌, List, [], ◌�
 use Rattle.store_files.specs.Archive.{digest_of}
 use Rattle.restore_reader.specs.declared.ranges.Part.{Part}
 
--- it has the piece's digest, lies within the piece and is not empty
+-- it has the piece's digest and length, lies within the piece and is not empty
 pub record IsPartOf (part : Part) (piece : List ℕ) : Type 0 where
   pub digest : part.digest ≡ digest_of piece
+  pub whole : part.chunk_length ≡ length piece
   pub within : part.from + part.length ≤ length piece
   pub not_empty : 1 ≤ part.length
 

@@ -9,7 +9,7 @@ use Rattle.restore_reader.specs.declared.ranges.Part.{Part}
 abbrev pub part_in : ℕ → ℕ → ℕ → Ended → List Part
 part_in from to start e =
     if nat_lt (max from start) (min to e.end) then
-    record { digest = record { 0 = e.digest }; from = max from start - start; length = min to e.end - max from start } ∷ []
+    record { digest = record { 0 = e.digest }; from = max from start - start; length = min to e.end - max from start; chunk_length = e.end - start } ∷ []
     else []
 
 -- of pieces that follow one another, the first of which begins at start

@@ -23,6 +23,8 @@ pub struct Part {
     pub from: u32,
     /// How many bytes it has, 1 or more.
     pub length: u32,
+    /// How many bytes the whole chunk has, by the index.
+    pub chunk_length: u32,
 }
 
 /// A range that content of this size has.
@@ -82,6 +84,7 @@ fn push_part(
         digest: entry.0,
         from: (begin - start) as u32,
         length: (end - begin) as u32,
+        chunk_length: (entry.1 - start) as u32,
     })?;
     Ok(())
 }

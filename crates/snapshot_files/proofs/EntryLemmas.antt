@@ -271,6 +271,29 @@ entry_told_of path false text es place is = by_index (dynamic_of text) refl is
     by_index (Ok x) found same = told_of path false text place x.entries es (same_ends x.entries es same) (dynamic_told path text x place found)
     by_index (Err cause) found same = cc
 
+-- ---- a text that is none by its size
+
+not_both : (n : ℕ) → ◌≡◌ {A = Option ℕ} (Some n) None → ⊥
+not_both n e = cc
+
+-- has no entries
+pub uneven_none : (is_fixed : Bool) (text : List ℕ) → entry_count is_fixed (length text) ≡ None → entries_in is_fixed text ≡ None
+unfolding entries_in
+uneven_none true text uneven = by_index (fixed_of text) refl
+  where
+    by_index : (r : Result FixedIndex IndexFault) → fixed_of text ≡ r → ◌≡◌ {A = Option (List Ended)} (elim r [ Ok x ↦ Some (fixed_ends x) | Err cause ↦ None ]) None
+    by_index (Ok x) is =
+        let index : IsIndex text = (fixed_of-ok text x is).1 in
+        absurd (not_both (count_of true (length text)) (sym (count_whole true (length text) index.long index.whole index.limit) ∙ uneven))
+    by_index (Err cause) is = refl
+uneven_none false text uneven = by_index (dynamic_of text) refl
+  where
+    by_index : (r : Result DynamicIndex IndexFault) → dynamic_of text ≡ r → ◌≡◌ {A = Option (List Ended)} (elim r [ Ok x ↦ Some x.entries | Err cause ↦ None ]) None
+    by_index (Ok x) is =
+        let index : IsDynamic text = (dynamic_of-ok text x is).1 in
+        absurd (not_both (count_of false (length text)) (sym (count_whole false (length text) index.long index.whole index.limit) ∙ uneven))
+    by_index (Err cause) is = refl
+
 -- ---- of an archive
 
 pieces_named : (start : ℕ) (ps : List (List ℕ)) (place : ℕ) → digest_among (ends_from start ps) place ≡ option_map digest_of (slice_get ps place)

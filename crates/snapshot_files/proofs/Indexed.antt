@@ -93,3 +93,10 @@ beyond_at content path is_fixed offset size is lt =
     let there = some_of (get content path) size is in
     let past : length there.0 < offset = omega (arith, there.2, lt) in
     at_text content path is_fixed offset there.0 there.1 ∙ beyond path is_fixed there.0 offset past ∙ ap (λ n. Err (BadRange n)) (sym there.2)
+
+-- by a size that no index has
+pub uneven_at : (content : Files) (path : List ℕ) (is_fixed : Bool) (offset size : ℕ) → Some size ≡ option_map (λ t. length t) (get content path) → offset ≤ size
+    → ((text : List ℕ) → length text ≡ size → entries_in is_fixed text ≡ None) → index_at content path is_fixed offset ≡ Err (Unreadable path)
+uneven_at content path is_fixed offset size is le none =
+    let there = some_of (get content path) size is in
+    at_text content path is_fixed offset there.0 there.1 ∙ no_index path is_fixed there.0 offset (omega (arith, there.2, le)) (none there.0 (sym there.2))

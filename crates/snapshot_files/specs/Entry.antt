@@ -1,5 +1,5 @@
 -- What is read of one entry of an index.
-use Rattle.std.specs.Prelude.{ℕ, ◌+◌, ◌-◌, ◌*◌, ◌/◌, ◌%◌, Bool, true, false, not, ◌||◌, ◌==◌, List, length, take, drop, nat_lt, if◌then◌else◌, Option, Some, None, Result, Ok}
+use Rattle.std.specs.Prelude.{◌≡◌, ℕ, ◌+◌, ◌-◌, ◌*◌, ◌/◌, ◌%◌, Bool, true, false, not, ◌||◌, ◌==◌, List, length, take, drop, nat_lt, if◌then◌else◌, Option, Some, None, Result, Ok}
 use Rattle.std.specs.FinMap.{get}
 use Rattle.disk_trait.specs.declared.disk.Disk.{Ghosts}
 use Rattle.disk_trait.specs.Files.{Files}
@@ -29,6 +29,10 @@ is_whole is_fixed size =
 -- how many entries a file of so many bytes has, where they are whole
 abbrev pub entry_count : Bool → ℕ → Option ℕ
 entry_count is_fixed size = if is_whole is_fixed size then Some ((size - header_len) / entry_len is_fixed) else None
+
+-- a file of so many bytes is no index: behind the header are no whole entries, or too many
+abbrev pub IsNoIndexBySize : Bool → ℕ → Type 0
+IsNoIndexBySize is_fixed size = entry_count is_fixed size ≡ None
 
 -- where the digest of an entry stands
 abbrev pub digest_offset : Bool → ℕ → ℕ

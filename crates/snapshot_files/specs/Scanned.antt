@@ -68,6 +68,11 @@ found_at files key = do
   bytes ← get files (manifest_path key)
   Some (found_with files key (read_manifest bytes))
 
+-- of an honest disk: what the manifest at the name says, where a file is there
+abbrev pub ReadsListed : {D E : Type 0} → Ghosts D → D → List ℕ → Result (Option (Option ReadManifest)) E → Type 0
+ReadsListed d disk name result =
+    d.honest disk → IfOk result (λ found. option_map (λ listed. option_map manifest_view listed) found ≡ option_map read_manifest (get (d.content disk) name))
+
 -- ---- all of them
 
 -- each is above the one before it

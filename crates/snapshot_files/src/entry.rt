@@ -36,7 +36,7 @@ fn digest_at(is_fixed: bool, place: u32) -> u64
 }
 
 /// How many entries the file of an index has that has so many bytes, or `None` where it is none by its size.
-fn entry_count(is_fixed: bool, size: u64) -> Option<u64>
+pub fn entry_count(is_fixed: bool, size: u64) -> Option<u64>
     ensures value { result ≡ count_in is_fixed size }
     ensures limit { IfSome result (λ count. count ≤ 1_048_576) }
 {

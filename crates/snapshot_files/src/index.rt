@@ -8,9 +8,11 @@ ghost use Rattle.store_model.specs.WriterSteps.{part_of as part_of_text};
 ghost use Rattle.dynamic_index.specs.Writing.{known_of};
 ghost use Rattle.store_files.specs.Entries.{FitsIndex, ends_of};
 ghost use Rattle.snapshot_files.specs.Parts.{IsPart, RefusesPart};
-ghost use Rattle.snapshot_files.specs.Reads.{ErrorHasText, Gives, IfRefused};
+ghost use Rattle.snapshot_files.specs.Reads.{ErrorHasText, Gives, IfRefused, OneCallWhere};
+ghost use Rattle.snapshot_files.specs.Entry.{IsNoIndexBySize};
 ghost use Rattle.snapshot_files.specs.Indexes.{entries_in as entries_of_text, ends_read, fixed_ends, index_in as index_of_text, lengths_from, shown_index, ReadsIndex};
 
+use crate::entry::entry_count;
 use crate::parts::unreadable;
 use crate::read_error::ReadError;
 use disk_trait::Disk;
@@ -110,7 +112,8 @@ fn index_in(
 /// bytes; and all its entries.
 ///
 /// The refusals, in the order in which they are tested: nothing is there; the offset is beyond the file's size, which
-/// the refusal has; the file gives fewer bytes than its size says, or is no index of this kind.
+/// the refusal has; the file gives fewer bytes than its size says, or is no index of this kind. One whose size is none
+/// of such an index is not read.
 pub fn read_index<D: Disk>(
     disk: &mut D,
     alloc: Global,
@@ -121,6 +124,7 @@ pub fn read_index<D: Disk>(
     requires { length path.now ≤ 255 }
     ensures reads { OnlyReads D.Disk disk.old disk.new (IsErrOf result ReadError.Failed) }
     ensures exact { ReadsIndex D.Disk disk.old path.now is_fixed offset result }
+    ensures calls { OneCallWhere D.Disk disk.old disk.new path.now (IsNoIndexBySize is_fixed) }
     ensures kind { MatchResult result (λ i. IsPart i.part) (IfRefused (RefusesPart path.now)) }
     ensures text { MatchResult result (λ index. ReplyHasText index.part) ErrorHasText }
     ensures entries { IfOk result (λ index. FitsIndex (ends_of index.entries.items)) }
@@ -130,6 +134,9 @@ pub fn read_index<D: Disk>(
     };
     if offset > total {
         return Err(ReadError::Refused(Refusal::BadRange { size: total }));
+    }
+    if entry_count(is_fixed, total).is_none() {
+        return Err(ReadError::Refused(unreadable(alloc, path)?));
     }
     match disk.read(alloc, path)? {
         Some(text) if text.len() as u64 >= total => index_in(alloc, path, &text, is_fixed, offset),

@@ -1,6 +1,6 @@
 //! All snapshots on a disk.
 
-ghost use Rattle.std.specs.Prelude.{◌≡◌, ◌≤◌, Some, length, IfSome, IfOk, OnOk, IsErrOf};
+ghost use Rattle.std.specs.Prelude.{◌≡◌, ◌≤◌, ◌<◌, Some, length, IfSome, IfOk, OnOk, IsErrOf};
 ghost use Rattle.std.specs.List.{All};
 ghost use Rattle.disk_trait.specs.Disk.{Ticks};
 ghost use Rattle.disk_trait.specs.Effects.{OnlyReads};
@@ -8,15 +8,19 @@ ghost use Rattle.manifest.specs.Least.{lesser as lesser_of};
 ghost use Rattle.store_types.specs.Names.{IsKey};
 ghost use Rattle.store_model.specs.Load.{key_of_manifest as key_named};
 ghost use Rattle.store_files.specs.Folder.{manifest_path};
-ghost use Rattle.snapshot_files.specs.Reads.{ReadsItems, ReadsTexts, ReadsThere};
-ghost use Rattle.snapshot_files.specs.Scanned.{FindsInto, Lists, ListsNamed, HasNames, lacks_file, with_missing, first_missing_file, unreadable_in, found_named as found_of, found_by, folder_names};
+ghost use Rattle.snapshot_files.specs.Reads.{NoneWantedWhere, OneCallWhere, ReadsItems, ReadsTexts, ReadsThere};
+ghost use Rattle.snapshot_files.specs.Scanned.{FindsInto, Lists, ListsNamed, HasNames, ReadsListed, lacks_file, with_missing, first_missing_file, unreadable_in, found_named as found_of, found_by, folder_names};
 
 use crate::found::{Found, in_order, read_manifest};
 use crate::path::{manifest_path_of, path_of};
+use blob_codec::{DATA_LIMIT, HEADER_SIZE};
 use disk_trait::{Disk, DiskError};
 use manifest::{FileFact, Manifest};
 use std::alloc::{AllocError, Global};
 use store_types::{Bytes, FileName, LISTED_LIMIT, SnapshotKey};
+
+/// The most bytes that a blob has.
+const BLOB_LIMIT: u64 = (HEADER_SIZE + DATA_LIMIT) as u64;
 
 /// The snapshot whose manifest has this name.
 pub fn key_of_manifest(alloc: Global, path: &str) -> Result<Option<SnapshotKey>, AllocError>
@@ -139,6 +143,30 @@ fn unreadable_of<D: Disk>(
     Ok(Some(path.into_bytes()))
 }
 
+/// What the manifest's file of this name says, where it is there: nothing where it is the blob of none. A file that is
+/// longer than a blob is not read.
+fn listed_at<D: Disk>(
+    disk: &mut D,
+    alloc: Global,
+    name: &str,
+) -> Result<Option<Option<Manifest>>, DiskError>
+    ensures reads { OnlyReads D.Disk disk.old disk.new (IsErrOf result DiskError.Failed) }
+    ensures listed { ReadsListed D.Disk disk.old name.now result }
+    ensures calls { OneCallWhere D.Disk disk.old disk.new name.now (λ size. 16_777_228 < size) }
+    ensures wanting { NoneWantedWhere D.Disk disk.old name.now (λ size. 16_777_228 < size) result }
+{
+    let Some(size) = disk.size(name)? else {
+        return Ok(None);
+    };
+    if size > BLOB_LIMIT {
+        return Ok(Some(None));
+    }
+    let Some(bytes) = disk.read(alloc, name)? else {
+        return Ok(None);
+    };
+    Ok(Some(read_manifest(alloc, &bytes)?))
+}
+
 /// The snapshot whose manifest's file has this name.
 #[tactic(auto, unfolding(crate::specs::Scanned::found_named))]
 fn found_named<D: Disk>(disk: &mut D, alloc: Global, name: &str) -> Result<Option<Found>, DiskError>
@@ -149,10 +177,9 @@ fn found_named<D: Disk>(disk: &mut D, alloc: Global, name: &str) -> Result<Optio
     let Some(key) = key_of_manifest(alloc, name)? else {
         return Ok(None);
     };
-    let Some(bytes) = disk.read(alloc, name)? else {
+    let Some(manifest) = listed_at(disk, alloc, name)? else {
         return Ok(None);
     };
-    let manifest = read_manifest(alloc, &bytes)?;
     let unreadable = unreadable_of(disk, alloc, &key, &manifest)?;
     Ok(Some(Found {
         key,
@@ -213,8 +240,8 @@ fn names_in_folders<D: Disk>(disk: &mut D, alloc: Global) -> Result<Vec<String>,
 /// The snapshots whose manifest's file has one of these names, in the order of snapshots. Where each name stands once and
 /// none of a manifest is missing, these are those of `scan`.
 ///
-/// Other names are passed over. The calls of the disk, all of which only read, are for each snapshot a read of its manifest
-/// and a `size` of each listed file.
+/// Other names are passed over. The calls of the disk, all of which only read, are for each snapshot a `size` and a read
+/// of its manifest, which is not read where it is longer than a blob, and a `size` of each listed file.
 pub fn scan_named<D: Disk>(
     disk: &mut D,
     alloc: Global,
@@ -233,8 +260,7 @@ pub fn scan_named<D: Disk>(
 /// not there. A manifest that names another snapshot than its folder makes none damaged.
 ///
 /// Other names in the folders are passed over, and chunks are not looked at. The calls of the disk, all of which only
-/// read, are a list for each type, and for each snapshot a read of its manifest and a `size` of each listed file. At
-/// an error nothing is told, whatever was read before it.
+/// read, are a list for each type, and for each snapshot those of [`scan_named`]. At an error nothing is told, whatever was read before it.
 pub fn scan<D: Disk>(disk: &mut D, alloc: Global) -> Result<Vec<Found>, DiskError>
     ensures reads { OnlyReads D.Disk disk.old disk.new (IsErrOf result DiskError.Failed) }
     ensures tick { Ticks D.honest D.calls disk.old disk.new }

@@ -53,14 +53,14 @@ returns-in-Ok-opened_of-clause-serves g c =
 pub returns-in-Ok-opened_of-clause-crash : goal.returns-in-Ok-opened_of-clause-crash
 returns-in-Ok-opened_of-clause-crash g c =
     let d = g.D.Disk in let m = g.met.D.Disk in
-    opens d m.told c.args.disk c.sync.new.self c.opened_of.new.disk c.sync.ensures.serves.kept c.in-Ok.ensures.same c.sync.ensures.crash c.in-Ok.ensures.durable
+    opens d m.told c.args.disk c.sync.new.self c.opened_of.new.disk c.sync.ensures.serves.kept c.in-Ok.ensures.same c.sync.ensures.tick c.sync.ensures.crash c.in-Ok.ensures.durable
     c.in-Ok-opened_of.ensures.crash
 
 pub returns-in-Ok-opened_of-clause-recovers : goal.returns-in-Ok-opened_of-clause-recovers
 returns-in-Ok-opened_of-clause-recovers g c =
     let d = g.D.Disk in let m = g.met.D.Disk in
     recovers_opened d g.C.Clock.readings c.args.disk _ c.args.clock
-    (opens d m.told c.args.disk c.sync.new.self c.opened_of.new.disk c.sync.ensures.serves.kept c.in-Ok.ensures.same c.sync.ensures.crash c.in-Ok.ensures.durable
+    (opens d m.told c.args.disk c.sync.new.self c.opened_of.new.disk c.sync.ensures.serves.kept c.in-Ok.ensures.same c.sync.ensures.tick c.sync.ensures.crash c.in-Ok.ensures.durable
     c.in-Ok-opened_of.ensures.crash)
 
 pub returns-in-Ok-opened_of-clause-records : goal.returns-in-Ok-opened_of-clause-records
@@ -86,7 +86,7 @@ pub returns-in-Err-clause-crash : goal.returns-in-Err-clause-crash
 returns-in-Err-clause-crash g c =
     let d = g.D.Disk in let m = g.met.D.Disk in
     stops_opening d c.args.disk c.opened_of.new.disk c.in-Err.e c.from.result c.from.ensures
-    (opens d m.told c.args.disk c.sync.new.self c.opened_of.new.disk c.sync.ensures.serves.kept c.in-Ok.ensures.same c.sync.ensures.crash c.in-Ok.ensures.durable
+    (opens d m.told c.args.disk c.sync.new.self c.opened_of.new.disk c.sync.ensures.serves.kept c.in-Ok.ensures.same c.sync.ensures.tick c.sync.ensures.crash c.in-Ok.ensures.durable
     c.in-Err.ensures.crash)
 
 pub returns-in-Err-clause-not_opened : goal.returns-in-Err-clause-not_opened

@@ -1,13 +1,10 @@
-use Rattle.core_reader.proofs.Loads.{bytes_stopped, bytes_there, load_at, load_failed}
+use Rattle.core_reader.proofs.Loads.{bytes_given, bytes_stopped, load_at, load_failed}
 use Rattle.core_reader.proofs.Telling.{reads_as}
 use Rattle.core_reader.proofs.loading.read_bytes.Goals as goal
 
-pub returns-in-Ok-clause-reads : goal.returns-in-Ok-clause-reads
-returns-in-Ok-clause-reads g c = reads_as g.D.Disk c.args.disk.now c.read.new.disk _ _ (λ failed. absurd (c.as_blob.ensures.unfailed failed)) c.read.ensures.reads
-
 pub returns-in-Ok-clause-value : goal.returns-in-Ok-clause-value
 returns-in-Ok-clause-value g c = λ h.
-    bytes_there (g.D.Disk.content c.args.disk.now) c.args.digest.now c.in-Ok.bytes.items c.as_blob.result (c.in-Ok.ensures.bytes h) c.as_blob.ensures.value
+    bytes_given (g.D.Disk.content c.args.disk.now) c.args.digest.now c.in-Ok.bytes.items c.from_vec.result c.from_vec.ensures (c.in-Ok.ensures.bytes h)
 
 pub returns-in-Err-clause-reads : goal.returns-in-Err-clause-reads
 returns-in-Err-clause-reads g c =

@@ -6,12 +6,12 @@ use Rattle.restore_reader.specs.Cutting.{cut, total_of}
 use Rattle.chunk_store.specs.Pieces.{IsHeld}
 use Rattle.snapshot_files.proofs.OnlyReading.{reads_none, reads_then}
 use Rattle.core_state.proofs.Commanding.{gives_by}
-use Rattle.core_reader.specs.Chunks.{chunk_at, parts_at}
+use Rattle.core_reader.specs.Chunks.{part_chunk_at, parts_at}
 use Rattle.core_reader.proofs.Loads.{behind, none_behind, part_more, none_stopped, part_stopped, parts_done, total_more, held_joined, held_part, chunk_then, short_only}
 use Rattle.core_reader.proofs.loading.read_parts.Goals as goal
 
 abbrev none : Part
-none = record { digest = record { 0 = [] }; from = 0; length = 0 }
+none = record { digest = record { 0 = [] }; from = 0; length = 0; chunk_length = 0 }
 
 pub loop-part-init : goal.loop-part-init
 loop-part-init g c = let d = g.D.Disk in
@@ -24,10 +24,10 @@ loop-part-init g c = let d = g.D.Disk in
     }
 
 pub returns-in_err-chunk-clause-reads : goal.returns-in_err-chunk-clause-reads
-returns-in_err-chunk-clause-reads g c = reads_then g.D.Disk _ _ _ ⊥ _ _ c.loop-part.invariant.reads c.read_chunk.ensures.reads (λ f. inr (search rules))
+returns-in_err-chunk-clause-reads g c = reads_then g.D.Disk _ _ _ ⊥ _ _ c.loop-part.invariant.reads c.read_part_chunk.ensures.reads (λ f. inr (search rules))
 
 pub returns-in_err-extend_from_slice-clause-reads : goal.returns-in_err-extend_from_slice-clause-reads
-returns-in_err-extend_from_slice-clause-reads g c = reads_then g.D.Disk _ _ _ ⊥ _ _ c.loop-part.invariant.reads c.read_chunk.ensures.reads (λ f. absurd (short_only _ c.from_residual-in_err-extend_from_slice.ensures.1 f))
+returns-in_err-extend_from_slice-clause-reads g c = reads_then g.D.Disk _ _ _ ⊥ _ _ c.loop-part.invariant.reads c.read_part_chunk.ensures.reads (λ f. absurd (short_only _ c.from_residual-in_err-extend_from_slice.ensures.1 f))
 
 pub returns-in_err-chunk-clause-value : goal.returns-in_err-chunk-clause-value
 returns-in_err-chunk-clause-value g c = let d = g.D.Disk in λ h.
@@ -38,7 +38,7 @@ returns-in_err-chunk-clause-value g c = let d = g.D.Disk in λ h.
     gives_by _ _ _ _ c.from_residual-in_err-chunk.ensures.1
     (part_stopped {A = List ℕ} {B = Vec ℕ Global} (λ chunk. chunk) (λ bytes. bytes.items) (d.content c.args.disk.now) c.loop-part.bytes.items _ (drop i parts) (drop (i + 1) parts) (get_or parts i none) _
     (c.loop-part.invariant.value h) (drop_more parts i none lt)
-    (chunk_then (d.content c.loop-part.disk) (d.content c.args.disk.now) (get_or parts i none).digest _ (reads.same h) (c.in_err-chunk.ensures.value (reads.serves.kept.0 h))))
+    (chunk_then (d.content c.loop-part.disk) (d.content c.args.disk.now) (get_or parts i none) _ (reads.same h) (c.in_err-chunk.ensures.value (reads.serves.kept.0 h))))
 
 pub returns-in_err-chunk-clause-held : goal.returns-in_err-chunk-clause-held
 returns-in_err-chunk-clause-held g c = let d = g.D.Disk in λ h pieces are held.
@@ -62,11 +62,11 @@ loop-part-preserved g c = let d = g.D.Disk in
     let same = c.loop-part.invariant.reads.same in
     let bytes : c.extend_from_slice.new.self.items ≡ before ++ cut x c.in_ok-chunk.chunk = c.in_ok-extend_from_slice.ensures.items ∙ ap (λ l. before ++ l) (c.cut_from.ensures ∙ ap (cut x) c.piece.ensures) in
     record {
-      reads = reads_then d _ _ _ ⊥ _ ⊥ c.loop-part.invariant.reads c.read_chunk.ensures.reads inl;
+      reads = reads_then d _ _ _ ⊥ _ ⊥ c.loop-part.invariant.reads c.read_part_chunk.ensures.reads inl;
       value = λ h.
           c.loop-part.invariant.value h
           ∙ part_more m before (drop i parts) (drop (i + 1) parts) x c.in_ok-chunk.chunk next
-          (ap (λ f. chunk_at f x.digest) (sym (same h)) ∙ c.in_ok-chunk.ensures.value (c.loop-part.invariant.reads.serves.kept.0 h))
+          (ap (λ f. part_chunk_at f x) (sym (same h)) ∙ c.in_ok-chunk.ensures.value (c.loop-part.invariant.reads.serves.kept.0 h))
           ∙ ap (λ f. behind f (parts_at m (drop (i + 1) parts))) (sym bytes);
       size = subst (λ b. length b + total_of (drop (i + 1) parts) ≤ total_of parts) (sym bytes) (total_more before (drop i parts) (drop (i + 1) parts) x c.in_ok-chunk.chunk (total_of parts) next c.loop-part.invariant.size);
     }

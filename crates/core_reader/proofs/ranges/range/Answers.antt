@@ -5,10 +5,11 @@ use Rattle.wire_commands.specs.declared.command.Command.TheVariants.{Range}
 use Rattle.store_history.specs.declared.act.Act.TheVariants.{Plain}
 use Rattle.restore_reader.specs.Cutting.{joined, total_of, ArePartsOf}
 use Rattle.core_state.specs.Wanted.{session_at}
+use Rattle.core_reader.specs.Asked.{range_asked}
 use Rattle.core_state.proofs.Commanding.{none_refused, read_does, reads_none, same_kept, stopped_does, stopped_leaves}
 use Rattle.core_state.proofs.Texts.{data_has_text}
-use Rattle.core_reader.specs.Damages.{digests_of, needed, planned}
-use Rattle.core_reader.proofs.Damaging.{first_given, first_read, first_unread}
+use Rattle.core_reader.specs.Damages.{digests_of, planned}
+use Rattle.core_reader.proofs.Damaging.{wrong_none, wrong_read, wrong_unread}
 use Rattle.core_reader.proofs.Loads.{among_called, among_ranged, among_text}
 use Rattle.core_reader.proofs.Ranging.{stands_there, planned_answers, planned_needs, planned_refuses, planned_text, planned_unfailed, data_short, same_data}
 use Rattle.core_reader.proofs.ranges.range.Goals as goal
@@ -58,19 +59,18 @@ returns-clause-does g c =
 
 pub returns-in_err-plan-clause-damaged : goal.returns-in_err-plan-clause-damaged
 returns-in_err-plan-clause-damaged g c =
-    first_unread g.D.Disk (c.args.parts.now).disk (needed (Plain (Range c.args.file.now c.args.offset c.args.length)) (session_at c.args.parts.now c.args.at.lane) c.args.parts.now.catalogue.items) _ _ c.from_residual.ensures.1
+    wrong_unread g.D.Disk (c.args.parts.now).disk (planned (range_asked c.args.file.now c.args.offset c.args.length (session_at c.args.parts.now c.args.at.lane) c.args.parts.now.catalogue.items)) _ _ c.from_residual.ensures.1
     (planned_needs {A = Vec Part Global} (λ plan. plan.items) _ _ c.in_err-plan.ensures.value c.in_err-plan.ensures.stops)
 
 pub returns-in_err-bytes-clause-damaged : goal.returns-in_err-bytes-clause-damaged
 returns-in_err-bytes-clause-damaged g c =
     let plan : c.deref.result.now ≡ c.in_ok-plan.plan.items = c.deref.ensures.value in
-    first_read g.D.Disk (c.args.parts.now).disk {A = Vec ℕ Global} (λ bytes. bytes.items) c.deref.result.now
-    (needed (Plain (Range c.args.file.now c.args.offset c.args.length)) (session_at c.args.parts.now c.args.at.lane) c.args.parts.now.catalogue.items) _ _ c.from_residual-in_err-bytes.ensures.1
-    (ap planned c.in_ok-plan.ensures.value ∙ ap digests_of (sym plan)) c.in_err-bytes.ensures.damage c.in_err-bytes.ensures.value
+    wrong_read g.D.Disk (c.args.parts.now).disk {A = Vec ℕ Global} (λ bytes. bytes.items)
+    (planned (range_asked c.args.file.now c.args.offset c.args.length (session_at c.args.parts.now c.args.at.lane) c.args.parts.now.catalogue.items)) c.deref.result.now _ _ c.from_residual-in_err-bytes.ensures.1
+    (ap planned c.in_ok-plan.ensures.value ∙ sym plan) c.in_err-bytes.ensures.damage c.in_err-bytes.ensures.value
 
 pub returns-clause-damaged : goal.returns-clause-damaged
 returns-clause-damaged g c =
     let plan : c.deref.result.now ≡ c.in_ok-plan.plan.items = c.deref.ensures.value in
-    first_given g.D.Disk (c.args.parts.now).disk c.deref.result.now
-    (needed (Plain (Range c.args.file.now c.args.offset c.args.length)) (session_at c.args.parts.now c.args.at.lane) c.args.parts.now.catalogue.items) _ c.from_vec.result
-    (ap planned c.in_ok-plan.ensures.value ∙ ap digests_of (sym plan)) c.in_ok-bytes.ensures.value
+    wrong_none g.D.Disk (c.args.parts.now).disk (planned (range_asked c.args.file.now c.args.offset c.args.length (session_at c.args.parts.now c.args.at.lane) c.args.parts.now.catalogue.items)) c.deref.result.now _ c.from_vec.result
+    (ap planned c.in_ok-plan.ensures.value ∙ sym plan) c.in_ok-bytes.ensures.value
