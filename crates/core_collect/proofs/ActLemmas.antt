@@ -4,6 +4,7 @@ use Rattle.std.proofs.Common.{◌≡◌, ℕ, Bool, true, false, List, Option, S
 use Rattle.std.specs.Prelude.{IsSomeAnd, option_map}
 use Rattle.store_types.specs.declared.refusal.Refusal.{Refusal}
 use Rattle.store_types.specs.declared.refusal.Refusal.TheVariants as refusals
+use Rattle.store_files.specs.Book.{Book}
 use Rattle.wire_commands.specs.declared.reply.Reply.{Reply}
 use Rattle.wire_commands.specs.declared.reply.Reply.TheVariants as replies
 use Rattle.store_history.specs.declared.act.Act.{Act}
@@ -20,7 +21,8 @@ use Rattle.core_state.specs.Wanted.{session_at}
 use Rattle.core_collect.specs.Acts.{CollectUnreadable, IsCollectors, asked_by, asked_of_collector, refusal_of}
 use Rattle.core_collect.specs.Ending.{early_in}
 use Rattle.core_collect.specs.Starting.{StartTells}
-use Rattle.core_collect.specs.Stepping.{IsReport, StepTells}
+use Rattle.core_collect.specs.Passing.{EndsWhole}
+use Rattle.core_collect.specs.Stepping.{StepTells}
 use Rattle.core_collect.proofs.StepLemmas.{cut_is_on}
 
 true_false : true ≡ false → ⊥
@@ -130,8 +132,10 @@ ended_by : (o : Option Early) (r : Refusal) → IsSomeAnd o (λ e. Some (replies
 ended_by None r said = absurd said
 ended_by (Some e) r said = ap (λ x. Some x) (sym (same_refused r (early_refusal e) said))
 
-no_report : (r : Refusal) → IsReport (Some (replies.Refused r)) → ⊥
-no_report r is = is
+-- a report is no refusal
+no_report : (book : Book) (o : Option Collector) (r : Refusal) → IsSomeAnd o (λ c. EndsWhole book c (Some (replies.Refused r))) → ⊥
+no_report book None r said = said
+no_report book (Some c) r (over, (report, reports, is)) = cc
 
 abbrev asks : ℕ → Option Collector → Option Asked
 asks lane collector = if is_on lane collector then asked_by (option_map early_refusal (early_in collector)) else None
@@ -148,7 +152,8 @@ step_unreadable d old new lane answer cause tells =
         let said = subst (λ r. IsSomeAnd (early_in old.collector) (λ e. r ≡ Some (replies.Refused (early_refusal e)))) is (tells.ends cut (step_kind d old new answer name cause is)) in
         ap (λ b. if b then asked_by (option_map early_refusal (early_in old.collector)) else None) (cut_is_on lane old.collector cut)
         ∙ ap asked_by (ended_by (early_in old.collector) (refusals.Unreadable name) said)
-    by_cut name is false uncut = absurd (no_report (refusals.Unreadable name) (subst IsReport is (tells.reports uncut (step_kind d old new answer name cause is))))
+    by_cut name is false uncut = absurd (no_report (old.upkeep).book old.collector (refusals.Unreadable name)
+        (subst (λ r. IsSomeAnd old.collector (λ c. EndsWhole (old.upkeep).book c r)) is (tells.reports uncut (step_kind d old new answer name cause is))))
 
 -- a collector has no other act
 pub neither : (act : Act) → IsCollectors act → (act ≡ Start → ⊥) → (act ≡ Step → ⊥) → ⊥

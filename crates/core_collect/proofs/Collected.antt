@@ -16,6 +16,7 @@ use Rattle.store_files.specs.Folder.{chunk_name}
 use Rattle.store_model.specs.Store.{Store}
 use Rattle.atime_book.specs.Present.{is_among}
 use Rattle.atime_book.specs.Touches.{NoneAfter, as_of, last_of}
+use Rattle.chunk_store.specs.Listed.{Lists}
 use Rattle.gc_plan.specs.Plan.{Plan, is_over, left_of, mark_limit, next_visit}
 use Rattle.gc_plan.specs.declared.GcReport.{GcReport}
 use Rattle.store_history.specs.LastTouches.{SameTouches, touched}
@@ -41,9 +42,10 @@ use Rattle.core_collect.specs.declared.marking.Unread.TheVariants as unread
 use Rattle.core_collect.specs.Beside.{IsPresent, IsSweepable, StandsBeside}
 use Rattle.core_collect.specs.Ending.{EndsPlan}
 use Rattle.core_collect.specs.Marking.{FindsNext, GoesFurther, MarksSome, entries_left, marked_now}
+use Rattle.core_collect.specs.Passing.{FailsByPlan, LosesFirst, PassesOn, PassesOrEnds}
 use Rattle.core_collect.specs.Stepping.{CollectDoes, IsIndex, IsTheSweeps, Outcome, Spares, path_of_early}
 use Rattle.core_collect.specs.Stepping as stepping
-use Rattle.core_collect.specs.Visiting.{DropsFirst, VisitsNext, goes}
+use Rattle.core_collect.specs.Visiting.{DropsFirst, IsListed, VisitsNext, goes}
 use Rattle.core_collect.proofs.EndLemmas.{ended_tells}
 use Rattle.core_collect.proofs.Losing.{holds_same, spares_install, spares_same}
 use Rattle.core_collect.proofs.Marked.{marked_tells}
@@ -143,6 +145,11 @@ fixed_then c e p further start cutoff indexes = record { start = start ∙ furth
 -- ---- a mark
 
 module _ {D : Type 0} (d : Ghosts D) (old new : Parts D) (u v : Upkeep) (c e f : Collector) (at : Place) where
+  -- it is not ended early
+  unended : (f : Collector) → f.ended ≡ None → PassesOn d old.disk old.catalogue.items u.book v.book c f at.moment stays
+      → PassesOrEnds d old.disk old.catalogue.items u.book v.book c f at.moment stays f.ended
+  unended f still passes = subst (PassesOrEnds d old.disk old.catalogue.items u.book v.book c f at.moment stays) (sym still) passes
+
   pub marked_does : OnlyReads d old.disk new.disk (IsErrOf {T = Bool} (Ok true) unread.DiskFailed) → SameKept old new → FindsNext d old c e (Ok true) → MarksSome u.book v.book e f at.moment → v.undated ≡ u.undated
       → is_over c.plan ≡ false → c.ended ≡ None → CollectDoes d old new u v c f at (Ok None)
   marked_does reads kept finds marks undated going goes =
@@ -155,6 +162,7 @@ module _ {D : Type 0} (d : Ghosts D) (old new : Parts D) (u v : Upkeep) (c e f :
         content = λ _ honest. reads.same honest;
         crash = same_leaves d old.disk new.disk stays reads.crash;
         touches = inl (marked_now e, refl, few_marked e, marked_touches u v (marked_now e) at.moment marks.touches undated);
+        by_plan = (going, ap (λ us. record v { undated = us }) undated, unended f still (record { passed = (finds.found).0; mid = e; finds = (finds.found).1; does = inl (finds.at_hand refl, marks, refl) }));
         early = λ before le early. marked_early u.book v.book (marked_now e) at.moment marks.touches (none_later u.book before at.moment le early);
         fits = λ before le in_time early. tt;
         lane = marks.lane ∙ (finds.further).lane;
@@ -186,8 +194,9 @@ module _ {D : Type 0} (d : Ghosts D) (old new : Parts D) (u : Upkeep) (c e : Col
       by_sweep (Some sweep) shows = (finds.shows acts s sweep beside.holds shows).1
 
   pub unread_does : (f : Collector) (path : List ℕ) → OnlyReads d old.disk new.disk (IsErrOf {T = Bool} (Err (unread.Unreadable path)) unread.DiskFailed) → SameKept old new
-      → FindsNext d old c e (Err (unread.Unreadable path)) → f.lane ≡ e.lane → f.plan ≡ e.plan → f.ended ≡ Some (earlies.Unreadable path) → c.ended ≡ None → CollectDoes d old new u u c f at (Ok None)
-  unread_does f path reads kept finds lane plan ended goes = record {
+      → FindsNext d old c e (Err (unread.Unreadable path)) → f.lane ≡ e.lane → f.plan ≡ e.plan → f.ended ≡ Some (earlies.Unreadable path) → is_over c.plan ≡ false → c.ended ≡ None
+      → CollectDoes d old new u u c f at (Ok None)
+  unread_does f path reads kept finds lane plan ended going goes = record {
     serves = record { kept = (reads.serves).kept; count = (reads.serves).count; cause = λ failed. cc };
     kept = kept;
     unrefused = λ refusal is. cc;
@@ -196,6 +205,7 @@ module _ {D : Type 0} (d : Ghosts D) (old new : Parts D) (u : Upkeep) (c e : Col
     content = λ _ honest. reads.same honest;
     crash = same_leaves d old.disk new.disk stays reads.crash;
     touches = inr (None, refl, same_touches (touches_kept u));
+    by_plan = (going, refl, subst (PassesOrEnds d old.disk old.catalogue.items u.book u.book c f at.moment stays) (sym ended) (refl, refl));
     early = λ before le early. none_later u.book before at.moment le early;
     fits = λ before le in_time early. tt;
     lane = lane ∙ (finds.further).lane;
@@ -217,6 +227,7 @@ module _ {D : Type 0} (d : Ghosts D) (old new : Parts D) (u : Upkeep) (c e : Col
     content = λ _ honest. reads.same honest;
     crash = same_leaves d old.disk new.disk stays reads.crash;
     touches = refl;
+    by_plan = tt;
     early = λ before le early. none_later u.book before at.moment le early;
     fits = λ before le in_time early. tt;
     lane = (finds.further).lane;
@@ -246,6 +257,7 @@ module _ {D : Type 0} (d : Ghosts D) (old new : Parts D) (u : Upkeep) (c e : Col
     content = λ calm. absurd (calm refl);
     crash = same_leaves d old.disk new.disk stays reads.crash;
     touches = refl;
+    by_plan = inl refl;
     early = λ before le early. none_later u.book before at.moment le early;
     fits = λ before le in_time early. tt;
     lane = (finds.further).lane;
@@ -266,6 +278,30 @@ module _ {D : Type 0} (d : Ghosts D) (old new : Parts D) (mid : D) (u v : Upkeep
 
   still : f.ended ≡ None
   still = same_ended ∙ (finds.further).ended ∙ goes_on
+
+  -- the chunks that are there are those of the disk before
+  listed_as : (listed : Plan) → IsListed d mid e.plan listed → IsListed d old.disk e.plan listed
+  listed_as listed (inl had) = inl had
+  listed_as listed (inr (none, (names, is, are))) =
+      inr (none, (names, is, record { few = are.few; lists = λ honest. subst (λ m. Lists m names) (reads.same honest) (are.lists ((reads.serves).kept.0 honest)) }))
+
+  -- and what is lost of it by its plan
+  loses : (change : Change) → DropsFirst d mid u.book e.plan change → LosesFirst d old.disk old.catalogue.items u.book c change
+  loses change drop = record {
+    going = going;
+    passed = (finds.found).0;
+    mid = e;
+    finds = (finds.found).1;
+    none_left = finds.all_marked refl;
+    drops = record {
+      listed = drop.listed;
+      digest = drop.digest;
+      is_listed = listed_as drop.listed drop.is_listed;
+      first = drop.first;
+      stale = drop.stale;
+      change_is = drop.change_is;
+    };
+  }
 
   module _ (r : Result (Unit {0}) DiskError) (serves : Serves d.honest d.faults mid new.disk (IsErrOf r disks.Failed)) (x : Visits r) where
     loss : IsLoss d old.disk mid new.disk x.change
@@ -302,6 +338,12 @@ module _ {D : Type 0} (d : Ghosts D) (old new : Parts D) (mid : D) (u v : Upkeep
         content = λ _. reads_then (Ok done) serves x (λ failed. cc);
         crash = crash (Ok done) serves x;
         touches = visited_pass u v (x.done).0 f.plan x.change (next_visit (x.done).0) at.moment undated first;
+        by_plan = (
+          going,
+          ap (λ us. record v { undated = us }) undated,
+          subst (PassesOrEnds d old.disk old.catalogue.items u.book v.book c f at.moment x.change) (sym still)
+              (record { passed = (finds.found).0; mid = e; finds = (finds.found).1; does = inr (finds.all_marked refl, ((x.done).0, listed_as (x.done).0 (x.done).1, (x.done).2)) }),
+        );
         early = λ before le early. visited_early u.book v.book (x.done).0 f.plan x.change (next_visit (x.done).0) at.moment first (none_later u.book before at.moment le early);
         fits = λ before le in_time early. tt;
         lane = lane ∙ (finds.further).lane;
@@ -325,6 +367,7 @@ module _ {D : Type 0} (d : Ghosts D) (old new : Parts D) (mid : D) (u v : Upkeep
         content = λ _. reads_then (Err disks.NoMemory) serves x (λ failed. cc);
         crash = crash (Err disks.NoMemory) serves x;
         touches = same_upkeep u v (x.unswept refl) undated;
+        by_plan = tt;
         early = λ before le early. subst (λ b. NoneAfter b at.moment) (sym (x.unswept refl)) (none_later u.book before at.moment le early);
         fits = λ before le in_time early. tt;
         lane = lane ∙ (finds.further).lane;
@@ -344,6 +387,7 @@ module _ {D : Type 0} (d : Ghosts D) (old new : Parts D) (mid : D) (u v : Upkeep
     content = λ calm. absurd (calm refl);
     crash = crash (Err disks.Failed) serves x;
     touches = same_upkeep u v (x.unswept refl) undated;
+    by_plan = ⊎_elim {C = FailsByPlan d old.disk old.catalogue.items u.book c at.moment x.change} (λ (none : x.change ≡ stays). inl none) (λ (drop : DropsFirst d mid u.book e.plan x.change). inr (inl (loses x.change drop))) x.going;
     early = λ before le early. subst (λ b. NoneAfter b at.moment) (sym (x.unswept refl)) (none_later u.book before at.moment le early);
     fits = λ before le in_time early. tt;
     lane = lane ∙ (finds.further).lane;
@@ -374,6 +418,7 @@ module _ {D : Type 0} (d : Ghosts D) (old new : Parts D) (u : Upkeep) (c : Colle
     content = λ _ honest. ends.installed honest;
     crash = ends.crash;
     touches = refl;
+    by_plan = (over, ends.report);
     early = λ before le early. none_later u.book before at.moment le early;
     fits = λ before le in_time early. ends.fits (record { touches = none_later u.book before at.moment le early; in_time = in_time });
     lane = refl;
@@ -396,6 +441,7 @@ module _ {D : Type 0} (d : Ghosts D) (old new : Parts D) (u : Upkeep) (c : Colle
         content = λ _ honest. same.0 honest;
         crash = same_leaves d old.disk new.disk stays (inr same.1);
         touches = refl;
+        by_plan = tt;
         early = λ before le early. none_later u.book before at.moment le early;
         fits = λ before le in_time early. tt;
         lane = refl;
@@ -414,6 +460,7 @@ module _ {D : Type 0} (d : Ghosts D) (old new : Parts D) (u : Upkeep) (c : Colle
     content = λ calm. absurd (calm refl);
     crash = ends.crash;
     touches = refl;
+    by_plan = inr (inr (over, refl));
     early = λ before le early. none_later u.book before at.moment le early;
     fits = λ before le in_time early. tt;
     lane = refl;

@@ -1,6 +1,6 @@
 -- The index that is next is passed over, read or unreadable, and the search for the one that is marked.
 use Rattle.disk_trait.specs.declared.disk.Disk.{Ghosts}
-use Rattle.std.proofs.Common.{◌≡◌, ℕ, zero, suc, Bool, true, false, cond, nat_lt, le_refl, le_of_eq, List, [], ◌∷◌, drop, length, map, Option, Some, None, Result, Ok, Err, is_some, IsErrAnd, IsErrOf, Vec, Global, vec_len, ◌==◌, true≢false, inr, refl, sym, ap, ap₂, subst, ◌∙◌, arith}
+use Rattle.std.proofs.Common.{◌≡◌, ◌⊎◌, ⊎_elim, ◌<◌, ℕ, zero, suc, Bool, true, false, cond, nat_lt, le_refl, le_of_eq, List, [], ◌∷◌, drop, length, map, Option, Some, None, Result, Ok, Err, IsSome, is_some, IsErrAnd, IsErrOf, Vec, Global, vec_len, ◌==◌, true≢false, inl, inr, refl, sym, ap, ap₂, subst, ◌∙◌, arith}
 use Rattle.std.specs.Prelude.{slice_get}
 use Rattle.std.specs.List.{All}
 use Rattle.std.proofs.lemmas.Bool.{eq-eqb, eqb-true, ltb-false}
@@ -13,7 +13,7 @@ use Rattle.store_types.specs.declared.refusal.Refusal.{Refusal}
 use Rattle.store_types.specs.declared.refusal.Refusal.TheVariants as refusals
 use Rattle.store_types.specs.FileNames.{is_fixed_name, is_index_name}
 use Rattle.store_model.specs.Store.{Store}
-use Rattle.gc_plan.specs.Plan.{Plan, Stage, ends_at, index_in, is_over, left_of, mark_in, marked_at, marking, next_index, next_mark, sweeping}
+use Rattle.gc_plan.specs.Plan.{Plan, Stage, ends_at, index_in, is_over, left_of, mark_in, marked_at, marking, next_index, next_mark, sweeping, with_mark}
 use Rattle.gc_plan.specs.declared.IndexAt.{IndexAt}
 use Rattle.snapshot_files.proofs.OnlyReading.{reads_none, reads_then}
 use Rattle.store_history.specs.Sweeping.{Sweep}
@@ -27,11 +27,11 @@ use Rattle.core_state.specs.Sweeps.{AreEntries, FitsRemoved, HasEntries, HasNumb
 use Rattle.core_state.specs.Unchanged.{SameKept}
 use Rattle.core_state.proofs.Acting.{holds_same}
 use Rattle.core_state.proofs.Finding.{some_same}
-use Rattle.core_collect.specs.Marking.{FindsNext, GoesFurther, IsSettled, IfUnreadable, PassesOver, Reads, SettlesNext, ShowsStill, bytes_of, digests_read, indexes_left, marked_next, next_unreadable, passed_over, path_at, standing, standing_as, standing_at, unless_passed, unreadable_in}
+use Rattle.core_collect.specs.Marking.{FindsAfter, FindsNext, GoesFurther, IsSettled, IfUnreadable, PassesNext, PassesOver, Reads, SettlesNext, ShowsStill, Standing, StandsAt, at_hand_after, bytes_of, digests_read, indexes_left, marked_next, next_unreadable, passed_by, passed_over, path_at, standing, standing_as, standing_at, unless_passed, unreadable_in}
 use Rattle.core_collect.specs.declared.marking.Unread.{Unread}
 use Rattle.core_collect.specs.declared.marking.Unread.TheVariants.{DiskFailed, NoMemory, Unreadable}
 use Rattle.core_collect.proofs.ReadLemmas.{index_digests, no_digests}
-use Rattle.core_collect.proofs.MarkLemmas.{all_marked, at_place, begins_with, drop_from, no_index, passed_shows}
+use Rattle.core_collect.proofs.MarkLemmas.{all_marked, at_place, begins_with, drop_from, mark_there, no_index, passed_shows}
 
 none_some : {A : Type 0} (x : A) → None ≡ Some x → ⊥
 none_some x e = cc
@@ -68,11 +68,11 @@ none_left : (is : List IndexAt) (stage : Stage) → index_in is stage ≡ None �
 none_left is (marking place first) e = drop_all place is (at_place is place e)
 none_left is (sweeping names) e = refl
 
-standing_some : (path : List ℕ) (ds : List (List ℕ)) → (ds ≡ [] → ⊥) → standing_as path (Ok ds) ≡ marked_next
+standing_some : (path : List ℕ) (ds : List (List ℕ)) → (ds ≡ [] → ⊥) → standing_as path (Ok ds) ≡ marked_next ds
 standing_some path [] some = absurd (some refl)
 standing_some path (d ∷ ds) some = refl
 
-standing_had : (m : Files) (b : Bool) (entries : List Digest32) (path : List ℕ) → (entries ≡ [] → ⊥) → standing_at m b entries (Some path) ≡ marked_next
+standing_had : (m : Files) (b : Bool) (entries : List Digest32) (path : List ℕ) → (entries ≡ [] → ⊥) → standing_at m b entries (Some path) ≡ marked_next (map (λ (d : Digest32). d.0) entries)
 standing_had m b [] path some = absurd (some refl)
 standing_had m b (d ∷ ds) path some = refl
 
@@ -112,6 +112,7 @@ module _ {D : Type 0} (d : Ghosts D) (parts : Parts D) where
     shows = λ acts s sweep holds h. (h, tt);
     at_hand = λ e. absurd (false_true e);
     passes = λ _ some. absurd (none_is (sym (ap is_some (no_index (c.plan).indexes (c.plan).stage none)) ∙ some));
+    found = λ e. absurd (false_true e);
     unread = λ honest. refl;
   }
     where
@@ -138,7 +139,8 @@ module _ {D : Type 0} (d : Ghosts D) (parts : Parts D) where
     };
     shows = λ acts s sweep holds h. (passed_shows catalogue s.snapshots acts old new sweep i over at (empty s holds) h, tt);
     at_hand = λ e. absurd (false_true e);
-    passes = λ _ _. over.less;
+    passes = λ _ _. (over, λ honest j there. subst (λ k. standing m catalogue old.entries.items k ≡ passed_over) (some_same i j (sym at ∙ there)) (stands honest));
+    found = λ e. absurd (false_true e);
     unread = λ honest.
         next_is old i at
         ∙ ap (λ st. unless_passed st (unreadable_in m catalogue [] (indexes_left (old.plan).indexes (marked_at (old.plan).stage 0 0)))) (stands honest)
@@ -198,8 +200,9 @@ module _ {D : Type 0} (d : Ghosts D) (parts : Parts D) where
       (shown, begins_with catalogue s.snapshots new i k sweep.unmarked next there.1 digests some shown.unmarked)
 
   had_settles : (old new : Collector) (i : IndexAt) (path : List ℕ) → next_index old.plan ≡ Some i → path_at i catalogue ≡ Some path → new.plan ≡ old.plan → new.lane ≡ old.lane → new.ended ≡ old.ended
-      → (new.entries.items ≡ [] → ⊥) → IsHad old new i path → (d.honest parts.disk → standing m catalogue old.entries.items i ≡ marked_next) → SettlesNext d parts old new (Ok true)
-  had_settles old new i path at found plan lane ended some had stands = record {
+      → (new.entries.items ≡ [] → ⊥) → IsHad old new i path → ((old.entries.items ≡ [] → ⊥) → new.entries.items ≡ old.entries.items) → (d.honest parts.disk → standing m catalogue old.entries.items i ≡ marked_next (bytes_of new.entries))
+      → SettlesNext d parts old new (Ok true)
+  had_settles old new i path at found plan lane ended some had kept stands = record {
     further = record {
       lane = lane;
       ended = ended;
@@ -212,13 +215,20 @@ module _ {D : Type 0} (d : Ghosts D) (parts : Parts D) where
     shows = λ acts s sweep holds h. had_shows old new i path acts s sweep at found plan some had holds h;
     at_hand = λ _. record { next = ap is_some (ap next_index plan ∙ at); some = some };
     passes = λ e _. absurd (true_false e);
+    found = λ _. record {
+      lane = lane;
+      plan = plan;
+      skipped = λ honest n below. absurd (omega (arith, below));
+      had = kept;
+      read = λ honest j there. subst (λ k. standing m catalogue old.entries.items k ≡ marked_next (bytes_of new.entries)) (some_same i j (sym at ∙ there)) (stands honest);
+    };
     unread = λ honest. next_is old i at ∙ ap (λ st. unless_passed st (unreadable_in m catalogue [] (indexes_left (old.plan).indexes (marked_at (old.plan).stage 0 0)))) (stands honest);
   }
 
   -- its digests were at hand
   pub kept_settles : (c : Collector) (i : IndexAt) (path : List ℕ) → next_index c.plan ≡ Some i → path_at i catalogue ≡ Some path → (c.entries.items ≡ [] → ⊥) → SettlesNext d parts c c (Ok true)
   kept_settles c i path at found some =
-      had_settles c c i path at found refl refl refl some had
+      had_settles c c i path at found refl refl refl some had (λ _. refl)
       (λ honest. ap (standing_at m (is_fixed_name i.name) c.entries.items) found ∙ standing_had m (is_fixed_name i.name) c.entries.items path some)
     where
       had : IsHad c c i path
@@ -232,6 +242,7 @@ module _ {D : Type 0} (d : Ghosts D) (parts : Parts D) where
   read_settles old new i path at found plan lane ended none some read =
       had_settles old new i path at found plan lane ended some
       (λ s sweep acts holds h k kept. ok_same (digests_named k.key i.name s.snapshots) (bytes_of new.entries) (sym (is_read old i path s at found holds k kept) ∙ read holds.honest))
+      (λ were. absurd (were none))
       (λ honest. read_standing old i path (Ok (bytes_of new.entries)) found none (read honest) ∙ standing_some path (bytes_of new.entries) (bytes_some new.entries.items some))
 
   -- or they are not to be had
@@ -244,6 +255,7 @@ module _ {D : Type 0} (d : Ghosts D) (parts : Parts D) where
         (h, ok_err (digests_named (there.0).key i.name s.snapshots) (refusals.Unreadable name) (sym (is_read c i path s at found holds there.0 there.1) ∙ read holds.honest));
     at_hand = λ e. absurd (err_ok (Unreadable name) true e);
     passes = λ e _. absurd (err_ok (Unreadable name) false e);
+    found = λ e. absurd (err_ok (Unreadable name) true e);
     unread = λ honest.
         next_is c i at
         ∙ ap (λ st. unless_passed st (unreadable_in m catalogue [] (indexes_left (c.plan).indexes (marked_at (c.plan).stage 0 0)))) (read_standing c i path (Err (refusals.Unreadable name)) found none (read honest))
@@ -254,6 +266,7 @@ module _ {D : Type 0} (d : Ghosts D) (parts : Parts D) where
     shows = λ acts s sweep holds h. (h, tt);
     at_hand = λ e. absurd (err_ok NoMemory true e);
     passes = λ e _. absurd (err_ok NoMemory false e);
+    found = λ e. absurd (err_ok NoMemory true e);
     unread = λ honest. tt;
   }
   unread_settles c i path DiskFailed at found none same read = record {
@@ -261,10 +274,18 @@ module _ {D : Type 0} (d : Ghosts D) (parts : Parts D) where
     shows = λ acts s sweep holds h. (h, tt);
     at_hand = λ e. absurd (err_ok DiskFailed true e);
     passes = λ e _. absurd (err_ok DiskFailed false e);
+    found = λ e. absurd (err_ok DiskFailed true e);
     unread = λ honest. tt;
   }
 
 -- ---- the search
+
+-- a number before the next is this or an earlier one
+at_most : (n k : ℕ) → n < suc k → (n < k) ⊎ (n ≡ k)
+at_most zero zero below = inr refl
+at_most zero (suc k) below = inl (omega arith)
+at_most (suc n) zero below = absurd (omega (arith, below))
+at_most (suc n) (suc k) below = ⊎_elim {C = (suc n < suc k) ⊎ (suc n ≡ suc k)} (λ (less : n < k). inl (omega (arith, less))) (λ (same : n ≡ k). inr (ap suc same)) (at_most n k (omega (arith, below)))
 
 -- indexes were passed over since
 pub record HasPassed {D : Type 0} (d : Ghosts D) (parts now : Parts D) (old c : Collector) : Type 0 where
@@ -272,6 +293,10 @@ pub record HasPassed {D : Type 0} (d : Ghosts D) (parts now : Parts D) (old c : 
   pub kept : SameKept parts now
   pub further : GoesFurther old c
   pub shows : ShowsStill d parts old c (λ _ _. Unit {0})
+  pub passed : ℕ
+  pub plan : c.plan ≡ passed_by passed old.plan
+  pub entries : c.entries.items ≡ at_hand_after passed old.entries.items
+  pub skipped : d.honest parts.disk → (n : ℕ) → n < passed → StandsAt (d.content parts.disk) parts.catalogue.items old n passed_over
   pub unread : d.honest parts.disk → next_unreadable (d.content parts.disk) parts.catalogue.items old ≡ next_unreadable (d.content parts.disk) parts.catalogue.items c
 
 module _ {D : Type 0} (d : Ghosts D) (parts now : Parts D) (old c : Collector) (h : HasPassed d parts now old c) where
@@ -303,9 +328,30 @@ module _ {D : Type 0} (d : Ghosts D) (parts now : Parts D) (old c : Collector) (
   honest_now : d.honest parts.disk → d.honest now.disk
   honest_now honest = ((h.reads).serves).kept.0 honest
 
+  -- how the index that is next stands, by what it stood at first
+  stands_as : (how : Standing) → d.honest parts.disk → StandsAt (d.content now.disk) now.catalogue.items c 0 how → StandsAt (d.content parts.disk) parts.catalogue.items old h.passed how
+  stands_as how honest stands i at =
+      sym (ap₂ (λ f q. standing f q c.entries.items i) ((h.reads).same honest) (h.kept).catalogue
+      ∙ ap (λ es. standing (d.content parts.disk) parts.catalogue.items es i) h.entries)
+      ∙ stands i (ap next_index h.plan ∙ at)
+
+  found_after : (e : Collector) → FindsAfter d now.disk now.catalogue.items 0 c e → FindsAfter d parts.disk parts.catalogue.items h.passed old e
+  found_after e found = record {
+    lane = found.lane ∙ (h.further).lane;
+    plan = found.plan ∙ h.plan;
+    skipped = h.skipped;
+    had = λ some. found.had (λ none. some (sym h.entries ∙ none)) ∙ h.entries;
+    read = λ honest. stands_as (marked_next (bytes_of e.entries)) honest (found.read (honest_now honest));
+  }
+
+  skipped_then : d.honest parts.disk → StandsAt (d.content now.disk) now.catalogue.items c 0 passed_over → (n : ℕ) → n < suc h.passed → StandsAt (d.content parts.disk) parts.catalogue.items old n passed_over
+  skipped_then honest stands n below =
+      ⊎_elim {C = StandsAt (d.content parts.disk) parts.catalogue.items old n passed_over} (λ (less : n < h.passed). h.skipped honest n less)
+      (λ (same : n ≡ h.passed). subst (λ k. StandsAt (d.content parts.disk) parts.catalogue.items old k passed_over) (sym same) (stands_as passed_over honest stands)) (at_most n h.passed below)
+
   -- one more
-  pub passed_then : (later : Parts D) (e : Collector) (failed : Type 0) → (failed → ⊥) → OnlyReads d now.disk later.disk failed → SameKept now later → SettlesNext d now c e (Ok false) → HasPassed d parts later old e
-  passed_then later e failed never reads kept settles = record {
+  pub passed_then : (later : Parts D) (e : Collector) (failed : Type 0) → (failed → ⊥) → OnlyReads d now.disk later.disk failed → SameKept now later → SettlesNext d now c e (Ok false) → PassesNext d now c e → HasPassed d parts later old e
+  passed_then later e failed never reads kept settles (over, stands) = record {
     reads = reads_then d parts.disk now.disk later.disk ⊥ failed ⊥ h.reads reads (λ no. absurd no);
     kept = record {
       catalogue = kept.catalogue ∙ (h.kept).catalogue;
@@ -314,6 +360,10 @@ module _ {D : Type 0} (d : Ghosts D) (parts now : Parts D) (old c : Collector) (
     };
     further = further_then e settles.further;
     shows = λ acts s sweep holds shown. ((shows_then e (Ok false) acts s sweep settles.shows holds shown).0, tt);
+    passed = suc h.passed;
+    plan = over.plan ∙ ap (λ (p : Plan). with_mark p 0 0) h.plan;
+    entries = over.none;
+    skipped = λ honest. skipped_then honest (stands (honest_now honest));
     unread = λ honest. h.unread honest ∙ sym (unread_as c honest) ∙ settles.unread (honest_now honest) ∙ unread_as e honest;
   }
 
@@ -326,9 +376,22 @@ module _ {D : Type 0} (d : Ghosts D) (parts now : Parts D) (old c : Collector) (
         (is, sym is.unmarked ∙ all_marked parts.catalogue.items s.snapshots (c.plan).indexes (c.plan).stage none);
     at_hand = λ e. absurd (false_true e);
     all_marked = λ _. none;
+    found = (
+      h.passed,
+      record {
+        lane = (h.further).lane;
+        plan = h.plan;
+        skipped = h.skipped;
+        had = λ _. h.entries;
+        read = λ honest i at. absurd (none_is (sym (ap is_some none) ∙ mark_there (c.plan).indexes (c.plan).stage i (ap next_index h.plan ∙ at)));
+      },
+    );
     unread = λ honest. h.unread honest ∙ ap (unreadable_in (d.content parts.disk) parts.catalogue.items c.entries.items) (none_marked (c.plan).indexes (c.plan).stage none);
   }
     where
+      none_is : false ≡ true → ⊥
+      none_is e = cc
+
       by_test : (is : List IndexAt) (place first : ℕ) (b : Bool) → nat_lt place (length is) ≡ b → cond {A = Option (ℕ × ℕ)} b (Some (place, first)) None ≡ None → drop place is ≡ []
       by_test is place first true less e = absurd (none_some (place, first) (sym e))
       by_test is place first false less e = drop_all place is (ltb-false place (length is) less)
@@ -344,6 +407,7 @@ module _ {D : Type 0} (d : Ghosts D) (parts now : Parts D) (old c : Collector) (
     shows = λ acts s sweep holds shown. shows_then e (Ok true) acts s sweep settles.shows holds shown;
     at_hand = settles.at_hand;
     all_marked = λ e. absurd (true_false e);
+    found = (h.passed, found_after e (settles.found refl));
     unread = λ honest. h.unread honest ∙ sym (unread_as c honest) ∙ settles.unread (honest_now honest);
   }
 
@@ -353,6 +417,7 @@ module _ {D : Type 0} (d : Ghosts D) (parts now : Parts D) (old c : Collector) (
     shows = λ acts s sweep holds shown. shows_then e (Err (Unreadable name)) acts s sweep settles.shows holds shown;
     at_hand = λ e. absurd (err_ok (Unreadable name) true e);
     all_marked = λ e. absurd (err_ok (Unreadable name) false e);
+    found = tt;
     unread = λ honest. h.unread honest ∙ sym (unread_as c honest) ∙ settles.unread (honest_now honest);
   }
   unread_then e NoMemory settles = record {
@@ -360,6 +425,7 @@ module _ {D : Type 0} (d : Ghosts D) (parts now : Parts D) (old c : Collector) (
     shows = λ acts s sweep holds shown. shows_then e (Err NoMemory) acts s sweep settles.shows holds shown;
     at_hand = λ e. absurd (err_ok NoMemory true e);
     all_marked = λ e. absurd (err_ok NoMemory false e);
+    found = tt;
     unread = λ honest. tt;
   }
   unread_then e DiskFailed settles = record {
@@ -367,6 +433,7 @@ module _ {D : Type 0} (d : Ghosts D) (parts now : Parts D) (old c : Collector) (
     shows = λ acts s sweep holds shown. shows_then e (Err DiskFailed) acts s sweep settles.shows holds shown;
     at_hand = λ e. absurd (err_ok DiskFailed true e);
     all_marked = λ e. absurd (err_ok DiskFailed false e);
+    found = tt;
     unread = λ honest. tt;
   }
 
@@ -377,6 +444,10 @@ passed_none d parts c = record {
   kept = record { catalogue = refl; sessions = refl; locks = refl };
   further = further_same c;
   shows = λ acts s sweep holds h. (h, tt);
+  passed = 0;
+  plan = refl;
+  entries = refl;
+  skipped = λ honest n below. absurd (omega (arith, below));
   unread = λ honest. refl;
 }
 
@@ -413,11 +484,11 @@ module _ {D : Type 0} (d : Ghosts D) (parts now later : Parts D) (old c e : Coll
   }
 
   -- one was passed over
-  pub search_passed : r ≡ Ok false → HasPassed d parts later old e
-  search_passed is =
+  pub search_passed : r ≡ Ok false → IsSome (next_mark c.plan) → HasPassed d parts later old e
+  search_passed is some =
       let one : SettlesNext d now c e (Ok false) = subst (SettlesNext d now c e) is settles in
       let why : IsErrOf r DiskFailed → ⊥ = λ failed. err_ok DiskFailed false (sym failed ∙ is) in
-      passed_then d parts now old c h later e (IsErrOf r DiskFailed) why reads kept one
+      passed_then d parts now old c h later e (IsErrOf r DiskFailed) why reads kept one (one.passes refl some)
 
   -- one is found
   pub search_found : r ≡ Ok true → FindsNext d parts old e (Ok true)

@@ -1,6 +1,6 @@
 -- An act of a collector after its start, by how it ended.
 use Rattle.disk_trait.specs.declared.disk.Disk.{Ghosts}
-use Rattle.std.proofs.Common.{◌≡◌, ◌↔◌, ⊎_elim, ◌<◌, ◌≤◌, ◌==◌, ◌&&◌, ℕ, Bool, true, false, is_some, length, [], ◌∷◌, Option, Some, None, IfSome, IsTrue, Ok, Err, inl, inr, refl, sym, ap, subst, ◌∙◌, arith}
+use Rattle.std.proofs.Common.{◌≡◌, ◌↔◌, ◌⊎◌, ⊎_elim, ◌<◌, ◌≤◌, ◌==◌, ◌&&◌, ℕ, Bool, true, false, is_some, length, [], ◌∷◌, Option, Some, None, IfSome, IsTrue, Ok, Err, inl, inr, refl, sym, ap, subst, ◌∙◌, arith}
 use Rattle.std.specs.Prelude.{IsErrOf, IsSomeAnd}
 use Rattle.std.specs.FinMap.{get}
 use Rattle.std.specs.Option.{IsSome}
@@ -21,8 +21,8 @@ use Rattle.store_history.specs.declared.act.Act.TheVariants.{Step}
 use Rattle.store_history.specs.declared.act.Answer.{Answer}
 use Rattle.store_history.specs.Acts.{sweeping}
 use Rattle.store_history.specs.History.{kind_of, open_on}
-use Rattle.store_history.specs.LastTouches.{SameTouches}
-use Rattle.store_history.specs.Legal.{Reports}
+use Rattle.store_history.specs.LastTouches.{SameTouches, dated}
+use Rattle.store_history.specs.Legal.{Reports as ReportsEnd}
 use Rattle.store_history.specs.Sweeping.{EndsSweep, FitsSweep, Sweep, is_over, passed, report_of}
 use Rattle.core_state.specs.declared.collector.Collector.{Collector}
 use Rattle.core_state.specs.declared.collector.Early.{Early}
@@ -31,6 +31,7 @@ use Rattle.core_state.specs.declared.entering.Admitted.TheVariants.{Answered}
 use Rattle.core_state.specs.declared.entering.Place.{Place}
 use Rattle.core_state.specs.declared.state.Core.{Core}
 use Rattle.core_state.specs.declared.stop.Stop.TheVariants as stops
+use Rattle.core_state.specs.declared.upkeep.Upkeep.{Upkeep}
 use Rattle.core_state.specs.Answers.{StepHasCause, done, failed, fault_after, halted, short, step_as_any, step_ends, step_passes}
 use Rattle.core_state.specs.Applies.{ActApplies, ActKeeps}
 use Rattle.core_state.specs.Begins.{AdmittedHasText, IsBegun, IsNext, IsReady, IsShort, Refuses, short as is_short, halted as is_halted}
@@ -64,9 +65,10 @@ use Rattle.core_state.proofs.Texts.{no_memory_has_text}
 use Rattle.core_state.proofs.Touching.{same_touches}
 use Rattle.core_state.proofs.Unchanging.{same_unchanged}
 use Rattle.core_collect.specs.Beside.{StandsBeside, passed_touches}
-use Rattle.core_collect.specs.Ending.{TellsEarly, early_in, halts_early, replies_early, report_reply}
+use Rattle.core_collect.specs.Ending.{Reports, TellsEarly, early_in, halts_early, replies_early, report_reply}
 use Rattle.core_collect.specs.Marking.{next_unreadable}
-use Rattle.core_collect.specs.Stepping.{CollectDoes, EntersPass, GoesOn, IsReport, IsTheSweeps, KeepsOthers, Outcome, PassDoes, StepTells, TakesNext, has_passed, not_begun, path_ended}
+use Rattle.core_collect.specs.Passing.{CoreFails, CorePasses, EndsWhole, FailsByPlan, PassesOrEnds}
+use Rattle.core_collect.specs.Stepping.{CollectDoes, EntersPass, GoesOn, IsAlone, IsTheSweeps, KeepsOthers, Outcome, PassDoes, StepTells, TakesNext, has_passed, not_begun, path_ended}
 use Rattle.core_collect.specs.Stepping as stepping
 use Rattle.core_collect.specs.Visiting.{goes}
 use Rattle.core_collect.proofs.Losing.{MayPass, spared_stands}
@@ -97,14 +99,23 @@ pub record IsRightStep {D E C : Type 0} (d : Ghosts D) (clock : clocks.Ghosts C)
   pub told : StepTells d old new lane answer
 
 -- no entry that tells anything of its own
-tells_none : {D E C : Type 0} (d : Ghosts D) (old new : Core D E C) (lane n : ℕ) (answer : Answer) → (answer.entry).kind ≡ n → (n ≡ 0 → ⊥) → (n ≡ 1 → ⊥) → (n ≡ 4 → ⊥) → StepTells d old new lane answer
-tells_none d old new lane n answer is other0 other1 other4 = record {
-  refused = λ zero. absurd (other0 (sym is ∙ zero));
-  ends = λ _ four. absurd (other4 (sym is ∙ four));
-  reports = λ _ four. absurd (other4 (sym is ∙ four));
-  fits = λ _ four. absurd (other4 (sym is ∙ four));
-  unread = λ _ one. absurd (other1 (sym is ∙ one));
+tells_none : {D E C : Type 0} (d : Ghosts D) (old new : Core D E C) (lane n : ℕ) (answer : Answer) → (answer.entry).kind ≡ n → (n ≡ 2) ⊎ ((n ≡ 5) × IsSome old.fault) → StepTells d old new lane answer
+tells_none d old new lane n answer is none = record {
+  refused = λ zero. absurd (other 0 (λ e. omega (arith, e)) (λ e. omega (arith, e)) (sym is ∙ zero));
+  open_alone = λ _. subst (IsAlone old.fault) (sym is) (inr none);
+  passes = λ _ one. absurd (other 1 (λ e. omega (arith, e)) (λ e. omega (arith, e)) (sym is ∙ one));
+  failed = λ _ five unfailed. absurd (before (sym is ∙ five) unfailed);
+  ends = λ _ four. absurd (other 4 (λ e. omega (arith, e)) (λ e. omega (arith, e)) (sym is ∙ four));
+  reports = λ _ four. absurd (other 4 (λ e. omega (arith, e)) (λ e. omega (arith, e)) (sym is ∙ four));
+  fits = λ _ four. absurd (other 4 (λ e. omega (arith, e)) (λ e. omega (arith, e)) (sym is ∙ four));
+  unread = λ _ one. absurd (other 1 (λ e. omega (arith, e)) (λ e. omega (arith, e)) (sym is ∙ one));
 }
+  where
+    other : (k : ℕ) → (2 ≡ k → ⊥) → (5 ≡ k → ⊥) → n ≡ k → ⊥
+    other k two five same = ⊎_elim {C = ⊥} (λ (is_two : n ≡ 2). two (sym is_two ∙ same)) (λ (is_five : (n ≡ 5) × IsSome old.fault). five (sym is_five.0 ∙ same)) none
+
+    before : n ≡ 5 → old.fault ≡ None → ⊥
+    before five unfailed = ⊎_elim {C = ⊥} (λ (is_two : n ≡ 2). omega (arith, is_two, five)) (λ (is_five : (n ≡ 5) × IsSome old.fault). true_false (sym is_five.1 ∙ ap is_some unfailed)) none
 
 -- the entry's kind and lane fit the sweep, where this kind and lane do
 fits_as : (h : History) (k n : ℕ) (answer : Answer) → (answer.entry).lane ≡ k → (answer.entry).kind ≡ n → FitsSweep (world h) (swept_of h) k answer.reply sweeping (kind_of n)
@@ -219,7 +230,7 @@ module _ {D E C : Type 0} (d : Ghosts D) (clock : clocks.Ghosts C) (old between 
       (λ h s stepped honest has. short_step_stands d clock.readings old mid new h lane is.moment answer s inside honest stepped uncut (ap open_in b.collector) has)
       (λ y at. was_open 2 lane old.collector y (sym collector ∙ at))
       (λ h s. tt)
-      (tells_none d old new lane 2 answer kind (λ e. omega (arith, e)) (λ e. omega (arith, e)) (λ e. omega (arith, e)))
+      (tells_none d old new lane 2 answer kind (inl refl))
 
   -- the disk failed before
   halted_by : (mid : Core D E C) (m first : ℕ) → old.fault ≡ Some first → IsBegun clock.readings old mid lane m → IsEntered d mid between lane m 5 (Some (Refused (refusals.Halted first))) answer
@@ -238,7 +249,7 @@ module _ {D E C : Type 0} (d : Ghosts D) (clock : clocks.Ghosts C) (old between 
       (λ h s stepped honest has. halted_step_stands d clock.readings old (record mid { collector = closed_on lane mid.collector }) new h lane m answer s inside honest first stepped some (ap (closed_on lane) b.collector))
       (λ y at. closed_open lane old.collector y (sym collector ∙ at))
       (λ h s. tt)
-      (tells_none d old new lane 5 answer kind (λ e. omega (arith, e)) (λ e. omega (arith, e)) (λ e. omega (arith, e)))
+      (tells_none d old new lane 5 answer kind (inr (refl, ap is_some some)))
 
   refused_before : is_cut lane old.collector ≡ false → Refuses d clock.readings old between lane answer → AdmittedHasText (Answered answer) → IsRightStep d clock old new lane answer
   refused_before uncut (is_short is) text = short_step uncut is
@@ -267,11 +278,14 @@ module _ {D E C : Type 0} (d : Ghosts D) (clock : clocks.Ghosts C) (old between 
       (collects_closed 4 lane old.collector new.collector (inl refl) (cut_is_on lane old.collector cut) collector)
       (λ h s stepped honest on_disk.
       closed_step_stands d clock.readings old (record mid { collector = None }) new h lane at.moment answer s inside honest (Some r) stepped none
-      (subst (λ o. Reports o (Some r)) (sym (shown h s).0) (ap (λ q. Some (Refused (refusal_of q))) (shown h s).1)) refl (on_disk (sym s.fault ∙ none)))
+      (subst (λ o. ReportsEnd o (Some r)) (sym (shown h s).0) (ap (λ q. Some (Refused (refusal_of q))) (shown h s).1)) refl (on_disk (sym s.fault ∙ none)))
       (λ y at. absurd (none_some y (sym collector ∙ at)))
       (λ h s. subst (λ o. EndsSweep (swept_of h) answer.reply o) (sym (shown h s).0) tt)
       (record {
         refused = λ zero. absurd (omega (arith, kind, zero));
+        open_alone = λ off. absurd (true_false (sym (cut_is_on lane old.collector cut) ∙ off));
+        passes = λ uncut. absurd (true_false (sym cut ∙ uncut));
+        failed = λ uncut. absurd (true_false (sym cut ∙ uncut));
         ends = λ _ _. subst (λ o. IsSomeAnd o (λ q. answer.reply ≡ Some (Refused (refusal_of q)))) (sym has) entered.reply_is;
         reports = λ uncut. absurd (true_false (sym cut ∙ uncut));
         fits = λ uncut. absurd (true_false (sym cut ∙ uncut));
@@ -389,6 +403,9 @@ module _ {D E C : Type 0} (d : Ghosts D) (clock : clocks.Ghosts C) (old mid acte
       (λ h s touches. stays_spare stays (d.content (old.parts).disk) (world h) refl)
       (record {
         refused = λ _. (off_before, entered.reply_is);
+        open_alone = λ _. inl kind;
+        passes = λ _ one. absurd (omega (arith, kind, one));
+        failed = λ _ five. absurd (omega (arith, kind, five));
         ends = λ cut. not_cut cut;
         reports = λ _ four. absurd (omega (arith, kind, four));
         fits = λ _ four. absurd (omega (arith, kind, four));
@@ -481,7 +498,22 @@ module _ {D E C : Type 0} (d : Ghosts D) (clock : clocks.Ghosts C) (old mid acte
       shows_as sweep h shows =
           subst (λ l. ShowsOpen (length (old.journal).entries.items) l ((world h).store).snapshots (Some y) sweep) ((does.kept).catalogue ∙ ap (λ p. p.catalogue.items) b.parts) shows
 
+    not_off : {P : Type 0} → is_on lane old.collector ≡ false → P
+    not_off off = absurd (true_false (sym on_before ∙ off))
+
     -- ---- a mark or a visit
+
+    core_passes : Does (Ok None) → IsEntered d acted new lane m 1 None answer → CorePasses d old new x y m
+    core_passes does entered = record {
+      going = does.by_plan.0;
+      change = does.change;
+      content = λ honest. ap (λ p. d.content p.disk) entered.parts ∙ reads (Ok None) does (λ failed. cc) honest;
+      crash = subst (λ p. LeavesChange d (old.parts).disk p.disk does.change) (sym entered.parts) (crash (Ok None) does);
+      book = (acted.upkeep).book;
+      passes = subst (λ u. PassesOrEnds d (old.parts).disk (old.parts).catalogue.items u.book (acted.upkeep).book x y m does.change y.ended) b.upkeep
+          (subst (λ p. PassesOrEnds d p.disk p.catalogue.items (mid.upkeep).book (acted.upkeep).book x y m does.change y.ended) b.parts does.by_plan.2);
+      dates = subst (λ u. SameTouches (touches_kept new.upkeep) (dated m (touches_kept u))) (does.by_plan.1 ∙ ap (λ (u : Upkeep). record u { book = (acted.upkeep).book }) b.upkeep) entered.upkeep;
+    }
 
     passed_step : Does (Ok None) → IsEntered d acted between lane m 1 None answer → IsRightStep d clock old new lane answer
     passed_step does e =
@@ -513,6 +545,10 @@ module _ {D E C : Type 0} (d : Ghosts D) (clock : clocks.Ghosts C) (old mid acte
         (stored (Ok None) does)
         (record {
           refused = λ zero. absurd (omega (arith, kind, zero));
+          open_alone = λ off. not_off off;
+          passes = λ _ _. subst (λ o. IsSomeAnd o (λ c. IsSomeAnd new.collector (λ e. CorePasses d old new c e (answer.entry).moment))) (sym was)
+              (subst (λ o. IsSomeAnd o (λ e. CorePasses d old new x e (answer.entry).moment)) (sym now) (subst (CorePasses d old new x y) (sym (ap (λ z. z.moment) entered.entry)) (core_passes does entered)));
+          failed = λ _ five. absurd (omega (arith, kind, five));
           ends = λ cut. not_cut cut;
           reports = λ _ four. absurd (omega (arith, kind, four));
           fits = λ _ four. absurd (omega (arith, kind, four));
@@ -554,7 +590,7 @@ module _ {D E C : Type 0} (d : Ghosts D) (clock : clocks.Ghosts C) (old mid acte
         (collects_closed 4 lane old.collector new.collector (inl refl) on_before now) (step_ends none kind r entered.reply_is refl)
         (step_keeps_filled d clock.readings old mid acted new lane m 4 (Some r) answer b others.journal filled uncut entered) tt
         (λ h s kept. let w = ((tells o does h s kept).0).1 in
-        closed_step_stands d clock.readings old acted new h lane m answer s inside (w.holds).honest (Some r) stepped none (subst (λ q. Reports q (Some r)) (sym (going h s)) tt) (closed_after o does)
+        closed_step_stands d clock.readings old acted new h lane m answer s inside (w.holds).honest (Some r) stepped none (subst (λ q. ReportsEnd q (Some r)) (sym (going h s)) tt) (closed_after o does)
         ((w.holds).files, only o does (λ failed. cc) h s))
         (λ h s kept so. let w = ((tells o does h s kept).0).1 in
         unpassed_keeps d clock.readings old acted new h lane m 4 (Some r) answer stepped so kept (λ e. omega (arith, e)) (same_book does.touches) (λ _. w.present)
@@ -563,8 +599,12 @@ module _ {D E C : Type 0} (d : Ghosts D) (clock : clocks.Ghosts C) (old mid acte
         (stored o does)
         (record {
           refused = λ zero. absurd (omega (arith, kind, zero));
+          open_alone = λ off. not_off off;
+          passes = λ _ one. absurd (omega (arith, kind, one));
+          failed = λ _ five. absurd (omega (arith, kind, five));
           ends = λ cut. not_cut cut;
-          reports = λ _ _. subst IsReport (sym entered.reply_is) tt;
+          reports = λ _ _. subst (λ o. IsSomeAnd o (λ c. EndsWhole (old.upkeep).book c answer.reply)) (sym was)
+              (does.by_plan.0, (report, subst (λ u. Reports u.book x.plan report) b.upkeep does.by_plan.1, entered.reply_is));
           fits = λ _ _ early. subst (λ n. FitsBook (as_of n (old.upkeep).book)) (sym (ap (λ x. x.moment) entered.entry)) (fits_so (subst (λ u. NoneAfter u.book old.last) (sym b.upkeep) early));
           unread = λ _ one. absurd (omega (arith, kind, one));
         })
@@ -611,7 +651,7 @@ module _ {D E C : Type 0} (d : Ghosts D) (clock : clocks.Ghosts C) (old mid acte
         (Some y) (shows_as o does (swept_of h).sweep h w.shows) (λ z at. was_open 2 lane (Some y) z (sym now ∙ at))
         (fits_as h lane 2 answer (ap (λ x. x.lane) entered.entry) kind tt))
         (stored o does)
-        (tells_none d old new lane 2 answer kind (λ e. omega (arith, e)) (λ e. omega (arith, e)) (λ e. omega (arith, e)))
+        (tells_none d old new lane 2 answer kind (inl refl))
 
     -- ---- the disk failed in it
 
@@ -655,8 +695,26 @@ module _ {D E C : Type 0} (d : Ghosts D) (clock : clocks.Ghosts C) (old mid acte
         (λ calm. absurd (some_none place (sym entered.fault ∙ calm))) old.collector kept.sweep (λ z at. absurd (none_some z (sym now ∙ at)))
         (fits_as h lane 5 answer (ap (λ x. x.lane) entered.entry) kind tt))
         (stored o does)
-        (tells_none d old new lane 5 answer kind (λ e. omega (arith, e)) (λ e. omega (arith, e)) (λ e. omega (arith, e)))
+        (record {
+          refused = λ zero. absurd (omega (arith, kind, zero));
+          open_alone = λ off. not_off off;
+          passes = λ _ one. absurd (omega (arith, kind, one));
+          failed = λ _ _ _. subst (λ o. IsSomeAnd o (λ c. CoreFails d old new c (answer.entry).moment)) (sym was)
+              (subst (CoreFails d old new x) (sym (ap (λ z. z.moment) entered.entry)) (core_fails does entered.parts));
+          ends = λ cut. not_cut cut;
+          reports = λ _ four. absurd (omega (arith, kind, four));
+          fits = λ _ four. absurd (omega (arith, kind, four));
+          unread = λ _ one. absurd (omega (arith, kind, one));
+        })
       where
+        core_fails : Does (Err stops.DiskFailed) → new.parts ≡ acted.parts → CoreFails d old new x m
+        core_fails does parts = record {
+          change = does.change;
+          crash = subst (λ p. LeavesChange d (old.parts).disk p.disk does.change) (sym parts) (crash (Err stops.DiskFailed) does);
+          fails = subst (λ u. FailsByPlan d (old.parts).disk (old.parts).catalogue.items u.book x m does.change) b.upkeep
+              (subst (λ p. FailsByPlan d p.disk p.catalogue.items (mid.upkeep).book x m does.change) b.parts does.by_plan);
+        }
+
         failed_change : (does : Does (Err stops.DiskFailed)) → stepping.MayChange (old.upkeep).book x m does.change (Err stops.DiskFailed) → MayChange old lane m 5 does.change
         failed_change does (inl none_is) = inl none_is
         failed_change does (inr (inl taken)) = inr (inl (inr refl, takes (Err stops.DiskFailed) does taken.0 taken.1 taken.2))

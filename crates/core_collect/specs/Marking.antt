@@ -1,5 +1,5 @@
 -- The marks of a collector: the index that is next, and what is marked of it.
-use Rattle.std.specs.Prelude.{◌≡◌, ◌<◌, ◌≤◌, ℕ, Bool, true, false, List, [], ◌∷◌, map, take, drop, length, Option, Some, None, IsSome, Result, Ok, Err, Vec}
+use Rattle.std.specs.Prelude.{◌≡◌, ◌<◌, ◌≤◌, ℕ, zero, suc, Bool, true, false, List, [], ◌∷◌, map, take, drop, length, Option, Some, None, IsSome, Result, Ok, Err, IfOk, Vec}
 use Rattle.std.specs.declared.alloc.Global.{Global}
 use Rattle.disk_trait.specs.Files.{Files}
 use Rattle.disk_trait.specs.declared.disk.Disk.{Ghosts}
@@ -62,29 +62,29 @@ IfUnreadable P unread = Unit {0}
 
 -- ---- the next one that is unreadable
 
--- an index that was forgotten or has no entries, one that has some, and one that does not decode
+-- an index that was forgotten or has no entries, one that has these, and one that does not decode
 pub data Standing : Type 0 where
   passed_over : Standing
-  marked_next : Standing
+  marked_next : List (List ℕ) → Standing
   unreadable : List ℕ → Standing
 
 abbrev pub standing_as : List ℕ → Result (List (List ℕ)) Refusal → Standing
 standing_as path (Ok []) = passed_over
-standing_as path (Ok (d ∷ ds)) = marked_next
+standing_as path (Ok (d ∷ ds)) = marked_next (d ∷ ds)
 standing_as path (Err refusal) = unreadable path
 
 -- where digests are at hand it is not read
 abbrev pub standing_at : Files → Bool → List Digest32 → Option (List ℕ) → Standing
 standing_at m is_fixed entries None = passed_over
 standing_at m is_fixed [] (Some path) = standing_as path (digests_read m path is_fixed)
-standing_at m is_fixed (d ∷ ds) (Some path) = marked_next
+standing_at m is_fixed (d ∷ ds) (Some path) = marked_next (map (λ x. x.0) (d ∷ ds))
 
 abbrev pub standing : Files → List Listed → List Digest32 → IndexAt → Standing
 standing m catalogue entries i = standing_at m (is_fixed_name i.name) entries (path_at i catalogue)
 
 abbrev pub unless_passed : Standing → Option (List ℕ) → Option (List ℕ)
 unless_passed passed_over later = later
-unless_passed marked_next later = None
+unless_passed (marked_next digests) later = None
 unless_passed (unreadable path) later = Some path
 
 -- The path of the first of these indexes that is not passed over, where it does not decode. The digests at hand are the first's.
@@ -99,6 +99,33 @@ indexes_left indexes (sweeping names) = []
 -- the path of the index that is to be marked next, where it does not decode
 abbrev pub next_unreadable : Files → List Listed → Collector → Option (List ℕ)
 next_unreadable m catalogue c = unreadable_in m catalogue c.entries.items (indexes_left (c.plan).indexes (c.plan).stage)
+
+-- ---- the indexes that are passed over
+
+-- the plan once so many are passed over
+abbrev pub passed_by : ℕ → Plan → Plan
+passed_by zero p = p
+passed_by (suc n) p = with_mark (passed_by n p) 0 0
+
+-- and the digests at hand then, of those that were
+abbrev pub at_hand_after : ℕ → List Digest32 → List Digest32
+at_hand_after zero entries = entries
+at_hand_after (suc n) entries = []
+
+-- how the index stands that is next then, if one is
+abbrev pub StandsAt : Files → List Listed → Collector → ℕ → Standing → Type 0
+StandsAt m catalogue c n how =
+    (i : IndexAt) → next_index (passed_by n c.plan) ≡ Some i
+    → standing m catalogue (at_hand_after n c.entries.items) i ≡ how
+
+-- So many indexes are passed over: of an honest disk those that were forgotten or have no entries. The digests at hand of the next one are
+-- those that were at hand, or else those that an honest disk's file has.
+pub record FindsAfter {D : Type 0} (d : Ghosts D) (disk : D) (catalogue : List Listed) (passed : ℕ) (c e : Collector) : Type 0 where
+  pub lane : e.lane ≡ c.lane
+  pub plan : e.plan ≡ passed_by passed c.plan
+  pub skipped : d.honest disk → (n : ℕ) → n < passed → StandsAt (d.content disk) catalogue c n passed_over
+  pub had : (at_hand_after passed c.entries.items ≡ [] → ⊥) → e.entries.items ≡ at_hand_after passed c.entries.items
+  pub read : d.honest disk → StandsAt (d.content disk) catalogue c passed (marked_next (bytes_of e.entries))
 
 -- ---- the index that is next
 
@@ -118,6 +145,10 @@ pub record PassesOver (old new : Collector) : Type 0 where
   pub plan : new.plan ≡ with_mark old.plan 0 0
   pub none : new.entries.items ≡ []
   pub less : left_of new.plan < left_of old.plan
+
+-- which on an honest disk was forgotten or has no entries
+abbrev pub PassesNext : {D : Type 0} → Ghosts D → Parts D → Collector → Collector → Type 0
+PassesNext d parts old new = PassesOver old new × (d.honest parts.disk → StandsAt (d.content parts.disk) parts.catalogue.items old 0 passed_over)
 
 -- what is unmarked but for the index that is next
 abbrev pub behind_next : List Listed → List Snapshot → Plan → List Unmarked
@@ -175,7 +206,8 @@ pub record SettlesNext {D : Type 0} (d : Ghosts D) (parts : Parts D) (old new : 
   pub further : GoesFurther old new
   pub shows : ShowsStill d parts old new (IsSettled parts.catalogue.items new result)
   pub at_hand : result ≡ Ok true → AtHand new
-  pub passes : result ≡ Ok false → IsSome (next_mark old.plan) → left_of new.plan < left_of old.plan
+  pub passes : result ≡ Ok false → IsSome (next_mark old.plan) → PassesNext d parts old new
+  pub found : result ≡ Ok true → FindsAfter d parts.disk parts.catalogue.items 0 old new
   pub unread : d.honest parts.disk
       → SettlesUnread (next_unreadable (d.content parts.disk) parts.catalogue.items old) (next_unreadable (d.content parts.disk) parts.catalogue.items new) result
 
@@ -184,6 +216,7 @@ pub record FindsNext {D : Type 0} (d : Ghosts D) (parts : Parts D) (old new : Co
   pub shows : ShowsStill d parts old new (IsFound parts.catalogue.items new result)
   pub at_hand : result ≡ Ok true → AtHand new
   pub all_marked : result ≡ Ok false → next_mark new.plan ≡ None
+  pub found : IfOk result (λ _. (passed : ℕ) × FindsAfter d parts.disk parts.catalogue.items passed old new)
   pub unread : d.honest parts.disk → TellsUnread (next_unreadable (d.content parts.disk) parts.catalogue.items old) result
 
 -- ---- a mark

@@ -1,6 +1,6 @@
 -- The acts of a collector after its start.
 use Rattle.disk_trait.specs.declared.disk.Disk.{Ghosts}
-use Rattle.std.specs.Prelude.{◌≡◌, ◌<◌, ◌≤◌, ◌⊎◌, ◌∷◌, [], ℕ, true, false, List, Option, Some, None, IsSomeAnd, IfSome, IfErr, Result, Ok, Err, IsErrOf}
+use Rattle.std.specs.Prelude.{◌≡◌, ◌<◌, ◌≤◌, ◌⊎◌, ◌∷◌, [], ℕ, true, false, List, Option, Some, None, IsSome, IsSomeAnd, IfSome, IfErr, Result, Ok, Err, IsErrOf}
 use Rattle.disk_trait.specs.Disk.{Serves}
 use Rattle.port_traits.specs.Readings.{Readings}
 use Rattle.store_types.specs.declared.names.Digest32.{Digest32}
@@ -9,11 +9,11 @@ use Rattle.store_types.specs.declared.refusal.Refusal.{Refusal}
 use Rattle.store_types.specs.declared.refusal.Refusal.TheVariants.{WrongState}
 use Rattle.store_files.specs.Book.{Book, FitsBook, book_text}
 use Rattle.store_files.specs.Folder.{chunk_name}
-use Rattle.wire_commands.specs.declared.reply.Reply.{Reply}
 use Rattle.wire_commands.specs.declared.reply.Reply.TheVariants as replies
 use Rattle.wire_commands.specs.HasText.{ReplyHasText}
 use Rattle.store_model.specs.Store.{Store}
 use Rattle.atime_book.specs.Touches.{NoneAfter, as_of}
+use Rattle.gc_plan.specs.Plan.{is_over as is_plan_over}
 use Rattle.gc_plan.specs.declared.GcReport.{GcReport}
 use Rattle.store_history.specs.Saved.{book_name}
 use Rattle.store_history.specs.declared.act.Answer.{Answer}
@@ -41,8 +41,9 @@ use Rattle.core_state.specs.Unchanged.{SameKept}
 use Rattle.core_state.specs.Upkeeps.{touches_kept}
 use Rattle.core_state.specs.Wanted.{session_at}
 use Rattle.core_collect.specs.Beside.{IsSweepable, StandsBeside, passed_touches}
-use Rattle.core_collect.specs.Ending.{TellsEarly, early_in, report_reply}
+use Rattle.core_collect.specs.Ending.{Reports, TellsEarly, early_in, report_reply}
 use Rattle.core_collect.specs.Marking.{next_unreadable}
+use Rattle.core_collect.specs.Passing.{CoreFails, CorePasses, EndsWhole, FailsByPlan, PassesOrEnds}
 use Rattle.core_collect.specs.Visiting.{goes}
 
 -- ---- an open collector, on any disk
@@ -97,6 +98,15 @@ abbrev pub KeepsFixed : Collector → Collector → Outcome → Type 0
 KeepsFixed c e (Err DiskFailed) = Unit {0}
 KeepsFixed c e result = KeepsPlan c.plan e.plan
 
+-- By the collector's own plan: a mark or a visit is its next, and an end comes where all was visited, with its report.
+abbrev pub ByPlan : {D : Type 0} → Ghosts D → Parts D → Upkeep → Upkeep → Collector → Collector → ℕ → Change → Outcome → Type 0
+ByPlan d old u v c e moment change (Ok None) =
+    (is_plan_over c.plan ≡ false) × (v ≡ record u { book = v.book })
+    × PassesOrEnds d old.disk old.catalogue.items u.book v.book c e moment change e.ended
+ByPlan d old u v c e moment change (Ok (Some report)) = (is_plan_over c.plan ≡ true) × Reports u.book c.plan report
+ByPlan d old u v c e moment change (Err DiskFailed) = FailsByPlan d old.disk old.catalogue.items u.book c moment change
+ByPlan d old u v c e moment change (Err stop) = Unit {0}
+
 -- ---- and for what a history tells
 
 -- the digest of a chunk that is taken out is not needed
@@ -125,6 +135,7 @@ pub record CollectDoes {D : Type 0} (d : Ghosts D) (old new : Parts D) (u v : Up
   pub content : (IsErrOf result DiskFailed → ⊥) → d.honest old.disk → d.content new.disk ≡ after change (d.content old.disk)
   pub crash : LeavesChange d old.disk new.disk change
   pub touches : MayTouch change u v at.moment result
+  pub by_plan : ByPlan d old u v c e at.moment change result
   -- no chunk is touched after the act's moment
   pub early : (before : ℕ) → before ≤ at.moment → NoneAfter u.book before → NoneAfter v.book at.moment
   pub fits : (before : ℕ) → before ≤ at.moment → at.moment ≤ last_moment → NoneAfter u.book before → FitsSaved u.book at.moment result
@@ -190,18 +201,26 @@ pub record TakesNext {D E C : Type 0} (d : Ghosts D) (readings : C → Option Re
 
 -- ---- what is told
 
--- a whole collection's report
-abbrev pub IsReport : Option Reply → Type 0
-IsReport (Some (replies.Collected start cutoff used pending removed)) = Unit {0}
-IsReport reply = ⊥
+-- the lane's collector is not open: it is refused, memory was wanting, or the disk failed before
+abbrev pub IsAlone : Option ℕ → ℕ → Type 0
+IsAlone fault kind = (kind ≡ 0) ⊎ ((kind ≡ 2) ⊎ ((kind ≡ 5) × IsSome fault))
 
 -- What it answers by what the core keeps, on any disk.
 pub record StepTells {D E C : Type 0} (d : Ghosts D) (old new : Core D E C) (lane : ℕ) (answer : Answer) : Type 0 where
   -- it is refused with the lane's session, where the lane's collector is not open
   pub refused : (answer.entry).kind ≡ 0 → (is_on lane old.collector ≡ false) × (answer.reply ≡ Some (replies.Refused (WrongState (state_of (session_at old.parts lane)))))
-  -- the end of a collector replies what ended it early, or its report
+  -- and there it is no mark, no visit and no end, whatever another lane's does
+  pub open_alone : is_on lane old.collector ≡ false → IsAlone old.fault (answer.entry).kind
+  -- a mark or a visit is the next by the collector's own plan
+  pub passes : is_cut lane old.collector ≡ false → (answer.entry).kind ≡ 1
+      → IsSomeAnd old.collector (λ c. IsSomeAnd new.collector (λ e. CorePasses d old new c e (answer.entry).moment))
+  -- and so is what the disk may have lost or kept where it failed in this act
+  pub failed : is_cut lane old.collector ≡ false → (answer.entry).kind ≡ 5 → old.fault ≡ None
+      → IsSomeAnd old.collector (λ c. CoreFails d old new c (answer.entry).moment)
+  -- the end of a collector replies what ended it early, or comes where all was visited and replies its report
   pub ends : is_cut lane old.collector ≡ true → (answer.entry).kind ≡ 4 → IsSomeAnd (early_in old.collector) (λ early. answer.reply ≡ Some (replies.Refused (refusal_of early)))
-  pub reports : is_cut lane old.collector ≡ false → (answer.entry).kind ≡ 4 → IsReport answer.reply
+  pub reports : is_cut lane old.collector ≡ false → (answer.entry).kind ≡ 4
+      → IsSomeAnd old.collector (λ c. EndsWhole (old.upkeep).book c answer.reply)
   -- what such an end saved is a book
   pub fits : is_cut lane old.collector ≡ false → (answer.entry).kind ≡ 4 → NoneAfter (old.upkeep).book old.last → FitsBook (as_of (answer.entry).moment (old.upkeep).book)
   -- An honest disk's index that does not decode ends it early as it comes to be marked, and nothing else does so in a mark or a visit.

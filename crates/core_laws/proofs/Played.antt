@@ -1,5 +1,5 @@
 -- A list of acts, by one act more.
-use Rattle.std.proofs.Common.{◌≡◌, ◌<◌, ◌≤◌, ◌+◌, ℕ, List, [], ◌∷◌, ◌++◌, ⊎_elim, refl, sym, ap, subst, ◌∙◌, arith}
+use Rattle.std.proofs.Common.{◌≡◌, ◌<◌, ◌≤◌, ◌+◌, ℕ, false, List, [], ◌∷◌, ◌++◌, ⊎_elim, refl, sym, ap, subst, ◌∙◌, arith}
 use Rattle.std.proofs.lemmas.List.{append_assoc, append-nil, map-append}
 use Rattle.std.proofs.lemmas.Bool.{cases_lt}
 use Rattle.disk_trait.specs.declared.disk.Disk.{Ghosts}
@@ -9,11 +9,12 @@ use Rattle.store_history.specs.declared.act.Answer.{Answer}
 use Rattle.store_history.specs.declared.act.Event.{Event}
 use Rattle.store_history.specs.Acts.{Class, stepping, reaching, starting, sweeping, wanting, ending, class_of}
 use Rattle.core_state.specs.declared.state.Core.{Core}
-use Rattle.core_state.specs.Applies.{ActKeeps, CoreApplies}
+use Rattle.core_state.specs.Applies.{ActApplies, ActKeeps, CoreApplies}
 use Rattle.core_state.specs.Closing.{is_closing}
 use Rattle.core_state.specs.Entering.{OthersHold, held_by}
 use Rattle.core_state.specs.History.{event_of}
 use Rattle.core_state.specs.Records.{Reaches}
+use Rattle.core_state.specs.Remotes.{reads_remote}
 use Rattle.core_state.specs.Reserved.{ClassKeeps, Keeps, KeepsSpare}
 use Rattle.core_state.proofs.Reaching.{reaches_more}
 use Rattle.core_laws.specs.Playing.{AllWhole, HasPlayed, SameCore, asked_in, with_more}
@@ -31,9 +32,9 @@ none_played d e clock old new same = record {
 }
 
 pub played_more : {D E C : Type 0} (d : Ghosts D) (e : Ghosts E) (clock : clocks.Ghosts C) (first mid new : Core D E C) (acts : List (ℕ × Act)) (answers : List Answer) (lane : ℕ) (act : Act) (answer : Answer)
-    → lane < 64 → CoreApplies d e clock mid new lane act answer → ActKeeps d mid new lane act answer → HasPlayed d e clock first mid acts answers
+    → lane < 64 → CoreApplies d e clock mid new lane act answer → (reads_remote act answer ≡ false → ActApplies d clock mid new lane act answer) → ActKeeps d mid new lane act answer → HasPlayed d e clock first mid acts answers
     → HasPlayed d e clock first new (acts ++ (lane, act) ∷ []) (answers ++ answer ∷ [])
-played_more d e clock first mid new acts answers lane act answer lt applies keeps played =
+played_more d e clock first mid new acts answers lane act answer lt applies alone keeps played =
     let event : Event = event_of act answer (d.calls (new.parts).disk) in
     let asked : asked_in event ≡ (lane, act) = ap (λ n. (n, act)) (applies.answers).lane_is in record {
       events = played.events ++ event ∷ [];
@@ -41,7 +42,7 @@ played_more d e clock first mid new acts answers lane act answer lt applies keep
       answered = map-append (λ v. v.answer) played.events (event ∷ []) ∙ ap (λ xs. xs ++ answer ∷ []) played.answered;
       leads = λ one began h x.
           subst (λ es. Reaches d e clock.readings one began new (record h { events = es })) (append_assoc h.events played.events (event ∷ []))
-          (reaches_more d e clock one began mid new lane act answer lt applies keeps (with_more h played.events) (played.leads one began h x));
+          (reaches_more d e clock one began mid new lane act answer lt applies alone keeps (with_more h played.events) (played.leads one began h x));
     }
 
 -- ---- the reserves

@@ -89,10 +89,13 @@ module _ {D E C : Type 0} (d : Ghosts D) (e : Ghosts E) (readings : C → Option
   pub reserved_reaches : (first : Core D E C) (began h : History) → Reaches d e readings first began old h → Reaches d e readings first began new h
   reserved_reaches first began h x = record {
     records = records h x.records;
-    stands = λ L R s clear. stands _ (x.stands L R s clear);
-    foreign = λ L R s clear none.
-        subst (λ (p : Parts D). KeepsForeign d (first.parts).disk p.disk) (sym same.parts) (x.foreign L R s clear (sym same.fault ∙ none));
-    recovers = λ told start L R s r clear. recovers start _ (x.recovers told start L R s r clear);
-    touches = λ L R s clear. touches _ (x.touches L R s clear);
+    since = x.since;
+    behind = x.behind;
+    stands = λ L R s beside clear. stands _ (x.stands L R s beside clear);
+    foreign = λ L R s beside clear none.
+        subst (λ (p : Parts D). KeepsForeign d (first.parts).disk p.disk) (sym same.parts) (x.foreign L R s beside clear (sym same.fault ∙ none));
+    recovers = λ told start L R s beside r clear. recovers start _ (x.recovers told start L R s beside r clear);
+    touches = λ L R s beside clear. touches _ (x.touches L R s beside clear);
     remote = serves_then e first old new x.remote serves;
+    alone = λ none. same.remote ∙ x.alone none;
   }

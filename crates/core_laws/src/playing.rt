@@ -33,7 +33,7 @@ fn make_room<D, E, C>(core: &mut Core<D, E, C>, count: u32) -> Result<(), AllocE
 }
 
 /// Does acts one after another, each on its lane, and gives their answers. Entries and answers are reserved first: where
-/// memory for them is wanting, nothing is done, and the acts are handed back.
+/// memory for them is wanting, or there are 2^32 acts or more, nothing is done, and the acts are handed back.
 #[tactic(auto, using(crate::proofs::Played::none_played, crate::proofs::Played::played_more, crate::proofs::Played::stays_whole, crate::proofs::Played::one_spare))]
 pub fn play<D: Disk, E: Disk, C: Clock>(
     core: &mut Core<D, E, C>,

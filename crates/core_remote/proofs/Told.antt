@@ -1,5 +1,5 @@
 -- How a read of the remote that was begun ends, as it is entered.
-use Rattle.std.proofs.Common.{◌≡◌, ◌<◌, ◌⊎◌, ⊎_elim, inl, inr, ℕ, is_some, Option, None, Some, IfSome, IfOk, IsTrue, MatchResult, Result, Ok, Err, refl, sym, ap, subst, ◌∙◌, arith}
+use Rattle.std.proofs.Common.{◌≡◌, ◌<◌, ◌⊎◌, ⊎_elim, inl, inr, ℕ, false, is_some, Option, None, Some, IfSome, IfOk, IsTrue, MatchResult, Result, Ok, Err, refl, sym, ap, subst, ◌∙◌, arith}
 use Rattle.disk_trait.specs.declared.disk.Disk.{Ghosts}
 use Rattle.port_traits.specs.declared.clock.Clock as clocks
 use Rattle.wire_commands.specs.declared.reply.Reply.{Reply}
@@ -14,15 +14,15 @@ use Rattle.core_state.specs.declared.parts.Parts.{Parts}
 use Rattle.core_state.specs.declared.state.Core.{Core}
 use Rattle.core_state.specs.declared.stop.RemoteStop.{RemoteStop}
 use Rattle.core_state.specs.declared.stop.RemoteStop.TheVariants as stops
-use Rattle.core_state.specs.Applies.{ActKeeps, CoreApplies}
+use Rattle.core_state.specs.Applies.{ActApplies, ActKeeps, CoreApplies}
 use Rattle.core_state.specs.Begins.{AdmittedHasText, FillsUp, IsAdmitted, Refuses, halted, short}
 use Rattle.core_state.specs.History.{History, StandsFor, world}
-use Rattle.core_state.specs.Remotes.{RemoteStays, SettlesRead, ShowsRemote, kind_by, reply_by}
+use Rattle.core_state.specs.Remotes.{RemoteStays, SettlesRead, ShowsRemote, kind_by, reads_remote, reply_by}
 use Rattle.core_state.specs.Replies.{may_give}
 use Rattle.core_state.specs.Wanted.{session_at}
 use Rattle.core_state.proofs.Applying.{refused_remote}
 use Rattle.core_state.proofs.RemoteLemmas.{stays_there}
-use Rattle.core_state.proofs.RemoteReads.{FailsWhere, GivesRight, read_applies, read_keeps, unread_applies, unread_keeps}
+use Rattle.core_state.proofs.RemoteReads.{FailsWhere, GivesRight, read_alone, read_applies, read_keeps, refused, unread_alone, unread_applies, unread_keeps}
 use Rattle.core_remote.specs.RemoteActs.{FailsBy, GivesFrom, GivesRemote, IsRemotes, IsTested, RemoteGives, RemoteTells, StopHasText, TellsEnd, UnreadWhere, read_told}
 use Rattle.core_remote.proofs.Given.{given_right}
 use Rattle.core_remote.proofs.RemoteLemmas.{are_remotes, ends_fit, told_same}
@@ -46,6 +46,9 @@ module _ {D E C : Type 0} (d : Ghosts D) (e : Ghosts E) (clock : clocks.Ghosts C
 
     pub refused_applies : k < 64 → IsWellFormed act → AdmittedHasText (Answered answer) → CoreApplies d e clock old new k act answer
     refused_applies lt formed text = unread_applies d e clock old new k act (are_remotes act is) answer refuses lt formed text
+
+    pub refused_alone : k < 64 → IsWellFormed act → AdmittedHasText (Answered answer) → ActApplies d clock old new k act answer
+    refused_alone lt formed text = unread_alone d e clock old new k act (are_remotes act is) answer refuses lt formed text
 
     other_kinds : Refuses d clock.readings old new k answer → ((answer.entry).kind ≡ 2) ⊎ ((answer.entry).kind ≡ 5)
     other_kinds (short s) = inl (ap (λ x. x.kind) (s.entered).entry)
@@ -94,8 +97,15 @@ module _ {D E C : Type 0} (d : Ghosts D) (e : Ghosts E) (clock : clocks.Ghosts C
     kind_is : (answer.entry).kind ≡ kind_by ended
     kind_is = ap (λ x. x.kind) settled.entry
 
+    -- where its tests refused it the remote is as it was
+    handed : (r : Result Reply RemoteStop) → TellsEnd mid.parts mid.remote k act r → kind_by r ≡ 0 → remote ≡ mid.remote
+    handed (Ok reply) tells zero = absurd (omega (arith, zero))
+    handed (Err (stops.Refused r)) tells zero = unread r tells
+    handed (Err stops.NoMemory) tells zero = absurd (omega (arith, zero))
+    handed (Err stops.Failed) tells zero = absurd (omega (arith, zero))
+
     pub done_keeps : ActKeeps d old new k act answer
-    done_keeps = read_keeps d e clock old mid new k at.moment act (are_remotes act is) remote ended answer lt formed admitted.ready filled settles
+    done_keeps = read_keeps d e clock old mid new k at.moment act (are_remotes act is) remote ended answer lt formed admitted.ready filled settles (handed ended tells)
 
     fails_by : (r : Result Reply RemoteStop) → FailsBy e mid.remote remote r → FailsWhere e mid.remote remote r
     fails_by (Ok reply) failed = tt
@@ -115,8 +125,21 @@ module _ {D E C : Type 0} (d : Ghosts D) (e : Ghosts E) (clock : clocks.Ghosts C
 
     pub done_applies : CoreApplies d e clock old new k act answer
     done_applies =
-        read_applies d e clock old mid new k at.moment act (are_remotes act is) remote ended answer lt formed admitted.ready filled settles
+        read_applies d e clock old mid new k at.moment act (are_remotes act is) remote ended answer lt formed admitted.ready filled settles (handed ended tells)
         (ends_fit act (is_some mid.remote) (session_at mid.parts k) ended is tells kind text) stays (stays_there e mid.remote remote stays) (fails_by ended failed) (right_by ended tells gives)
+
+    -- a refusal by its tests is that of each history, whatever the remote is
+    refused_right : (r : Result Reply RemoteStop) → TellsEnd mid.parts mid.remote k act r → kind_by r ≡ 0 → (h : History) → StandsFor d clock.readings old h → GivesRight h k act r
+    refused_right (Ok reply) tells zero h s = absurd (omega (arith, zero))
+    refused_right (Err (stops.Refused r)) tells zero h s = of_history h s ∙ tells
+    refused_right (Err stops.NoMemory) tells zero h s = absurd (omega (arith, zero))
+    refused_right (Err stops.Failed) tells zero h s = absurd (omega (arith, zero))
+
+    pub done_alone : reads_remote act answer ≡ false → ActApplies d clock old new k act answer
+    done_alone alone =
+        read_alone d e clock old mid new k at.moment act (are_remotes act is) remote ended answer lt formed admitted.ready filled settles (handed ended tells) done_applies
+        (stays_there e mid.remote remote stays)
+        (refused_right ended tells (refused d e clock old mid new k at.moment act (are_remotes act is) remote ended answer lt formed admitted.ready filled settles (handed ended tells) alone))
 
     not_read : (n : ℕ) → (answer.entry).kind ≡ n → (n ≡ 1 → ⊥) → (n ≡ 7 → ⊥) → ((answer.entry).kind ≡ 1) ⊎ ((answer.entry).kind ≡ 7) → ⊥
     not_read n kind one seven at = ⊎_elim (λ (x : (answer.entry).kind ≡ 1). one (sym kind ∙ x)) (λ (x : (answer.entry).kind ≡ 7). seven (sym kind ∙ x)) at

@@ -1,10 +1,10 @@
 //! An act that reads the remote.
 
-ghost use Rattle.std.specs.Prelude.{◌<◌, IfOk, IsTrue, MatchResult};
+ghost use Rattle.std.specs.Prelude.{◌≡◌, ◌<◌, false, IfOk, IsTrue, MatchResult};
 ghost use Rattle.wire_commands.specs.HasText.{ReplyHasText};
 ghost use Rattle.store_history.specs.Acts.{IsWellFormed};
-ghost use Rattle.core_state.specs.Applies.{ActKeeps, CoreApplies};
-ghost use Rattle.core_state.specs.Remotes.{RemoteStays};
+ghost use Rattle.core_state.specs.Applies.{ActApplies, ActKeeps, CoreApplies};
+ghost use Rattle.core_state.specs.Remotes.{RemoteStays, reads_remote};
 ghost use Rattle.core_state.specs.Replies.{may_give};
 ghost use Rattle.core_state.specs.Reserved.{HasRoom};
 ghost use Rattle.core_remote.specs.RemoteActs.{FailsBy, GivesRemote, IsRemotes, IsTested, RemoteGives, RemoteTells, StopHasText, TellsEnd, UnreadWhere};
@@ -63,6 +63,9 @@ pub fn remote_act<D: Disk, E: Disk, C: Clock>(
     requires kind { IsRemotes act }
     requires formed { IsWellFormed act }
     ensures applies { CoreApplies D.Disk E.Disk C.Clock core.old core.new lane act result }
+    // whatever the remote is, where its tests refuse the read
+    ensures alone { reads_remote act result ≡ false
+        → ActApplies D.Disk C.Clock core.old core.new lane act result }
     ensures keeps { ActKeeps D.Disk core.old core.new lane act result }
     // on any remote: what refuses it, that it is not called then, and that a chunk is tested
     ensures by_kept { RemoteTells core.old core.new lane act result }

@@ -27,7 +27,7 @@ use Rattle.store_history.specs.declared.act.Act.{Act}
 use Rattle.store_history.specs.declared.act.Act.TheVariants as acts
 use Rattle.store_history.specs.declared.act.Answer.{Answer}
 use Rattle.store_history.specs.Saved.{book_name}
-use Rattle.backup_session.specs.Session.{Open, length_at}
+use Rattle.backup_session.specs.Session.{Open}
 use Rattle.backup_session.specs.Steps.{begun_at}
 use Rattle.core_state.specs.declared.kept.Kept.{Kept}
 use Rattle.core_state.specs.declared.kept.Listed.{Listed}
@@ -142,13 +142,9 @@ missed_writer q Idle change has miss = tt
 missed_writer q (Writer w) change has miss = miss w has
 missed_writer q (Reader r) change has miss = tt
 
-missed_chunk : (q : List ℕ) (b : Bool) (digest bytes : List ℕ) → Misses q (chunk_name digest) → MissesAll q (if b then stays else stores (chunk_name digest) bytes)
-missed_chunk q true digest bytes miss = tt
-missed_chunk q false digest bytes miss = miss
-
-missed_stored : (q : List ℕ) (digest : Rattle.store_types.specs.declared.names.Digest32.Digest32) (checked : Result (List ℕ) Refusal) (w : Writing) → Misses q (chunk_name digest.0) → MissesAll q (chunk_put digest checked w)
-missed_stored q digest (Ok bytes) w miss = missed_chunk q (is_some (length_at ((w.session).writer).pool digest.0)) digest.0 bytes miss
-missed_stored q digest (Err refusal) w miss = tt
+missed_stored : (q : List ℕ) (digest : Rattle.store_types.specs.declared.names.Digest32.Digest32) (checked : Result (List ℕ) Refusal) → Misses q (chunk_name digest.0) → MissesAll q (chunk_put digest checked)
+missed_stored q digest (Ok bytes) miss = miss
+missed_stored q digest (Err refusal) miss = tt
 
 missed_reply : (q : List ℕ) (change : Change) (reply : Option Reply) → MissesAll q change → MissesAll q (by_reply change reply)
 missed_reply q change None miss = miss
@@ -182,7 +178,7 @@ module _ (q : List ℕ) (none : IsNoFile q) where
 
   missed_change : (act : Act) (session : Session) (catalogue : List Listed) → MissesChunk q act → MissesFiles q session → MissesAll q (change_of act session catalogue)
   missed_change (acts.Blob name checked) session catalogue chunk has = missed_writer q session _ has (λ w all. missed_blob name checked w)
-  missed_change (acts.Chunk digest checked) session catalogue chunk has = missed_writer q session _ has (λ w all. missed_stored q digest checked w chunk)
+  missed_change (acts.Chunk digest checked) session catalogue chunk has = missed_writer q session _ has (λ w all. missed_stored q digest checked chunk)
   missed_change (acts.ReadFile name offset) session catalogue chunk has = tt
   missed_change (acts.ReadChunk name entry) session catalogue chunk has = tt
   missed_change (acts.RemoteList command) session catalogue chunk has = tt

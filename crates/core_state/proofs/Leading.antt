@@ -31,7 +31,6 @@ use Rattle.store_history.specs.History.{World, act_outcome, kind_of, moved}
 use Rattle.store_history.specs.Legal.{Right}
 use Rattle.snapshot_files.specs.Standing.{Completes}
 use Rattle.snapshot_files.proofs.StandingLemmas.{stands_completed, stands_completing, stands_forgetting, stands_forgotten}
-use Rattle.backup_session.specs.Session.{length_at}
 use Rattle.chunk_store.specs.Pieces.{with_chunk}
 use Rattle.core_state.specs.declared.kept.Listed.{Listed}
 use Rattle.core_state.specs.declared.kept.Session.{Session}
@@ -177,17 +176,14 @@ chunk_change digest checked x catalogue reply = by_session x
     kept_by change (Some (replies.Refused refusal)) = inl refl
     kept_by change (Some r) = inr refl
 
-    by_pool : (bytes : List ℕ) → checked ≡ Ok bytes → (b : Bool) → Puts digest checked (by_reply (if b then stays else stores (chunk_name digest.0) bytes) reply)
-    by_pool bytes was true = inl (stays_by reply)
-    by_pool bytes was false = ⊎_elim {C = Puts digest checked (by_reply (stores (chunk_name digest.0) bytes) reply)} (λ none. inl none) (λ all. inr (bytes, was, all)) (kept_by (stores (chunk_name digest.0) bytes) reply)
-
-    by_check : (w : Writing) (r : Result (List ℕ) Refusal) → checked ≡ r → Puts digest checked (by_reply (chunk_put digest r w) reply)
-    by_check w (Ok bytes) was = by_pool bytes was (is_some (length_at ((w.session).writer).pool digest.0))
-    by_check w (Err refusal) was = inl (stays_by reply)
+    by_check : (r : Result (List ℕ) Refusal) → checked ≡ r → Puts digest checked (by_reply (chunk_put digest r) reply)
+    by_check (Ok bytes) was =
+        ⊎_elim {C = Puts digest checked (by_reply (stores (chunk_name digest.0) bytes) reply)} (λ none. inl none) (λ all. inr (bytes, was, all)) (kept_by (stores (chunk_name digest.0) bytes) reply)
+    by_check (Err refusal) was = inl (stays_by reply)
 
     by_session : (x : Session) → Puts digest checked (by_reply (change_of (Chunk digest checked) x catalogue) reply)
     by_session Idle = inl (stays_by reply)
-    by_session (Writer w) = by_check w checked refl
+    by_session (Writer w) = by_check checked refl
     by_session (Reader r) = inl (stays_by reply)
 
 module _ {D E C : Type 0} (d : Ghosts D) (told : TellsMoments d) (old new : Core D E C) (R : Option (List Snapshot)) (w : World) (answer : Answer) where

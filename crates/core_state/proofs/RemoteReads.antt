@@ -1,5 +1,6 @@
 -- How a read of the remote is entered, on any disk, and for each history.
-use Rattle.std.proofs.Common.{◌≡◌, ◌<◌, ◌≤◌, ℕ, true, false, is_some, length, List, Option, Some, None, IfSome, IsTrue, Result, Ok, Err, inl, refl, sym, ap, subst, ◌∙◌, arith}
+use Rattle.std.proofs.Common.{◌≡◌, ◌<◌, ◌≤◌, ◌⊎◌, ◌==◌, ◌&&◌, ◌||◌, ⊎_elim, ℕ, Bool, true, false, not, is_some, length, List, Option, Some, None, IfSome, IsTrue, Result, Ok, Err, inl, inr, refl, sym, ap, subst, ◌∙◌, arith}
+use Rattle.std.proofs.lemmas.Bool.{eqb-true}
 use Rattle.disk_trait.specs.Disk.{Rose}
 use Rattle.disk_trait.specs.declared.disk.Disk.{Ghosts}
 use Rattle.port_traits.specs.declared.clock.Clock as clocks
@@ -33,7 +34,7 @@ use Rattle.core_state.specs.Commands.{change_at, ends_session, is_remotes, leave
 use Rattle.core_state.specs.Due.{IsDue}
 use Rattle.core_state.specs.Entering.{held_by}
 use Rattle.core_state.specs.History.{History, StandsFor, event_of, then_event, world}
-use Rattle.core_state.specs.Remotes.{RemoteServes, RemoteStays, SettlesRead, ShowsRemote, faults_of, kind_by, reply_by}
+use Rattle.core_state.specs.Remotes.{RemoteServes, RemoteStays, SettlesRead, ShowsRemote, faults_of, kind_by, reads_remote, reply_by}
 use Rattle.core_state.specs.Replies.{may_answer, may_give}
 use Rattle.core_state.specs.Unchanged.{Unchanged}
 use Rattle.core_state.specs.Upkeeps.{touches_kept}
@@ -168,6 +169,21 @@ kind_calm (Err (stops.Refused refusal)) = (λ e. absurd (omega (arith, e)), λ e
 kind_calm (Err stops.NoMemory) = (λ e. absurd (omega (arith, e)), λ e. absurd (omega (arith, e)))
 kind_calm (Err stops.Failed) = (λ e. absurd (omega (arith, e)), λ e. absurd (omega (arith, e)))
 
+-- such an act has one of two kinds, where it read nothing
+pub unread_kind : (act : Act) (answer : Answer) → is_remotes act ≡ true → reads_remote act answer ≡ false → ((answer.entry).kind ≡ 0) ⊎ ((answer.entry).kind ≡ 5)
+unread_kind act answer remotes unread =
+    by_kind ((answer.entry).kind == 0) ((answer.entry).kind == 5) refl refl (ap (λ b. b && not ((answer.entry).kind == 0 || (answer.entry).kind == 5)) (sym remotes) ∙ unread)
+  where
+    by_kind : (a b : Bool) → ((answer.entry).kind == 0) ≡ a → ((answer.entry).kind == 5) ≡ b → not ((answer.entry).kind == 0 || (answer.entry).kind == 5) ≡ false
+        → ((answer.entry).kind ≡ 0) ⊎ ((answer.entry).kind ≡ 5)
+    by_kind true b zero five is = inl (eqb-true (answer.entry).kind 0 zero)
+    by_kind false true zero five is = inr (eqb-true (answer.entry).kind 5 five)
+    by_kind false false zero five is = absurd (true_false (sym (ap (λ x. not (x || (answer.entry).kind == 5)) zero ∙ ap not five) ∙ is))
+
+-- and no other act reads it
+pub others_unread : (act : Act) (answer : Answer) → is_remotes act ≡ false → reads_remote act answer ≡ false
+others_unread act answer alone = ap (λ b. b && not ((answer.entry).kind == 0 || (answer.entry).kind == 5)) alone
+
 fit_text : (act : Act) (ended : Result Reply RemoteStop) → GivesFit act ended → ReplyHasText (reply_by ended)
 fit_text act (Ok reply) fit = fit.1
 fit_text act (Err (stops.Refused refusal)) fit = fit.1
@@ -177,7 +193,7 @@ fit_text act (Err stops.Failed) fit = remote_fault_has_text
 module _ {D E C : Type 0} (d : Ghosts D) (e : Ghosts E) (clock : clocks.Ghosts C) (old mid new : Core D E C) (k m : ℕ) (act : Act) (remotes : is_remotes act ≡ true)
     (remote : Option E) (ended : Result Reply RemoteStop) (answer : Answer) (lt : k < 64) (formed : IsWellFormed act)
     (ready : IsReady clock.readings old mid k m) (filled : is_closing old k act ≡ false → (3 ≤ held_by mid.journal k) × (0 < (mid.journal).spare))
-    (settles : SettlesRead d (record mid { remote = remote }) new k m ended answer) where
+    (settles : SettlesRead d (record mid { remote = remote }) new k m ended answer) (unread : kind_by ended ≡ 0 → remote ≡ mid.remote) where
   abbrev acted : Core D E C
   acted = record mid { remote = remote }
 
@@ -211,6 +227,12 @@ module _ {D E C : Type 0} (d : Ghosts D) (e : Ghosts E) (clock : clocks.Ghosts C
   collector : new.collector ≡ collector_by (answer.entry).kind k old.collector
   collector = settles.collector ∙ ap (collector_by n k) b.collector ∙ ap (λ x. collector_by x k old.collector) (sym kind_is)
 
+  -- it read nothing only where its tests refused it
+  pub refused : reads_remote act answer ≡ false → n ≡ 0
+  refused alone =
+      ⊎_elim (λ (zero : (answer.entry).kind ≡ 0). sym kind_is ∙ zero) (λ (five : (answer.entry).kind ≡ 5). absurd ((kind_calm ended).1 (sym kind_is ∙ five)))
+      (unread_kind act answer remotes alone)
+
   pub read_keeps : ActKeeps d old new k act answer
   read_keeps =
       let same = ap (λ p. p.disk) parts in record {
@@ -226,7 +248,7 @@ module _ {D E C : Type 0} (d : Ghosts D) (e : Ghosts E) (clock : clocks.Ghosts C
         ended = λ ends. absurd (remote_ends act remotes ends);
         halted = where_none _ _ ready.no_fault;
         writes = λ writes. absurd (remote_writes act remotes writes);
-        remote = λ alone. absurd (true_false (sym remotes ∙ alone));
+        remote = λ alone. settles.remote ∙ unread (refused alone) ∙ b.remote;
         upkeep = λ _. entered_touches d old mid acted new k m n act (Some (reply_by ended)) answer b.upkeep (remote_touches act remotes (Some (reply_by ended)) m (touches_kept mid.upkeep)) settles;
         collector = λ _. collector;
         stepped = λ is. absurd (other.step is);
@@ -343,6 +365,21 @@ module _ {D E C : Type 0} (d : Ghosts D) (e : Ghosts E) (clock : clocks.Ghosts C
         remote = serves_by answers stays_so ended refl fails;
       }
 
+  -- whatever the remote is, where this is that of each history
+  pub read_alone : CoreApplies d e clock old new k act answer → is_some remote ≡ is_some mid.remote → ((h : History) → StandsFor d clock.readings old h → GivesRight h k act ended)
+      → ActApplies d clock old new k act answer
+  read_alone applies there gives = record {
+    history = λ h s kept clear. read_stands h s there (gives h s);
+    records = applies.records;
+    recovers = λ told start h s clear kept. recovers_by d clock old new k act answer lt applies.answers applies.cause read_keeps other.no told start h s (read_stands h s there (gives h s));
+    touches = λ h s kept clear. touches_by d clock old new k act answer lt formed applies.answers applies.cause read_keeps other.no collector (λ three. (kind_calm ended).0 (sym kind_is ∙ three)) h s kept
+        (read_stands h s there (gives h s));
+    answers = applies.answers;
+    timely = applies.timely;
+    told = applies.told;
+    cause = applies.cause;
+  }
+
 -- ---- beside the remote
 
 -- an act that let the remote alone, and was entered as no failed read
@@ -399,7 +436,7 @@ other_kind d old new End answer is cause = end_no_seven d old new answer cause
 pub applies_beside : {D E C : Type 0} (d : Ghosts D) (e : Ghosts E) (clock : clocks.Ghosts C) (old new : Core D E C) (lane : ℕ) (act : Act) (answer : Answer) → is_remotes act ≡ false
     → ActApplies d clock old new lane act answer → ActKeeps d old new lane act answer → CoreApplies d e clock old new lane act answer
 applies_beside d e clock old new lane act answer alone applies keeps =
-    beside d e clock old new lane act answer applies (keeps.remote alone) (other_kind d old new act answer alone applies.cause)
+    beside d e clock old new lane act answer applies (keeps.remote (others_unread act answer alone)) (other_kind d old new act answer alone applies.cause)
 
 -- ---- refused before it is read
 
@@ -414,8 +451,9 @@ module _ {D E C : Type 0} (d : Ghosts D) (e : Ghosts E) (clock : clocks.Ghosts C
   asked : IsAsked (class_of act)
   asked = subst IsAsked (sym (remote_class act remotes)) tt
 
-  pub unread_applies : lane < 64 → IsWellFormed act → AdmittedHasText (Answered answer) → CoreApplies d e clock old new lane act answer
-  unread_applies lt formed text =
+  -- whatever the remote is
+  pub unread_alone : lane < 64 → IsWellFormed act → AdmittedHasText (Answered answer) → ActApplies d clock old new lane act answer
+  unread_alone lt formed text =
       let answers = refused_answered d clock.readings old new lane answer refuses text in
       let timely = refused_timely d clock.readings old new lane answer refuses in
       let cause = refused_caused d clock.readings old new lane act answer refuses in
@@ -424,8 +462,7 @@ module _ {D E C : Type 0} (d : Ghosts D) (e : Ghosts E) (clock : clocks.Ghosts C
       let other = remote_other act remotes in
       let class_is = remote_class act remotes in
       let keeps = unread_keeps in
-      let more : StandsMore d clock old new act answer = λ h s clear. refused_stands d clock.readings old new h lane act answer s lt formed asked refuses goes in
-      let applies : ActApplies d clock old new lane act answer = record {
+      let more : StandsMore d clock old new act answer = λ h s clear. refused_stands d clock.readings old new h lane act answer s lt formed asked refuses goes in record {
         history = λ h s kept clear. more h s clear;
         records = λ h. records_more d clock.readings old new lane act answer h answers timely (reach_fits d old new act answer class_is reach) (reach_tells d old new act answer class_is reach answers.text) keeps.listed
             (early_by d clock old new lane act answer other.no timely keeps);
@@ -435,5 +472,9 @@ module _ {D E C : Type 0} (d : Ghosts D) (e : Ghosts E) (clock : clocks.Ghosts C
         timely = timely;
         told = class_told act answer other (λ is. no_reach_start (sym class_is ∙ is)) (refused_told d clock.readings old new lane answer refuses);
         cause = caused;
-      } in
-      beside d e clock old new lane act answer applies (refused_remote d clock old new lane answer refuses) (no_seven d old new act answer cause)
+      }
+
+  pub unread_applies : lane < 64 → IsWellFormed act → AdmittedHasText (Answered answer) → CoreApplies d e clock old new lane act answer
+  unread_applies lt formed text =
+      beside d e clock old new lane act answer (unread_alone lt formed text) (refused_remote d clock old new lane answer refuses)
+      (no_seven d old new act answer (refused_caused d clock.readings old new lane act answer refuses))

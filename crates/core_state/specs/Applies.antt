@@ -16,14 +16,14 @@ use Rattle.core_state.specs.Catalogue.{Lists}
 use Rattle.core_state.specs.Changes.{IsFirm, LeavesChange, after, by_reply}
 use Rattle.core_state.specs.Closing.{is_closing, is_writer}
 use Rattle.core_state.specs.Collectors.{collector_by}
-use Rattle.core_state.specs.Commands.{IsNoRefusal, change_at, ends_session, is_collectors, is_quiet, is_remotes, is_step, is_still, leaves_writer, reads_only}
+use Rattle.core_state.specs.Commands.{IsNoRefusal, change_at, ends_session, is_collectors, is_quiet, is_step, is_still, leaves_writer, reads_only}
 use Rattle.core_state.specs.Due.{DueAt}
 use Rattle.core_state.specs.History.{History, IsClear, StandsFor, then_event, event_of}
 use Rattle.core_state.specs.KeepsTouches.{KeepsTouches}
 use Rattle.core_state.specs.Passes.{StepLeaves}
 use Rattle.core_state.specs.Records.{IsTimely, Records}
 use Rattle.core_state.specs.Recovers.{Recovers, TellsMoments}
-use Rattle.core_state.specs.Remotes.{RemoteServes, ShowsRemote}
+use Rattle.core_state.specs.Remotes.{RemoteServes, ShowsRemote, reads_remote}
 use Rattle.core_state.specs.Reserved.{Keeps}
 use Rattle.core_state.specs.Unchanged.{Unchanged}
 use Rattle.core_state.specs.Upkeeps.{touches_kept}
@@ -102,7 +102,8 @@ pub record ActKeeps {D E C : Type 0} (d : Ghosts D) (old new : Core D E C) (lane
   pub halted : IfSome old.fault (λ _. (new.parts).disk ≡ (old.parts).disk)
   -- the lane has a writer, once it was begun and until it is ended
   pub writes : leaves_writer act ≡ true → IsDone answer → is_writer (session_at new.parts lane) ≡ true
-  pub remote : is_remotes act ≡ false → new.remote ≡ old.remote
+  -- the remote is called only by an act that reads it
+  pub remote : reads_remote act answer ≡ false → new.remote ≡ old.remote
   -- the last touches are as the act's reply makes them of those before: a refused act touches nothing
   pub upkeep : is_step act ≡ false → SameTouches (touches_kept new.upkeep) (touches_by_entry act answer.reply (answer.entry).moment (touches_kept old.upkeep))
   -- want of memory ends the lane's collector early, and the lane's end closes it; no other act but the collector's own changes it

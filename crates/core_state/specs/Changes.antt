@@ -21,7 +21,7 @@ use Rattle.snapshot_files.specs.Forgotten.{Forgets, ForgetsFirm, MayLose, withou
 use Rattle.store_history.specs.declared.act.Act.{Act}
 use Rattle.store_history.specs.declared.act.Act.TheVariants.{Plain, Blob, Chunk, End}
 use Rattle.backup_session.specs.Indexes.{text_of}
-use Rattle.backup_session.specs.Session.{Open, length_at}
+use Rattle.backup_session.specs.Session.{Open}
 use Rattle.backup_session.specs.Steps.{begun_at}
 use Rattle.core_state.specs.declared.stop.Stop.{Stop}
 use Rattle.core_state.specs.declared.stop.Stop.TheVariants.{Refused, NoMemory, DiskFailed}
@@ -64,10 +64,10 @@ abbrev pub index_put : Option Open → Writing → Change
 index_put (Some b) w = file_put b.name (text_of b.index) w
 index_put None w = stays
 
--- a chunk that the session doesn't know yet
-abbrev pub chunk_put : Digest32 → Result (List ℕ) Refusal → Writing → Change
-chunk_put digest (Ok bytes) w = if is_some (length_at ((w.session).writer).pool digest.0) then stays else stores (chunk_name digest.0) bytes
-chunk_put digest (Err refusal) w = stays
+-- a chunk that is sent, whether the session knows its digest or not
+abbrev pub chunk_put : Digest32 → Result (List ℕ) Refusal → Change
+chunk_put digest (Ok bytes) = stores (chunk_name digest.0) bytes
+chunk_put digest (Err refusal) = stays
 
 abbrev pub manifest_by : Option (List ℕ) → Option StoredFile → Option (List ℕ × List ℕ)
 manifest_by (Some text) (Some f) = Some (f.path, text)
@@ -110,7 +110,7 @@ by_writer (Reader r) change = stays
 
 abbrev pub change_of : Act → Session → List Listed → Change
 change_of (Blob name checked) session catalogue = by_writer session (blob_put name checked)
-change_of (Chunk digest checked) session catalogue = by_writer session (chunk_put digest checked)
+change_of (Chunk digest checked) session catalogue = by_writer session (λ w. chunk_put digest checked)
 change_of (Plain (CloseIndex number count size csum)) session catalogue = by_writer session (λ w. index_put (begun_at number (w.session).writer) w)
 change_of (Plain Finish) session catalogue = finish_by session
 change_of (Plain Abort) session catalogue = by_writer session (λ w. drops (put_paths w.files))

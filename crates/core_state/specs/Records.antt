@@ -1,6 +1,6 @@
 -- What the core keeps of a history, on any disk.
 use Rattle.disk_trait.specs.declared.disk.Disk.{Ghosts}
-use Rattle.std.specs.Prelude.{◌≡◌, ◌≤◌, ◌+◌, ◌⊎◌, ℕ, true, List, [], ◌∷◌, length, map, Option, Some, None, IsTrue}
+use Rattle.std.specs.Prelude.{◌≡◌, ◌≤◌, ◌+◌, ◌⊎◌, ℕ, true, List, [], ◌∷◌, ◌++◌, length, map, Option, Some, None, IsTrue}
 use Rattle.port_traits.specs.Readings.{Readings}
 use Rattle.store_types.specs.Times.{last_moment}
 use Rattle.store_types.specs.declared.refusal.Refusal.TheVariants.{NoMemory, RemoteFault}
@@ -24,7 +24,7 @@ use Rattle.core_state.specs.History.{History, KeepsTime, IsClear, StandsFor}
 use Rattle.core_state.specs.KeepsTouches.{KeepsTouches}
 use Rattle.core_state.specs.Numbers.{AreNumbered}
 use Rattle.core_state.specs.Recovers.{Recovers, TellsMoments}
-use Rattle.core_state.specs.Remotes.{RemoteServes, ShowsRemote}
+use Rattle.core_state.specs.Remotes.{ReadNoRemote, RemoteServes, ShowsRead}
 use Rattle.core_state.specs.Replies.{may_answer, may_end, may_give}
 
 -- the clock was read once for the act's moment, which is the last one then
@@ -101,22 +101,29 @@ pub record Records {D E C : Type 0} (readings : C → Option Readings) (core : C
 abbrev pub opened_with : List Snapshot → Option (List Snapshot) → History → History
 opened_with snapshots remote h = record h { opening = record (h.opening) { snapshots = snapshots }; remote = remote }
 
--- A first core stands for its history, its book is that of the history, and its remote stands for what the history's has.
-pub record Starts {D E C : Type 0} (d : Ghosts D) (e : Ghosts E) (readings : C → Option Readings) (first : Core D E C) (h : History) : Type 0 where
+-- A first core stands for its history, and its book is that of the history.
+pub record Starts {D E C : Type 0} (d : Ghosts D) (readings : C → Option Readings) (first : Core D E C) (h : History) : Type 0 where
   pub stands : StandsFor d readings first h
   pub touches : KeepsTouches d first h
-  pub remote : ShowsRemote e first.remote h.remote
 
--- From a first core and its history the core came to this history: it records it. Opened with whatever snapshots, it stands for it where
--- the first core stood for its own, and no two pieces of the history have one digest; and what stood at names that are none of
--- the store's stands there still, where the disk has not failed. Its remote was read alone.
+-- From a first core and its history the core came by more acts to this history: it records it. Opened with whatever snapshots, it stands for it
+-- where the first core stood for its own, beside a remote that stands for what the history's has, or that none of these acts read; and no two
+-- pieces of the history have one digest; and what stood at names that are none of the store's stands there still, where the disk has not failed.
+-- Its remote was read alone, and where no act read it, it is as it was.
 pub record Reaches {D E C : Type 0} (d : Ghosts D) (e : Ghosts E) (readings : C → Option Readings) (first : Core D E C) (began : History) (core : Core D E C) (h : History) : Type 0 where
   pub records : Records readings core h
-  pub stands : (L : List Snapshot) (R : Option (List Snapshot)) → Starts d e readings first (opened_with L R began) → IsClear h → StandsFor d readings core (opened_with L R h)
-  pub foreign : (L : List Snapshot) (R : Option (List Snapshot)) → Starts d e readings first (opened_with L R began) → IsClear h → core.fault ≡ None → KeepsForeign d (first.parts).disk (core.parts).disk
+  -- these acts
+  pub since : List Event
+  pub behind : h.events ≡ began.events ++ since
+  pub stands : (L : List Snapshot) (R : Option (List Snapshot)) → Starts d readings first (opened_with L R began) → ShowsRead e first.remote R since → IsClear h
+      → StandsFor d readings core (opened_with L R h)
+  pub foreign : (L : List Snapshot) (R : Option (List Snapshot)) → Starts d readings first (opened_with L R began) → ShowsRead e first.remote R since → IsClear h
+      → core.fault ≡ None → KeepsForeign d (first.parts).disk (core.parts).disk
   -- what a crash leaves since a moment of the opening stands for what the history gives by then
-  pub recovers : TellsMoments d → (start : ℕ) (L : List Snapshot) (R : Option (List Snapshot)) → Starts d e readings first (opened_with L R began)
-      → Recovers d start first (opened_with L R began) → IsClear h → Recovers d start core (opened_with L R h)
+  pub recovers : TellsMoments d → (start : ℕ) (L : List Snapshot) (R : Option (List Snapshot)) → Starts d readings first (opened_with L R began)
+      → ShowsRead e first.remote R since → Recovers d start first (opened_with L R began) → IsClear h → Recovers d start core (opened_with L R h)
   -- the core's book is that of the history
-  pub touches : (L : List Snapshot) (R : Option (List Snapshot)) → Starts d e readings first (opened_with L R began) → IsClear h → KeepsTouches d core (opened_with L R h)
+  pub touches : (L : List Snapshot) (R : Option (List Snapshot)) → Starts d readings first (opened_with L R began) → ShowsRead e first.remote R since → IsClear h
+      → KeepsTouches d core (opened_with L R h)
   pub remote : RemoteServes e first core
+  pub alone : ReadNoRemote since → core.remote ≡ first.remote

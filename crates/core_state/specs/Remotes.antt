@@ -1,5 +1,5 @@
 -- What the core says of its remote: reads change nothing of what it stands for, and those that fail are told.
-use Rattle.std.specs.Prelude.{◌+◌, ◌-◌, ◌^◌, ◌<◌, ◌≤◌, ◌↔◌, ℕ, ◌==◌, List, filter, length, Option, Some, None, Result, Ok, Err}
+use Rattle.std.specs.Prelude.{◌≡◌, ◌⊎◌, ◌+◌, ◌-◌, ◌^◌, ◌<◌, ◌≤◌, ◌↔◌, ◌==◌, ◌&&◌, ◌||◌, ℕ, Bool, false, not, List, [], ◌∷◌, filter, length, Option, Some, None, Result, Ok, Err}
 use Rattle.disk_trait.specs.Effects.{LeavesSame, SameContent}
 use Rattle.disk_trait.specs.declared.disk.Disk.{Ghosts}
 use Rattle.store_types.specs.declared.order.Entry.{Entry}
@@ -8,10 +8,13 @@ use Rattle.store_files.specs.Archive.{Snapshot}
 use Rattle.store_model.specs.Stands.{StandsFor as Stands}
 use Rattle.wire_commands.specs.declared.reply.Reply.{Reply}
 use Rattle.wire_commands.specs.declared.reply.Reply.TheVariants.{Refused}
+use Rattle.store_history.specs.declared.act.Act.{Act}
 use Rattle.store_history.specs.declared.act.Answer.{Answer}
+use Rattle.store_history.specs.declared.act.Event.{Event}
 use Rattle.core_state.specs.declared.state.Core.{Core}
 use Rattle.core_state.specs.declared.stop.RemoteStop.{RemoteStop}
 use Rattle.core_state.specs.declared.stop.RemoteStop.TheVariants as stops
+use Rattle.core_state.specs.Commands.{is_remotes}
 use Rattle.core_state.specs.Settles.{IsEntered}
 
 -- ---- what it has
@@ -21,6 +24,19 @@ abbrev pub ShowsRemote : {E : Type 0} → Ghosts E → Option E → Option (List
 ShowsRemote e None None = Unit {0}
 ShowsRemote e (Some remote) (Some snapshots) = e.honest remote × Stands (e.content remote) snapshots
 ShowsRemote e _ _ = ⊥
+
+-- The act may have read it: not where its tests refused it, which has kind 0, nor for an earlier fault of the disk, which has kind 5.
+abbrev pub reads_remote : Act → Answer → Bool
+reads_remote act answer = is_remotes act && not ((answer.entry).kind == 0 || (answer.entry).kind == 5)
+
+-- none of these acts reads it
+abbrev pub ReadNoRemote : List Event → Type 0
+ReadNoRemote [] = Unit {0}
+ReadNoRemote (v ∷ vs) = (reads_remote v.act v.answer ≡ false) × ReadNoRemote vs
+
+-- it stands for these snapshots, or none of these acts reads it
+abbrev pub ShowsRead : {E : Type 0} → Ghosts E → Option E → Option (List Snapshot) → List Event → Type 0
+ShowsRead e remote snapshots events = ShowsRemote e remote snapshots ⊎ ReadNoRemote events
 
 -- ---- what it was read
 

@@ -1,5 +1,5 @@
 -- A SYNC's acts by what its job asks, and a reply for which there is no memory.
-use Rattle.std.proofs.Common.{◌≡◌, ◌<◌, inl, inr, ℕ, Bool, true, false, ◌||◌, List, [], ◌∷◌, ◌++◌, length, Option, Some, None, Result, Ok, Err, OnOk, OnErr, if◌then◌else◌, nat_le, nat_lt, refl, sym, ap, subst, ◌∙◌, arith}
+use Rattle.std.proofs.Common.{◌≡◌, ◌<◌, inl, inr, ℕ, Bool, true, false, ◌||◌, List, [], ◌∷◌, ◌++◌, length, Option, Some, None, Result, Ok, Err, OnOk, OnErr, if◌then◌else◌, nat_le, nat_lt, refl, sym, ap, subst, ◌∙◌, arith, ◌==◌}
 use Rattle.store_types.specs.declared.refusal.Refusal.TheVariants.{NoMemory}
 use Rattle.store_types.specs.declared.append.AppendEntry.{AppendEntry}
 use Rattle.store_types.specs.FileNames.{manifest_name}
@@ -13,12 +13,13 @@ use Rattle.wire_commands.specs.HasText.{ReplyHasText}
 use Rattle.store_model.specs.JobReplies.{IsWithinGroup}
 use Rattle.store_model.specs.Load.{read_manifest}
 use Rattle.store_model.specs.SyncJob.{new_index}
-use Rattle.std.proofs.lemmas.Bool.{leb-true}
+use Rattle.std.proofs.lemmas.Bool.{leb-true, eq-eqb}
 use Rattle.store_history.specs.declared.act.Act.{Act}
 use Rattle.store_history.specs.declared.act.Act.TheVariants as acts
 use Rattle.store_history.specs.Acts.{IsWellFormed, act_of_command}
 use Rattle.store_history.proofs.Ending.{is_formed}
-use Rattle.store_history.specs.Pulling.{Course, Stock, Index, Pulling, seeking, reading_manifest, reading_file, opening, reading_chunk, sending_chunk, sending_blob, sending_manifest, aborting, SyncJob, reports, asks, act_of, rejects, index_in, is_index, index_read, blob_read, file_read, next_file, stock_of, manifest_read, manifest_part, file_part, manifest_told, file_told, chunk_told, take, take_more}
+use Rattle.store_model.specs.SizeLimits.{blob_limit, size_limit}
+use Rattle.store_history.specs.Pulling.{Course, Stock, Index, Pulling, seeking, reading_manifest, reading_file, opening, reading_chunk, sending_chunk, sending_blob, sending_manifest, aborting, SyncJob, reports, asks, act_of, rejects, index_in, is_index, index_read, blob_read, file_read, next_file, stock_of, manifest_read, manifest_part, file_part, manifest_told, file_told, chunk_told, take, take_more, blob_size, mismatched, with_chunk}
 use Rattle.core_state.specs.History.{History}
 use Rattle.pull_steps.specs.declared.ask.Ask.{Ask}
 use Rattle.pull_steps.specs.Asked.{AsksNext, IsOver, MayWant, act_of_ask, report_of}
@@ -130,11 +131,15 @@ manifest_alike c bytes (Some m) = by_test (nat_le (length m.files) 63)
 
 manifest_part_alike : (c : Course) (bytes : List ℕ) (total : ℕ) → DropsAlike (manifest_part c bytes total)
 unfolding manifest_part take manifest_told
-manifest_part_alike c bytes total = by_test (nat_lt (length bytes) total)
+manifest_part_alike c bytes total = by_tests (nat_lt blob_limit total) (nat_lt (length bytes) total)
   where
-    by_test : (b : Bool) → DropsAlike (if b then asks (reading_manifest c bytes) else manifest_read c bytes (read_manifest bytes))
-    by_test true = record { wants = inr (refl, refl); ends = refl }
-    by_test false = manifest_alike c bytes (read_manifest bytes)
+    by_tests : (long more : Bool) → DropsAlike (
+        if long then rejects c manifest_name else
+        if more then asks (reading_manifest c bytes) else
+        manifest_read c bytes (read_manifest bytes))
+    by_tests true more = rejects_alike c manifest_name
+    by_tests false true = record { wants = inr (refl, refl); ends = refl }
+    by_tests false false = manifest_alike c bytes (read_manifest bytes)
 
 index_alike : (c : Course) (s : Stock) (name : List ℕ) (o : Option Index) → DropsAlike (index_read c s name o)
 unfolding index_read take
@@ -159,18 +164,23 @@ file_alike c s name bytes = by_name (is_index name)
 
 file_part_alike : (c : Course) (s : Stock) (name bytes : List ℕ) (total : ℕ) → DropsAlike (file_part c s name bytes total)
 unfolding file_part take file_told
-file_part_alike c s name bytes total = by_test (nat_lt (length bytes) total)
+file_part_alike c s name bytes total = by_tests (nat_lt (size_limit name) total) (nat_lt (length bytes) total)
   where
-    by_test : (b : Bool) → DropsAlike (if b then asks (reading_file c s name bytes) else file_read c s name bytes)
-    by_test true = record { wants = inr (refl, refl); ends = refl }
-    by_test false = file_alike c s name bytes
+    by_tests : (long more : Bool) → DropsAlike (if long then rejects c name else if more then asks (reading_file c s name bytes) else file_read c s name bytes)
+    by_tests true more = rejects_alike c name
+    by_tests false true = record { wants = inr (refl, refl); ends = refl }
+    by_tests false false = file_alike c s name bytes
 
-pub record IsDropped (job : SyncJob) (r : Reply) : Type 0 where
-  pub wants : IsActOf (take_more job r) acts.Short
-  pub ends : take_more (take_more job r) (replies.Refused NoMemory) ≡ asks (aborting NoMemory)
+-- the job, and what the reply makes of it
+pub record IsDroppedTo (job after : SyncJob) : Type 0 where
+  pub wants : IsActOf after acts.Short
+  pub ends : take_more after (replies.Refused NoMemory) ≡ asks (aborting NoMemory)
   pub same : take_more job (replies.Refused NoMemory) ≡ asks (aborting NoMemory)
   pub nearer : rank (asks (aborting NoMemory)) < rank job
   pub again : IsActOf job acts.Short
+
+abbrev pub IsDropped : SyncJob → Reply → Type 0
+IsDropped job r = IsDroppedTo job (take_more job r)
 
 manifest_dropped : (c : Course) (bytes : List ℕ) (r : Reply) → IsReadOf (asks (reading_manifest c bytes)) r → IsDropped (asks (reading_manifest c bytes)) r
 unfolding take manifest_told
@@ -197,13 +207,15 @@ file_dropped c s name bytes r h = absurd h
 chunk_dropped : (c : Course) (s : Stock) (x : Index) (e : AppendEntry) (later : List AppendEntry) (r : Reply) → IsReadOf (asks (reading_chunk c s x e later)) r
     → IsDropped (asks (reading_chunk c s x e later)) r
 unfolding take chunk_told
-chunk_dropped c s x e later (replies.Data blob) h = record {
-  wants = inr (refl, refl);
-  ends = refl;
-  same = refl;
-  nearer = omega arith;
-  again = inr (refl, refl);
-}
+chunk_dropped c s x e later (replies.Data blob) h =
+    subst (λ b. IsDroppedTo (asks (reading_chunk c s x e later)) (if b then asks (sending_chunk c (with_chunk e blob s) x e later blob) else mismatched e))
+    (sym (eq-eqb (length blob) (blob_size x e later) h)) (record {
+      wants = inr (refl, refl);
+      ends = refl;
+      same = refl;
+      nearer = omega arith;
+      again = inr (refl, refl);
+    })
 chunk_dropped c s x e later r h = absurd h
 
 pub dropped : (job : SyncJob) (r : Reply) → IsReadOf job r → IsDropped job r

@@ -1,5 +1,5 @@
 -- What holds of a SYNC at each point.
-use Rattle.std.proofs.Common.{◌≡◌, ◌≤◌, ◌+◌, ◌^◌, ◌⊎◌, inl, inr, ℕ, suc, Bool, true, false, List, [], ◌∷◌, ◌++◌, length, filter, map, drop, nat_le, nat_lt, Option, Some, None, Result, Ok, Err, IsTrue, if◌then◌else◌, refl, ap, subst, arith}
+use Rattle.std.proofs.Common.{◌≡◌, ◌≤◌, ◌+◌, ◌^◌, ◌⊎◌, inl, inr, ℕ, suc, Bool, true, false, List, [], ◌∷◌, ◌++◌, length, filter, map, drop, nat_le, nat_lt, Option, Some, None, Result, Ok, Err, IsTrue, if◌then◌else◌, refl, ap, subst, arith, ◌==◌}
 use Rattle.std.specs.List.{All}
 use Rattle.std.proofs.lemmas.Bool.{leb-true}
 use Rattle.std.proofs.lemmas.List.{length-map}
@@ -21,7 +21,8 @@ use Rattle.wire_commands.specs.declared.reply.Reply.TheVariants as replies
 use Rattle.store_model.specs.Load.{read_manifest}
 use Rattle.store_history.specs.declared.act.Act.{Act}
 use Rattle.store_history.specs.declared.act.Act.TheVariants as acts
-use Rattle.store_history.specs.Pulling.{Pulling, seeking, comparing, starting, reading_manifest, reading_file, opening, reading_chunk, sending_chunk, appending, closing_index, sending_blob, sending_manifest, finishing, rejecting, aborting, SyncJob, reports, asks, Course, Stock, Index, act_of, is_key, is_later, newest_in, next_snapshot, finished, stops, ends, rejected, rejects, is_sent, next_append, next_chunk, fixed_as, dynamic_as, fixed_entries, dynamic_entries, fixed_in, dynamic_in, index_in, is_index, index_read, blob_read, file_read, next_file, stock_of, manifest_read, batch, sought, compared, started, manifest_part, file_part, manifest_told, file_told, chunk_told, goes_on, take}
+use Rattle.store_model.specs.SizeLimits.{blob_limit, size_limit}
+use Rattle.store_history.specs.Pulling.{Pulling, seeking, comparing, starting, reading_manifest, reading_file, opening, reading_chunk, sending_chunk, appending, closing_index, sending_blob, sending_manifest, finishing, rejecting, aborting, SyncJob, reports, asks, Course, Stock, Index, act_of, is_key, is_later, newest_in, next_snapshot, finished, stops, ends, rejected, rejects, next_append, next_chunk, fixed_as, dynamic_as, fixed_entries, dynamic_entries, fixed_in, dynamic_in, index_in, is_index, index_read, blob_read, file_read, next_file, stock_of, manifest_read, batch, sought, compared, started, manifest_part, file_part, manifest_told, file_told, chunk_told, goes_on, take, size_sent, blob_size, mismatched, with_chunk}
 use Rattle.core_state.specs.Replies.{may_answer, may_give}
 use Rattle.lane.specs.declared.acts.Told.{Told}
 use Rattle.lane.specs.Acting.{IsRefused, MayTell}
@@ -115,11 +116,16 @@ append_on c s x (e ∷ es) keys few = (keys, few)
 chunk_on : (c : Course) (s : Stock) (x : Index) (es : List AppendEntry) → HasKeys c → IsFew s → length x.entries ≤ 2 ^ 20 → length es ≤ length x.entries → IsOn (next_chunk c s x es)
 unfolding next_chunk
 chunk_on c s x [] keys few most within = append_on c s x x.entries keys few
-chunk_on c s x (e ∷ es) keys few most within = by_test (is_sent s e) (chunk_on c s x es keys few most (omega (arith, within)))
+chunk_on c s x (e ∷ es) keys few most within = by_kept (size_sent s e) (chunk_on c s x es keys few most (omega (arith, within)))
   where
-    by_test : (b : Bool) → IsOn (next_chunk c s x es) → IsOn (if b then next_chunk c s x es else asks (reading_chunk c s x e es))
-    by_test true on = on
-    by_test false on = (keys, few, most, omega (arith, within))
+    by_size : (b : Bool) → IsOn (next_chunk c s x es) → IsOn (if b then next_chunk c s x es else mismatched e)
+    by_size true on = on
+    by_size false on = tt
+
+    by_kept : (k : Option ℕ) → IsOn (next_chunk c s x es)
+        → IsOn (elim k [ None ↦ asks (reading_chunk c s x e es) | Some size ↦ if size == blob_size x e es then next_chunk c s x es else mismatched e ])
+    by_kept None on = (keys, few, most, omega (arith, within))
+    by_kept (Some size) on = by_size (size == blob_size x e es) on
 
 fixed_length : (size offset : ℕ) (ds : List (List ℕ)) → length (fixed_entries size offset ds) ≡ length ds
 fixed_length size offset [] = refl
@@ -202,19 +208,21 @@ manifest_on c bytes (Some m) keys = by_test (nat_le (length m.files) 63) refl
 
 manifest_part_on : (c : Course) (bytes : List ℕ) (total : ℕ) → HasKeys c → IsOn (manifest_part c bytes total)
 unfolding manifest_part
-manifest_part_on c bytes total keys = by_test (nat_lt (length bytes) total)
+manifest_part_on c bytes total keys = by_tests (nat_lt blob_limit total) (nat_lt (length bytes) total)
   where
-    by_test : (b : Bool) → IsOn (if b then asks (reading_manifest c bytes) else manifest_read c bytes (read_manifest bytes))
-    by_test true = keys
-    by_test false = manifest_on c bytes (read_manifest bytes) keys
+    by_tests : (long more : Bool) → IsOn (if long then rejects c manifest_name else if more then asks (reading_manifest c bytes) else manifest_read c bytes (read_manifest bytes))
+    by_tests true more = tt
+    by_tests false true = keys
+    by_tests false false = manifest_on c bytes (read_manifest bytes) keys
 
 file_part_on : (c : Course) (s : Stock) (name bytes : List ℕ) (total : ℕ) → HasKeys c → IsFew s → IsOn (file_part c s name bytes total)
 unfolding file_part
-file_part_on c s name bytes total keys few = by_test (nat_lt (length bytes) total)
+file_part_on c s name bytes total keys few = by_tests (nat_lt (size_limit name) total) (nat_lt (length bytes) total)
   where
-    by_test : (b : Bool) → IsOn (if b then asks (reading_file c s name bytes) else file_read c s name bytes)
-    by_test true = (keys, few)
-    by_test false = file_on c s name bytes keys few
+    by_tests : (long more : Bool) → IsOn (if long then rejects c name else if more then asks (reading_file c s name bytes) else file_read c s name bytes)
+    by_tests true more = tt
+    by_tests false true = (keys, few)
+    by_tests false false = file_on c s name bytes keys few
 
 manifest_told_on : (c : Course) (bytes : List ℕ) (r : Reply) → HasKeys c → IsOn (manifest_told c bytes r)
 unfolding manifest_told
@@ -230,7 +238,11 @@ file_told_on c s name bytes r keys few = tt
 
 chunk_told_on : (c : Course) (s : Stock) (x : Index) (e : AppendEntry) (later : List AppendEntry) (r : Reply) → IsFormed (reading_chunk c s x e later) → IsOn (chunk_told c s x e later r)
 unfolding chunk_told
-chunk_told_on c s x e later (replies.Data blob) formed = formed
+chunk_told_on c s x e later (replies.Data blob) formed = by_size (length blob == blob_size x e later)
+  where
+    by_size : (b : Bool) → IsOn (if b then asks (sending_chunk c (with_chunk e blob s) x e later blob) else mismatched e)
+    by_size true = formed
+    by_size false = tt
 chunk_told_on c s x e later (replies.Refused refusal) formed = stops_on refusal
 chunk_told_on c s x e later r formed = tt
 

@@ -1,5 +1,5 @@
 -- How far a SYNC is from its end: each reply brings it nearer.
-use Rattle.std.proofs.Common.{◌≡◌, ◌<◌, ◌≤◌, ◌+◌, ◌-◌, ◌*◌, ◌^◌, ℕ, zero, suc, Bool, true, false, ◌||◌, List, [], ◌∷◌, ◌++◌, length, filter, map, drop, Option, Some, None, Result, Ok, Err, if◌then◌else◌, nat_le, nat_lt, refl, ap, arith}
+use Rattle.std.proofs.Common.{◌≡◌, ◌<◌, ◌≤◌, ◌+◌, ◌-◌, ◌*◌, ◌^◌, ℕ, zero, suc, Bool, true, false, ◌||◌, List, [], ◌∷◌, ◌++◌, length, filter, map, drop, Option, Some, None, Result, Ok, Err, if◌then◌else◌, nat_le, nat_lt, refl, ap, arith, ◌==◌}
 use Rattle.std.proofs.lemmas.Bool.{ltb-true, leb-true}
 use Rattle.std.proofs.lemmas.List.{length-append, length-map}
 use Rattle.store_types.specs.declared.append.AppendEntry.{AppendEntry}
@@ -15,7 +15,8 @@ use Rattle.wire_commands.specs.HasText.{ReplyHasText}
 use Rattle.store_model.specs.Load.{read_manifest}
 use Rattle.store_history.specs.declared.act.Act.{Act}
 use Rattle.store_history.specs.declared.act.Act.TheVariants as acts
-use Rattle.store_history.specs.Pulling.{Course, Stock, Index, Pulling, seeking, comparing, starting, reading_manifest, reading_file, opening, reading_chunk, sending_chunk, appending, closing_index, sending_blob, sending_manifest, finishing, rejecting, aborting, SyncJob, asks, is_key, is_later, newest_in, next_snapshot, finished, stops, ends, rejected, rejects, is_sent, next_append, next_chunk, index_in, is_index, index_read, blob_read, file_read, next_file, stock_of, manifest_read, batch, sought, compared, started, manifest_part, file_part, manifest_told, file_told, chunk_told, goes_on, take, is_ending}
+use Rattle.store_model.specs.SizeLimits.{blob_limit, size_limit}
+use Rattle.store_history.specs.Pulling.{Course, Stock, Index, Pulling, seeking, comparing, starting, reading_manifest, reading_file, opening, reading_chunk, sending_chunk, appending, closing_index, sending_blob, sending_manifest, finishing, rejecting, aborting, SyncJob, asks, is_key, is_later, newest_in, next_snapshot, finished, stops, ends, rejected, rejects, next_append, next_chunk, index_in, is_index, index_read, blob_read, file_read, next_file, stock_of, manifest_read, batch, sought, compared, started, manifest_part, file_part, manifest_told, file_told, chunk_told, goes_on, take, is_ending, size_sent, blob_size, mismatched, with_chunk}
 use Rattle.store_model.specs.Job.{leaves_open}
 use Rattle.lane.specs.declared.acts.Told.{Told}
 use Rattle.lane.specs.Acting.{MayTell}
@@ -84,12 +85,18 @@ append_most c s x (e ∷ es) = omega arith
 chunk_most : (c : Course) (s : Stock) (x : Index) (es : List AppendEntry) → rank (next_chunk c s x es) ≤ stock_rank c s + length x.entries + 2 * length es + 8
 unfolding next_chunk
 chunk_most c s x [] = let h = append_most c s x x.entries in omega (arith, h)
-chunk_most c s x (e ∷ es) = by_test (is_sent s e) (chunk_most c s x es)
+chunk_most c s x (e ∷ es) = by_kept (size_sent s e) (chunk_most c s x es)
   where
-    by_test : (b : Bool) → rank (next_chunk c s x es) ≤ stock_rank c s + length x.entries + 2 * length es + 8
-        → rank (if b then next_chunk c s x es else asks (reading_chunk c s x e es)) ≤ stock_rank c s + length x.entries + 2 * length (e ∷ es) + 8
-    by_test true h = omega (arith, h)
-    by_test false h = omega arith
+    by_size : (b : Bool) → rank (next_chunk c s x es) ≤ stock_rank c s + length x.entries + 2 * length es + 8
+        → rank (if b then next_chunk c s x es else mismatched e) ≤ stock_rank c s + length x.entries + 2 * length (e ∷ es) + 8
+    by_size true h = omega (arith, h)
+    by_size false h = omega arith
+
+    by_kept : (k : Option ℕ) → rank (next_chunk c s x es) ≤ stock_rank c s + length x.entries + 2 * length es + 8
+        → rank (elim k [ None ↦ asks (reading_chunk c s x e es) | Some size ↦ if size == blob_size x e es then next_chunk c s x es else mismatched e ])
+        ≤ stock_rank c s + length x.entries + 2 * length (e ∷ es) + 8
+    by_kept None h = omega arith
+    by_kept (Some size) h = by_size (size == blob_size x e es) h
 
 dropped_few : {A : Type 0} (n : ℕ) (xs : List A) → length (drop n xs) ≤ length xs
 dropped_few zero xs = omega arith
@@ -157,7 +164,7 @@ grows bytes more total some less = by (nat_le total (length bytes)) (nat_lt 0 (l
 manifest_part_less : (c : Course) (bytes more : List ℕ) (total : ℕ) → total < 2 ^ 64 → (nat_le total (length bytes) || nat_lt 0 (length more)) ≡ true
     → rank (manifest_part c (bytes ++ more) total) < rank (asks (reading_manifest c bytes))
 unfolding manifest_part
-manifest_part_less c bytes more total bound some = by_test (nat_lt (length (bytes ++ more)) total) refl
+manifest_part_less c bytes more total bound some = by_limit (nat_lt blob_limit total) (by_test (nat_lt (length (bytes ++ more)) total) refl)
   where
     by_test : (b : Bool) → nat_lt (length (bytes ++ more)) total ≡ b
         → rank (if b then asks (reading_manifest c (bytes ++ more)) else manifest_read c (bytes ++ more) (read_manifest (bytes ++ more))) < rank (asks (reading_manifest c bytes))
@@ -168,10 +175,17 @@ manifest_part_less c bytes more total bound some = by_test (nat_lt (length (byte
         omega (arith, less, grown, sum, bound)
     by_test false is = let h = manifest_most c (bytes ++ more) (read_manifest (bytes ++ more)) in omega (arith, h)
 
+    next : SyncJob
+    next = if nat_lt (length (bytes ++ more)) total then asks (reading_manifest c (bytes ++ more)) else manifest_read c (bytes ++ more) (read_manifest (bytes ++ more))
+
+    by_limit : (b : Bool) → rank next < rank (asks (reading_manifest c bytes)) → rank (if b then rejects c manifest_name else next) < rank (asks (reading_manifest c bytes))
+    by_limit true h = omega arith
+    by_limit false h = h
+
 file_part_less : (c : Course) (s : Stock) (name bytes more : List ℕ) (total : ℕ) → total < 2 ^ 64 → (nat_le total (length bytes) || nat_lt 0 (length more)) ≡ true
     → rank (file_part c s name (bytes ++ more) total) < rank (asks (reading_file c s name bytes))
 unfolding file_part
-file_part_less c s name bytes more total bound some = by_test (nat_lt (length (bytes ++ more)) total) refl
+file_part_less c s name bytes more total bound some = by_limit (nat_lt (size_limit name) total) (by_test (nat_lt (length (bytes ++ more)) total) refl)
   where
     by_test : (b : Bool) → nat_lt (length (bytes ++ more)) total ≡ b
         → rank (if b then asks (reading_file c s name (bytes ++ more)) else file_read c s name (bytes ++ more)) < rank (asks (reading_file c s name bytes))
@@ -181,6 +195,13 @@ file_part_less c s name bytes more total bound some = by_test (nat_lt (length (b
         let sum = length-append bytes more in
         omega (arith, less, grown, sum, bound)
     by_test false is = let h = file_most c s name (bytes ++ more) in omega (arith, h)
+
+    next : SyncJob
+    next = if nat_lt (length (bytes ++ more)) total then asks (reading_file c s name (bytes ++ more)) else file_read c s name (bytes ++ more)
+
+    by_limit : (b : Bool) → rank next < rank (asks (reading_file c s name bytes)) → rank (if b then rejects c name else next) < rank (asks (reading_file c s name bytes))
+    by_limit true h = omega arith
+    by_limit false h = h
 
 -- ---- each reply
 
@@ -214,7 +235,11 @@ module _ (act : Act) (told : Told) (tells : MayTell act told) where
 
 chunk_less : (c : Course) (s : Stock) (x : Index) (e : AppendEntry) (later : List AppendEntry) (r : Reply) → rank (chunk_told c s x e later r) < rank (asks (reading_chunk c s x e later))
 unfolding chunk_told
-chunk_less c s x e later (replies.Data blob) = omega arith
+chunk_less c s x e later (replies.Data blob) = by_size (length blob == blob_size x e later)
+  where
+    by_size : (b : Bool) → rank (if b then asks (sending_chunk c (with_chunk e blob s) x e later blob) else mismatched e) < rank (asks (reading_chunk c s x e later))
+    by_size true = omega arith
+    by_size false = omega arith
 chunk_less c s x e later (replies.Refused refusal) = let h = stops_one refusal in omega (arith, h)
 chunk_less c s x e later r = omega arith
 

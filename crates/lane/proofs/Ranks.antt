@@ -1,11 +1,10 @@
 -- How far a job is from its end: each reply brings it nearer.
-use Rattle.std.proofs.Common.{◌≡◌, ◌<◌, ◌≤◌, ◌+◌, ◌-◌, ◌*◌, ◌^◌, ◌⊎◌, inl, inr, ℕ, Bool, true, false, ◌||◌, List, [], ◌∷◌, ◌++◌, length, map, reverse, Option, Some, None, Result, Ok, Err, IsTrue, if◌then◌else◌, nat_le, nat_lt, refl, sym, ap, subst, arith}
+use Rattle.std.proofs.Common.{◌≡◌, ◌<◌, ◌≤◌, ◌+◌, ◌-◌, ◌*◌, ◌^◌, ◌⊎◌, inl, inr, ℕ, Bool, true, false, ◌||◌, List, [], ◌∷◌, ◌++◌, length, map, reverse, Option, Some, None, Result, Ok, Err, IsTrue, if◌then◌else◌, nat_le, nat_lt, refl, sym, ap, subst, arith, suc}
 use Rattle.std.specs.List.{zip}
 use Rattle.std.specs.Option.{option_or}
 use Rattle.std.proofs.lemmas.Bool.{ltb-true, leb-true}
 use Rattle.std.proofs.lemmas.List.{length-append, length-map, length-reverse}
 use Rattle.std.proofs.lemmas.Slice.Zip.{length-zip}
-use Rattle.store_types.specs.declared.names.Digest32.{Digest32}
 use Rattle.store_types.specs.declared.names.Keep.{Keep}
 use Rattle.store_types.specs.declared.refusal.Refusal.{Refusal}
 use Rattle.store_types.specs.declared.refusal.Refusal.TheVariants.{SnapshotBusy, NoSnapshot, Damaged, Unreadable, NoMemory, RemoteFault, DiskFault, Halted}
@@ -28,7 +27,9 @@ use Rattle.wire_commands.specs.declared.rows.FileRow.{FileRow}
 use Rattle.wire_commands.specs.declared.rows.PruneMark.TheVariants.{Removed, Held, Gone}
 use Rattle.wire_commands.specs.declared.rows.PruneRow.{PruneRow}
 use Rattle.wire_commands.specs.HasText.{ReplyHasText}
-use Rattle.store_model.specs.Job.{Visit, Asking, grouping, forgetting, opening, listing, reading, checking, closing, over, asking, stopped, closed, leaves_open}
+use Rattle.store_model.specs.declared.piece.Piece.{Piece}
+use Rattle.store_model.specs.SizeLimits.{size_limit}
+use Rattle.store_model.specs.Job.{Visit, Asking, grouping, forgetting, opening, listing, reading, checking, closing, Job, over, asking, stopped, closed, leaves_open}
 use Rattle.store_model.specs.Jobs.{take}
 use Rattle.store_model.specs.PruneJob as prune
 use Rattle.store_model.specs.VerifyJob as verify
@@ -116,10 +117,10 @@ unfolding verify.file_done
 done_most v row None = file_most (record v { files = v.files + 1 }) v.later
 done_most v row (Some fault) = file_most (verify.with_fault row (Some fault) (record v { files = v.files + 1 })) v.later
 
-chunk_most : (v : Visit) (row : FileRow) (fault : Option FileFault) (place : ℕ) (ds : List Digest32) → rank (verify.next_chunk v row fault place ds) ≤ 3 + length v.later * file_rank + length ds
+chunk_most : (v : Visit) (row : FileRow) (fault : Option FileFault) (place : ℕ) (ps : List Piece) → rank (verify.next_chunk v row fault place ps) ≤ 3 + length v.later * file_rank + length ps
 unfolding verify.next_chunk
 chunk_most v row fault place [] = let h = done_most v row fault in omega (arith, h)
-chunk_most v row fault place (d ∷ ds) = omega arith
+chunk_most v row fault place (p ∷ ps) = omega arith
 
 listed_less : (snapshot : List ℕ) (r : Reply) → ReplyHasText r → rank (verify.listed snapshot r) < 2 ^ 80
 unfolding verify.listed
@@ -127,20 +128,29 @@ listed_less snapshot (replies.Files rows) text = let h = file_most (verify.begun
 listed_less snapshot (replies.Refused refusal) text = let h = stopped_one refusal in omega (arith, h)
 listed_less snapshot r text = omega arith
 
+-- as many pieces as an index has entries
+fixed_count : (size cut offset : ℕ) (ds : List (List ℕ)) → length (verify.fixed_pieces size cut offset ds) ≡ length ds
+fixed_count size cut offset [] = refl
+fixed_count size cut offset (d ∷ ds) = ap suc (fixed_count size cut (offset + cut) ds)
+
+dynamic_count : (start : ℕ) (es : List dynamic.Ended) → length (verify.dynamic_pieces start es) ≡ length es
+dynamic_count start [] = refl
+dynamic_count start (e ∷ es) = ap suc (dynamic_count e.end es)
+
 -- an index has not too many entries
-fixed_few : (row : FileRow) (bytes : List ℕ) → length (verify.fixed_judged row bytes).digests ≤ entry_limit
+fixed_few : (row : FileRow) (bytes : List ℕ) → length (verify.fixed_judged row bytes).entries ≤ entry_limit
 unfolding verify.fixed_judged
 fixed_few row bytes = by_index (fixed_of bytes) refl
   where
     by_index : (o : Result FixedIndex IndexFault) → fixed_of bytes ≡ o
         → length (elim o as (λ x. verify.Judged) [
           | Err cause ↦ verify.without_entries (Some faults.Unreadable)
-          | Ok x ↦ record { fault = verify.compared row x.size (fixed.csum_of x); bytes = x.size; digests = map verify.digest x.digests }
-        ]).digests ≤ entry_limit
+          | Ok x ↦ record { fault = verify.compared row x.size (fixed.csum_of x); bytes = x.size; entries = verify.fixed_pieces x.size x.chunk_size 0 x.digests }
+        ]).entries ≤ entry_limit
     by_index (Err cause) is = omega arith
-    by_index (Ok x) is = let few = (fixed_of-fits bytes x is).limit in let same = length-map x.digests verify.digest in omega (arith, few, same)
+    by_index (Ok x) is = let few = (fixed_of-fits bytes x is).limit in let same = fixed_count x.size x.chunk_size 0 x.digests in omega (arith, few, same)
 
-dynamic_few : (row : FileRow) (bytes : List ℕ) → length (verify.dynamic_judged row bytes).digests ≤ entry_limit
+dynamic_few : (row : FileRow) (bytes : List ℕ) → length (verify.dynamic_judged row bytes).entries ≤ entry_limit
 unfolding verify.dynamic_judged
 dynamic_few row bytes = by_index (dynamic_of bytes) refl
   where
@@ -150,36 +160,36 @@ dynamic_few row bytes = by_index (dynamic_of bytes) refl
           | Ok x ↦ record {
             fault = verify.compared row (verify.last_end x.entries) (dynamic.csum_of x);
             bytes = verify.last_end x.entries;
-            digests = map (λ e. verify.digest e.digest) x.entries;
+            entries = verify.dynamic_pieces 0 x.entries;
           }
-        ]).digests ≤ entry_limit
+        ]).entries ≤ entry_limit
     by_index (Err cause) is = omega arith
     by_index (Ok x) is =
         let few = (dynamic_of-fits bytes x is).0 in
-        let same = length-map x.entries (λ (e : dynamic.Ended). verify.digest e.digest) in
+        let same = dynamic_count 0 x.entries in
         omega (arith, few, same)
 
-judged_few : (snapshot : List ℕ) (row : FileRow) (bytes : List ℕ) → length (verify.judged snapshot row bytes).digests ≤ entry_limit
+judged_few : (snapshot : List ℕ) (row : FileRow) (bytes : List ℕ) → length (verify.judged snapshot row bytes).entries ≤ entry_limit
 unfolding verify.judged verify.blob_judged
 judged_few snapshot row bytes = by_name (is_fixed_name row.file) (is_dynamic_name row.file)
   where
     by_name : (a b : Bool)
-        → length (if a then verify.fixed_judged row bytes else (if b then verify.dynamic_judged row bytes else verify.blob_judged snapshot row bytes)).digests ≤ entry_limit
+        → length (if a then verify.fixed_judged row bytes else (if b then verify.dynamic_judged row bytes else verify.blob_judged snapshot row bytes)).entries ≤ entry_limit
     by_name true b = fixed_few row bytes
     by_name false true = dynamic_few row bytes
     by_name false false = omega arith
 
-read_most : (v : Visit) (row : FileRow) (j : verify.Judged) → length j.digests ≤ entry_limit → rank (verify.file_read v row j) ≤ 3 + length v.later * file_rank + entry_limit
+read_most : (v : Visit) (row : FileRow) (j : verify.Judged) → length j.entries ≤ entry_limit → rank (verify.file_read v row j) ≤ 3 + length v.later * file_rank + entry_limit
 unfolding verify.file_read
 read_most v row j few =
-    let h = chunk_most (record v { entries = v.entries + length j.digests; bytes = v.bytes + j.bytes }) row j.fault 0 j.digests in
+    let h = chunk_most (record v { entries = v.entries + length j.entries; bytes = v.bytes + j.bytes }) row j.fault 0 j.entries in
     omega (arith, h, few)
 
 -- a part of a file is not empty before the file's end
 part_less : (v : Visit) (row : FileRow) (bytes more : List ℕ) (total : ℕ) → total < 2 ^ 64 → (nat_le total (length bytes) || nat_lt 0 (length more)) ≡ true
     → rank (verify.part_read v row (bytes ++ more) total) < rank (asking (reading v row bytes))
 unfolding verify.part_read
-part_less v row bytes more total bound some = by_test (nat_lt (length (bytes ++ more)) total) refl
+part_less v row bytes more total bound some = by_limit (nat_lt (size_limit row.file) total) (by_test (nat_lt (length (bytes ++ more)) total) refl)
   where
     grows : (a b : Bool) → nat_le total (length bytes) ≡ a → nat_lt 0 (length more) ≡ b → (a || b) ≡ true → length (bytes ++ more) < total → 0 < length more
     grows true b le lt h less = let past = leb-true total (length bytes) le in let sum = length-append bytes more in absurd (omega (arith, past, sum, less))
@@ -197,6 +207,14 @@ part_less v row bytes more total bound some = by_test (nat_lt (length (bytes ++ 
         let h = read_most v row (verify.judged v.snapshot row (bytes ++ more)) (judged_few v.snapshot row (bytes ++ more)) in
         omega (arith, h)
 
+    next : Job
+    next = if nat_lt (length (bytes ++ more)) total then asking (reading v row (bytes ++ more)) else verify.file_read v row (verify.judged v.snapshot row (bytes ++ more))
+
+    by_limit : (b : Bool) → rank next < rank (asking (reading v row bytes))
+        → rank (if b then verify.file_done v row (Some (verify.too_long row total)) else next) < rank (asking (reading v row bytes))
+    by_limit true h = let done = done_most v row (Some (verify.too_long row total)) in omega (arith, done)
+    by_limit false h = h
+
 read_less : (v : Visit) (row : FileRow) (bytes : List ℕ) (r : Reply) → ReplyHasText r → IsTrue (answers_part (length bytes) r) ⊎ IsRefused r
     → rank (verify.read_part v row bytes r) < rank (asking (reading v row bytes))
 unfolding verify.read_part
@@ -207,16 +225,16 @@ read_less v row bytes (replies.Refused (Unreadable name)) text may = let h = don
 read_less v row bytes (replies.Refused refusal) text may = let h = stopped_one refusal in omega (arith, h)
 read_less v row bytes r text may = omega arith
 
-checked_less : (v : Visit) (row : FileRow) (fault : Option FileFault) (place : ℕ) (d : Digest32) (later : List Digest32) (r : Reply)
-    → rank (verify.checked v row fault place d later r) < rank (asking (checking v row fault place d later))
+checked_less : (v : Visit) (row : FileRow) (fault : Option FileFault) (place : ℕ) (p : Piece) (later : List Piece) (r : Reply)
+    → rank (verify.checked v row fault place p later r) < rank (asking (checking v row fault place p later))
 unfolding verify.checked
-checked_less v row fault place d later (replies.Data bytes) =
-    let h = chunk_most v row (option_or fault (verify.chunk_fault d bytes)) (place + 1) later in omega (arith, h)
-checked_less v row fault place d later (replies.Refused (Damaged asked found)) =
-    let h = chunk_most v row (option_or fault (Some (faults.Damaged d))) (place + 1) later in omega (arith, h)
-checked_less v row fault place d later (replies.Refused (Unreadable name)) = let h = done_most v row (option_or fault (Some faults.Unreadable)) in omega (arith, h)
-checked_less v row fault place d later (replies.Refused refusal) = let h = stopped_one refusal in omega (arith, h)
-checked_less v row fault place d later r = omega arith
+checked_less v row fault place p later (replies.Data bytes) =
+    let h = chunk_most v row (option_or fault (verify.chunk_fault p bytes)) (place + 1) later in omega (arith, h)
+checked_less v row fault place p later (replies.Refused (Damaged asked found)) =
+    let h = chunk_most v row (option_or fault (Some (faults.Damaged p.digest))) (place + 1) later in omega (arith, h)
+checked_less v row fault place p later (replies.Refused (Unreadable name)) = let h = done_most v row (option_or fault (Some faults.Unreadable)) in omega (arith, h)
+checked_less v row fault place p later (replies.Refused refusal) = let h = stopped_one refusal in omega (arith, h)
+checked_less v row fault place p later r = omega arith
 
 -- ---- its end
 

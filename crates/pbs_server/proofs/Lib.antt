@@ -6,4 +6,6 @@ pub mod BookSaved
 pub mod Leaving
 pub mod Rules
 pub mod Broken
+pub mod Changes
+pub mod Orderly
 pub mod Acknowledged

@@ -18,8 +18,10 @@ use Rattle.sha2.specs.Sha256.{sha256}
 use Rattle.store_model.specs.Clash.{NoClash}
 use Rattle.store_model.specs.Stands.{FitsContent, HoldsPieces, IsSnapshot, StandsFor as Stands, pieces_in}
 use Rattle.store_history.specs.Remote.{IsList, IsRemote}
-use Rattle.core_state.specs.Remotes.{ShowsRemote, failed_reads}
+use Rattle.core_state.specs.Remotes.{ReadNoRemote, ShowsRead, ShowsRemote, failed_reads}
+use Rattle.store_history.specs.declared.act.Event.{Event}
 use Rattle.lane.specs.Entries.{has_kind}
+use Rattle.pbs_server.specs.Headline.{IsBeside}
 
 -- ---- the pieces of a list
 
@@ -72,17 +74,30 @@ list_keys m xs s = All-weaker IsSnapshot (λ x. IsKey x.key) (λ x is. is.key) x
 -- ---- of a remote
 
 module _ {E : Type 0} (e : Ghosts E) where
-  pub shown_list : (o : Option E) (R : Option (List Snapshot)) → ShowsRemote e o R → IsRemote R
+  shown_list : (o : Option E) (R : Option (List Snapshot)) → ShowsRemote e o R → IsRemote R
   shown_list None None shows = tt
   shown_list (Some r) (Some xs) shows = as_list (e.content r) xs shows.1
   shown_list None (Some xs) shows = absurd shows
   shown_list (Some r) None shows = absurd shows
 
-  pub shown_there : (o : Option E) (R : Option (List Snapshot)) → ShowsRemote e o R → is_some o ≡ is_some R
+  shown_there : (o : Option E) (R : Option (List Snapshot)) → ShowsRemote e o R → is_some o ≡ is_some R
   shown_there None None shows = refl
   shown_there (Some r) (Some xs) shows = refl
   shown_there None (Some xs) shows = absurd shows
   shown_there (Some r) None shows = absurd shows
+
+  pub beside_list : (o : Option E) (R : Option (List Snapshot)) (events : List Event) → IsBeside e o R events → IsRemote R
+  beside_list o R events (inl shows) = shown_list o R shows
+  beside_list o R events (inr unread) = unread.2
+
+  pub beside_there : (o : Option E) (R : Option (List Snapshot)) (events : List Event) → IsBeside e o R events → is_some o ≡ is_some R
+  beside_there o R events (inl shows) = shown_there o R shows
+  beside_there o R events (inr unread) = unread.1
+
+  -- so it was to the core that was opened with it
+  pub beside_first : (o first : Option E) (R : Option (List Snapshot)) (events since : List Event) → first ≡ o → events ≡ since → IsBeside e o R events → ShowsRead e first R since
+  beside_first o first R events since handed same (inl shows) = inl (subst (λ x. ShowsRemote e x R) (sym handed) shows)
+  beside_first o first R events since handed same (inr unread) = inr (subst ReadNoRemote same unread.0)
 
 -- ---- its failed reads
 

@@ -31,7 +31,7 @@ use Rattle.core_state.specs.KeepsTouches.{KeepsTouches, touches_of_history}
 use Rattle.core_state.specs.Chunks.{HoldsOnly}
 use Rattle.core_state.specs.Foreign.{IsForeign}
 use Rattle.core_state.specs.Records.{Records, Reaches, Starts, opened_with}
-use Rattle.core_state.specs.Remotes.{ShowsRemote}
+use Rattle.core_state.specs.Remotes.{ReadNoRemote}
 use Rattle.core_state.specs.Recovers.{Recovers, TellsMoments}
 use Rattle.opening_files.specs.Leaving.{IsFileOf, IsLeaving, Cleans}
 use Rattle.core_opening.specs.Opening.{HasBook, TouchesOpened, RecoversOpened, StandsOpened, opening_of}
@@ -39,9 +39,10 @@ use Rattle.lane.specs.declared.port.LaneReport.{LaneReport}
 use Rattle.lane.specs.Entries.{has_kind}
 use Rattle.lane.specs.Ran.{RanAlone, with_events}
 use Rattle.pbs_server.specs.Causes.{NoDiskFault}
-use Rattle.pbs_server.specs.Headline.{HasTold, IsPlain, StopsLeave}
+use Rattle.pbs_server.specs.Headline.{HasTold, IsBeside, IsPlain, StopsLeave}
 use Rattle.pbs_server.specs.Saving.{EndsSaved, saving_of}
-use Rattle.pbs_server.proofs.Remotes.{list_keys, shown_list, shown_there}
+use Rattle.pbs_server.proofs.Acknowledged.{found_after}
+use Rattle.pbs_server.proofs.Remotes.{beside_first, beside_list, beside_there, list_keys}
 use Rattle.pbs_server.proofs.Rules.{kept_rules}
 use Rattle.pbs_server.proofs.BookSaved.{five_fails, halted_by, saving_failed}
 
@@ -141,15 +142,16 @@ le_more : (a b c : ℕ) → a ≤ b → b ≤ c → a ≤ c
 le_more a b c first then = omega (arith, first, then)
 
 -- what a session did on any disk, and on an honest one, which was opened at a moment
-pub record HasBoth {D E : Type 0} (d : Ghosts D) (e : Ghosts E) (clock : Option Readings) (remote : Option E) (start : ℕ) (disk opened last : D) (left left' taken taken' : Option (List ℕ)) (order : List Entry) (calls : List ℕ)
+pub record HasBoth {D E : Type 0} (d : Ghosts D) (e : Ghosts E) (clock : Option Readings) (remote remote' : Option E) (start : ℕ) (disk opened last : D) (left left' taken taken' : Option (List ℕ)) (order : List Entry) (calls : List ℕ)
     (not_saved : Option DiskError) (report : LaneReport) : Type 0 where
   pub told : HasTold clock left left' taken taken' order calls report
   pub since_is : d.honest disk → told.since ≡ (saved_book (d.content opened)).moment
   pub halted : has_kind 5 order ≡ true → not_saved ≡ None
-  pub plain : (L : List Snapshot) (R : Option (List Snapshot)) → ShowsRemote e remote R → d.honest disk → Stands (d.content disk) L → NoClash (chunk_pieces (d.content disk) ++ sent told.events)
+  pub plain : (L : List Snapshot) (R : Option (List Snapshot)) → IsBeside e remote R told.events → d.honest disk → Stands (d.content disk) L → NoClash (chunk_pieces (d.content disk) ++ sent told.events)
       → IsPlain (opening_of d disk opened L) R told.since (d.calls last) (d.honest last) told.input told.events told.told order not_saved report (d.content disk) (d.content last)
-  pub stops : (L : List Snapshot) (R : Option (List Snapshot)) → ShowsRemote e remote R → d.honest disk → Stands (d.content disk) L → NoClash (chunk_pieces (d.content disk) ++ sent told.events)
+  pub stops : (L : List Snapshot) (R : Option (List Snapshot)) → IsBeside e remote R told.events → d.honest disk → Stands (d.content disk) L → NoClash (chunk_pieces (d.content disk) ++ sent told.events)
       → StopsLeave d start last R (opening_of d disk opened L) told.events
+  pub unread : ReadNoRemote told.events → remote' ≡ remote
 
 pub has_both : {D E C : Type 0} (d : Ghosts D) (e : Ghosts E) (readings : C → Option Readings) (clock : C) (disk : D) (remote : Option E) (first core saved : Core D E C)
     (left left' taken taken' : Option (List ℕ)) (order : List Entry) (calls : List ℕ) (not_saved : Option DiskError) (report : LaneReport) (last : D)
@@ -160,7 +162,7 @@ pub has_both : {D E C : Type 0} (d : Ghosts D) (e : Ghosts E) (readings : C → 
     (began (opening_at d disk first []) None (readings clock)) 0 left left' taken taken' report
     → EndsSaved d core saved not_saved
     → order ≡ (saved.journal).entries.items → calls ≡ (saved.journal).calls.items → last ≡ (saved.parts).disk
-    → HasBoth d e (readings clock) remote (recovers.opens).start disk (first.parts).disk last left left' taken taken' order calls not_saved report
+    → HasBoth d e (readings clock) remote core.remote (recovers.opens).start disk (first.parts).disk last left left' taken taken' order calls not_saved report
 has_both d e readings clock disk remote first core saved left left' taken taken' order calls not_saved report last moments handed opens touches recovers last_is booked cleaned ran ends order_as calls_as disk_as = record {
   told = record {
     input = ran.input;
@@ -185,26 +187,32 @@ has_both d e readings clock disk remote first core saved left left' taken taken'
       let failed : IsSome core.fault = subst (λ (o : Option ℕ). IsSome o) (sym r.fault) (five_fails 0 None ran.events (sym (ap (has_kind 5) order_is) ∙ five)) in
       let both : (saved ≡ core) × (not_saved ≡ None) = halted_by core.fault failed ends.halted in
       both.1;
-  plain = λ L R there honest stands clear.
-      let beside = ap is_some handed ∙ shown_there e remote R there in
-      let at = last_at L R beside honest stands in
-      let stood = subst (λ o. StandsFor d readings first (began o R (readings clock))) (is_opening L at) (opens L R beside honest stands) in
+  plain = λ L R beside honest stands clear.
+      let there = ap is_some handed ∙ beside_there e remote R ran.events beside in
+      let at = last_at L R there honest stands in
+      let stood = subst (λ o. StandsFor d readings first (began o R (readings clock))) (is_opening L at) (opens L R there honest stands) in
       let minded = subst (λ o. KeepsTouches d first (began o R (readings clock))) (is_opening L at) (touches L R honest stands) in
-      let starts : Starts d e readings first (opened_with L R (began (opening_at d disk first []) None (readings clock))) = record { stands = stood; touches = minded; remote = subst (λ o. ShowsRemote e o R) (sym handed) there } in
+      let starts : Starts d readings first (opened_with L R (began (opening_at d disk first []) None (readings clock))) = record { stands = stood; touches = minded } in
+      let shows = beside_first e remote first.remote R ran.events (ran.stands_for).since handed (ran.stands_for).behind beside in
       subst (λ o. IsPlain o R first.last (d.calls last) (d.honest last) ran.input ran.events ran.told order not_saved report (d.content disk) (d.content last)) (sym (is_opening L at))
-      (plain L R at (shown_list e remote R there) (list_keys (d.content disk) L stands) (loaded (d.content disk) L stands) ((ran.stands_for).stands L R starts clear)
-      ((ran.stands_for).touches L R starts clear)
-      (λ none q own. (ran.stands_for).foreign L R starts clear none q own ∙ foreign_cleaned _ _ (cleaned honest) q own));
-  stops = λ L R there honest stands clear.
-      let beside = ap is_some handed ∙ shown_there e remote R there in
-      let at = last_at L R beside honest stands in
-      let stood = subst (λ o. StandsFor d readings first (began o R (readings clock))) (is_opening L at) (opens L R beside honest stands) in
+      (plain L R at (beside_list e remote R ran.events beside) (list_keys (d.content disk) L stands) (loaded (d.content disk) L stands) ((ran.stands_for).stands L R starts shows clear)
+      ((ran.stands_for).touches L R starts shows clear)
+      (λ none q own. (ran.stands_for).foreign L R starts shows clear none q own ∙ foreign_cleaned _ _ (cleaned honest) q own));
+  stops = λ L R beside honest stands clear.
+      let there = ap is_some handed ∙ beside_there e remote R ran.events beside in
+      let at = last_at L R there honest stands in
+      let stood = subst (λ o. StandsFor d readings first (began o R (readings clock))) (is_opening L at) (opens L R there honest stands) in
       let minded = subst (λ o. KeepsTouches d first (began o R (readings clock))) (is_opening L at) (touches L R honest stands) in
-      let starts : Starts d e readings first (opened_with L R (began (opening_at d disk first []) None (readings clock))) = record { stands = stood; touches = minded; remote = subst (λ o. ShowsRemote e o R) (sym handed) there } in
+      let starts : Starts d readings first (opened_with L R (began (opening_at d disk first []) None (readings clock))) = record { stands = stood; touches = minded } in
+      let shows = beside_first e remote first.remote R ran.events (ran.stands_for).since handed (ran.stands_for).behind beside in
       let before = subst (λ o. Recovers d (recovers.opens).start first (began o R (readings clock))) (is_opening L at) (recovers.recovers L R stands) in
-      let after = (ends.history).recovers readings (recovers.opens).start (history L R) ((ran.stands_for).stands L R starts clear) ((ran.stands_for).recovers moments (recovers.opens).start L R starts before clear) in
+      let ended = (ran.stands_for).stands L R starts shows clear in
+      let after = (ends.history).recovers readings (recovers.opens).start (history L R) ended ((ran.stands_for).recovers moments (recovers.opens).start L R starts shows before clear) in
       subst (λ o. StopsLeave d (recovers.opens).start last R o ran.events) (sym (is_opening L at))
-      (λ t c from image. after.each t c from (subst (λ x. d.images x t c) disk_as image));
+      (λ t c from image.
+      let found = after.each t c from (subst (λ x. d.images x t c) disk_as image) in
+      (found.0, found.1, found_after R (opening L) ran.events t found.0 stands.order ended.legal found.2));
+  unread = λ none. (ran.stands_for).alone (subst ReadNoRemote (ran.stands_for).behind none) ∙ handed;
 }
   where
     opening : List Snapshot → Opening
@@ -214,7 +222,7 @@ has_both d e readings clock disk remote first core saved left left' taken taken'
     history L R = with_events (began (opening L) R (readings clock)) ran.events
 
     last_at : (L : List Snapshot) (R : Option (List Snapshot)) → is_some first.remote ≡ is_some R → d.honest disk → Stands (d.content disk) L → first.last ≡ (saved_book (d.content disk)).moment
-    last_at L R beside honest stands = began_at d readings first (opening_of d disk (first.parts).disk L) R (readings clock) (opens L R beside honest stands)
+    last_at L R there honest stands = began_at d readings first (opening_of d disk (first.parts).disk L) R (readings clock) (opens L R there honest stands)
 
     is_opening : (L : List Snapshot) → first.last ≡ (saved_book (d.content disk)).moment → opening_of d disk (first.parts).disk L ≡ opening L
     is_opening L at = ap (λ m. record (opening_of d disk (first.parts).disk L) { moment = m }) (sym at)

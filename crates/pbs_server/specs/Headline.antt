@@ -2,7 +2,7 @@
 use Rattle.disk_trait.specs.declared.disk.Disk.{Ghosts}
 use Rattle.disk_trait.specs.declared.disk.DiskError.{DiskError}
 use Rattle.disk_trait.specs.Disk.{Serves}
-use Rattle.std.specs.Prelude.{◌≡◌, ◌≢◌, ◌≤◌, ◌^◌, ◌⊎◌, ℕ, false, List, [], ◌∷◌, ◌++◌, map, length, Option, Some, None, IfSome, IsSome, IsTrue, Ok, String, string_bytes}
+use Rattle.std.specs.Prelude.{◌≡◌, ◌≢◌, ◌≤◌, ◌^◌, ◌⊎◌, ℕ, false, List, [], ◌∷◌, ◌++◌, map, length, Option, Some, None, is_some, IfSome, IsSome, IsTrue, Ok, String, string_bytes}
 use Rattle.std.specs.declared.alloc.Global.{Global}
 use Rattle.std.specs.FinMap.{get}
 use Rattle.port_traits.specs.Bytes.{WritesCounted}
@@ -18,16 +18,16 @@ use Rattle.store_model.specs.Store.{Store}
 use Rattle.store_model.specs.Stands.{StandsFor}
 use Rattle.store_model.specs.Weave.{weave}
 use Rattle.store_history.specs.declared.act.Event.{Event}
-use Rattle.store_history.specs.CrashPoints.{Reopens}
 use Rattle.store_history.specs.History.{Opening, opened, after_all, entries, sent}
 use Rattle.store_history.specs.LaneRun.{text, plain_text, LaneRan}
 use Rattle.store_history.specs.Legal.{IsLegal, IsTimed, moment_after}
+use Rattle.store_history.specs.Remote.{IsRemote}
 use Rattle.store_history.specs.Saved.{HoldsBook, saved_book}
 use Rattle.store_history.specs.Sweeping.{swept}
 use Rattle.core_state.specs.Chunks.{HoldsOnly}
 use Rattle.core_state.specs.Foreign.{IsForeign}
 use Rattle.core_state.specs.Records.{AreKept}
-use Rattle.core_state.specs.Remotes.{RemoteStays, ShowsRemote, faults_of}
+use Rattle.core_state.specs.Remotes.{ReadNoRemote, RemoteStays, ShowsRemote, faults_of}
 use Rattle.opening_files.specs.Leaving.{MayClean, Cleans}
 use Rattle.opening_files.specs.Opened.{Opens}
 use Rattle.core_opening.specs.declared.opening.OpenFault.{OpenFault}
@@ -40,6 +40,7 @@ use Rattle.lane.specs.Entries.{has_kind}
 use Rattle.lane.specs.Ran.{Took, EndsRead}
 use Rattle.pbs_server.specs.declared.served.Served.{Served}
 use Rattle.pbs_server.specs.declared.status.Status.TheVariants as statuses
+use Rattle.pbs_server.specs.Acknowledged.{FoundAfter}
 use Rattle.pbs_server.specs.Causes.{IsOrder, SaveIsTold, NoDiskFault, HasCause}
 use Rattle.pbs_server.specs.Collections.{HasCollected}
 use Rattle.pbs_server.specs.Statuses.{status_by, status_of_opening}
@@ -100,10 +101,15 @@ pub record IsPlain (opening : Opening) (remote : Option (List Snapshot)) (since 
   pub foreign : NoDiskFault order not_saved → (q : List ℕ) → IsForeign q → get files q ≡ get before q
 
 -- What a crash leaves of a moment since this one stands for the plain store's snapshots after the events that were answered by then, or after
--- one more: of a moment without a fault before it, a front of the events with each that was answered.
+-- one more: of a moment without a fault before it, a front of the events with each that was answered. Among these each stands whole that was
+-- acknowledged by then, or was there at opening and not forgotten.
 abbrev pub StopsLeave : {D : Type 0} → Ghosts D → ℕ → D → Option (List Snapshot) → Opening → List Event → Type 0
 StopsLeave d start disk remote opening events =
-    (t : ℕ) (c : Files) → start ≤ t → d.images disk t c → (found : List Snapshot) × StandsFor c found × Reopens remote (opened opening) events t found
+    (t : ℕ) (c : Files) → start ≤ t → d.images disk t c → (found : List Snapshot) × StandsFor c found × FoundAfter remote opening events t found
+
+-- What R says of the remote: an honest one stands for it. Of a session that reads none R is any list that a disk can stand for, where there is one.
+abbrev pub IsBeside : {E : Type 0} → Ghosts E → Option E → Option (List Snapshot) → List Event → Type 0
+IsBeside e remote R events = ShowsRemote e remote R ⊎ (ReadNoRemote events × (is_some remote ≡ is_some R) × IsRemote R)
 
 -- One session was served.
 pub record HasServed {D E S K : Type 0} (d : Ghosts D) (e : Ghosts E) (left : S → Option (List ℕ)) (source_faults : S → ℕ) (taken : K → Option (List ℕ)) (sink_faults : K → ℕ)
@@ -115,13 +121,13 @@ pub record HasServed {D E S K : Type 0} (d : Ghosts D) (e : Ghosts E) (left : S 
   pub was_opened : WasOpened d disk opened
   -- the last moment before the first command, whatever an honest disk holds: that of the saved book
   pub since_is : d.honest disk → told.since ≡ (saved_book (d.content opened)).moment
-  -- on an honest disk that stands for any list of snapshots, beside an honest remote that stands for any list, where there is one, and where no
-  -- two unequal pieces have one digest of those in the chunk files at opening and those that the session sent
-  pub plain : (L : List Snapshot) (R : Option (List Snapshot)) → ShowsRemote e remote R → d.honest disk → StandsFor (d.content disk) L → NoClash (chunk_pieces (d.content disk) ++ sent told.events)
+  -- on an honest disk that stands for any list of snapshots, beside an honest remote that stands for any list, where there is one, or that no act
+  -- reads; and where no two unequal pieces have one digest of those in the chunk files at opening and those that the session sent
+  pub plain : (L : List Snapshot) (R : Option (List Snapshot)) → IsBeside e remote R told.events → d.honest disk → StandsFor (d.content disk) L → NoClash (chunk_pieces (d.content disk) ++ sent told.events)
       → IsPlain (opening_of d disk opened L) R told.since (d.calls result.disk) (d.honest result.disk) told.input told.events told.told
       (result.order).items (result.report).not_saved report (d.content disk) (d.content result.disk)
   -- under the same premises, what a crash leaves from that moment of opening on, also as the book was saved
-  pub stops : (L : List Snapshot) (R : Option (List Snapshot)) → ShowsRemote e remote R → d.honest disk → StandsFor (d.content disk) L → NoClash (chunk_pieces (d.content disk) ++ sent told.events)
+  pub stops : (L : List Snapshot) (R : Option (List Snapshot)) → IsBeside e remote R told.events → d.honest disk → StandsFor (d.content disk) L → NoClash (chunk_pieces (d.content disk) ++ sent told.events)
       → StopsLeave d ((was_opened.opens).start) result.disk R (opening_of d disk opened L) told.events
   -- on any disk
   pub status : result.status ≡ status_by (result.order).items report.ending (result.report).not_saved
@@ -129,6 +135,8 @@ pub record HasServed {D E S K : Type 0} (d : Ghosts D) (e : Ghosts E) (left : S 
   pub why : HasCause result.status (result.order).items (result.report).not_saved report told.input told.events (d.faults disk) (d.faults result.disk) (faults_of e remote) (faults_of e result.remote) (source_faults old.source) (source_faults new.source) (sink_faults old.sink) (sink_faults new.sink)
   -- the remote is there where it was, honest where it was; an honest one reads as before, and a crash leaves of it what it left
   pub stays : RemoteStays e remote result.remote
+  -- and where no act reads it, it is handed back as it was
+  pub unread : ReadNoRemote told.events → result.remote ≡ remote
   pub order : IsOrder (result.order).items ((result.report).calls).items (d.faults disk) (d.faults result.disk) (faults_of e remote) (faults_of e result.remote)
   pub save : SaveIsTold (result.order).items (result.report).not_saved (d.faults disk) (d.faults result.disk)
   pub budget : report.taken ≤ 2 ^ 40

@@ -2,8 +2,8 @@
 
 ghost use Rattle.pbs_server.specs.Acknowledged.{AcknowledgedStay, FoundStay};
 
-/// A snapshot whose FINISH was answered Done by a moment, and of which no FORGET was entered since, is in what a crash
-/// of that moment leaves.
+/// A snapshot whose FINISH was answered Done by a moment, and of which no FORGET was entered since, is whole in what a
+/// crash of that moment leaves: with each file as its writer had uploaded it.
 pub fn acknowledged_snapshots_stay()
     ensures { AcknowledgedStay }
 {}

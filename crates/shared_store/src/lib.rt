@@ -5,6 +5,7 @@ ghost use Rattle.std.specs.Prelude.{◌≡◌, ◌<◌, true, false};
 ghost use Rattle.store_history.specs.Acts.{IsWellFormed};
 ghost use Rattle.core_state.specs.Applies.{ActApplies, ActKeeps, CoreApplies};
 ghost use Rattle.core_state.specs.Commands.{is_admins, is_collectors, is_remotes};
+ghost use Rattle.core_state.specs.Remotes.{reads_remote};
 ghost use Rattle.core_state.specs.Reserved.{HasRoom};
 ghost use Rattle.core_state.specs.Unreadables.{CoreUnreadable};
 ghost use Rattle.core_reader.specs.Damages.{CoreDamaged};
@@ -93,7 +94,7 @@ pub fn apply<D: Disk, E: Disk, C: Clock>(
     // history; and its answer has a cause
     ensures applies { CoreApplies D.Disk E.Disk C.Clock core.old core.new lane act result }
     // whatever the remote is, where the act doesn't read it
-    ensures alone { is_remotes act ≡ false
+    ensures alone { reads_remote act result ≡ false
         → ActApplies D.Disk C.Clock core.old core.new lane act result }
     // what it leaves of disk, catalogue, sessions and reserve, by the act and its reply; what a crash leaves
     ensures keeps { ActKeeps D.Disk core.old core.new lane act result }

@@ -103,6 +103,11 @@ wanted_reader none v e = absurd (err_ok _ v e)
 wanted_reader (writer w) v e = absurd (err_ok _ v e)
 wanted_reader (reader r) v e = ap reader (ok_same r v e)
 
+wanted_idle : (x : Session) (u : Unit {0}) → want_idle x ≡ Ok u → x ≡ none
+wanted_idle none u e = refl
+wanted_idle (writer w) u e = absurd (err_ok _ u e)
+wanted_idle (reader r) u e = absurd (err_ok _ u e)
+
 same_writers : (v w : Writer) → writer v ≡ writer w → v ≡ w
 same_writers v w e = cc
 
@@ -128,9 +133,9 @@ module _ (s : Store) (k m : ℕ) (Sent Touched : List ℕ → Type 0) (Gone : Sn
   on_quietly v x was goes quiet = on v x was goes quiet.gone (λ d h. absurd (quiet.sent d h)) (λ d h. absurd (quiet.touched d h))
 
   -- a writer begins
-  begins : (x : Writer) → Begins (with_session s k (writer x)) m x → IsQuiet Sent Touched Gone → Moves s (with_session s k (writer x)) m Sent Touched Gone
-  begins x begun quiet =
-      turned s m Sent Touched Gone k (writer x) (λ y e. inr (subst (Begins (with_session s k (writer x)) m) (same_writers x y e) begun)) (λ r e. absurd (writer_reader x r e))
+  begins : (x : Writer) → session s k ≡ none → Begins (with_session s k (writer x)) m x → IsQuiet Sent Touched Gone → Moves s (with_session s k (writer x)) m Sent Touched Gone
+  begins x idle begun quiet =
+      turned s m Sent Touched Gone k (writer x) (λ y e. inr (idle, subst (Begins (with_session s k (writer x)) m) (same_writers x y e) begun)) (λ r e. absurd (writer_reader x r e))
       quiet.gone (λ d h. absurd (quiet.sent d h)) (λ d h. absurd (quiet.touched d h))
 
   -- a reader begins, or goes on
@@ -275,10 +280,10 @@ module _ (s : Store) (k m : ℕ) where
   opens_writer : (snapshot : List ℕ) → Does m (acts.Plain (commands.OpenWriter snapshot)) s (open_writer s k m snapshot)
   unfolding Does open_writer goes_on
   opens_writer snapshot =
-      bound (acts.Plain (commands.OpenWriter snapshot)) (want_idle (session s k)) _ (λ a _. bound (acts.Plain (commands.OpenWriter snapshot)) (or_else BadName (key_of snapshot)) _ (λ b _. bound (acts.Plain (commands.OpenWriter snapshot)) (if_none GroupBusy (group_holder s (group_of_key b))) _
+      bound (acts.Plain (commands.OpenWriter snapshot)) (want_idle (session s k)) _ (λ a idle. bound (acts.Plain (commands.OpenWriter snapshot)) (or_else BadName (key_of snapshot)) _ (λ b _. bound (acts.Plain (commands.OpenWriter snapshot)) (if_none GroupBusy (group_holder s (group_of_key b))) _
       (λ c _. bound (acts.Plain (commands.OpenWriter snapshot)) (want_newer b.time (latest_in (group_of_key b) s.snapshots)) _
       (λ d _. bound (acts.Plain (commands.OpenWriter snapshot)) (unless (TooMany 4096) (nat_lt (length (in_group (group_of_key b) s.snapshots)) 4096)) _
-      (λ e _. begins s k m _ _ _ (new_writer b m (latest_in (group_of_key b) s.snapshots))
+      (λ e _. begins s k m _ _ _ (new_writer b m (latest_in (group_of_key b) s.snapshots)) (wanted_idle (session s k) a idle)
       (record { start = refl; base = latest_finished (group_of_key b) s.snapshots; pool = refl; begun = refl; files = refl }) (quiet_act (acts.Plain (commands.OpenWriter snapshot)) None refl))))))
 
   asks_previous : (file : List ℕ) (offset : ℕ) → Does m (acts.Plain (commands.Previous file offset)) s (previous s k file offset)
@@ -489,7 +494,7 @@ act_does R w k m acts.End formed = ends_here w.store m _ _ _ k (quiet_act acts.E
 
 -- ---- what is answered
 
-refused_done : (refusal : Refusal) (r : Option Reply) → r ≡ Some (Refused refusal) → r ≡ Some Done → ⊥
+pub refused_done : (refusal : Refusal) (r : Option Reply) → r ≡ Some (Refused refusal) → r ≡ Some Done → ⊥
 refused_done refusal r is done = let clash : Some (Refused refusal) ≡ Some Done = sym is ∙ done in cc
 
 none_done : (r : Option Reply) → r ≡ None → r ≡ Some Done → ⊥

@@ -3,7 +3,7 @@ use Rattle.std.proofs.Common.{◌≡◌, ◌≤◌, ◌⊎◌, inl, inr, ℕ, Li
 use Rattle.sha2.specs.Sha256.{sha256}
 use Rattle.store_types.specs.declared.names.SnapshotKey.{SnapshotKey}
 use Rattle.store_files.specs.Archive.{Snapshot}
-use Rattle.store_model.specs.Store.{Writer, writer, Reader, reader, Store, session}
+use Rattle.store_model.specs.Store.{none, Writer, writer, Reader, reader, Store, session}
 use Rattle.store_history.specs.History.{World}
 use Rattle.store_history.specs.LastTouches.{LastTouches}
 use Rattle.store_history.specs.Sweeping.{Sweep, Swept}
@@ -58,7 +58,7 @@ pub record Steps (w w' : World) (s s' : Swept) (Sent Touched : List ℕ → Type
 module _ (w w' : World) (s s' : Swept) (Sent Touched : List ℕ → Type 0) (Gone : SnapshotKey → Type 0) (h : IsSafe w s) (e : Steps w w' s s' Sent Touched Gone) where
   -- how the lane's writer came
   abbrev IsWriter : ℕ → Writer → Type 0
-  IsWriter lane x = ((v : Writer) × (session w.store lane ≡ writer v) × GoesOn w.store Sent Touched v x) ⊎ Begins w'.store w'.moment x
+  IsWriter lane x = ((v : Writer) × (session w.store lane ≡ writer v) × GoesOn w.store Sent Touched v x) ⊎ ((session w.store lane ≡ none) × Begins w'.store w'.moment x)
 
   writes : (lane : ℕ) (x : Writer) → session w'.store lane ≡ writer x → IsWriter lane x
   writes lane x runs = (e.moves).writers lane x runs
@@ -68,7 +68,7 @@ module _ (w w' : World) (s s' : Swept) (Sent Touched : List ℕ → Type 0) (Gon
     where
       by_writer : IsWriter lane x → x.start ≤ w'.moment
       by_writer (inl v) = omega (arith, h.began lane v.0 v.1, (v.2).start, e.risen)
-      by_writer (inr new) = omega (arith, new.start)
+      by_writer (inr new) = omega (arith, (new.1).start)
 
   same_cutoff : (b sweep : Sweep) (n : ℕ) → s'.sweep ≡ Some b → s'.sweep ≡ Some sweep → b.cutoff ≤ n → sweep.cutoff ≤ n
   same_cutoff b sweep n now is le = subst (λ (x : Sweep). x.cutoff ≤ n) (some_same b sweep (sym now ∙ is)) le
@@ -86,7 +86,7 @@ module _ (w w' : World) (s s' : Swept) (Sent Touched : List ℕ → Type 0) (Gon
     where
       by_writer : (a b : Sweep) → s.sweep ≡ Some a → b.cutoff ≡ a.cutoff → IsWriter lane x → b.cutoff ≤ x.start
       by_writer a b was keeps (inl v) = omega (arith, h.later a was lane v.0 v.1, keeps, (v.2).start)
-      by_writer a b was keeps (inr new) = omega (arith, h.cut a was, keeps, e.risen, new.start)
+      by_writer a b was keeps (inr new) = omega (arith, h.cut a was, keeps, e.risen, (new.1).start)
 
       by_goes : Goes w'.store w'.moment s'.touches s.sweep s'.sweep → sweep.cutoff ≤ x.start
       by_goes (on a b was now keeps left) = same_cutoff b sweep x.start now is (by_writer a b was keeps (writes lane x runs))
@@ -105,7 +105,7 @@ module _ (w w' : World) (s s' : Swept) (Sent Touched : List ℕ → Type 0) (Gon
       by_writer (inl v) =
           let y = h.bases lane v.0 key v.1 (sym (v.2).base ∙ base) in
           (y.0, stays_finished lane x y.0 runs (base ∙ ap (λ k. Some k) (sym y.2)) y.1, y.2)
-      by_writer (inr new) = new.base key base
+      by_writer (inr new) = (new.1).base key base
 
   readers : (lane : ℕ) (r : Reader) → session w'.store lane ≡ reader r → IsFinished (w'.store).snapshots r.key
   readers lane r reads = by_reader ((e.moves).readers lane r reads)
@@ -171,12 +171,12 @@ module _ (w w' : World) (s s' : Swept) (Sent Touched : List ℕ → Type 0) (Gon
       by_writer (inr new) = record {
         pooled = λ d has. absurd (none_appended d has);
         appended = λ d has. absurd (none_appended d has);
-        pool = λ d may. absurd (subst (λ ps. In d (map sha256 ps)) new.pool may);
+        pool = λ d may. absurd (subst (λ ps. In d (map sha256 ps)) (new.1).pool may);
       }
         where
           none_appended : (d : List ℕ) → HasAppended x d → ⊥
-          none_appended d (inl b) = none_begun d new.begun b
-          none_appended d (inr f) = none_filed d new.files f
+          none_appended d (inl b) = none_begun d (new.1).begun b
+          none_appended d (inr f) = none_filed d (new.1).files f
 
   -- ---- what finished snapshots have
 

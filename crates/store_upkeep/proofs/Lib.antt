@@ -6,6 +6,7 @@ pub mod Acting
 pub mod Kept
 pub mod Going
 pub mod Stocking
+pub mod Sent
 pub mod Marking
 pub mod Taking
 pub mod Listing

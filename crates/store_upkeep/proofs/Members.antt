@@ -52,6 +52,10 @@ in_map_left f [] ys y h = absurd h
 in_map_left f (z ∷ zs) ys y (inl e) = inl e
 in_map_left f (z ∷ zs) ys y (inr h) = inr (in_map_left f zs ys y h)
 
+pub in_map_right : {A B : Type 0} (f : A → B) (xs ys : List A) (y : B) → In y (map f ys) → In y (map f (xs ++ ys))
+in_map_right f [] ys y h = h
+in_map_right f (z ∷ zs) ys y h = inr (in_map_right f zs ys y h)
+
 pub in_flat_map : {A B : Type 0} (f : A → List B) (xs : List A) (x : A) (y : B) → In x xs → In y (f x) → In y (flat_map f xs)
 in_flat_map f [] x y h g = absurd h
 in_flat_map f (z ∷ zs) x y (inl e) g = in_left (f z) (flat_map f zs) y (subst (λ v. In y (f v)) e g)

@@ -27,7 +27,7 @@ pub record Begins (t : Store) (m : ℕ) (x : Writer) : Type 0 where
 -- the lane's session in t, as it comes from s
 abbrev pub IsWriting : Store → Store → ℕ → (List ℕ → Type 0) → (List ℕ → Type 0) → ℕ → Session → Type 0
 IsWriting s t m Sent Touched j y =
-    (x : Writer) → y ≡ writer x → ((v : Writer) × (session s j ≡ writer v) × GoesOn s Sent Touched v x) ⊎ Begins t m x
+    (x : Writer) → y ≡ writer x → ((v : Writer) × (session s j ≡ writer v) × GoesOn s Sent Touched v x) ⊎ ((session s j ≡ none) × Begins t m x)
 
 abbrev pub IsReading : Store → Store → ℕ → Session → Type 0
 IsReading s t j y = (r : Reader) → y ≡ reader r → ((q : Reader) × (session s j ≡ reader q) × (q.key ≡ r.key)) ⊎ IsFinished t.snapshots r.key

@@ -9,7 +9,7 @@ use Rattle.store_files.specs.Archive.{Snapshot}
 use Rattle.wire_commands.specs.declared.command.Command.TheVariants.{Append}
 use Rattle.wire_commands.specs.declared.reply.Reply.{Reply}
 use Rattle.wire_commands.specs.declared.reply.Reply.TheVariants.{Done}
-use Rattle.store_model.specs.Store.{Writer, writer, session}
+use Rattle.store_model.specs.Store.{none, Writer, writer, session}
 use Rattle.atime_book.specs.Touches.{greatest, is_stale, last_in}
 use Rattle.store_history.specs.declared.act.Act.{Act}
 use Rattle.store_history.specs.declared.act.Act.TheVariants.{Plain, Chunk}
@@ -138,9 +138,9 @@ module _ (w w' : World) (s : Swept) (Sent Touched : List ℕ → Type 0) (Gone :
         ]
       ]
 
-      by_writer : (((v : Writer) × (session w.store p.0 ≡ writer v) × GoesOn w.store Sent Touched v p.1) ⊎ Begins w'.store w'.moment p.1) → Sent d ⊎ IsNeeded w.store d
+      by_writer : (((v : Writer) × (session w.store p.0 ≡ writer v) × GoesOn w.store Sent Touched v p.1) ⊎ ((session w.store p.0 ≡ none) × Begins w'.store w'.moment p.1)) → Sent d ⊎ IsNeeded w.store d
       by_writer (inl v) = by_old v.0 v.1 v.2
-      by_writer (inr new) = absurd (subst (λ ps. In d (map sha256 ps)) new.pool p.3)
+      by_writer (inr new) = absurd (subst (λ ps. In d (map sha256 ps)) (new.1).pool p.3)
 
   -- what is needed was so before, or was sent
   pub was_needed : (d : List ℕ) → IsNeeded w'.store d → Sent d ⊎ IsNeeded w.store d

@@ -1,11 +1,12 @@
 -- What holds of sweeps in every legal history.
-use Rattle.std.specs.Prelude.{◌≡◌, ◌≢◌, ◌≤◌, ◌⊎◌, ◌↔◌, ℕ, true, List, [], ◌∷◌, ◌++◌, length, Option, Some, None, IsSome, IsSomeAnd, option_to_list}
+use Rattle.std.specs.Prelude.{◌≡◌, ◌≢◌, ◌≤◌, ◌⊎◌, ◌↔◌, ℕ, true, List, [], ◌∷◌, ◌++◌, length, Option, Some, None, IfSome, IsSome, IsSomeAnd, option_to_list}
 use Rattle.std.specs.List.{AllPairs, Contains, flat_map}
 use Rattle.store_types.specs.Names.{name_lt}
 use Rattle.store_files.specs.Archive.{Snapshot}
 use Rattle.wire_commands.specs.declared.reply.Reply.{Reply}
 use Rattle.store_types.specs.declared.refusal.Refusal.TheVariants.{NoMemory}
 use Rattle.wire_commands.specs.declared.reply.Reply.TheVariants.{Done, Refused}
+use Rattle.store_model.specs.Store.{Session, Writer, writer, session}
 use Rattle.atime_book.specs.Touches.{cutoff_of}
 use Rattle.store_history.specs.declared.act.Act.{Act}
 use Rattle.store_history.specs.declared.act.Act.TheVariants.{Chunk, Start, Step}
@@ -14,7 +15,7 @@ use Rattle.store_history.specs.History.{World, Opening, opened, after, lane, mom
 use Rattle.store_history.specs.Legal.{IsLegal}
 use Rattle.store_history.specs.LastTouches.{LastTouches, touches_at_opening}
 use Rattle.store_history.specs.Sweeping.{Sweep, Swept, swept_at, chunks, oldest_in, is_over, taken_by, touched_after, swept_after, swept_all, world, swept, used_among, pending_among, report_of, IsSwept}
-use Rattle.store_upkeep.specs.Safety.{In, IsNeeded, IsSafe, IsThere, IsStocked, OpensStocked}
+use Rattle.store_upkeep.specs.Safety.{In, MayAppend, IsNeeded, IsSafe, IsThere, IsStocked, OpensStocked}
 
 -- ---- nothing that is needed is lost
 
@@ -46,6 +47,36 @@ abbrev pub OnlyVisitsTake : Type 0
 OnlyVisitsTake =
     (remote : Option (List Snapshot)) (w : World) (s : Swept) (e : Event) (d : List ℕ) → IsThere s.touches d
     → (IsThere (swept_after remote w s e).touches d → ⊥) → (taken_by s e ≡ Some d) × (e.act ≡ Step) × (kind e ≡ 1)
+
+-- ---- what was sent
+
+abbrev pub sent_in : Act → Option Reply → List (List ℕ)
+sent_in (Chunk digest checked) (Some Done) = digest.0 ∷ []
+sent_in act r = []
+
+-- Since a CHUNK that was done its chunk was last touched at that moment or later, whenever it is there.
+abbrev pub SentStays : Type 0
+SentStays =
+    (remote : Option (List Snapshot)) (o : Opening) (es : List Event) (e : Event) (since : List Event) (d : List ℕ)
+    → IsLegal remote (opened o) (es ++ e ∷ since) → In d (sent_in e.act (reply e))
+    → IfSome ((swept remote o (es ++ e ∷ since)).touches.last d) (λ when. moment e ≤ when)
+
+-- the lane's writer runs in this world, and behind each of the events
+abbrev pub IsWriting : Session → Type 0
+IsWriting (writer x) = Unit {0}
+IsWriting _ = ⊥
+
+abbrev pub RunsOn : Option (List Snapshot) → World → ℕ → List Event → Type 0
+RunsOn remote w k [] = IsWriting (session w.store k)
+RunsOn remote w k (e ∷ es) = IsWriting (session w.store k) × RunsOn remote (after remote w e) k es
+
+-- And while the writer that sent it runs, it is there, and that writer may append it.
+abbrev pub SentIsThere : Type 0
+SentIsThere =
+    (remote : Option (List Snapshot)) (o : Opening) (es : List Event) (e : Event) (since : List Event) (d : List ℕ)
+    → IsLegal remote (opened o) (es ++ e ∷ since) → OpensStocked o → In d (sent_in e.act (reply e)) → RunsOn remote (after remote (world remote o es) e) (lane e) since
+    → IsSomeAnd ((swept remote o (es ++ e ∷ since)).touches.last d) (λ when. moment e ≤ when)
+    × (x : Writer) × (session (world remote o (es ++ e ∷ since)).store (lane e) ≡ writer x) × MayAppend x d
 
 -- ---- a whole sweep
 
@@ -89,10 +120,6 @@ WholeSweepsLeaveRight =
     → LeavesRight remote (world remote o before) (swept remote o before) start since sweep
 
 -- ---- which chunks have a last touch
-
-abbrev pub sent_in : Act → Option Reply → List (List ℕ)
-sent_in (Chunk digest checked) (Some Done) = digest.0 ∷ []
-sent_in act r = []
 
 -- the digests that a CHUNK sent
 abbrev pub digests_sent : List Event → List (List ℕ)

@@ -65,7 +65,7 @@ IsFresh touches cutoff d = is_stale (touches.last d) cutoff ≡ false
 abbrev pub IsUnmarked : List Unmarked → SnapshotKey → List ℕ → Type 0
 IsUnmarked unmarked key d = (u : Unmarked) × In u unmarked × (u.key ≡ key) × In d u.digests
 
--- What a running writer appended it may append, and was touched since it began. What it may append was so too, or is of its base.
+-- What a running writer appended it may append, and is not there, or was touched since it began. So is what it may append, or it is of its base.
 pub record IsTouched (s : Store) (touches : LastTouches) (x : Writer) : Type 0 where
   pub pooled : (d : List ℕ) → HasAppended x d → MayAppend x d
   pub appended : (d : List ℕ) → HasAppended x d → IsFresh touches x.start d
@@ -78,9 +78,9 @@ pub record IsSafe (w : World) (s : Swept) : Type 0 where
   pub cut : (sweep : Sweep) → s.sweep ≡ Some sweep → sweep.cutoff ≤ w.moment
   -- no running writer began before the cutoff
   pub later : (sweep : Sweep) → s.sweep ≡ Some sweep → (lane : ℕ) (x : Writer) → session w.store lane ≡ writer x → sweep.cutoff ≤ x.start
-  -- what running writers sent was touched since they began
+  -- what running writers appended is not there, or was touched since they began
   pub touched : (lane : ℕ) (x : Writer) → session w.store lane ≡ writer x → IsTouched w.store s.touches x
-  -- what finished snapshots have was touched at the cutoff or later, or is still to be marked
+  -- what finished snapshots have is not there, or was touched at the cutoff or later, or is still to be marked
   pub marked : (sweep : Sweep) → s.sweep ≡ Some sweep → (x : Snapshot) → In x (w.store).snapshots → (d : List ℕ) → Has x.files d
       → IsFresh s.touches sweep.cutoff d ⊎ IsUnmarked sweep.unmarked x.key d
   -- each writer's base and each reader's snapshot is finished

@@ -1,10 +1,10 @@
 //! What holds of the sweeps of every history.
 
-ghost use Rattle.store_upkeep.specs.Laws.{CountsAreOne, EndsAreReported, HistoriesAreSafe, LastTouchesStay, ListsChunks, NeededIsThere, OnlyVisitsTake, ReportsAreRight, TakenIsNotNeeded, ThereOrSent, VisitsComeLast, WholeSweepsLeaveRight};
+ghost use Rattle.store_upkeep.specs.Laws.{CountsAreOne, EndsAreReported, HistoriesAreSafe, LastTouchesStay, ListsChunks, NeededIsThere, OnlyVisitsTake, ReportsAreRight, SentIsThere, SentStays, TakenIsNotNeeded, ThereOrSent, VisitsComeLast, WholeSweepsLeaveRight};
 
-/// In a legal history, at each place: no running writer began before the cutoff of an open sweep; what it sent was
-/// touched since it began; what finished snapshots have was touched at the cutoff or later, or is still to be marked;
-/// and each base, and each reader's snapshot, is finished.
+/// In a legal history, at each place: no running writer began before the cutoff of an open sweep; what it appended is not
+/// there, or was touched since it began; what finished snapshots have was touched at the cutoff or later, or is still to be
+/// marked; and each base, and each reader's snapshot, is finished.
 pub fn histories_are_safe()
     ensures { HistoriesAreSafe }
 {}
@@ -18,6 +18,13 @@ pub fn taken_chunks_are_not_needed()
 /// at opening were.
 pub fn needed_chunks_are_there()
     ensures { NeededIsThere }
+{}
+
+/// A chunk that a CHUNK sent was last touched at its moment or later, whenever it is there; and it is there while the writer
+/// that sent it runs, which may append it.
+pub fn sent_chunks_stay()
+    ensures touched { SentStays }
+    ensures there { SentIsThere }
 {}
 
 /// No chunk is visited before all is marked.

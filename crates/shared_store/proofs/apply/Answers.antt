@@ -143,7 +143,7 @@ pub remote_act-requires-clause-kind : goal.remote_act-requires-clause-kind
 remote_act-requires-clause-kind g c = are_remotes c.args.act c.requires.formed (sym c.is_remotes.ensures ∙ c.if-is_remotes.true)
 
 pub returns-then-is_remotes-clause-alone : goal.returns-then-is_remotes-clause-alone
-returns-then-is_remotes-clause-alone g c = λ alone. remotes_only c.args.act alone (sym c.is_remotes.ensures ∙ c.if-is_remotes.true)
+returns-then-is_remotes-clause-alone g c = c.remote_act.ensures.alone
 
 pub returns-then-is_remotes-clause-by_remote : goal.returns-then-is_remotes-clause-by_remote
 returns-then-is_remotes-clause-by_remote g c = λ remotes. c.remote_act.ensures.by_remote

@@ -10,13 +10,14 @@ pub loop-alloc-smaller : goal.loop-alloc-smaller
 loop-alloc-smaller g c =
     let is : c.settle_next.result ≡ Ok false = search rules in
     let some : IsSome (next_mark c.loop-alloc.collector.plan) = search rules in
-    c.settle_next.ensures.next.passes is some
+    (c.settle_next.ensures.next.passes is some).0.less
 
 pub loop-alloc-preserved : goal.loop-alloc-preserved
 loop-alloc-preserved g c =
     let is : c.settle_next.result ≡ Ok false = search rules in
+    let some : IsSome (next_mark c.loop-alloc.collector.plan) = search rules in
     search_passed g.D.Disk c.args.parts.now c.loop-alloc.parts c.settle_next.new.parts c.args.collector.now c.loop-alloc.collector c.settle_next.new.collector c.loop-alloc.invariant c.settle_next.result
-    c.settle_next.ensures.reads c.settle_next.ensures.kept c.settle_next.ensures.next is
+    c.settle_next.ensures.reads c.settle_next.ensures.kept c.settle_next.ensures.next is some
 
 pub returns-then-branch-clause-reads : goal.returns-then-branch-clause-reads
 returns-then-branch-clause-reads g c =

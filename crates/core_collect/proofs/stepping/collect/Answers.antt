@@ -71,9 +71,10 @@ returns-in-Err-Unreadable g c =
     let mid = c.find_next.new.parts in
     let is : c.find_next.result ≡ Err (unread.Unreadable c.in-Err-Unreadable.path) = c.in-Err-Unreadable.is ∙ ap (λ (u : Unread). Err u) c.in-Err-Unreadable.field-0-is in
     let ended = ap (λ (q : FilePath). Some (earlies.Unreadable q)) c.in-Err-Unreadable.path-is in
+    let going = sym c.is_over.ensures ∙ c.if-is_over.false in
     unread_does g.D.Disk old mid c.args.upkeep.now c.args.collector.now c.find_next.new.collector c.args.at _ c.in-Err-Unreadable.path
     (subst (λ (r : Result Bool Unread). OnlyReads g.D.Disk old.disk mid.disk (IsErrOf r unread.DiskFailed)) is c.find_next.ensures.reads) c.find_next.ensures.kept
-    (subst (FindsNext g.D.Disk old c.args.collector.now c.find_next.new.collector) is c.find_next.ensures.next) refl refl ended c.requires
+    (subst (FindsNext g.D.Disk old c.args.collector.now c.find_next.new.collector) is c.find_next.ensures.next) refl refl ended going c.requires
 
 pub returns-in-Err-NoMemory : goal.returns-in-Err-NoMemory
 returns-in-Err-NoMemory g c =

@@ -23,7 +23,7 @@ loop-lane-preserved g c =
     let pushed = c.push_reserved.ensures.len in
     let holds = c.push_reserved.ensures.capacity in
     let more = played_more g.D.Disk g.E.Disk g.C.Clock c.args.core.now c.loop-lane.core c.apply.new.core c.loop-lane.yielded c.loop-lane.answers.items lane act c.apply.result lt
-    c.apply.ensures.applies c.apply.ensures.keeps was.played in
+    c.apply.ensures.applies c.apply.ensures.alone c.apply.ensures.keeps was.played in
     record {
       can_next = tt;
       finite = tt;

@@ -1,4 +1,4 @@
-use Rattle.core_remote.proofs.Told.{done_applies, done_gives, done_keeps, done_tells, refused_applies, refused_gives, refused_keeps, refused_tells}
+use Rattle.core_remote.proofs.Told.{done_alone, done_applies, done_gives, done_keeps, done_tells, refused_alone, refused_applies, refused_gives, refused_keeps, refused_tells}
 use Rattle.core_remote.proofs.act.remote_act.Goals as goal
 
 -- ---- refused before it is begun
@@ -6,6 +6,10 @@ use Rattle.core_remote.proofs.act.remote_act.Goals as goal
 pub returns-in-Answered-clause-applies : goal.returns-in-Answered-clause-applies
 returns-in-Answered-clause-applies g c =
     refused_applies g.D.Disk g.E.Disk g.C.Clock c.args.core.now c.begin.new.core c.args.lane c.args.act c.in-Answered.answer c.requires.kind c.in-Answered.ensures.begun c.requires.lane c.requires.formed c.in-Answered.ensures.text
+
+pub returns-in-Answered-clause-alone : goal.returns-in-Answered-clause-alone
+returns-in-Answered-clause-alone g c = λ _.
+    refused_alone g.D.Disk g.E.Disk g.C.Clock c.args.core.now c.begin.new.core c.args.lane c.args.act c.in-Answered.answer c.requires.kind c.in-Answered.ensures.begun c.requires.lane c.requires.formed c.in-Answered.ensures.text
 
 pub returns-in-Answered-clause-keeps : goal.returns-in-Answered-clause-keeps
 returns-in-Answered-clause-keeps g c =
@@ -25,6 +29,14 @@ pub returns-in-At-clause-applies : goal.returns-in-At-clause-applies
 returns-in-At-clause-applies g c =
     let e = c.settle_read.ensures in
     done_applies g.D.Disk g.E.Disk g.C.Clock c.args.core.now c.settle_read.new.core c.args.lane c.args.act c.settle_read.result c.requires.kind c.begin.new.core c.in-At.at c.requires.lane c.requires.formed
+    c.in-At.ensures.begun c.in-At.ensures.filled c.reach-ended.new.remote c.reach-ended.result c.reach-ended.ensures.tells c.reach-ended.ensures.stays c.reach-ended.ensures.failed c.reach-ended.ensures.unread c.reach-ended.ensures.tested c.reach-ended.ensures.gives
+    c.reach-ended.ensures.kind c.reach-ended.ensures.text
+    (record { parts = e.parts; remote = e.remote; clock = e.clock; fault = e.fault; last = e.last; upkeep = e.upkeep; collector = e.collector; entries = e.entries; calls = e.calls; entry = e.entry; reply_is = e.reply_is; place = e.place; is_held = e.is_held; room = e.room; last_held = e.last_held })
+
+pub returns-in-At-clause-alone : goal.returns-in-At-clause-alone
+returns-in-At-clause-alone g c =
+    let e = c.settle_read.ensures in
+    done_alone g.D.Disk g.E.Disk g.C.Clock c.args.core.now c.settle_read.new.core c.args.lane c.args.act c.settle_read.result c.requires.kind c.begin.new.core c.in-At.at c.requires.lane c.requires.formed
     c.in-At.ensures.begun c.in-At.ensures.filled c.reach-ended.new.remote c.reach-ended.result c.reach-ended.ensures.tells c.reach-ended.ensures.stays c.reach-ended.ensures.failed c.reach-ended.ensures.unread c.reach-ended.ensures.tested c.reach-ended.ensures.gives
     c.reach-ended.ensures.kind c.reach-ended.ensures.text
     (record { parts = e.parts; remote = e.remote; clock = e.clock; fault = e.fault; last = e.last; upkeep = e.upkeep; collector = e.collector; entries = e.entries; calls = e.calls; entry = e.entry; reply_is = e.reply_is; place = e.place; is_held = e.is_held; room = e.room; last_held = e.last_held })

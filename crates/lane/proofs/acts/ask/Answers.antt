@@ -17,7 +17,7 @@ returns-clause-did g c = let has = caused g.D.Disk c.args.act c.args.core.now c.
   kind_is = want_kind c.args.act c.apply-reply.result (record { reply = c.in-Some.reply; last = (c.apply-reply.result).last }) c.apply-reply.ensures.short ((c.apply-reply.ensures.applies).answers).last refl;
   gave = gave_by g.D.Disk c.args.core.now c.apply-reply.new.core c.args.act c.apply-reply.result c.in-Some.reply has c.in-Some.is;
   other = other_by g.D.Disk c.args.core.now c.apply-reply.new.core c.args.act c.apply-reply.result c.in-Some.reply has c.in-Some.is;
-  history = reaches_more g.D.Disk g.E.Disk g.C.Clock first began _ _ _ _ _ c.requires.lane c.apply-reply.ensures.applies c.apply-reply.ensures.keeps;
+  history = reaches_more g.D.Disk g.E.Disk g.C.Clock first began _ _ _ _ _ c.requires.lane c.apply-reply.ensures.applies c.apply-reply.ensures.alone c.apply-reply.ensures.keeps;
 }
 
 pub returns-clause-tells : goal.returns-clause-tells

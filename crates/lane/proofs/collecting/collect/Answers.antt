@@ -23,7 +23,7 @@ returns-in-Some-clause-does g c = λ first began. does_told _ _ c.args.lane (rec
   kind_is = start_want (record { reply = c.in-Some.reply; last = (c.apply-reply.result).last }) _ ((c.apply-reply.ensures.applies).answers).last;
   gave = start_gave g.D.Disk c.args.core.now c.apply-reply.new.core c.apply-reply.result c.in-Some.reply (c.apply-reply.ensures.applies).cause c.in-Some.is;
   other = start_other g.D.Disk c.args.core.now c.apply-reply.new.core c.apply-reply.result c.in-Some.reply (c.apply-reply.ensures.applies).cause c.in-Some.is;
-  history = reaches_more g.D.Disk g.E.Disk g.C.Clock first began _ _ _ _ _ c.requires.lane c.apply-reply.ensures.applies c.apply-reply.ensures.keeps;
+  history = reaches_more g.D.Disk g.E.Disk g.C.Clock first began _ _ _ _ _ c.requires.lane c.apply-reply.ensures.applies c.apply-reply.ensures.alone c.apply-reply.ensures.keeps;
 })
 
 pub returns-in-Some-clause-remote : goal.returns-in-Some-clause-remote
@@ -50,7 +50,7 @@ returns-in-None-clause-does g c = let three = start_kind c.apply-reply.result (c
       none = c.in-None.is;
       kind_is = three;
       last = start_last c.apply-reply.result ((c.apply-reply.ensures.applies).answers).last three;
-      history = reaches_more g.D.Disk g.E.Disk g.C.Clock first began _ _ _ _ _ c.requires.lane c.apply-reply.ensures.applies c.apply-reply.ensures.keeps;
+      history = reaches_more g.D.Disk g.E.Disk g.C.Clock first began _ _ _ _ _ c.requires.lane c.apply-reply.ensures.applies c.apply-reply.ensures.alone c.apply-reply.ensures.keeps;
     }) (c.sweep.ensures.swept first began)
 
 pub returns-in-None-clause-room : goal.returns-in-None-clause-room

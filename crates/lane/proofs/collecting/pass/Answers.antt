@@ -18,7 +18,7 @@ returns-then-entry-eq-MEMORY_KIND-clause-passed g c = let v = event_of acts.Step
       lane_is = ((c.apply-reply.ensures.applies).answers).lane_is;
       tells = want_told v (c.apply-reply.ensures.applies).told c.if-entry-eq-MEMORY_KIND.true;
       last = refl;
-      history = reaches_more g.D.Disk g.E.Disk g.C.Clock first began _ _ _ _ _ c.requires.lane c.apply-reply.ensures.applies c.apply-reply.ensures.keeps;
+      history = reaches_more g.D.Disk g.E.Disk g.C.Clock first began _ _ _ _ _ c.requires.lane c.apply-reply.ensures.applies c.apply-reply.ensures.alone c.apply-reply.ensures.keeps;
     }
 
 pub returns-then-entry-eq-MEMORY_KIND-clause-room : goal.returns-then-entry-eq-MEMORY_KIND-clause-room
@@ -43,7 +43,7 @@ returns-clause-passed g c = let v = event_of acts.Step c.apply-reply.result (g.D
       lane_is = ((c.apply-reply.ensures.applies).answers).lane_is;
       tells = end_told v c.if-entry-eq-MEMORY_KIND.false;
       last = refl;
-      history = reaches_more g.D.Disk g.E.Disk g.C.Clock first began _ _ _ _ _ c.requires.lane c.apply-reply.ensures.applies c.apply-reply.ensures.keeps;
+      history = reaches_more g.D.Disk g.E.Disk g.C.Clock first began _ _ _ _ _ c.requires.lane c.apply-reply.ensures.applies c.apply-reply.ensures.alone c.apply-reply.ensures.keeps;
     }
 
 pub returns-then-entry-eq-MEMORY_KIND-clause-remote : goal.returns-then-entry-eq-MEMORY_KIND-clause-remote

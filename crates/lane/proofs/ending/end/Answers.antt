@@ -12,8 +12,8 @@ returns-then-answer-eq5-clause-ends g c = let d = g.D.Disk in
     λ first began.
     ends_again (Reaches d g.E.Disk clock.readings first began c.args.core.now) (Reaches d g.E.Disk clock.readings first began c.apply-answer.new.core)
     (Reaches d g.E.Disk clock.readings first began c.apply.new.core) c.args.lane c.apply-answer.result c.apply.result _ _
-    (reaches_more d g.E.Disk clock first began _ _ _ _ _ c.requires.lane c.apply-answer.ensures.applies c.apply-answer.ensures.keeps)
-    (reaches_more d g.E.Disk clock first began _ _ _ _ _ c.requires.lane c.apply.ensures.applies c.apply.ensures.keeps) (λ h x. (x.records).kept)
+    (reaches_more d g.E.Disk clock first began _ _ _ _ _ c.requires.lane c.apply-answer.ensures.applies c.apply-answer.ensures.alone c.apply-answer.ensures.keeps)
+    (reaches_more d g.E.Disk clock first began _ _ _ _ _ c.requires.lane c.apply.ensures.applies c.apply.ensures.alone c.apply.ensures.keeps) (λ h x. (x.records).kept)
     ((c.apply-answer.ensures.applies).answers).lane_is ((c.apply.ensures.applies).answers).lane_is c.if-answer-eq5.true (c.apply.ensures.applies).told
 
 pub apply-answer-requires-clause-room : goal.apply-answer-requires-clause-room
@@ -27,7 +27,7 @@ returns-clause-ends g c = let d = g.D.Disk in
     λ first began.
     ends_here (Reaches d g.E.Disk g.C.Clock.readings first began c.args.core.now) (Reaches d g.E.Disk g.C.Clock.readings first began c.apply-answer.new.core)
     c.args.lane c.apply-answer.result (d.calls c.apply-answer.new.core.parts.disk)
-    (reaches_more d g.E.Disk g.C.Clock first began _ _ _ _ _ c.requires.lane c.apply-answer.ensures.applies c.apply-answer.ensures.keeps)
+    (reaches_more d g.E.Disk g.C.Clock first began _ _ _ _ _ c.requires.lane c.apply-answer.ensures.applies c.apply-answer.ensures.alone c.apply-answer.ensures.keeps)
     ((c.apply-answer.ensures.applies).answers).lane_is c.if-answer-eq5.false (c.apply-answer.ensures.applies).told
 
 pub returns-then-answer-eq5-clause-remote : goal.returns-then-answer-eq5-clause-remote

@@ -67,6 +67,7 @@ returns-in-Ok-open_on-clause-leaves g c = let d = g.D.Disk in let e = g.E.Disk i
       faults = let a = (opened.serves).count in let b = ap d.faults back.disk in let n = (ends.serves).count in omega (arith, a, b, n, entered.count);
       stays = subst (λ o. RemoteStays e c.args.remote o) (sym (back.remote ∙ ap (λ x. x.remote) ends.rest))
           (subst (λ o. RemoteStays e o core.remote) (opened.handed).0 (c.run_alone-report.ensures.remote).stays);
+      unread = λ none. back.remote ∙ ap (λ x. x.remote) ends.rest ∙ both.unread none;
       not_opened = back.not_opened;
     })
 
