@@ -1,8 +1,8 @@
 """A conversation with the store: `./pbstore` on a folder, with a session that is sent command by command.
 
-The session goes through a named pipe, and the replies are read from the file beside it as they come.
+The session and the replies go through two named pipes, so that neither takes room on the disk.
 """
-import os, shutil, struct, subprocess, tempfile, time
+import errno, os, shutil, struct, subprocess, tempfile, time
 
 from session import REFUSALS, bye, frame
 
@@ -16,6 +16,8 @@ STATUSES = {
     6: "out of memory",
     9: "the session is too long",
     10: "a read of the remote failed",
+    70: "the program could not be built",
+    130: "it was interrupted",
 }
 STATES = {0: "no session", 1: "a writer", 2: "a reader"}
 WORDS = {
@@ -71,21 +73,29 @@ class Refused(Exception):
 
 
 class Ended(Exception):
-    """The store ended before it was to."""
+    """The store ended before it was to, with this status; one below 0 tells the signal."""
+
+    def __init__(self, status):
+        other = f"it was ended by the signal {-status}" if status < 0 else f"it ended with status {status}"
+        super().__init__(STATUSES.get(status, other))
 
 
 class Talk:
     """`with Talk(root) as store: store.ask(command)` gives the reply's fields, or raises Refused. SYNC pulls from `remote`."""
 
     def __init__(self, root, remote=None):
+        self.root, self.run, self.pipe, self.replies = root, None, None, None
         self.work = tempfile.mkdtemp(prefix="session-")
         session = os.path.join(self.work, "session")
-        os.mkfifo(session)
         beside = ["--remote", remote] if remote else []
-        self.run = subprocess.Popen([os.path.join(TOP, "pbstore"), "run", root, *beside, session], stderr=None)
         try:
+            os.mkfifo(session)
+            os.mkfifo(session + ".out")
+            # (each end of a pipe waits for the other: the store opens that of the replies first)
+            self.replies = open(os.open(session + ".out", os.O_RDONLY | os.O_NONBLOCK), "rb", buffering=0)
+            self.run = subprocess.Popen([os.path.join(TOP, "pbstore"), "run", root, *beside, session])
             self.pipe = open(self.opened(session), "wb", buffering=0)
-            self.replies = open(self.waited_for(session + ".out"), "rb")
+            os.set_blocking(self.replies.fileno(), True)
         except BaseException:
             self.close()
             raise
@@ -100,38 +110,28 @@ class Talk:
         finally:
             self.close()
 
-    def wait(self):
-        """A moment more, while the store runs."""
-        status = self.run.poll()
-        if status is not None:
-            raise Ended(STATUSES.get(status, f"it ended with status {status}"))
-        time.sleep(0.0005)
-
     def opened(self, session):
-        """The pipe, once the store reads it."""
-        while True:
+        """The session's pipe, once the store reads it."""
+        while self.run.poll() is None:
             try:
                 pipe = os.open(session, os.O_WRONLY | os.O_NONBLOCK)
                 os.set_blocking(pipe, True)
                 return pipe
-            except OSError:
-                self.wait()
-
-    def waited_for(self, path):
-        while not os.path.exists(path):
-            self.wait()
-        return path
+            except OSError as error:
+                if error.errno != errno.ENXIO:
+                    raise
+                time.sleep(0.001)
+        raise Ended(self.run.returncode)
 
     def read(self, size):
         """So many bytes of the replies, once they are there."""
-        parts, left = [], size
-        while left:
-            some = self.replies.read(left)
-            parts.append(some)
-            left -= len(some)
-            if left and not some:
-                self.wait()
-        return b"".join(parts)
+        found = bytearray()
+        while len(found) < size:
+            some = self.replies.read(size - len(found))
+            if not some:
+                raise Ended(self.run.wait())
+            found += some
+        return bytes(found)
 
     def send(self, data):
         try:
@@ -139,8 +139,7 @@ class Talk:
             while view:
                 view = view[self.pipe.write(view) :]
         except BrokenPipeError:
-            self.run.wait()
-            self.wait()
+            raise Ended(self.run.wait()) from None
 
     def ask(self, command):
         self.send(frame(command))
@@ -153,15 +152,15 @@ class Talk:
         self.ask(bye())
         self.pipe.close()
         if status := self.run.wait():
-            raise Ended(STATUSES.get(status, f"it ended with status {status}"))
+            raise Ended(status)
 
     def close(self):
-        for it in ("pipe", "replies"):
-            if hasattr(self, it):
-                getattr(self, it).close()
-        if self.run.poll() is None:
+        for it in (self.pipe, self.replies):
+            if it:
+                it.close()
+        if self.run and self.run.poll() is None:
             try:
-                self.run.wait(timeout=5)
+                self.run.wait(timeout=5 if self.pipe else 0)
             except subprocess.TimeoutExpired:
                 self.run.terminate()
         shutil.rmtree(self.work, ignore_errors=True)
