@@ -4,6 +4,8 @@ from tables.common import *
 
 # Pieces of the first snapshot's archive.
 OF_TWO, OF_MANY = [b"de", b"abc"], 1000 * [b"de"] + [b"abc"]
+# And of a fixed archive and a third one beside it.
+FIXED, THIRD = [X, b"de"], 2000 * [X] + [b"abc"]
 
 
 def root(*pieces):
@@ -106,6 +108,21 @@ TABLES = {
         "OF_ONE": [blob(manifest(A, root(b"abc")))],
         "OF_TWO": [blob(manifest(A, root(*OF_TWO)))],
         "OF_MANY": [blob(manifest(A, root(*OF_MANY)))],
+        "OF_THREE": [
+            blob(
+                manifest(
+                    A,
+                    listed("a.fidx", 4098, fixed_csum(FIXED)),
+                    listed("b.didx", 0, dynamic_csum([])),
+                    listed("c.didx", sum(map(len, THIRD)), dynamic_csum(THIRD)),
+                )
+            )
+        ],
+        "THREE_INDEXES": [report(1000000, 913300, 2, 0, 0)],
+        "THIRD_UNDECODED": [frame(unreadable("host/a/2020-01-15T06:30:03Z/c.didx"))],
+        "ABSENT": [sha256(X)],
+        "FIXED_FRONT": [fixed_index(A, "a.fidx", 1579069803, FIXED)[:80]],
+        "FIXED_DIGESTS": [fixed_index(A, "a.fidx", 1579069803, FIXED)[4096:]],
         "FORGOTTEN_BETWEEN": [report(1000000, 913300, 2, 0, 0), report(1100000, 1013300, 0, 0, 2)],
         "IN_TWO_MARKS": [report(1000000, 913300, 2, 0, 0)],
         "FORGOTTEN_HALF_MARKED": [report(1000000, 913300, 1, 0, 1)],
@@ -150,6 +167,9 @@ TABLES = {
         "TWO_ENTRIES": [frame(bad_range(2))],
         "NO_INDEX": [frame(unreadable(f"{A}/root.didx"))],
         "PARTS": [frame(bad_range(4176)), frame(part(blob(b"abc"), 12))],
+        "ANOTHER_LENGTH": [frame(damaged(sha256(b"abc"), 2, sha256(b"abc")))],
+        "LONGER": [frame(rest(b"de"))],
+        "SHORTER": [frame(rest(b"de"))],
     },
     "core_tests/src/dispatch.rt": {
         "ONE_KEY": [frame(keys(A))],

@@ -72,6 +72,11 @@ TABLES = {
     "plain_tests/src/verifies.rt": {
         "DIGEST": [sha256(b"x")],
         "BLOB": [blob(b"x")],
+        "ZEROS_DIGEST": [sha256(bytes(4 << 20))],
+        "ZEROS_HEADER": [blob(bytes(4 << 20))[:12]],
+        "NAME": [text("root.didx")],
+        "TOO_LONG": [text("root.fidx"), text("a.blob"), text("a.blob"), text(MANIFEST)],
+        "LONGEST": [text("root.fidx"), text("a.blob"), text(MANIFEST)],
         "GONE": [
             file_rows(("a.conf.blob", 21, sha256(blob(b"123456789"))), (MANIFEST, 86, sha256(blob(manifest(A))))),
             unreadable(f"{A}/a.conf.blob"),

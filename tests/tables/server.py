@@ -20,9 +20,35 @@ def both_listed(snapshot=A, conf=blob(b"123456789"), size=5, csum=dynamic_csum([
     return blob(manifest(snapshot, listed_blob("a.conf.blob", conf), listed("root.didx", size, csum)))
 
 
-def ended_at(*ends):
-    """The entries of an index of `abc` and `de` that end there."""
-    return entries_of(list(zip(ends, (sha256(b"abc"), sha256(b"de")))))
+# Indexes of other lengths than their chunks have, by the name: a dynamic one's entries, and a fixed one's size of `abc`.
+OTHER_LENGTHS = [
+    ("root.didx", [(4, b"abc"), (6, b"de")]),
+    ("root.didx", [(3, b"abc"), (6, b"de")]),
+    ("root.didx", [(2, b"abc"), (4, b"de")]),
+    ("root.didx", [(3, b"abc"), (7, b"abc")]),
+    ("root.fidx", 4),
+    ("root.fidx", 2),
+]
+
+
+def of_other_lengths(name, said):
+    """Such an index up to its reserved bytes, its entries, and the manifest's file of a snapshot with a blob and it."""
+    if name == "root.fidx":
+        size, csum, entries = said, fixed_csum([b"abc"]), sha256(b"abc")
+        header = fixed_header(uuid_of(A, name), NOW, csum, size, 4096)
+    else:
+        size, entries = said[-1][0], entries_of([(end, sha256(piece)) for end, piece in said])
+        csum = sha256(entries)
+        header = dynamic_header(uuid_of(A, name), NOW, csum)
+    whole = manifest(A, listed_blob("a.conf.blob", blob(b"123456789")), listed(name, size, csum))
+    return header, entries, blob(whole)
+
+
+def length_faults(name, said):
+    """What a VERIFY tells of it: `abc` has another length, or `de`."""
+    count, size = (1, said) if name == "root.fidx" else (len(said), said[-1][0])
+    piece = b"de" if said == [(3, b"abc"), (6, b"de")] else b"abc"
+    return frame(verified(3, count, size, file_fault(name, 23, sha256(piece))))
 
 
 def verified_both(*faults):
@@ -276,6 +302,7 @@ TABLES = {
         "CHUNKS_REPLIES": [
             frames(wrong_state(0), base(), done(), done(), wrong_digest(sha256(b"abd")), wrong_size(0, 0), bad_blob(1)),
         ],
+        "SENT_TWICE": [frames(open_writer(A), chunk(b"abc"), chunk(b"abc"))],
         "OPEN_INDEX": [
             frames(
                 new_dynamic("root.didx"),
@@ -389,6 +416,7 @@ TABLES = {
         ],
         "STORED_FAULTS": [
             *4 * [frames(disk_fault(), halted(2), halted(2), halted(2), halted(2))],
+            frames(disk_fault(), halted(3), halted(3), halted(3)),
             *3 * [frames(disk_fault(), halted(5))],
             frame(disk_fault()),
         ],
@@ -1298,14 +1326,8 @@ TABLES = {
             frame(damaged(sha256(b"abc"), 2, sha256(b"de"))),
             frame(damaged(sha256(b"de"), 0)),
         ],
-        "LATE_ENDS": [
-            dynamic_header(uuid_of(A, "root.didx"), NOW, sha256(ended_at(4, 6))),
-            ended_at(4, 6),
-            frame(bad_offset(1, 3)),
-            dynamic_header(uuid_of(A, "root.didx"), NOW, sha256(ended_at(3, 6))),
-            ended_at(3, 6),
-            frame(bad_close(2, 5)),
-        ],
+        "ABC_MISMATCHED": [frame(damaged(sha256(b"abc"), 2, sha256(b"abc")))],
+        "DE_MISMATCHED": [frame(damaged(sha256(b"de"), 2, sha256(b"de")))],
         "BOTH_KEYS": [frame(keys(A, A_LATER))],
         "LATER_KEY": [frame(keys(A_LATER))],
         "DISK_FAULT": [frame(disk_fault())],
@@ -1321,6 +1343,7 @@ TABLES = {
         "CONF_DIFFERS": [verified_both(file_fault("a.conf.blob", 19))],
         "CONF_UNREADABLE": [verified_both(file_fault("a.conf.blob", 24))],
         "ROOT_DIFFERS": [verified_both(file_fault("root.didx", 19))],
+        "ROOT_UNREADABLE": [frame(verified(3, 0, 0, file_fault("root.didx", 24)))],
         "ABC_IS_DAMAGED": [verified_both(file_fault("root.didx", 23, sha256(b"abc")))],
         "DE_IS_DAMAGED": [verified_both(file_fault("root.didx", 23, sha256(b"de")))],
         "SHORTER": [blob(b"12345678")],
@@ -1336,7 +1359,6 @@ TABLES = {
         ],
         "ROOT_FAULTS": [
             verified_both(file_fault(MANIFEST, 19)),
-            frame(verified(3, 0, 0, file_fault("root.didx", 24))),
             both_listed(size=6),
             both_listed(csum=dynamic_csum([b"abc", b"xyz"])),
         ],
@@ -1348,6 +1370,7 @@ TABLES = {
                 file_fault("root.didx", 23, sha256(b"de")),
             ),
         ],
+        "OTHER_LENGTHS": [it for row in OTHER_LENGTHS for it in (*of_other_lengths(*row), length_faults(*row))],
         "FIRST_FIXED": [
             frame(verified(2, 2, 4097)),
             frame(verified(2, 2, 4097, file_fault("root.fidx", 23, sha256(b"y")))),
@@ -1404,6 +1427,13 @@ TABLES = {
             frame(previous("root.didx", 4136)),
             frame(part(dynamic_index(A, "root.didx", NOW, [b"abc", b"de"]), 4136)),
             frame(put_manifest(A_LATER, listed("root.didx", 5, dynamic_csum([b"abc", b"de"])))),
+            frame(rest(b"abcde")),
+        ],
+        "SENT_OVER": [
+            frame(previous("root.didx", 4136)),
+            frame(part(dynamic_index(A, "root.didx", NOW, [b"abc", b"de"]), 4136)),
+            frame(put_manifest(A_LATER, listed("root.didx", 5, dynamic_csum([b"abc", b"de"])))),
+            frame(rest(b"abcde")),
             frame(rest(b"abcde")),
         ],
     },

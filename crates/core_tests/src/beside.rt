@@ -5,8 +5,8 @@ use crate::asserts::same_at;
 use crate::books::{BOOK, Contents, Kept, NONE_OF_BOTH};
 use crate::calls::{DONE, FIRST_BASE, IN_NONE, NO_BASE};
 use crate::collecting::{
-    ALL_THREE, APPEND, BEFORE, BUSY, CLOSE, Collection, FROM_END, NEW, NO_MEMORY, NUMBER, OF_MANY,
-    OF_TWO, ONE_NEEDED, PUT, Spot, TAKE_OVER, try_collection,
+    ALL_THREE, APPEND, Archives, BEFORE, BUSY, CLOSE, Collection, FROM_END, NEW, NO_MEMORY, NUMBER,
+    OF_MANY, OF_TWO, ONE_NEEDED, PUT, Spot, TAKE_OVER, try_collection,
 };
 use crate::damage::{ABC_BLOB, ABC_CHUNK, AT_END, DE_BLOB, DE_CHUNK};
 use crate::fixtures::{FIRST, MANIFEST_PATH, SECOND};
@@ -687,7 +687,7 @@ fn try_spot(
     let (clock, then) = clock;
     let row = Collection {
         files: table.files,
-        entries: table.entries,
+        archives: Archives::Root(table.entries),
         clock,
         then,
         steps: &steps,

@@ -18,12 +18,21 @@ use std::process::Abort;
 use std::test::Fail;
 use store_types::{Digest32, Entry};
 
+/// The indexes of the first snapshot that are made.
+#[derive(Clone, Copy)]
+pub(crate) enum Archives {
+    /// `root.didx` of so many entries, where there are any.
+    Root(u32),
+    /// `a.fidx` of two pieces, the second of them `de`, `b.didx` of none, and `c.didx` of so many, where there are any.
+    Three(u32),
+}
+
 /// What stands in a folder, and what is done there.
 #[derive(Clone, Copy)]
 pub(crate) struct Collection<'a> {
-    /// The files, but for the index of the first snapshot, which has so many entries where there are any.
+    /// The files, but for the indexes of the first snapshot.
     pub(crate) files: Contents,
-    pub(crate) entries: u32,
+    pub(crate) archives: Archives,
     /// What the clock reads at the first acts, and then always.
     pub(crate) clock: &'static [u64],
     pub(crate) then: u64,
@@ -49,7 +58,7 @@ static BY_CUTOFF: Collection<'static> = Collection {
         (DE_CHUNK, DE_BLOB),
         (BOOK, AT_CUTOFF),
     ],
-    entries: 0,
+    archives: Archives::Root(0),
     clock: &[],
     then: 1_000_000,
     steps: &[
@@ -79,7 +88,7 @@ const RUNNING: &[u8] =
 /// A later writer moves no cutoff. A lane with a session opens no collector.
 static BESIDE_WRITERS: Collection<'static> = Collection {
     files: &[(ABC_CHUNK, ABC_BLOB), (DE_CHUNK, DE_BLOB), (BOOK, RUNNING)],
-    entries: 0,
+    archives: Archives::Root(0),
     clock: &[900_000, 990_000],
     then: 1_000_000,
     steps: &[
@@ -106,7 +115,7 @@ static BESIDE_WRITERS: Collection<'static> = Collection {
 /// No cutoff is before 0, and nothing goes then.
 static EARLY: Collection<'static> = Collection {
     files: &[(ABC_CHUNK, ABC_BLOB), (DE_CHUNK, DE_BLOB), (BOOK, SAVED)],
-    entries: 0,
+    archives: Archives::Root(0),
     clock: &[],
     then: 100,
     steps: &[
@@ -127,7 +136,7 @@ static EARLY: Collection<'static> = Collection {
 /// Without a book chunks stand as of the first act. Without chunks the first visit lists none.
 static WITHOUT_BOOK: Collection<'static> = Collection {
     files: BOTH,
-    entries: 0,
+    archives: Archives::Root(0),
     clock: &[],
     then: 1_000_000,
     steps: &[
@@ -147,7 +156,7 @@ static WITHOUT_BOOK: Collection<'static> = Collection {
 
 static WITHOUT_CHUNKS: Collection<'static> = Collection {
     files: NONE_OF_BOTH,
-    entries: 0,
+    archives: Archives::Root(0),
     clock: &[],
     then: 1_000_000,
     steps: &[
@@ -182,7 +191,7 @@ static FORGOTTEN_BETWEEN: Collection<'static> = Collection {
         (BOOK, SAVED),
         (MANIFEST_PATH, OF_TWO),
     ],
-    entries: 2,
+    archives: Archives::Root(2),
     clock: &[
         1_000_000, 1_000_000, 1_000_000, 1_000_000, 1_000_000, 1_000_000,
     ],
@@ -221,7 +230,7 @@ static IN_TWO_MARKS: Collection<'static> = Collection {
         (BOOK, SAVED),
         (MANIFEST_PATH, OF_MANY),
     ],
-    entries: 1_001,
+    archives: Archives::Root(1_001),
     clock: &[],
     then: 1_000_000,
     steps: &[
@@ -249,7 +258,7 @@ static FORGOTTEN_HALF_MARKED: Collection<'static> = Collection {
         (BOOK, SAVED),
         (MANIFEST_PATH, OF_MANY),
     ],
-    entries: 1_001,
+    archives: Archives::Root(1_001),
     clock: &[],
     then: 1_000_000,
     steps: &[
@@ -303,7 +312,7 @@ static TAKEN_OVER: Collection<'static> = Collection {
         (BOOK, BEFORE),
         (MANIFEST_PATH, OF_TWO),
     ],
-    entries: 2,
+    archives: Archives::Root(2),
     clock: &[],
     then: 1_000_000,
     steps: &[
@@ -340,7 +349,7 @@ pub(crate) fn taken_over() -> &'static Collection<'static> {
 /// no other lane's. A lane's end closes its collector.
 static CUT_SHORT: Collection<'static> = Collection {
     files: &[(ABC_CHUNK, ABC_BLOB), (DE_CHUNK, DE_BLOB), (BOOK, SAVED)],
-    entries: 0,
+    archives: Archives::Root(0),
     clock: &[],
     then: 1_000_000,
     steps: &[
@@ -368,7 +377,7 @@ static DAMAGED: Collection<'static> = Collection {
         (BOOK, SAVED),
         (MANIFEST_PATH, b"abc"),
     ],
-    entries: 0,
+    archives: Archives::Root(0),
     clock: &[],
     then: 1_000_000,
     steps: &[
@@ -392,7 +401,7 @@ static UNDECODED: Collection<'static> = Collection {
         (MANIFEST_PATH, OF_TWO),
         (ROOT_PATH, b"abc"),
     ],
-    entries: 0,
+    archives: Archives::Root(0),
     clock: &[],
     then: 1_000_000,
     steps: &[
@@ -412,6 +421,72 @@ static UNDECODED: Collection<'static> = Collection {
     saved: (10, Some(5), Some(4), 0),
 };
 
+/// Its manifest lists `a.fidx` of a chunk that is not there and `de`, `b.didx` of nothing, and `c.didx`, 2,000 times of a chunk that is not
+/// there and then of `abc`.
+const OF_THREE: &[u8] =
+    b"B\xab8\x07\xbe\x83p\xa1F\xc9|U{\"backup-id\":\"a\",\"backup-time\":1579069803,\"backup-type\":\"host\",\"files\":[{\"crypt-mode\":\"none\",\"csum\":\"158dc14dcc37cc5ced2faf6a70203d3bef51e9539c2bba779913df3fb22fb8d1\",\"filename\":\"a.fidx\",\"size\":4098},{\"crypt-mode\":\"none\",\"csum\":\"e3b0c44298fc1c149afbf4c8996fb92427ae41e4649b934ca495991b7852b855\",\"filename\":\"b.didx\",\"size\":0},{\"crypt-mode\":\"none\",\"csum\":\"b3c36c6bc929896d1f0c38eef424c1bcdea31c99abdd036adca4240e42e98b90\",\"filename\":\"c.didx\",\"size\":8192003}]}";
+
+/// The indexes of each snapshot are marked one after another, fixed ones too, and one without entries has no act of its own. Chunks that are
+/// not there take their places among the entries.
+static THREE_INDEXES: Collection<'static> = Collection {
+    files: &[
+        (ABC_CHUNK, ABC_BLOB),
+        (DE_CHUNK, DE_BLOB),
+        (BOOK, BEFORE),
+        (MANIFEST_PATH, OF_THREE),
+    ],
+    archives: Archives::Three(2_001),
+    clock: &[
+        1_000_000, 1_000_001, 1_000_002, 1_000_003, 1_000_004, 1_000_005, 1_000_006,
+    ],
+    then: 1_000_007,
+    steps: &[
+        (5, Step::Start, b"", 3),
+        (5, Step::Pass, b"", 1),
+        (5, Step::Pass, b"", 1),
+        (5, Step::Pass, b"", 1),
+        (5, Step::Pass, b"", 1),
+        (5, Step::Pass, b"", 1),
+        (5, Step::Pass, b"", 1),
+        (
+            5,
+            Step::Pass,
+            b")\0\0\0\0@B\x0f\0\0\0\0\0\x94\xef\x0d\0\0\0\0\0\x02\0\0\0\0\0\0\0\0\0\0\0\0\0\0\0\0\0\0\0\0\0\0\0",
+            4,
+        ),
+    ],
+    left: (1_000_007, Some(1_000_004), Some(1_000_001), 0),
+    saved: (1_000_007, Some(1_000_004), Some(1_000_001), 0),
+};
+
+/// The last of them does not decode: the first is marked, and nothing is visited.
+static THIRD_UNDECODED: Collection<'static> = Collection {
+    files: &[
+        (ABC_CHUNK, ABC_BLOB),
+        (DE_CHUNK, DE_BLOB),
+        (BOOK, BEFORE),
+        (MANIFEST_PATH, OF_THREE),
+        (THIRD_PATH, b"abc"),
+    ],
+    archives: Archives::Three(0),
+    clock: &[1_000_000, 1_000_001],
+    then: 1_000_002,
+    steps: &[
+        (5, Step::Start, b"", 3),
+        (5, Step::Pass, b"", 1),
+        (5, Step::Pass, b"", 1),
+        (
+            5,
+            Step::Pass,
+            b"$\0\0\0\x18\"host/a/2020-01-15T06:30:03Z/c.didx",
+            4,
+        ),
+        (5, Step::Pass, IN_NONE, 0),
+    ],
+    left: (1_000_002, Some(100), Some(1_000_001), 0),
+    saved: (100, Some(100), Some(100), 0),
+};
+
 /// Moments do not fall where the clock does, nor below the saved book's.
 const SAVED_LATER: &[u8] =
     b"PBSBOOK1@B\x0f\0\0\0\0\0\x02\0\0\0\0\0\0\0\x95\x9aE\xd4No\xcfX6\x1e\xd0\x04h\x15V\xfeP\x12\x9f!\x09\xe8\x17\xde\xc0\x98\xc0\x0c\x9e]%x\x93\xef\x0d\0\0\0\0\0\xbax\x16\xbf\x8f\x01\xcf\xeaAA@\xde]\xae\"#\xb0\x03a\xa3\x96\x17z\x9c\xb4\x10\xffa\xf2\0\x15\xad\x94\xef\x0d\0\0\0\0\0t{\xe66\x8da\x93\xc2\x8eoc\xa0H\xf2\xda\xc2U\x08\x11\x1d\xd8w\xea\xf1A\xbf\xa2\xb7<\x89RR";
@@ -422,7 +497,7 @@ static FALLING: Collection<'static> = Collection {
         (DE_CHUNK, DE_BLOB),
         (BOOK, SAVED_LATER),
     ],
-    entries: 0,
+    archives: Archives::Root(0),
     clock: &[10],
     then: 5,
     steps: &[
@@ -443,7 +518,7 @@ static FALLING: Collection<'static> = Collection {
 /// The writer began at 990,000, and so does the collector.
 static FALLING_BEHIND_WRITER: Collection<'static> = Collection {
     files: &[(ABC_CHUNK, ABC_BLOB), (DE_CHUNK, DE_BLOB), (BOOK, RUNNING)],
-    entries: 0,
+    archives: Archives::Root(0),
     clock: &[990_000],
     then: 10,
     steps: &[
@@ -470,7 +545,7 @@ static RISING: Collection<'static> = Collection {
         (BOOK, BEFORE),
         (MANIFEST_PATH, OF_TWO),
     ],
-    entries: 2,
+    archives: Archives::Root(2),
     clock: &[1_000_000, 1_000_001, 1_000_002, 1_000_003],
     then: 1_000_004,
     steps: &[
@@ -499,7 +574,7 @@ static STALE: Collection<'static> = Collection {
             b"PBSBOOK1\x0a\0\0\0\0\0\0\0\x01\0\0\0\0\0\0\0\xbax\x16\xbf\x8f\x01\xcf\xeaAA@\xde]\xae\"#\xb0\x03a\xa3\x96\x17z\x9c\xb4\x10\xffa\xf2\0\x15\xad\x05\0\0\0\0\0\0\06\xe8\xda'\x04\x05\xad\xa9\xa3\xfb\x96P\xf9\xaayIe\xd8\x17!\xcd\xce\xc2t%?kn7`D[",
         ),
     ],
-    entries: 0,
+    archives: Archives::Root(0),
     clock: &[],
     then: 1_000_000,
     steps: &[
@@ -527,7 +602,7 @@ static LITTERED: Collection<'static> = Collection {
         (".chunks/ba78/abc.tmp", ABC_BLOB),
         (ROOT_PATH, b"abc"),
     ],
-    entries: 0,
+    archives: Archives::Root(0),
     clock: &[],
     then: 1_000_000,
     steps: &[
@@ -554,28 +629,71 @@ fn push(writer: &mut DynamicWriter, digest: &Digest32, length: u32) -> Result<()
     Ok(())
 }
 
-/// An index of so many entries: `abc`, behind `de` as often as is left.
-fn index(alloc: Global, entries: u32) -> Result<Vec<u8>, Fail> {
+/// An index of so many entries: `abc`, behind this piece as often as is left.
+fn index(alloc: Global, piece: (&Digest32, u32), entries: u32) -> Result<Vec<u8>, Fail> {
     let mut writer = DynamicWriter::new(alloc, [1; 16], 1_579_069_803);
     for _ in 1..entries {
-        push(&mut writer, &DE, 2)?;
+        push(&mut writer, piece.0, piece.1)?;
     }
     push(&mut writer, &ABC, 3)?;
     Ok(writer.close(alloc)?)
 }
 
-/// A disk with these files, and with the index of so many entries.
-pub(crate) fn folder(alloc: Global, files: Contents, entries: u32) -> Result<MemoryDisk, Fail> {
+/// Where the indexes of [`OF_THREE`] stand.
+const FIRST_PATH: &str = "host/a/2020-01-15T06:30:03Z/a.fidx";
+
+const SECOND_PATH: &str = "host/a/2020-01-15T06:30:03Z/b.didx";
+
+const THIRD_PATH: &str = "host/a/2020-01-15T06:30:03Z/c.didx";
+
+/// SHA-256 of 4,096 times `x`, of which no chunk is there.
+const ABSENT: Digest32 = Digest32([
+    0xa2, 0xe6, 0x59, 0xda, 0xcb, 0x46, 0x91, 0xe8, 0x87, 0xac, 0x01, 0x39, 0xf8, 0x89, 0x3d, 0x04,
+    0x76, 0x4e, 0xe1, 0x97, 0xd7, 0x0f, 0xb7, 0x3d, 0x31, 0x90, 0xd5, 0x61, 0x13, 0xd1, 0x8e, 0x3e,
+]);
+
+/// The fixed index of that piece and of `de`: what stands before its zeros, and behind them.
+const FIXED_FRONT: &[u8] =
+    b"/\x7fA\xed\x91\xfd\x0f\xcd\xe3'l\xd9\xed\xedV\xd3\x9e\xf6JXT\x92\x1f\xfck\xb1\x1e^\0\0\0\0\x15\x8d\xc1M\xcc7\xcc\\\xed/\xafjp =;\xefQ\xe9S\x9c+\xbaw\x99\x13\xdf?\xb2/\xb8\xd1\x02\x10\0\0\0\0\0\0\0\x10\0\0\0\0\0\0";
+
+const FIXED_DIGESTS: &[u8] =
+    b"\xa2\xe6Y\xda\xcbF\x91\xe8\x87\xac\x019\xf8\x89=\x04vN\xe1\x97\xd7\x0f\xb7=1\x90\xd5a\x13\xd1\x8e>\x95\x9aE\xd4No\xcfX6\x1e\xd0\x04h\x15V\xfeP\x12\x9f!\x09\xe8\x17\xde\xc0\x98\xc0\x0c\x9e]%x";
+
+/// Puts the fixed index, and the one without entries.
+fn put_first_two(alloc: Global, disk: &mut MemoryDisk) -> Result<(), Fail> {
+    let mut fixed = FIXED_FRONT.to_vec(alloc)?;
+    fixed.resize(4096, 0)?;
+    fixed.extend_from_slice(FIXED_DIGESTS)?;
+    disk.put(alloc, FIRST_PATH, &fixed)?;
+    let empty = DynamicWriter::new(alloc, [1; 16], 1_579_069_803);
+    Ok(disk.put(alloc, SECOND_PATH, &empty.close(alloc)?)?)
+}
+
+/// A disk with these files, and with these indexes.
+pub(crate) fn folder(
+    alloc: Global,
+    files: Contents,
+    archives: Archives,
+) -> Result<MemoryDisk, Fail> {
     let mut disk = disk_of(alloc, files)?;
-    if entries > 0 {
-        let text = index(alloc, entries)?;
-        disk.put(alloc, ROOT_PATH, &text)?;
+    match archives {
+        Archives::Root(0) => {}
+        Archives::Root(entries) => {
+            let text = index(alloc, (&DE, 2), entries)?;
+            disk.put(alloc, ROOT_PATH, &text)?;
+        }
+        Archives::Three(0) => put_first_two(alloc, &mut disk)?,
+        Archives::Three(entries) => {
+            put_first_two(alloc, &mut disk)?;
+            let text = index(alloc, (&ABSENT, 4096), entries)?;
+            disk.put(alloc, THIRD_PATH, &text)?;
+        }
     }
     Ok(disk)
 }
 
 fn opened(alloc: Global, row: &Collection<'_>) -> Result<MemoryCore, Fail> {
-    let disk = folder(alloc, row.files, row.entries)?;
+    let disk = folder(alloc, row.files, row.archives)?;
     opened_over(alloc, disk, row.clock, row.then)
 }
 
@@ -671,6 +789,8 @@ fn chunks_of_snapshots_are_marked(rt: HostRuntime) -> Result<(), Fail> {
         &IN_TWO_MARKS,
         &FORGOTTEN_HALF_MARKED,
         taken_over(),
+        &THREE_INDEXES,
+        &THIRD_UNDECODED,
     ];
     try_collections(&rt, rt.alloc(), 2, &rows)
 }
@@ -735,7 +855,7 @@ static FAULTS: [Fault; 9] = [
 
 /// How many calls opening makes.
 fn opening_calls(alloc: Global) -> Result<u64, Fail> {
-    let disk = folder(alloc, ONE_NEEDED, 1)?;
+    let disk = folder(alloc, ONE_NEEDED, Archives::Root(1))?;
     let before = disk.calls();
     let core = opened_over(alloc, disk, &[], 0)?;
     Ok(core.parts.disk.calls().saturating_sub(before))
@@ -762,7 +882,7 @@ fn try_fault(
     let (steps, call, kinds, left) = row;
     let mut numbers = Vec::new(alloc);
     numbers.push(opening.saturating_add(*call))?;
-    let disk = FailingDisk::at_calls(folder(alloc, ONE_NEEDED, 1)?, numbers);
+    let disk = FailingDisk::at_calls(folder(alloc, ONE_NEEDED, Archives::Root(1))?, numbers);
     let mut core = opened_over(alloc, disk, &[], 1_000_000)?;
     do_steps(&mut core, alloc, *steps)?;
     same_at(rt, place, kept(&core), *left);

@@ -1,5 +1,7 @@
 //! Chunks on a disk in memory, as a reader's answers need them.
 
+ghost use Rattle.std.specs.Prelude.{◌≤◌};
+
 use crate::calls::{Call, Calls, DONE, IN_NONE, NO_BASE, NO_FILE, NOT_ALLOWED, after, try_calls};
 use crate::fixtures::{ABC, DE, FIRST, NOTHING};
 use core_state::Parts;
@@ -53,18 +55,26 @@ const ANOTHER_BLOB: &[u8] =
 const NO_DE: &[u8] =
     b"B\0\0\0\x17\x95\x9aE\xd4No\xcfX6\x1e\xd0\x04h\x15V\xfeP\x12\x9f!\x09\xe8\x17\xde\xc0\x98\xc0\x0c\x9e]%x\0\0\0\0\0\0\0\0\0\0\0\0\0\0\0\0\0\0\0\0\0\0\0\0\0\0\0\0\0\0\0\0\0";
 
-/// The index of the pieces `abc` and `de`.
-fn index(alloc: Global) -> Result<Vec<u8>, Fail> {
+/// `abc`'s chunk is `abc`, which is not as long as the index says.
+const ANOTHER_LENGTH: &[u8] =
+    b"B\0\0\0\x17\xbax\x16\xbf\x8f\x01\xcf\xeaAA@\xde]\xae\"#\xb0\x03a\xa3\x96\x17z\x9c\xb4\x10\xffa\xf2\0\x15\xad\x02\xbax\x16\xbf\x8f\x01\xcf\xeaAA@\xde]\xae\"#\xb0\x03a\xa3\x96\x17z\x9c\xb4\x10\xffa\xf2\0\x15\xad";
+
+/// The index of the pieces `abc`, which has this length by it, and `de`.
+fn index(alloc: Global, length: u32) -> Result<Vec<u8>, Fail>
+    requires { (1 ≤ length) × (length ≤ 16_777_216) }
+{
     let mut writer = DynamicWriter::new(alloc, [1; 16], 1_579_069_803);
-    writer.append(&ABC, 3)?;
+    writer.append(&ABC, length)?;
     writer.append(&DE, 2)?;
     Ok(writer.close(alloc)?)
 }
 
-/// A core whose lane 5 has a reader. The archive of its snapshot has the pieces `abc` and `de` on the disk.
-fn opened(rt: &impl Abort, alloc: Global) -> Result<Parts<MemoryDisk>, Fail> {
+/// A core whose lane 5 has a reader. The archive of its snapshot has the pieces `abc`, of this length by the index, and `de`.
+fn opened(rt: &impl Abort, alloc: Global, length: u32) -> Result<Parts<MemoryDisk>, Fail>
+    requires { (1 ≤ length) × (length ≤ 16_777_216) }
+{
     let mut parts = after(rt, alloc, WRITTEN)?;
-    let text = index(alloc)?;
+    let text = index(alloc, length)?;
     parts.disk.put(alloc, ROOT_PATH, &text)?;
     try_calls(rt, &mut parts, alloc, &[(5, Call::OpenReader(FIRST), DONE)])?;
     Ok(parts)
@@ -185,10 +195,31 @@ static PARTS: Calls = &[
     (5, Call::ReadFile(NAME, 0), NO_INDEX),
 ];
 
+/// Both chunks are whole. By the index `abc` has one byte more than its chunk, or one less: no range of it is given, whatever it asks
+/// for, and GET_CHUNK gives the chunk.
+static LONGER: Calls = &[
+    (5, DOWNLOAD, AT_END),
+    (5, Call::Put(ABC_CHUNK, ABC_BLOB), DONE),
+    (5, Call::Put(DE_CHUNK, DE_BLOB), DONE),
+    (5, Call::Range(NAME, 0, 4), ANOTHER_LENGTH),
+    (5, Call::Range(NAME, 0, 1), ANOTHER_LENGTH),
+    (5, Call::Range(NAME, 3, 3), ANOTHER_LENGTH),
+    (5, Call::Range(NAME, 4, 2), b"\x03\0\0\0\0de"),
+    (5, Call::GetChunk(ABC), ABC_DATA),
+];
+
+static SHORTER: Calls = &[
+    (5, DOWNLOAD, AT_END),
+    (5, Call::Put(ABC_CHUNK, ABC_BLOB), DONE),
+    (5, Call::Put(DE_CHUNK, DE_BLOB), DONE),
+    (5, Call::Range(NAME, 0, 2), ANOTHER_LENGTH),
+    (5, Call::Range(NAME, 2, 2), b"\x03\0\0\0\0de"),
+];
+
 /// Each is asked of a reader of its own.
 fn try_asked(rt: &impl Abort, alloc: Global, asked: [Calls; 3]) -> Result<(), Fail> {
     for calls in asked {
-        let mut parts = opened(rt, alloc)?;
+        let mut parts = opened(rt, alloc, 3)?;
         try_calls(rt, &mut parts, alloc, calls)?;
     }
     Ok(())
@@ -202,4 +233,13 @@ fn damaged_chunks_are_told(rt: HostRuntime) -> Result<(), Fail> {
 #[test]
 fn a_verify_reads(rt: HostRuntime) -> Result<(), Fail> {
     try_asked(&rt, rt.alloc(), [ENTRIES, AS_THEY_STAND, PARTS])
+}
+
+#[test]
+fn lengths_are_compared(rt: HostRuntime) -> Result<(), Fail> {
+    let alloc = rt.alloc();
+    let mut parts = opened(&rt, alloc, 4)?;
+    try_calls(&rt, &mut parts, alloc, LONGER)?;
+    let mut parts = opened(&rt, alloc, 2)?;
+    try_calls(&rt, &mut parts, alloc, SHORTER)
 }

@@ -2,6 +2,7 @@ use crate::asserts::same;
 use crate::calls::{
     DONE, FIRST_BASE, IN_NONE, IN_READER, IN_WRITER, NO_BASE, NO_SNAPSHOT, NONE_THERE, ONE_LISTED,
 };
+use crate::collecting::NO_MEMORY;
 use crate::fixtures::{FIRST, MemoryCore, SECOND, at, opened};
 use crate::steps::{Row, Step, try_step};
 use core_state::{Act, enter};
@@ -183,4 +184,21 @@ fn lanes_end_without_memory(rt: HostRuntime) -> Result<(), Fail> {
     same(&rt, capacities(&core), before);
     same(&rt, core.journal.room(3), false);
     try_step(&rt, &mut core, alloc, 4, Step::OpenWriter(FIRST), NO_BASE)
+}
+
+/// Memory is wanting for a collector's lane by an entry of its reserve: the collector's end and the lane's have the other two, and take
+/// no memory.
+#[test]
+fn collections_end_without_memory(rt: HostRuntime) -> Result<(), Fail> {
+    let alloc = rt.alloc();
+    let mut core = opened(alloc, &[], 1000)?;
+    try_step(&rt, &mut core, alloc, 3, Step::Start, b"")?;
+    use_reserve(&rt, &mut core);
+    let before = capacities(&core);
+    try_step(&rt, &mut core, alloc, 3, Step::Pass, NO_MEMORY)?;
+    same(&rt, core.collector.is_none(), true);
+    try_step(&rt, &mut core, alloc, 3, Step::End, b"")?;
+    same(&rt, capacities(&core), before);
+    same(&rt, core.journal.room(3), false);
+    try_step(&rt, &mut core, alloc, 4, Step::Start, b"")
 }

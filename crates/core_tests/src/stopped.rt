@@ -81,7 +81,7 @@ fn listed_after(acts: usize) -> usize {
 /// What they are done on.
 fn begun(alloc: Global) -> Result<MemoryDisk, Fail> {
     let row = taken_over();
-    folder(alloc, row.files, row.entries)
+    folder(alloc, row.files, row.archives)
 }
 
 /// Does them all on a disk that may fail: how many were done before it did, and what stands on it.

@@ -1,4 +1,4 @@
-//! A VERIFY step by step: an index whose chunks come in several batches, and its first fault.
+//! A VERIFY step by step: an index whose chunks come in several batches, its first fault, and files that are too long.
 
 ghost use Rattle.std.specs.Prelude.{IsTrue, IfOk};
 ghost use Rattle.wire_commands.specs.HasText.{ReplyHasText};
@@ -7,7 +7,7 @@ ghost use Rattle.store_model.specs.JobReplies.{IsReplyTo};
 use crate::asserts::same;
 use job_steps::Job;
 use sha2::{Digest, Sha256};
-use std::alloc::Global;
+use std::alloc::{AllocError, Global};
 use std::process::Abort;
 use std::test::Fail;
 use std::thread::Threads;
@@ -21,6 +21,14 @@ const DIGEST: &[u8; 32] =
 
 const BLOB: &[u8; 13] = b"B\xab8\x07\xbe\x83p\xa1\x83\x16\xdc\x8cx";
 
+/// Of so many zeros: their digest, and their blob's header.
+const MANY: u64 = 4_194_304;
+
+const ZEROS_DIGEST: &[u8; 32] =
+    b"\xbb\x9f\x8d\xf6\x14t\xd2^q\xfa\0r#\x18\xcd8s\x96\xca\x176`^\x12H\x82\x1c\xc0\xde=:\xf8";
+
+const ZEROS_HEADER: &[u8; 12] = b"B\xab8\x07\xbe\x83p\xa1j@G\x11";
+
 const MAGIC: &[u8; 8] = &[28, 145, 78, 165, 25, 186, 179, 205];
 
 const OPEN_READER: u8 = 20;
@@ -31,9 +39,10 @@ const GET_CHUNK: u8 = 22;
 
 const FILES: u8 = 31;
 
-const NAME: &[u8] = b"root.didx";
+/// The index's name, behind its length.
+const NAME: &[u8] = b"\x09root.didx";
 
-/// What is told of a chunk that is not as the others.
+/// An entry that is not as the others.
 #[derive(Clone, Copy, PartialEq)]
 enum Told {
     /// Its bytes, which have another digest.
@@ -42,14 +51,22 @@ enum Told {
     Damaged,
     /// That its index can't be read any more.
     Unreadable,
+    /// Its bytes, where the index gives the entry a byte more, or one less.
+    Longer,
+    Shorter,
 }
 
-/// How long the index's entries are, how many it has, the places of the odd ones, and the place of that whose digest is the
-/// fault. Where there is none, it is 0 for no fault and 1 for an index that can't be read.
+/// How long the pieces are, how many the index has, the places of the odd ones, and the place of that whose digest is the
+/// fault. Where there is none, it is 0 for no fault and 1 for an index that can't be read. The digests of the pieces stand
+/// for places behind those.
 type Row = (u64, u16, &'static [(u16, Told)], Result<u16, u8>);
 
+const X_PLACE: u16 = 28_973;
+
+const ZEROS_PLACE: u16 = 40_891;
+
 /// The last of a batch, the first of the next, and the last of all.
-static BATCHES: [Row; 6] = [
+static BATCHES: [Row; 7] = [
     (1, 4096, &[], Err(0)),
     (1, 4097, &[], Err(0)),
     (1, 4098, &[(4095, Told::Other)], Ok(4095)),
@@ -62,23 +79,38 @@ static BATCHES: [Row; 6] = [
         &[(4095, Told::Other), (4096, Told::Damaged)],
         Ok(4095),
     ),
+    (
+        1,
+        4098,
+        &[(4095, Told::Longer), (4096, Told::Other)],
+        Ok(X_PLACE),
+    ),
 ];
 
 /// Of few chunks. Sixteen of 4 MiB are a batch, by what the index tells.
-static FAULTS: [Row; 7] = [
+static FAULTS: [Row; 6] = [
     (1, 1, &[], Err(0)),
     // one that waits comes before one that is damaged
     (1, 30, &[(10, Told::Other), (20, Told::Damaged)], Ok(10)),
     (1, 30, &[(10, Told::Damaged), (20, Told::Other)], Ok(10)),
     (1, 30, &[(10, Told::Other), (20, Told::Unreadable)], Ok(10)),
     (1, 30, &[(20, Told::Unreadable)], Err(1)),
+    (MANY, 17, &[(15, Told::Other), (16, Told::Damaged)], Ok(15)),
+];
+
+/// Of chunks that have another length than the index gives them.
+static LENGTHS: [Row; 6] = [
+    (1, 30, &[(0, Told::Longer)], Ok(X_PLACE)),
+    (1, 30, &[(29, Told::Longer)], Ok(X_PLACE)),
+    (1, 30, &[(10, Told::Other), (20, Told::Longer)], Ok(10)),
     (
-        4_194_304,
-        17,
-        &[(15, Told::Other), (16, Told::Damaged)],
-        Ok(15),
+        1,
+        30,
+        &[(10, Told::Longer), (20, Told::Damaged)],
+        Ok(X_PLACE),
     ),
-    (4_194_304, 17, &[(16, Told::Other)], Ok(16)),
+    (MANY, 1, &[(0, Told::Longer)], Ok(ZEROS_PLACE)),
+    (MANY, 1, &[(0, Told::Shorter)], Ok(ZEROS_PLACE)),
 ];
 
 /// The digest of the entry at a place, where it is odd.
@@ -98,32 +130,52 @@ fn told_at(odd: &[(u16, Told)], place: u16) -> Option<Told> {
     None
 }
 
-/// The entries of the index, of pieces of one length.
+/// The digest of a piece of this length, and its blob.
+fn digest_of(length: u64) -> &'static [u8; 32] {
+    if length == MANY { ZEROS_DIGEST } else { DIGEST }
+}
+
+fn blob_of(alloc: Global, length: u64) -> Result<Vec<u8>, AllocError> {
+    if length < MANY {
+        return BLOB.to_vec(alloc);
+    }
+    let mut blob = ZEROS_HEADER.to_vec(alloc)?;
+    blob.resize(4_194_316, 0)?;
+    Ok(blob)
+}
+
+/// How long an entry is by the index, of a piece of this length.
+fn length_told(length: u64, told: Option<Told>) -> u64 {
+    match told {
+        Some(Told::Longer) => length.saturating_add(1),
+        Some(Told::Shorter) => length.saturating_sub(1),
+        _ => length,
+    }
+}
+
+fn digest_at(length: u64, place: u16, told: Option<Told>) -> [u8; 32] {
+    match told {
+        None | Some(Told::Longer | Told::Shorter) => *digest_of(length),
+        Some(_) => odd_digest(place),
+    }
+}
+
+/// The entries of the index, of pieces of one length, and where the last ends.
 fn entries_of(
     alloc: Global,
     length: u64,
     count: u16,
     odd: &[(u16, Told)],
-) -> Result<Vec<u8>, Fail> {
+) -> Result<(Vec<u8>, u64), AllocError> {
     let mut entries = Vec::new(alloc);
+    let mut end: u64 = 0;
     for place in 0..count {
-        let end = size_of_all(length, place)?.saturating_add(length);
+        let told = told_at(odd, place);
+        end = end.saturating_add(length_told(length, told));
         entries.extend_from_slice(&end.to_le_bytes())?;
-        match told_at(odd, place) {
-            Some(_) => entries.extend_from_slice(&odd_digest(place))?,
-            None => entries.extend_from_slice(DIGEST)?,
-        }
+        entries.extend_from_slice(&digest_at(length, place, told))?;
     }
-    Ok(entries)
-}
-
-/// So many bytes as these pieces have together.
-fn size_of_all(length: u64, count: u16) -> Result<u64, Fail> {
-    Ok(
-        length
-            .checked_mul(u64::from(count))
-            .ok_or("the archive is too long")?,
-    )
+    Ok((entries, end))
 }
 
 /// The index with these entries.
@@ -137,42 +189,56 @@ fn index_of(alloc: Global, entries: &[u8]) -> Result<Vec<u8>, Fail> {
     Ok(text)
 }
 
-/// The body of FILES' reply that lists the index alone.
-fn files_body(alloc: Global, size: u64, entries: &[u8]) -> Result<Vec<u8>, Fail> {
+/// The body of FILES' reply that lists one file: its name behind its length, its size, and its checksum.
+fn files_body(
+    alloc: Global,
+    name: &[u8],
+    size: u64,
+    csum: &[u8; 32],
+) -> Result<Vec<u8>, AllocError> {
     let mut body = Vec::new(alloc);
-    body.extend_from_slice(&[0, 1, 9])?;
-    body.extend_from_slice(NAME)?;
+    body.extend_from_slice(&[0, 1])?;
+    body.extend_from_slice(name)?;
     body.extend_from_slice(&size.to_le_bytes())?;
-    body.extend_from_slice(&Sha256::digest(entries))?;
+    body.extend_from_slice(csum)?;
     Ok(body)
 }
 
-/// The body of the reply to the read of a part, of a file with these bytes.
-fn part_body(alloc: Global, file: &[u8], part: &[u8]) -> Result<Vec<u8>, Fail> {
+/// The body of the reply to the read of a part, of a file of so many bytes.
+fn part_body(alloc: Global, total: u64, part: &[u8]) -> Result<Vec<u8>, AllocError> {
     let mut body = Vec::new(alloc);
     body.push(0)?;
-    body.extend_from_slice(&(file.len() as u64).to_le_bytes())?;
+    body.extend_from_slice(&total.to_le_bytes())?;
     body.extend_from_slice(part)?;
     Ok(body)
 }
 
-/// The body of the reply to the read of the chunk at a place.
-fn chunk_body(alloc: Global, place: u16, told: Option<Told>) -> Result<Vec<u8>, Fail> {
+/// The body of the refusal that tells a file as unreadable.
+fn unreadable_body(alloc: Global, name: &[u8]) -> Result<Vec<u8>, AllocError> {
     let mut body = Vec::new(alloc);
-    match told {
-        Some(Told::Damaged) => {
-            body.push(23)?;
-            body.extend_from_slice(&odd_digest(place))?;
-            body.extend_from_slice(&[0; 33])?;
-        }
-        Some(Told::Unreadable) => {
-            body.extend_from_slice(&[24, 9])?;
-            body.extend_from_slice(NAME)?;
-        }
-        _ => {
-            body.push(0)?;
-            body.extend_from_slice(BLOB)?;
-        }
+    body.push(24)?;
+    body.extend_from_slice(name)?;
+    Ok(body)
+}
+
+/// The body of the reply that gives the chunk of a piece of this length.
+fn chunk_body(alloc: Global, length: u64) -> Result<Vec<u8>, AllocError> {
+    let mut body = Vec::new(alloc);
+    body.push(0)?;
+    body.extend_from_slice(&blob_of(alloc, length)?)?;
+    Ok(body)
+}
+
+/// The body of the refusal of the read of the chunk at a place, or nothing.
+fn refused_body(alloc: Global, place: u16, told: Option<Told>) -> Result<Vec<u8>, AllocError> {
+    if told == Some(Told::Unreadable) {
+        return unreadable_body(alloc, NAME);
+    }
+    let mut body = Vec::new(alloc);
+    if told == Some(Told::Damaged) {
+        body.push(23)?;
+        body.extend_from_slice(&odd_digest(place))?;
+        body.extend_from_slice(&[0; 33])?;
     }
     Ok(body)
 }
@@ -226,13 +292,15 @@ fn answer_chunks(
     rt: &(impl Threads + Sync),
     alloc: Global,
     job: &mut Job,
-    count: u16,
-    odd: &[(u16, Told)],
+    row: &Row,
 ) -> Result<(), Fail> {
-    for place in 0..count {
+    let (length, count, odd, _) = row;
+    let whole = chunk_body(alloc, *length)?;
+    for place in 0..*count {
         let told = told_at(odd, place);
-        let body = chunk_body(alloc, place, told)?;
-        answer(rt, alloc, job, GET_CHUNK, &body)?;
+        let refused = refused_body(alloc, place, told)?;
+        let body = if refused.is_empty() { &whole } else { &refused };
+        answer(rt, alloc, job, GET_CHUNK, body)?;
         if told == Some(Told::Unreadable) {
             return Ok(());
         }
@@ -240,7 +308,7 @@ fn answer_chunks(
     Ok(())
 }
 
-/// The place whose digest the fault has, or 0 for no fault and 1 for a file that can't be read.
+/// The place whose digest the fault has, or 0 for no fault, 1 for a file that can't be read, and 2 for one that differs.
 fn place_of(faults: &[FaultRow]) -> Result<Result<u16, u8>, Fail> {
     let Some(row) = faults.first() else {
         return Ok(Err(0));
@@ -250,7 +318,7 @@ fn place_of(faults: &[FaultRow]) -> Result<Result<u16, u8>, Fail> {
             Ok(Ok(u16::from(digest.0[0]) + u16::from(digest.0[1]) * 256))
         }
         FileFault::Unreadable => Ok(Err(1)),
-        FileFault::Differs => Err("the file differs".into()),
+        FileFault::Differs => Ok(Err(2)),
     }
 }
 
@@ -271,9 +339,10 @@ fn answer_parts(
     job: &mut Job,
     index: &[u8],
 ) -> Result<(), Fail> {
+    let total = index.len() as u64;
     let (first, second) = index.split_at(index.len() / 2);
-    answer(rt, alloc, job, DOWNLOAD, &part_body(alloc, index, first)?)?;
-    answer(rt, alloc, job, DOWNLOAD, &part_body(alloc, index, second)?)
+    answer(rt, alloc, job, DOWNLOAD, &part_body(alloc, total, first)?)?;
+    answer(rt, alloc, job, DOWNLOAD, &part_body(alloc, total, second)?)
 }
 
 /// What a job reports that asks nothing more.
@@ -324,12 +393,11 @@ fn answer_row(
     row: &Row,
 ) -> Result<u64, Fail> {
     let (length, count, odd, _) = row;
-    let size = size_of_all(*length, *count)?;
-    let entries = entries_of(alloc, *length, *count, odd)?;
-    let files = files_body(alloc, size, &entries)?;
+    let (entries, size) = entries_of(alloc, *length, *count, odd)?;
+    let files = files_body(alloc, NAME, size, &Sha256::digest(&entries))?;
     answer(rt, alloc, job, FILES, &files)?;
     answer_parts(rt, alloc, job, &index_of(alloc, &entries)?)?;
-    answer_chunks(rt, alloc, job, *count, odd)?;
+    answer_chunks(rt, alloc, job, row)?;
     Ok(size)
 }
 
@@ -353,8 +421,92 @@ fn the_first_fault_is_told(rt: HostRuntime) -> Result<(), Fail> {
 }
 
 #[test]
+fn lengths_are_compared(rt: HostRuntime) -> Result<(), Fail> {
+    try_rows(&rt, rt.alloc(), &LENGTHS)
+}
+
+#[test]
 fn batches_tell_the_first_fault(rt: HostRuntime) -> Result<(), Fail> {
     try_rows(&rt, rt.alloc(), &BATCHES)
+}
+
+/// A file's name behind its length, the size that is listed, how many bytes it has by its first part, and its fault: it is not
+/// read on.
+type Long = (&'static [u8], u64, u64, u8);
+
+static TOO_LONG: [Long; 6] = [
+    (b"\x09root.fidx", 33_558_529, 33_558_529, 1),
+    (NAME, 41_947_137, 41_947_137, 1),
+    (NAME, 5, 41_947_137, 1),
+    (b"\x06a.blob", 16_777_229, 16_777_229, 1),
+    (b"\x06a.blob", 16_777_228, 16_777_229, 2),
+    (b"\x0findex.json.blob", 86, u64::MAX, 2),
+];
+
+/// The most bytes that a file of each kind has: it is read on.
+static LONGEST: [(&[u8], u64); 4] = [
+    (b"\x09root.fidx", 33_558_528),
+    (NAME, 41_947_136),
+    (b"\x06a.blob", 16_777_228),
+    (b"\x0findex.json.blob", 16_777_228),
+];
+
+static NO_CSUM: [u8; 32] = [0; 32];
+
+/// A job that was told one file.
+fn with_file(
+    rt: &(impl Threads + Sync),
+    alloc: Global,
+    name: &[u8],
+    size: u64,
+) -> Result<Job, Fail> {
+    let mut job = begun(rt, alloc)?;
+    let files = files_body(alloc, name, size, &NO_CSUM)?;
+    answer(rt, alloc, &mut job, FILES, &files)?;
+    Ok(job)
+}
+
+/// It is given the first part of its file.
+fn answer_part(
+    rt: &(impl Threads + Sync),
+    alloc: Global,
+    job: &mut Job,
+    total: u64,
+) -> Result<(), Fail> {
+    let part = part_body(alloc, total, b"x")?;
+    answer(rt, alloc, job, DOWNLOAD, &part)
+}
+
+fn try_too_long(rt: &(impl Abort + Threads + Sync), alloc: Global, row: &Long) -> Result<(), Fail> {
+    let (name, size, total, fault) = row;
+    let mut job = with_file(rt, alloc, name, *size)?;
+    answer_part(rt, alloc, &mut job, *total)?;
+    try_report(rt, alloc, job, (1, 0, 0), Err(*fault))
+}
+
+fn try_longest(
+    rt: &(impl Abort + Threads + Sync),
+    alloc: Global,
+    row: &(&[u8], u64),
+) -> Result<(), Fail> {
+    let (name, total) = row;
+    let mut job = with_file(rt, alloc, name, *total)?;
+    answer_part(rt, alloc, &mut job, *total)?;
+    let body = unreadable_body(alloc, name)?;
+    answer(rt, alloc, &mut job, DOWNLOAD, &body)?;
+    try_report(rt, alloc, job, (1, 0, 0), Err(1))
+}
+
+#[test]
+fn what_is_too_long_is_not_read_on(rt: HostRuntime) -> Result<(), Fail> {
+    let alloc = rt.alloc();
+    for row in &TOO_LONG {
+        try_too_long(&rt, alloc, row)?;
+    }
+    for row in &LONGEST {
+        try_longest(&rt, alloc, row)?;
+    }
+    Ok(())
 }
 
 /// FILES tells a blob and the manifest; the blob is gone, and the manifest is read.

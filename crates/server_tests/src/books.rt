@@ -544,12 +544,12 @@ const MOMENTS: &[u64] = &[20, 21, 22, 23];
 /// The number of the call that fails, and the chunks' last touches then. Behind opening the first CHUNK asks whether its file is there,
 /// and the second installs its own.
 static TOUCHES: [(u64, Option<u64>, Option<u64>); 6] = [
-    (3, Some(5), None),
-    (4, Some(21), None),
-    (5, Some(21), None),
+    (5, Some(5), None),
     (6, Some(21), None),
     (7, Some(21), None),
-    (8, Some(21), Some(22)),
+    (8, Some(21), None),
+    (9, Some(21), None),
+    (10, Some(21), Some(22)),
 ];
 
 fn failing_at(alloc: Global, call: u64) -> Result<FailingDisk<MemoryDisk>, Fail> {
@@ -591,7 +591,7 @@ fn a_chunk_fails(rt: HostRuntime) -> Result<(), Fail> {
     let alloc = rt.alloc();
     for (call, abc, de) in &TOUCHES {
         same(&rt, touched_on(&rt, alloc, *call)?, (*abc, *de));
-        if *call < 8 {
+        if *call < 10 {
             try_fault(&rt, alloc, *call)?;
         }
     }

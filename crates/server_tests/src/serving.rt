@@ -27,7 +27,7 @@ mod verifies;
 use crate::asserts::same;
 use archives::{
     CHUNKS, CHUNKS_REPLIES, EMPTY_ARCHIVE, EMPTY_ARCHIVE_REPLIES, OPEN_INDEX, OPEN_INDEX_REPLIES,
-    SENT_AGAIN, SENT_AGAIN_REPLIES,
+    SENT_AGAIN, SENT_AGAIN_REPLIES, SENT_TWICE,
 };
 use disk_trait::{Disk, MemoryDisk};
 use lane::{Ending, LaneReport, Port};
@@ -421,14 +421,15 @@ fn try_session(
     try_source(rt, alloc, source_of(alloc, input)?.at_most(1), left)
 }
 
-/// What opening calls on an empty folder: sync, a list of all names, and a read of the book.
+/// What opening calls on an empty folder: sync, a list of all names, and the size of the book.
 const OPENING: u64 = 3;
 
 /// The counts of the disk's calls beside the entries, those of opening first: FINISH installs and syncs, DOWNLOAD asks the size and reads; CHUNK asks the size,
-/// and installs only where no file was there.
-static COUNTED: [(&[u8], &[u64]); 2] = [
+/// whether the session knows the chunk or not, and installs only where no file was there.
+static COUNTED: [(&[u8], &[u64]); 3] = [
     (READ_BACK, &[3, 3, 7, 7, 9, 9]),
     (SENT_AGAIN, &[3, 7, 7, 7, 8, 8]),
+    (SENT_TWICE, &[3, 7, 8, 8]),
 ];
 
 #[test]

@@ -126,6 +126,24 @@ fn damage_is_told(rt: HostRuntime) -> Result<(), Fail> {
     Ok(())
 }
 
+/// A file of one byte more than a blob has is damaged, and its size alone is asked.
+#[test]
+fn what_is_too_long_is_not_read(rt: HostRuntime) -> Result<(), Fail> {
+    let alloc = rt.alloc();
+    let mut disk = MemoryDisk::new(alloc);
+    let mut text = Vec::new(alloc);
+    text.resize(16_777_229, 0)?;
+    disk.put(alloc, ABC_CHUNK, &text)?;
+    let fault = load_from(&mut disk, alloc, &ABC).err();
+    let damaged = LoadFault::Damaged {
+        digest: ABC,
+        found: ChunkFault::NotABlob,
+    };
+    same(&rt, fault, Some(damaged));
+    same(&rt, disk.calls(), 2);
+    Ok(())
+}
+
 /// Names that are none of a chunk.
 static NAMES: [&str; 6] = [
     ".chunks/book",

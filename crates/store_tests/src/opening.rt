@@ -89,8 +89,8 @@ fn told(alloc: Global, found: &Inventory) -> Result<String, Fail> {
 
 const TOLD: &str = "Ct true Host false 1";
 
-/// A sync, a list, seven removes, and two manifests.
-const CALLS: u64 = 11;
+/// A sync, a list, seven removes, and of two manifests the size and a read.
+const CALLS: u64 = 13;
 
 /// Syncs the disk, as `core_opening` does, and opens its folder.
 fn open<D: Disk>(disk: &mut D, alloc: Global) -> Result<Inventory, DiskError> {

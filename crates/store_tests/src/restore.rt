@@ -50,28 +50,29 @@ fn plan(reader: &Reader, alloc: Global, range: Range) -> Result<Result<Vec<Part>
     Ok(reader.range_plan(alloc, &name, offset, length)?)
 }
 
-/// A part's chunk, its offset in it and its length.
-type Row = (Digest32, u32, u32);
+/// A part's chunk, its offset in it, its length and the chunk's.
+type Row = (Digest32, u32, u32, u32);
 
 fn parts_of(alloc: Global, rows: &[Row]) -> Result<Vec<Part>, Fail> {
     let mut parts = Vec::new(alloc);
-    for (digest, from, length) in rows {
+    for (digest, from, length, chunk_length) in rows {
         let (digest, from, length) = (*digest, *from, *length);
         parts.push(Part {
             digest,
             from,
             length,
+            chunk_length: *chunk_length,
         })?;
     }
     Ok(parts)
 }
 
 static PLANS: [(Range, &[Row]); 5] = [
-    (("root.didx", 2, 2), &[(ABC, 2, 1), (DE, 0, 1)]),
-    (("root.didx", 0, 5), &[(ABC, 0, 3), (DE, 0, 2)]),
-    (("root.didx", 3, 2), &[(DE, 0, 2)]),
+    (("root.didx", 2, 2), &[(ABC, 2, 1, 3), (DE, 0, 1, 2)]),
+    (("root.didx", 0, 5), &[(ABC, 0, 3, 3), (DE, 0, 2, 2)]),
+    (("root.didx", 3, 2), &[(DE, 0, 2, 2)]),
     (("root.didx", 1, 0), &[]),
-    (("home.didx", 1, 1), &[(DE, 1, 1)]),
+    (("home.didx", 1, 1), &[(DE, 1, 1, 2)]),
 ];
 
 fn try_plan(

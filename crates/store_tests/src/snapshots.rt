@@ -433,12 +433,32 @@ fn try_scan(rt: &impl Abort, alloc: Global, k: u64, fails: bool) -> Result<(), F
     Ok(())
 }
 
-// Three lists, four manifests, and the two files that one of them lists.
+// Three lists, the size of four manifests and a read of each, and the two files that one of them lists.
 #[test]
 fn each_call_of_a_scan_fails(rt: HostRuntime) -> Result<(), Fail> {
     let alloc = rt.alloc();
-    for k in 0..10 {
-        try_scan(&rt, alloc, k, k < 9)?;
+    for k in 0..14 {
+        try_scan(&rt, alloc, k, k < 13)?;
     }
+    Ok(())
+}
+
+/// A manifest's file of one byte more than a blob has makes its snapshot damaged, and is not read: there are the three lists, its size,
+/// and the calls of the other three snapshots.
+#[test]
+fn a_manifest_that_is_too_long_is_none(rt: HostRuntime) -> Result<(), Fail> {
+    let alloc = rt.alloc();
+    let mut disk = datastore(alloc)?;
+    let mut text = Vec::new(alloc);
+    text.resize(16_777_229, 0)?;
+    disk.put(alloc, MANIFEST, &text)?;
+    let before = disk.calls();
+    let found = found_on(alloc, &mut disk)?;
+    same(&rt, disk.calls(), before.saturating_add(10));
+    let expected = expected_of(
+        alloc,
+        "[Host a host/a/2020-01-15T06:30:03Z/index.json.blob]",
+    )?;
+    same(&rt, found.as_str(), expected.as_str());
     Ok(())
 }

@@ -31,6 +31,10 @@ pub const SENT_AGAIN: &[u8] =
 pub const SENT_AGAIN_REPLIES: &[u8] =
     b"\x02\0\0\0\0\0\x01\0\0\0\0\x01\0\0\0\0\x02\0\0\0\0\0\x01\0\0\0\0";
 
+/// CHUNK of `abc` twice in one writer.
+pub const SENT_TWICE: &[u8] =
+    b"\x1d\0\0\0\x0a\x1bhost/a/2020-01-15T06:30:03Z0\0\0\0\x0e\xbax\x16\xbf\x8f\x01\xcf\xeaAA@\xde]\xae\"#\xb0\x03a\xa3\x96\x17z\x9c\xb4\x10\xffa\xf2\0\x15\xadB\xab8\x07\xbe\x83p\xa1\xc2A$5abc0\0\0\0\x0e\xbax\x16\xbf\x8f\x01\xcf\xeaAA@\xde]\xae\"#\xb0\x03a\xa3\x96\x17z\x9c\xb4\x10\xffa\xf2\0\x15\xadB\xab8\x07\xbe\x83p\xa1\xc2A$5abc";
+
 /// The pieces `abc` and `de` in `root.didx`: APPEND before `de` was sent, with offset 2 in place of 3, to a number without an index,
 /// and as it should be; CLOSE_INDEX, a manifest that lists it, FINISH, OPEN_READER, and DOWNLOAD of the index from 4,096 and from 0.
 pub const ARCHIVE: &[u8] =

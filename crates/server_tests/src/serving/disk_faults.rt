@@ -301,9 +301,9 @@ const INDEX_STAGED: Files = &[
     ("host/a/2020-01-15T06:30:03Z/root.didx.tmp", 4136),
 ];
 
-/// CHUNK asks whether the chunk's file is there and installs it, once; CLOSE_INDEX installs the index, ABORT
+/// The first CHUNK asks whether the chunk's file is there and installs it, and the second asks; CLOSE_INDEX installs the index, ABORT
 /// removes it, and the put of the book fails.
-static STORED_FAULTS: [Fault; 9] = [
+static STORED_FAULTS: [Fault; 10] = [
     Fault {
         told: 12,
         behind: b"\x01\0\0\0\x1a\x09\0\0\0\x1b\x02\0\0\0\0\0\0\0\x09\0\0\0\x1b\x02\0\0\0\0\0\0\0\x09\0\0\0\x1b\x02\0\0\0\0\0\0\0\x09\0\0\0\x1b\x02\0\0\0\0\0\0\0",
@@ -331,6 +331,13 @@ static STORED_FAULTS: [Fault; 9] = [
         status: Status::DiskFault,
         kinds: &[0, 0, 5, 5, 5, 5, 5, 6],
         files: CHUNK_STAGED,
+    },
+    Fault {
+        told: 17,
+        behind: b"\x01\0\0\0\x1a\x09\0\0\0\x1b\x03\0\0\0\0\0\0\0\x09\0\0\0\x1b\x03\0\0\0\0\0\0\0\x09\0\0\0\x1b\x03\0\0\0\0\0\0\0",
+        status: Status::DiskFault,
+        kinds: &[0, 0, 0, 5, 5, 5, 5, 6],
+        files: WITH_CHUNK,
     },
     Fault {
         told: 27,
@@ -474,7 +481,7 @@ static CRASHES: [(&Session, u64, Crash); 4] = [
     ),
     (
         &STORED,
-        9,
+        10,
         Crash {
             whole: WITH_INDEX,
             firm: 0,

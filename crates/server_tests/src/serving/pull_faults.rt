@@ -7,7 +7,9 @@ use super::pulls::{Both, Course, backed_up, run_pull, same_files, try_pull};
 use super::reuse::again;
 use super::syncs::SYNC;
 use super::talks::talk_of;
-use super::verifies::{Change, OF_ANOTHER_GROUP, SHORTER, change};
+use super::verifies::{
+    Change, OF_ANOTHER_GROUP, OTHER_LENGTHS, SHORTER, change, put_index, put_long_blob,
+};
 use super::*;
 use disk_trait::FailingDisk;
 
@@ -170,41 +172,41 @@ fn chunks_of_a_remote_are_checked(rt: HostRuntime) -> Result<(), Fail> {
     try_rows(&rt, rt.alloc(), &CHUNK_FAULTS)
 }
 
-/// An index in which `abc` or `de` ends a byte late: what it is up to its reserved bytes, its entries, what the SYNC is told, and the kinds.
-type Late = (&'static [u8], &'static [u8], &'static [u8], &'static [u8]);
+/// A chunk has another length than the index says.
+const ABC_MISMATCHED: &[u8] =
+    b"B\0\0\0\x17\xbax\x16\xbf\x8f\x01\xcf\xeaAA@\xde]\xae\"#\xb0\x03a\xa3\x96\x17z\x9c\xb4\x10\xffa\xf2\0\x15\xad\x02\xbax\x16\xbf\x8f\x01\xcf\xeaAA@\xde]\xae\"#\xb0\x03a\xa3\x96\x17z\x9c\xb4\x10\xffa\xf2\0\x15\xad";
 
-static LATE_ENDS: [Late; 2] = [
-    (
-        b"\x1c\x91N\xa5\x19\xba\xb3\xcd<\xc0@h\x0e\xbcZ|\x83\xe3{\xd8\xa2\xf4F\xcd\0\x10^_\0\0\0\0\xea+\xe9\xb4p3^\xaa1\x1e\xe2\xbe\xcf'1:\xb7R\x9d\xf9\xb8g\x82\xd1^>\xe0\x84\xbf/G{",
-        b"\x04\0\0\0\0\0\0\0\xbax\x16\xbf\x8f\x01\xcf\xeaAA@\xde]\xae\"#\xb0\x03a\xa3\x96\x17z\x9c\xb4\x10\xffa\xf2\0\x15\xad\x06\0\0\0\0\0\0\0\x95\x9aE\xd4No\xcfX6\x1e\xd0\x04h\x15V\xfeP\x12\x9f!\x09\xe8\x17\xde\xc0\x98\xc0\x0c\x9e]%x",
-        b"\x0d\0\0\0\x0f\x01\0\0\0\x03\0\0\0\0\0\0\0",
-        &[1, 0, 0, 1, 1, 0, 1, 0, 1, 0, 1, 0, 0, 0, 0, 6],
-    ),
-    (
-        b"\x1c\x91N\xa5\x19\xba\xb3\xcd<\xc0@h\x0e\xbcZ|\x83\xe3{\xd8\xa2\xf4F\xcd\0\x10^_\0\0\0\0xm\xd8\xfb\x98\x82()\x9a\xde\x13-\xd9\x9c\xa8\x8c\x84-H\xc6\x11C\x8d\x10\xb1JoW{\xb0\xd0\xb2",
-        b"\x03\0\0\0\0\0\0\0\xbax\x16\xbf\x8f\x01\xcf\xeaAA@\xde]\xae\"#\xb0\x03a\xa3\x96\x17z\x9c\xb4\x10\xffa\xf2\0\x15\xad\x06\0\0\0\0\0\0\0\x95\x9aE\xd4No\xcfX6\x1e\xd0\x04h\x15V\xfeP\x12\x9f!\x09\xe8\x17\xde\xc0\x98\xc0\x0c\x9e]%x",
-        b"\"\0\0\0\x10\x02\x05\0\0\0\0\0\0\0\0\0\0\0\0\0\0\0\0\0\0\0\0\0\0\0\0\0\0\0\0\0\0\0",
-        &[1, 0, 0, 1, 1, 0, 1, 0, 1, 0, 1, 0, 0, 0, 0, 0, 6],
-    ),
+const DE_MISMATCHED: &[u8] =
+    b"B\0\0\0\x17\x95\x9aE\xd4No\xcfX6\x1e\xd0\x04h\x15V\xfeP\x12\x9f!\x09\xe8\x17\xde\xc0\x98\xc0\x0c\x9e]%x\x02\x95\x9aE\xd4No\xcfX6\x1e\xd0\x04h\x15V\xfeP\x12\x9f!\x09\xe8\x17\xde\xc0\x98\xc0\x0c\x9e]%x";
+
+/// What a SYNC of each of the indexes is told, and the kinds.
+static LENGTH_FAULTS: [(&[u8], &[u8]); 6] = [
+    (ABC_MISMATCHED, FIRST_CHUNK_READ),
+    (DE_MISMATCHED, &[1, 0, 0, 1, 1, 0, 1, 0, 1, 0, 1, 0, 0, 6]),
+    (ABC_MISMATCHED, FIRST_CHUNK_READ),
+    // it is read and sent where it stands first
+    (ABC_MISMATCHED, &[1, 0, 0, 1, 1, 0, 1, 0, 1, 0, 0, 0, 6]),
+    (ABC_MISMATCHED, FIRST_CHUNK_READ),
+    (ABC_MISMATCHED, FIRST_CHUNK_READ),
 ];
 
-fn try_late(rt: &(impl Abort + Threads + Sync), alloc: Global, row: &Late) -> Result<(), Fail> {
-    let (front, entries, told, kinds) = row;
-    let mut both = backed_up(rt, alloc, &[ROOT_SENT, FIRST_RUN])?;
-    let mut file = front.to_vec(alloc)?;
-    file.resize(4096, 0)?;
-    file.extend_from_slice(entries)?;
-    both.remote.put(alloc, ROOT_FILE, &file)?;
-    try_refused(rt, alloc, both, *told, kinds)
+#[test]
+fn indexes_of_other_lengths_are_refused(rt: HostRuntime) -> Result<(), Fail> {
+    let alloc = rt.alloc();
+    for (row, (told, kinds)) in OTHER_LENGTHS.iter().zip(&LENGTH_FAULTS) {
+        let mut both = backed_up(&rt, alloc, &[ROOT_SENT, FIRST_RUN])?;
+        put_index(&mut both.remote, alloc, row)?;
+        try_refused(&rt, alloc, both, *told, kinds)?;
+    }
+    Ok(())
 }
 
 #[test]
-fn indexes_of_other_pieces_are_refused(rt: HostRuntime) -> Result<(), Fail> {
+fn a_long_blob_is_refused(rt: HostRuntime) -> Result<(), Fail> {
     let alloc = rt.alloc();
-    for row in &LATE_ENDS {
-        try_late(&rt, alloc, row)?;
-    }
-    Ok(())
+    let mut both = backed_up(&rt, alloc, &[ROOT_SENT, FIRST_RUN])?;
+    put_long_blob(&mut both.remote, alloc)?;
+    try_refused(&rt, alloc, both, CONF_MISSING, BLOB_READ)
 }
 
 /// The entries of a SYNC of two snapshots, of which each has the one archive, and of a GROUP behind it.
@@ -218,8 +220,9 @@ const BOTH_PULLED: &[u8] = &[
 /// Where the entry of the first FINISH stands, and of the second.
 const FINISHES: [usize; 2] = [13, 25];
 
-/// Where the entry stands that each call of the remote is made for: a list, a size and a part of each file, and each chunk.
-const PLACES: [usize; 13] = [0, 3, 3, 4, 4, 6, 8, 15, 15, 16, 16, 18, 20];
+/// Where the entry stands that each call of the remote is made for: a list, a size and a part of each file, a size and a read of each
+/// chunk.
+const PLACES: [usize; 17] = [0, 3, 3, 4, 4, 6, 6, 8, 8, 15, 15, 16, 16, 18, 18, 20, 20];
 
 const BOTH_KEYS: &[u8] =
     b";\0\0\0\0\x02\0\x1bhost/a/2020-01-15T06:30:03Z\x1bhost/a/2020-01-15T06:30:04Z";
@@ -287,7 +290,7 @@ fn each_read_of_a_remote_fails(rt: HostRuntime) -> Result<(), Fail> {
     };
     let mut left = try_pull(&rt, alloc, both, &course)?;
     // there is none behind the last
-    same(&rt, left.remote.calls(), calls.saturating_add(13));
+    same(&rt, left.remote.calls(), calls.saturating_add(17));
     same_files(&rt, alloc, &mut left)
 }
 

@@ -135,3 +135,41 @@ pub static AGAIN: Steps = &[
 pub fn again() -> Steps {
     AGAIN
 }
+
+/// The first backup, behind which `abc`'s chunk is taken away.
+pub const BACKED_UP_WHOLE: Steps = &[
+    (OPEN, NO_BASE),
+    (NEW, FIRST),
+    (SEND_ABC, DONE),
+    (SEND_DE, DONE),
+    (APPEND_BOTH, DONE),
+    (CLOSE_BOTH, DONE),
+    (LIST_BOTH, DONE),
+    (FINISH, DONE),
+];
+
+/// A second one over it names `abc` by PREVIOUS and sends it all the same: the chunk is there again, and both restore whole.
+pub const SENT_OVER: Steps = &[
+    (OPEN_LATER, BASE),
+    (
+        b"\x13\0\0\0\x0b\x09root.didx(\x10\0\0\0\0\0\0",
+        b"1\0\0\0\0P\x10\0\0\0\0\0\0\x05\0\0\0\0\0\0\0\x95\x9aE\xd4No\xcfX6\x1e\xd0\x04h\x15V\xfeP\x12\x9f!\x09\xe8\x17\xde\xc0\x98\xc0\x0c\x9e]%x",
+    ),
+    (SEND_ABC, DONE),
+    (NEW, FIRST),
+    (APPEND_BOTH, DONE),
+    (CLOSE_BOTH, DONE),
+    (
+        b"\xe6\0\0\0\x11\x0findex.json.blobB\xab8\x07\xbe\x83p\xa1\x9cK]U{\"backup-id\":\"a\",\"backup-time\":1579069804,\"backup-type\":\"host\",\"files\":[{\"crypt-mode\":\"none\",\"csum\":\"da464aae3d9f63d06f308710062b5db41996b1e36990b92ecc693440e6660151\",\"filename\":\"root.didx\",\"size\":5}]}",
+        DONE,
+    ),
+    (FINISH, DONE),
+    (READ_LATER, DONE),
+    (FROM_END, AT_END),
+    (GET_ABC, BLOB_ABC),
+    (ALL_FIVE, b"\x06\0\0\0\0abcde"),
+    (CLOSE_READER, DONE),
+    (READ, DONE),
+    (FROM_END, AT_END),
+    (ALL_FIVE, b"\x06\0\0\0\0abcde"),
+];

@@ -224,11 +224,11 @@ static RESTORE_ASKED: &[&[u8]] = &[LIST, READ, FIXED_END, ALL_THREE, CLOSE_READE
 
 static RESTORE_STATES: &[State] = &[NO_FIXED_LEFT, FIXED_LEFT];
 
-/// The chunk has four calls, the index three, FINISH four, DOWNLOAD two, RANGE, GET_CHUNK and FILES one each.
+/// The chunk has four calls, the index three, FINISH four, DOWNLOAD, RANGE and GET_CHUNK two each, and FILES one.
 fn restores() -> Run {
     Run {
         steps: RESTORE_STEPS,
-        calls: 22,
+        calls: 24,
         asked: RESTORE_ASKED,
         states: RESTORE_STATES,
     }

@@ -7,7 +7,7 @@ use super::listings::{GROUP, LIST, NONE_THERE, TAKEN_OUT, listed, ordered, told}
 use super::manifests::{PUT_CONF, finished, manifests};
 use super::prunes::{gone, one_each, weeks};
 use super::ranges::restored;
-use super::reuse::{again, reused};
+use super::reuse::{BACKED_UP_WHOLE, SENT_OVER, again, reused};
 use super::syncs::synced;
 use super::verifies::{FAULTY, verified};
 use super::*;
@@ -242,5 +242,17 @@ fn damaged_chunks_are_told(rt: HostRuntime) -> Result<(), Fail> {
         let talk = talk_of(alloc, &[ROOT_SENT, FAULTY])?;
         try_talk(&rt, alloc, disk, &talk)?;
     }
+    Ok(())
+}
+
+/// A chunk of the base that is gone is put again by a CHUNK, though the session knows its digest by PREVIOUS.
+#[test]
+fn a_chunk_that_is_sent_is_there(rt: HostRuntime) -> Result<(), Fail> {
+    let alloc = rt.alloc();
+    let talk = talk_of(alloc, &[BACKED_UP_WHOLE])?;
+    let mut disk = try_talk(&rt, alloc, MemoryDisk::new(alloc), &talk)?;
+    same(&rt, disk.remove(ABC_FILE)?, true);
+    let talk = talk_of(alloc, &[SENT_OVER])?;
+    try_talk(&rt, alloc, disk, &talk)?;
     Ok(())
 }

@@ -78,6 +78,9 @@ const CONF_UNREADABLE: &[u8] =
 const ROOT_DIFFERS: &[u8] =
     b">\0\0\0\0\x03\x02\0\0\0\0\0\0\0\x05\0\0\0\0\0\0\0\x01\x09root.didx\x13\0\0\0\0\0\0\0\0\0\0\0\0\0\0\0\0\0\0\0\0\0\0\0\0\0\0\0\0\0\0\0\0";
 
+const ROOT_UNREADABLE: &[u8] =
+    b">\0\0\0\0\x03\0\0\0\0\0\0\0\0\0\0\0\0\0\0\0\0\x01\x09root.didx\x18\0\0\0\0\0\0\0\0\0\0\0\0\0\0\0\0\0\0\0\0\0\0\0\0\0\0\0\0\0\0\0\0";
+
 const ABC_IS_DAMAGED: &[u8] =
     b">\0\0\0\0\x03\x02\0\0\0\0\0\0\0\x05\0\0\0\0\0\0\0\x01\x09root.didx\x17\xbax\x16\xbf\x8f\x01\xcf\xeaAA@\xde]\xae\"#\xb0\x03a\xa3\x96\x17z\x9c\xb4\x10\xffa\xf2\0\x15\xad";
 
@@ -168,11 +171,7 @@ static ROOT_FAULTS: [Row; 4] = [
         b"D\0\0\0\0\x03\x02\0\0\0\0\0\0\0\x05\0\0\0\0\0\0\0\x01\x0findex.json.blob\x13\0\0\0\0\0\0\0\0\0\0\0\0\0\0\0\0\0\0\0\0\0\0\0\0\0\0\0\0\0\0\0\0",
         9,
     ),
-    (
-        &[(ROOT_FILE, Some(b"abc"))],
-        b">\0\0\0\0\x03\0\0\0\0\0\0\0\0\0\0\0\0\0\0\0\0\x01\x09root.didx\x18\0\0\0\0\0\0\0\0\0\0\0\0\0\0\0\0\0\0\0\0\0\0\0\0\0\0\0\0\0\0\0\0",
-        7,
-    ),
+    (&[(ROOT_FILE, Some(b"abc"))], ROOT_UNREADABLE, 7),
     (
         &[
             (ABC_FILE, None),
@@ -216,6 +215,72 @@ static CHUNK_FAULTS: [Row; 5] = [
         ],
         b"\x9c\0\0\0\0\x03\x02\0\0\0\0\0\0\0\x05\0\0\0\0\0\0\0\x03\x0ba.conf.blob\x13\0\0\0\0\0\0\0\0\0\0\0\0\0\0\0\0\0\0\0\0\0\0\0\0\0\0\0\0\0\0\0\0\x0findex.json.blob\x13\0\0\0\0\0\0\0\0\0\0\0\0\0\0\0\0\0\0\0\0\0\0\0\0\0\0\0\0\0\0\0\0\x09root.didx\x17\x95\x9aE\xd4No\xcfX6\x1e\xd0\x04h\x15V\xfeP\x12\x9f!\x09\xe8\x17\xde\xc0\x98\xc0\x0c\x9e]%x",
         9,
+    ),
+];
+
+const FIXED_FILE: &str = "host/a/2020-01-15T06:30:03Z/root.fidx";
+
+/// An index with right checksums, by which a piece has another length than its chunk: its file, what that is up to its reserved
+/// bytes, its entries, the manifest that lists it, what a VERIFY tells, and how many entries its order has.
+pub type OtherLength = (
+    &'static str,
+    &'static [u8],
+    &'static [u8],
+    &'static [u8],
+    &'static [u8],
+    usize,
+);
+
+/// By a dynamic index `abc` is longer, `de` is longer, `abc` is shorter, and longer where it stands again; by a fixed one it is
+/// longer and shorter.
+pub static OTHER_LENGTHS: [OtherLength; 6] = [
+    (
+        ROOT_FILE,
+        b"\x1c\x91N\xa5\x19\xba\xb3\xcd<\xc0@h\x0e\xbcZ|\x83\xe3{\xd8\xa2\xf4F\xcd\0\x10^_\0\0\0\0\xea+\xe9\xb4p3^\xaa1\x1e\xe2\xbe\xcf'1:\xb7R\x9d\xf9\xb8g\x82\xd1^>\xe0\x84\xbf/G{",
+        b"\x04\0\0\0\0\0\0\0\xbax\x16\xbf\x8f\x01\xcf\xeaAA@\xde]\xae\"#\xb0\x03a\xa3\x96\x17z\x9c\xb4\x10\xffa\xf2\0\x15\xad\x06\0\0\0\0\0\0\0\x95\x9aE\xd4No\xcfX6\x1e\xd0\x04h\x15V\xfeP\x12\x9f!\x09\xe8\x17\xde\xc0\x98\xc0\x0c\x9e]%x",
+        b"B\xab8\x07\xbe\x83p\xa1\xe8\x91b\xe3{\"backup-id\":\"a\",\"backup-time\":1579069803,\"backup-type\":\"host\",\"files\":[{\"crypt-mode\":\"none\",\"csum\":\"69dcb4830c28203c26a1dade2d893d7f1d13cdba5eb39e348b008f3a5a0fb688\",\"filename\":\"a.conf.blob\",\"size\":21},{\"crypt-mode\":\"none\",\"csum\":\"ea2be9b470335eaa311ee2becf27313ab7529df9b86782d15e3ee084bf2f477b\",\"filename\":\"root.didx\",\"size\":6}]}",
+        b">\0\0\0\0\x03\x02\0\0\0\0\0\0\0\x06\0\0\0\0\0\0\0\x01\x09root.didx\x17\xbax\x16\xbf\x8f\x01\xcf\xeaAA@\xde]\xae\"#\xb0\x03a\xa3\x96\x17z\x9c\xb4\x10\xffa\xf2\0\x15\xad",
+        9,
+    ),
+    (
+        ROOT_FILE,
+        b"\x1c\x91N\xa5\x19\xba\xb3\xcd<\xc0@h\x0e\xbcZ|\x83\xe3{\xd8\xa2\xf4F\xcd\0\x10^_\0\0\0\0xm\xd8\xfb\x98\x82()\x9a\xde\x13-\xd9\x9c\xa8\x8c\x84-H\xc6\x11C\x8d\x10\xb1JoW{\xb0\xd0\xb2",
+        b"\x03\0\0\0\0\0\0\0\xbax\x16\xbf\x8f\x01\xcf\xeaAA@\xde]\xae\"#\xb0\x03a\xa3\x96\x17z\x9c\xb4\x10\xffa\xf2\0\x15\xad\x06\0\0\0\0\0\0\0\x95\x9aE\xd4No\xcfX6\x1e\xd0\x04h\x15V\xfeP\x12\x9f!\x09\xe8\x17\xde\xc0\x98\xc0\x0c\x9e]%x",
+        b"B\xab8\x07\xbe\x83p\xa1\xe3\xd7e\xc1{\"backup-id\":\"a\",\"backup-time\":1579069803,\"backup-type\":\"host\",\"files\":[{\"crypt-mode\":\"none\",\"csum\":\"69dcb4830c28203c26a1dade2d893d7f1d13cdba5eb39e348b008f3a5a0fb688\",\"filename\":\"a.conf.blob\",\"size\":21},{\"crypt-mode\":\"none\",\"csum\":\"786dd8fb988228299ade132dd99ca88c842d48c611438d10b14a6f577bb0d0b2\",\"filename\":\"root.didx\",\"size\":6}]}",
+        b">\0\0\0\0\x03\x02\0\0\0\0\0\0\0\x06\0\0\0\0\0\0\0\x01\x09root.didx\x17\x95\x9aE\xd4No\xcfX6\x1e\xd0\x04h\x15V\xfeP\x12\x9f!\x09\xe8\x17\xde\xc0\x98\xc0\x0c\x9e]%x",
+        9,
+    ),
+    (
+        ROOT_FILE,
+        b"\x1c\x91N\xa5\x19\xba\xb3\xcd<\xc0@h\x0e\xbcZ|\x83\xe3{\xd8\xa2\xf4F\xcd\0\x10^_\0\0\0\0\x8b\xa2\x09by\xc4\x8a\xa1\x1dM\x99\x1c6QD\x06'\x14S\x86<\"\x87W\x08\xaf\xfe\xe3v\x05\xb3\x06",
+        b"\x02\0\0\0\0\0\0\0\xbax\x16\xbf\x8f\x01\xcf\xeaAA@\xde]\xae\"#\xb0\x03a\xa3\x96\x17z\x9c\xb4\x10\xffa\xf2\0\x15\xad\x04\0\0\0\0\0\0\0\x95\x9aE\xd4No\xcfX6\x1e\xd0\x04h\x15V\xfeP\x12\x9f!\x09\xe8\x17\xde\xc0\x98\xc0\x0c\x9e]%x",
+        b"B\xab8\x07\xbe\x83p\xa1\xa8J\x96J{\"backup-id\":\"a\",\"backup-time\":1579069803,\"backup-type\":\"host\",\"files\":[{\"crypt-mode\":\"none\",\"csum\":\"69dcb4830c28203c26a1dade2d893d7f1d13cdba5eb39e348b008f3a5a0fb688\",\"filename\":\"a.conf.blob\",\"size\":21},{\"crypt-mode\":\"none\",\"csum\":\"8ba2096279c48aa11d4d991c36514406271453863c22875708affee37605b306\",\"filename\":\"root.didx\",\"size\":4}]}",
+        b">\0\0\0\0\x03\x02\0\0\0\0\0\0\0\x04\0\0\0\0\0\0\0\x01\x09root.didx\x17\xbax\x16\xbf\x8f\x01\xcf\xeaAA@\xde]\xae\"#\xb0\x03a\xa3\x96\x17z\x9c\xb4\x10\xffa\xf2\0\x15\xad",
+        9,
+    ),
+    (
+        ROOT_FILE,
+        b"\x1c\x91N\xa5\x19\xba\xb3\xcd<\xc0@h\x0e\xbcZ|\x83\xe3{\xd8\xa2\xf4F\xcd\0\x10^_\0\0\0\0C\x95\xb0\xe6P=\xe7\xec\xe7\x8b\xb7ke'\x8b\x09n\x06\x91\x15\xc6\x7f\xeaS\xc4o\x83\xe3\xed\x88J\xbb",
+        b"\x03\0\0\0\0\0\0\0\xbax\x16\xbf\x8f\x01\xcf\xeaAA@\xde]\xae\"#\xb0\x03a\xa3\x96\x17z\x9c\xb4\x10\xffa\xf2\0\x15\xad\x07\0\0\0\0\0\0\0\xbax\x16\xbf\x8f\x01\xcf\xeaAA@\xde]\xae\"#\xb0\x03a\xa3\x96\x17z\x9c\xb4\x10\xffa\xf2\0\x15\xad",
+        b"B\xab8\x07\xbe\x83p\xa1U\xb5<B{\"backup-id\":\"a\",\"backup-time\":1579069803,\"backup-type\":\"host\",\"files\":[{\"crypt-mode\":\"none\",\"csum\":\"69dcb4830c28203c26a1dade2d893d7f1d13cdba5eb39e348b008f3a5a0fb688\",\"filename\":\"a.conf.blob\",\"size\":21},{\"crypt-mode\":\"none\",\"csum\":\"4395b0e6503de7ece78bb76b65278b096e069115c67fea53c46f83e3ed884abb\",\"filename\":\"root.didx\",\"size\":7}]}",
+        b">\0\0\0\0\x03\x02\0\0\0\0\0\0\0\x07\0\0\0\0\0\0\0\x01\x09root.didx\x17\xbax\x16\xbf\x8f\x01\xcf\xeaAA@\xde]\xae\"#\xb0\x03a\xa3\x96\x17z\x9c\xb4\x10\xffa\xf2\0\x15\xad",
+        9,
+    ),
+    (
+        FIXED_FILE,
+        b"/\x7fA\xed\x91\xfd\x0f\xcdr\xc90\xf2\xbe\xa7[9\xb1\x06Jk\xed\x02\xc3\xa3\0\x10^_\0\0\0\0O\x8bB\xc2-\xd3r\x9bQ\x9b\xa6\xf6\x8d-\xa7\xcc[-`m\x05\xda\xedZ\xd5\x12\x8c\xc0>lcX\x04\0\0\0\0\0\0\0\0\x10\0\0\0\0\0\0",
+        b"\xbax\x16\xbf\x8f\x01\xcf\xeaAA@\xde]\xae\"#\xb0\x03a\xa3\x96\x17z\x9c\xb4\x10\xffa\xf2\0\x15\xad",
+        b"B\xab8\x07\xbe\x83p\xa1yy\xf3\xc4{\"backup-id\":\"a\",\"backup-time\":1579069803,\"backup-type\":\"host\",\"files\":[{\"crypt-mode\":\"none\",\"csum\":\"69dcb4830c28203c26a1dade2d893d7f1d13cdba5eb39e348b008f3a5a0fb688\",\"filename\":\"a.conf.blob\",\"size\":21},{\"crypt-mode\":\"none\",\"csum\":\"4f8b42c22dd3729b519ba6f68d2da7cc5b2d606d05daed5ad5128cc03e6c6358\",\"filename\":\"root.fidx\",\"size\":4}]}",
+        b">\0\0\0\0\x03\x01\0\0\0\0\0\0\0\x04\0\0\0\0\0\0\0\x01\x09root.fidx\x17\xbax\x16\xbf\x8f\x01\xcf\xeaAA@\xde]\xae\"#\xb0\x03a\xa3\x96\x17z\x9c\xb4\x10\xffa\xf2\0\x15\xad",
+        8,
+    ),
+    (
+        FIXED_FILE,
+        b"/\x7fA\xed\x91\xfd\x0f\xcdr\xc90\xf2\xbe\xa7[9\xb1\x06Jk\xed\x02\xc3\xa3\0\x10^_\0\0\0\0O\x8bB\xc2-\xd3r\x9bQ\x9b\xa6\xf6\x8d-\xa7\xcc[-`m\x05\xda\xedZ\xd5\x12\x8c\xc0>lcX\x02\0\0\0\0\0\0\0\0\x10\0\0\0\0\0\0",
+        b"\xbax\x16\xbf\x8f\x01\xcf\xeaAA@\xde]\xae\"#\xb0\x03a\xa3\x96\x17z\x9c\xb4\x10\xffa\xf2\0\x15\xad",
+        b"B\xab8\x07\xbe\x83p\xa1\xa5&\x98\xe1{\"backup-id\":\"a\",\"backup-time\":1579069803,\"backup-type\":\"host\",\"files\":[{\"crypt-mode\":\"none\",\"csum\":\"69dcb4830c28203c26a1dade2d893d7f1d13cdba5eb39e348b008f3a5a0fb688\",\"filename\":\"a.conf.blob\",\"size\":21},{\"crypt-mode\":\"none\",\"csum\":\"4f8b42c22dd3729b519ba6f68d2da7cc5b2d606d05daed5ad5128cc03e6c6358\",\"filename\":\"root.fidx\",\"size\":2}]}",
+        b">\0\0\0\0\x03\x01\0\0\0\0\0\0\0\x02\0\0\0\0\0\0\0\x01\x09root.fidx\x17\xbax\x16\xbf\x8f\x01\xcf\xeaAA@\xde]\xae\"#\xb0\x03a\xa3\x96\x17z\x9c\xb4\x10\xffa\xf2\0\x15\xad",
+        8,
     ),
 ];
 
@@ -277,6 +342,27 @@ pub fn change(disk: &mut MemoryDisk, alloc: Global, changes: &[Change]) -> Resul
     Ok(())
 }
 
+/// Puts such an index in the place of the snapshot's archive.
+pub fn put_index(disk: &mut MemoryDisk, alloc: Global, row: &OtherLength) -> Result<(), Fail> {
+    let (name, front, entries, manifest, _, _) = row;
+    let mut file = front.to_vec(alloc)?;
+    file.resize(4096, 0)?;
+    file.extend_from_slice(entries)?;
+    change(disk, alloc, &[(MANIFEST, Some(*manifest))])?;
+    if name.len() <= 255 {
+        disk.put(alloc, name, &file)?;
+    }
+    Ok(())
+}
+
+/// Puts a byte more than a blob may have in the place of the snapshot's blob.
+pub fn put_long_blob(disk: &mut MemoryDisk, alloc: Global) -> Result<(), Fail> {
+    let mut file = Vec::new(alloc);
+    file.resize(16_777_229, 0)?;
+    disk.put(alloc, CONF_FILE, &file)?;
+    Ok(())
+}
+
 /// Serves a VERIFY on a disk.
 fn try_verify(
     rt: &(impl Abort + Threads + Sync),
@@ -331,6 +417,29 @@ fn manifests_and_indexes_are_verified(rt: HostRuntime) -> Result<(), Fail> {
 #[test]
 fn chunks_are_verified(rt: HostRuntime) -> Result<(), Fail> {
     try_backed_up(&rt, rt.alloc(), &CHUNK_FAULTS)
+}
+
+#[test]
+fn lengths_are_compared(rt: HostRuntime) -> Result<(), Fail> {
+    let alloc = rt.alloc();
+    let backup = talk_of(alloc, &[ROOT_SENT, FIRST_RUN])?;
+    for row in &OTHER_LENGTHS {
+        let (_, _, _, _, told, entries) = row;
+        let mut disk = try_talk(&rt, alloc, MemoryDisk::new(alloc), &backup)?;
+        put_index(&mut disk, alloc, row)?;
+        try_verify(&rt, alloc, disk, VERIFY, told, *entries)?;
+    }
+    Ok(())
+}
+
+/// One part is read of it.
+#[test]
+fn a_long_blob_is_not_read_on(rt: HostRuntime) -> Result<(), Fail> {
+    let alloc = rt.alloc();
+    let backup = talk_of(alloc, &[ROOT_SENT, FIRST_RUN])?;
+    let mut disk = try_talk(&rt, alloc, MemoryDisk::new(alloc), &backup)?;
+    put_long_blob(&mut disk, alloc)?;
+    try_verify(&rt, alloc, disk, VERIFY, CONF_DIFFERS, 9)
 }
 
 #[test]
