@@ -3,8 +3,10 @@ use port_traits::{
     Clock, Failed, FileSink, FileSource, FreeGate, Gate, MemSink, MemSource, SetClock, Sink,
     Source, WallClock, write_all_of, write_counted,
 };
+use std::io::{ErrorKind, Write};
 use std::process::Abort;
 use std::test::Fail;
+use std::time::Duration;
 use std::{fs, io};
 
 fn read<S: Source + Send>(source: &mut S, into: &mut [u8]) -> Result<usize, Failed> {
@@ -105,4 +107,51 @@ fn a_sink_that_is_not_there(rt: HostRuntime) {
 fn a_sink_over_the_output(rt: HostRuntime) {
     let mut out = FileSink::over(io::writer(&rt));
     same(&rt, put(&mut out, b"x\n"), (Ok(()), 2));
+}
+
+// It takes nothing, or fails.
+#[derive(Drop)]
+struct Full {
+    fails: bool,
+}
+
+impl Write for Full {
+    fn write(&mut self, _buf: &[u8]) -> io::Result<usize> {
+        if self.fails {
+            return Err(io::Error::from(ErrorKind::StorageFull));
+        }
+        Ok(0)
+    }
+
+    fn flush(&mut self) -> io::Result<()> {
+        Ok(())
+    }
+}
+
+#[test]
+fn a_sink_over_a_writer_that_takes_nothing(rt: HostRuntime) {
+    for fails in [false, true] {
+        let mut sink = FileSink::over(Full { fails });
+        same(&rt, put(&mut sink, b"x"), (Err(Failed), 0));
+        same(&rt, sink.faults(), 1);
+    }
+}
+
+// It tells no time.
+#[derive(Clone, Copy)]
+struct Stopped;
+
+impl std::rt::Clock for Stopped {
+    fn monotonic(&self) -> io::Result<Duration> {
+        Err(io::Error::from(ErrorKind::Other))
+    }
+
+    fn since_1970(&self) -> io::Result<Duration> {
+        Err(io::Error::from(ErrorKind::Other))
+    }
+}
+
+#[test]
+fn a_clock_that_tells_no_time(rt: HostRuntime) {
+    same(&rt, tell(&mut WallClock::new(Stopped)), 0);
 }

@@ -181,7 +181,7 @@ const RUNNING: &[(u32, bool)] = &[
 ];
 
 /// Times, the options, and which of the times are kept.
-static PRUNES: [(&[(u32, bool)], Keep, &str); 8] = [
+static PRUNES: [(&[(u32, bool)], Keep, &str); 9] = [
     (TURN, WEEKLY, "-kk"),
     (DAYS, LAST_AND_DAILY, "k-k"),
     (DAYS, DAILY, "--k"),
@@ -190,6 +190,8 @@ static PRUNES: [(&[(u32, bool)], Keep, &str); 8] = [
     // with no option all is kept
     (DAYS, NONE, "kkk"),
     (RUNNING, DAILY, "-kk"),
+    // a day on which none ended counts for nothing
+    (RUNNING, Keep { daily: 2, ..NONE }, "-kk"),
     (&[], DAILY, ""),
 ];
 

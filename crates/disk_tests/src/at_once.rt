@@ -1,9 +1,11 @@
-//! Folders that are synced at once: each of them, and one that can't be is told.
+//! Folders that are synced at once, and a file beside them: each of them, and one that can't be is told.
 
-use crate::asserts::same_at;
+use crate::asserts::{same, same_at};
+use crate::watched::{Record, Watched};
 use disk_trait::Failed;
 use file_disk::{AtOnce, SyncFolders};
 use std::alloc::{AllocError, Global};
+use std::fs;
 use std::process::Abort;
 use std::test::Fail;
 use std::thread::Threads;
@@ -29,10 +31,40 @@ fn try_count<R: Threads + Abort>(rt: HostRuntime, threads: &R, count: usize) -> 
     Ok(())
 }
 
+// The file is synced once, whatever stands beside it; where it can't be, it fails.
+fn try_file<R: Threads + Abort>(rt: HostRuntime, threads: &R, count: usize) -> Result<(), Fail> {
+    let alloc = rt.alloc();
+    let record = Record::new(alloc);
+    let watched = Watched {
+        rt,
+        record: &record,
+    };
+    let file = fs::open(&watched, ".")?;
+    let syncs = AtOnce::new(rt, threads);
+    let beside = folders(alloc, count, count)?;
+    for want in [Ok(()), Err(Failed)] {
+        record.fails.set(want.is_err());
+        same_at(threads, count, syncs.sync_with(&file, &beside), want);
+    }
+    same(threads, record.taken(alloc)?.as_str(), ".\n");
+    record.fails.set(false);
+    let outcome = syncs.sync_with(&file, &folders(alloc, count.saturating_add(1), count)?);
+    same_at(threads, count, outcome, Err(Failed));
+    Ok(())
+}
+
 #[test]
 fn each_folder_is_synced(rt: HostRuntime) -> Result<(), Fail> {
     for count in [0, 1, 2, 3, 8, 17, 40] {
         try_count(rt, &rt, count)?;
+    }
+    Ok(())
+}
+
+#[test]
+fn a_file_is_synced_beside_them(rt: HostRuntime) -> Result<(), Fail> {
+    for count in [0, 1, 2, 17, 40] {
+        try_file(rt, &rt, count)?;
     }
     Ok(())
 }

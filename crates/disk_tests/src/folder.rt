@@ -1,7 +1,7 @@
 //! Which files and folders a disk over a folder syncs, and when.
 
 use crate::asserts::same_at;
-use crate::maps::{Change, make, make_all};
+use crate::maps::{Change, listed, make, make_all};
 use crate::watched::{Record, Watched};
 use disk_trait::{Disk, DiskError};
 use file_disk::FileDisk;
@@ -51,14 +51,14 @@ enum Fault {
 const ALL: &str = ". 1 2 3 4 5 6 7 u u/v x x/y";
 
 // A change, how it goes, and what is synced in it.
-static ROWS: [(Change, Fault, &str); 37] = [
+static ROWS: [(Change, Fault, &str); 38] = [
     // what was there before
     (Change::Sync, Fault::None, ". x x/y"),
     (Change::Sync, Fault::None, ""),
-    // a file as it is put, its folder by the sync
-    (Change::Put("x/a.tmp", b"one"), Fault::None, "x/a.tmp"),
-    (Change::Put("x/a.tmp", b"two"), Fault::None, "x/a.tmp"),
-    (Change::Sync, Fault::None, "x"),
+    // a file and its folder as it is put, a name that changes by the sync
+    (Change::Put("x/a.tmp", b"one"), Fault::None, "x x/a.tmp"),
+    (Change::Put("x/a.tmp", b"two"), Fault::None, "x x/a.tmp"),
+    (Change::Sync, Fault::None, ""),
     (Change::Rename("x/a.tmp", "x/a"), Fault::None, ""),
     (Change::Rename("x/a.tmp", "x/b"), Fault::None, ""),
     (Change::Sync, Fault::None, "x"),
@@ -70,28 +70,30 @@ static ROWS: [(Change, Fault, &str); 37] = [
     (Change::Remove("b"), Fault::None, ""),
     (Change::Sync, Fault::None, "."),
     // folders that are made, by those above them
-    (Change::Put("u/v/c", b""), Fault::None, "u/v/c"),
-    (Change::Put("u/v/d", b""), Fault::None, "u/v/d"),
-    (Change::Sync, Fault::None, ". u u/v"),
+    (Change::Put("u/v/c", b""), Fault::None, ". u u/v u/v/c"),
+    (Change::Put("u/v/d", b""), Fault::None, "u/v u/v/d"),
+    (Change::Sync, Fault::None, ""),
     // eight wait, and a ninth has no room beside them
-    (Change::Put("1/f", b""), Fault::None, "1/f"),
-    (Change::Put("2/f", b""), Fault::None, "2/f"),
-    (Change::Put("3/f", b""), Fault::None, "3/f"),
-    (Change::Put("4/f", b""), Fault::None, "4/f"),
-    (Change::Put("5/f", b""), Fault::None, "5/f"),
-    (Change::Put("6/f", b""), Fault::None, "6/f"),
-    (Change::Put("7/f", b""), Fault::None, "7/f"),
-    (Change::Put("x/f", b""), Fault::None, ". 1 2 3 4 5 6 7 x/f"),
-    (Change::Remove("u/v/d"), Fault::None, ""),
-    (Change::Sync, Fault::None, "u/v x"),
+    (Change::Put("1/f", b""), Fault::None, ". 1 1/f"),
+    (Change::Put("3/f", b""), Fault::None, ". 3 3/f"),
+    (Change::Put("5/f", b""), Fault::None, ". 5 5/f"),
+    (Change::Put("7/f", b""), Fault::None, ". 7 7/f"),
+    (Change::Rename("1/f", "2/f"), Fault::None, ""),
+    (Change::Rename("3/f", "4/f"), Fault::None, ""),
+    (Change::Rename("5/f", "6/f"), Fault::None, ""),
+    (Change::Remove("7/f"), Fault::None, ""),
+    (Change::Remove("u/v/d"), Fault::None, ". 1 2 3 4 5 6 7"),
+    // one that waits is synced beside a file
+    (Change::Put("x/f", b""), Fault::None, "u/v x x/f"),
     // a call that failed: all again
     (Change::Put("1/f", b"one"), Fault::Full, ""),
-    (Change::Put("2/f", b"one"), Fault::None, "2/f"),
+    (Change::Put("2/f", b"one"), Fault::None, "2 2/f"),
     (Change::Sync, Fault::None, ALL),
-    (Change::Remove("2/f"), Fault::None, ""),
+    (Change::Put("2/f", b"two"), Fault::Unsynced, ""),
     (Change::Sync, Fault::Unsynced, ""),
     (Change::Sync, Fault::Unsynced, ""),
     (Change::Sync, Fault::None, ALL),
+    (Change::Sync, Fault::None, ""),
     (Change::Put("x", b""), Fault::Full, ""),
     (Change::Sync, Fault::None, ALL),
     (Change::Sync, Fault::None, ""),
@@ -186,6 +188,64 @@ fn what_a_killed_run_left_is_synced(rt: HostRuntime) -> Result<(), Fail> {
         make_root(rt, ROOT)?;
         try_left(rt, &rt, changes, want)?;
     }
+    fs::remove_dir_all(&rt, ROOT)?;
+    Ok(())
+}
+
+// Changes behind the first sync, what is then listed, and how many folders the sync and the listing have read.
+static LISTED: [(&[Change], &str, usize); 5] = [
+    // what the sync came by
+    (&[], "x/f", 3),
+    // else all is read once more
+    (&[Change::Sync], "x/f", 6),
+    (&[Change::Put("x/g", b"")], "x/f x/g", 6),
+    (&[Change::Rename("x/f", "x/y/h")], "x/y/h", 6),
+    (&[Change::Remove("x/f")], "", 6),
+];
+
+fn try_listed(
+    rt: HostRuntime,
+    abort: &impl Abort,
+    changes: &[Change],
+    want: &str,
+    reads: usize,
+) -> Result<(), Fail> {
+    let alloc = rt.alloc();
+    let record = Record::new(alloc);
+    let mut disk = watched_disk(rt, &record)?;
+    disk.sync()?;
+    make_all(abort, alloc, &mut disk, changes)?;
+    for more in [0, 3] {
+        let names = listed(alloc, &mut disk, "")?;
+        same_at(abort, want, names.as_str(), want);
+        same_at(abort, want, record.reads.get(), reads.saturating_add(more));
+    }
+    Ok(())
+}
+
+#[test]
+fn a_first_sync_lists(rt: HostRuntime) -> Result<(), Fail> {
+    for (changes, want, reads) in &LISTED {
+        make_root(rt, "disk_tests_synced/x/y")?;
+        fs::write(&rt, "disk_tests_synced/x/f", b"f")?;
+        try_listed(rt, &rt, changes, want, *reads)?;
+    }
+    fs::remove_dir_all(&rt, ROOT)?;
+    Ok(())
+}
+
+// Right behind the first sync.
+#[test]
+fn names_below_a_folder_are_listed(rt: HostRuntime) -> Result<(), Fail> {
+    make_root(rt, "disk_tests_synced/x/y")?;
+    fs::write(&rt, "disk_tests_synced/x/f", b"f")?;
+    fs::write(&rt, "disk_tests_synced/g", b"g")?;
+    let alloc = rt.alloc();
+    let record = Record::new(alloc);
+    let mut disk = watched_disk(rt, &record)?;
+    disk.sync()?;
+    let names = listed(alloc, &mut disk, "x/")?;
+    same_at(&rt, "x/", names.as_str(), "x/f");
     fs::remove_dir_all(&rt, ROOT)?;
     Ok(())
 }

@@ -16,4 +16,6 @@ mod maps;
 #[cfg(test)]
 mod memory;
 #[cfg(test)]
+mod refused;
+#[cfg(test)]
 mod watched;

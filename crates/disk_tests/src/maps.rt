@@ -221,6 +221,9 @@ fn try_folder<R: Threads + Sync + Abort>(rt: HostRuntime, threads: &R) -> Result
     let _ = fs::remove_dir_all(&rt, root);
     try_no_folder(threads, alloc, &mut folder_at(rt, threads, root)?)?;
     same(threads, fs::exists(&rt, root)?, false);
+    fs::write(&rt, root, b"a file")?;
+    try_no_folder(threads, alloc, &mut folder_at(rt, threads, root)?)?;
+    fs::remove_file(&rt, root)?;
     fs::create_dir(&rt, root)?;
     let mut disk = folder_at(rt, threads, root)?;
     try_all(threads, alloc, &mut disk)?;
@@ -244,7 +247,7 @@ pub static CHANGES: [Change; 4] = [
     Change::Sync,
 ];
 
-// With no folder each call fails, and makes nothing.
+// With no folder, or a file in its place, each call fails, and makes nothing.
 fn try_no_folder<D: Disk>(rt: &impl Abort, alloc: Global, disk: &mut D) -> Result<(), Fail> {
     for (row, change) in CHANGES.iter().enumerate() {
         let outcome = make(rt, alloc, disk, *change);

@@ -1,4 +1,4 @@
-//! The host's files, with a record of what is synced, on a disk that can be full, or fail to sync folders.
+//! The host's files, with a record of what is synced, on a disk that can be full, or fail to sync folders, or fail at one call.
 
 use disk_trait::Failed;
 use file_disk::{LockFile, SyncFolders, sync_each};
@@ -12,17 +12,35 @@ use std::rt::Files;
 pub struct Record {
     // The paths of the files and folders that were synced, one a line.
     synced: RefCell<String>,
+    // How many folders were read.
+    pub reads: Cell<usize>,
     pub full: Cell<bool>,
     pub fails: Cell<bool>,
+    // How many calls of the host were made, and which of them fails.
+    pub calls: Cell<u64>,
+    pub fails_at: Cell<Option<u64>>,
 }
 
 impl Record {
     pub fn new(alloc: Global) -> Record {
         Record {
             synced: RefCell::new(String::new(alloc)),
+            reads: Cell::new(0),
             full: Cell::new(false),
             fails: Cell::new(false),
+            calls: Cell::new(0),
+            fails_at: Cell::new(None),
         }
+    }
+
+    // One more call of the host.
+    fn count(&self) -> io::Result<()> {
+        let calls = self.calls.get().saturating_add(1);
+        self.calls.set(calls);
+        if self.fails_at.get() == Some(calls) {
+            return Err(io::Error::from(ErrorKind::Other));
+        }
+        Ok(())
     }
 
     /// What was synced since this was last called.
@@ -51,6 +69,11 @@ impl SyncFolders for Watched<'_> {
     fn sync_folders(&self, folders: &[String]) -> Result<(), Failed> {
         sync_each(self, folders)
     }
+
+    fn sync_with<F: OpenFile>(&self, file: &F, folders: &[String]) -> Result<(), Failed> {
+        file.sync_all()?;
+        sync_each(self, folders)
+    }
 }
 
 impl LockFile for WatchedFile<'_> {
@@ -77,6 +100,7 @@ impl<'a> Files for Watched<'a> {
     type Dir = <HostRuntime as Files>::Dir;
 
     fn open_file(&self, how: &OpenOptions, path: &str) -> io::Result<WatchedFile<'a>> {
+        self.record.count()?;
         Ok(WatchedFile {
             file: self.rt.open_file(how, path)?,
             path: String::from_str(self.rt.alloc(), path)?,
@@ -85,14 +109,20 @@ impl<'a> Files for Watched<'a> {
     }
 
     fn open_dir(&self, path: &str) -> io::Result<Self::Dir> {
+        self.record.count()?;
+        self.record
+            .reads
+            .set(self.record.reads.get().saturating_add(1));
         self.rt.open_dir(path)
     }
 
     fn metadata(&self, path: &str) -> io::Result<Metadata> {
+        self.record.count()?;
         self.rt.metadata(path)
     }
 
     fn symlink_metadata(&self, path: &str) -> io::Result<Metadata> {
+        self.record.count()?;
         self.rt.symlink_metadata(path)
     }
 
@@ -101,14 +131,17 @@ impl<'a> Files for Watched<'a> {
     }
 
     fn rename(&self, from: &str, to: &str) -> io::Result<()> {
+        self.record.count()?;
         self.rt.rename(from, to)
     }
 
     fn remove_file(&self, path: &str) -> io::Result<()> {
+        self.record.count()?;
         self.rt.remove_file(path)
     }
 
     fn create_dir(&self, path: &str) -> io::Result<()> {
+        self.record.count()?;
         self.rt.create_dir(path)
     }
 
@@ -135,6 +168,7 @@ impl WatchedFile<'_> {
 
 impl OpenFile for WatchedFile<'_> {
     fn metadata(&self) -> io::Result<Metadata> {
+        self.record.count()?;
         self.file.metadata()
     }
 
@@ -143,6 +177,7 @@ impl OpenFile for WatchedFile<'_> {
     }
 
     fn sync_all(&self) -> io::Result<()> {
+        self.record.count()?;
         if self.record.fails.get() {
             return Err(io::Error::from(ErrorKind::Other));
         }
@@ -157,12 +192,14 @@ impl OpenFile for WatchedFile<'_> {
 
 impl Read for WatchedFile<'_> {
     fn read(&mut self, buf: &mut [u8]) -> io::Result<usize> {
+        self.record.count()?;
         self.file.read(buf)
     }
 }
 
 impl Write for WatchedFile<'_> {
     fn write(&mut self, buf: &[u8]) -> io::Result<usize> {
+        self.record.count()?;
         if self.record.full.get() {
             return Err(io::Error::from(ErrorKind::StorageFull));
         }
@@ -176,6 +213,7 @@ impl Write for WatchedFile<'_> {
 
 impl Seek for WatchedFile<'_> {
     fn seek(&mut self, to: SeekFrom) -> io::Result<u64> {
+        self.record.count()?;
         self.file.seek(to)
     }
 }

@@ -4,6 +4,7 @@ use crate::paths::{MAX_NAME, write_over};
 use crate::syncs::SyncFolders;
 use disk_trait::Failed;
 use std::alloc::{AllocError, Global};
+use std::fs::OpenFile;
 
 // How many folders can wait for a sync.
 const MOST: usize = 8;
@@ -46,6 +47,17 @@ impl Changes {
     /// Syncs those that wait.
     pub fn sync<S: SyncFolders>(&mut self, syncs: &S) -> Result<(), Failed> {
         syncs.sync_folders(self.waiting())?;
+        self.clear();
+        Ok(())
+    }
+
+    /// Syncs a file, and those that wait beside it.
+    pub fn sync_with<F: OpenFile, S: SyncFolders>(
+        &mut self,
+        syncs: &S,
+        file: &F,
+    ) -> Result<(), Failed> {
+        syncs.sync_with(file, self.waiting())?;
         self.clear();
         Ok(())
     }

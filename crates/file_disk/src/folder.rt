@@ -26,6 +26,8 @@ pub struct Folder<R: Files + AllocGlobal + Clone + Drop, S: SyncFolders + Drop> 
     changes: Changes,
     // Whether a crash leaves all that is read, but for the changes.
     is_durable: bool,
+    // All names, where the last call was a sync that came by them.
+    walked: Option<Vec<String>>,
 }
 
 impl<R: Files + AllocGlobal + Clone + Drop, S: SyncFolders + Drop> Folder<R, S>
@@ -46,7 +48,20 @@ where
             target: String::with_capacity(alloc, room)?,
             changes: Changes::new(alloc, root)?,
             is_durable: false,
+            walked: None,
         })
+    }
+
+    // Each call begins so. Fails where the root is not there, or is not this disk's.
+    fn begin(&mut self) -> Result<(), Failed> {
+        self.walked = None;
+        self.root.check(&self.rt)
+    }
+
+    // The same, and fails where the folder is held to be read.
+    fn begin_change(&mut self) -> Result<(), Failed> {
+        self.walked = None;
+        self.root.check_change(&self.rt)
     }
 
     /// A call failed: what it left counts as nothing that lasts.
@@ -56,7 +71,7 @@ where
 
     /// The size of the file at a name, where there is one. Its path then stands in `path`. Fails where there is a folder.
     pub fn look_up(&mut self, name: &str) -> Result<Option<u64>, Failed> {
-        self.root.check(&self.rt)?;
+        self.begin()?;
         if !is_plain(name) || !self.has_folders(name)? {
             return Ok(None);
         }
@@ -114,10 +129,10 @@ where
         Ok(Some(count))
     }
 
-    /// Writes the file at a name anew, and syncs it. Folders of the name are made when needed. The names that this
-    /// changes last from the next `sync` on.
+    /// Writes the file at a name anew, and syncs it, and the folders that wait beside it. Folders of the name are made when
+    /// needed.
     pub fn put(&mut self, name: &str, bytes: &[u8]) -> Result<(), Failed> {
-        self.root.check_change(&self.rt)?;
+        self.begin_change()?;
         if self.find_place(name)? {
             fs::remove_file(&self.rt, self.target.as_str())?;
         }
@@ -125,9 +140,9 @@ where
         how.write(true).create_new(true);
         let mut file = how.open(&self.rt, self.target.as_str())?;
         file.write_all(bytes)?;
-        file.sync_all()?;
         self.changes
-            .add(&self.syncs, folder_of(self.target.as_str()))
+            .add(&self.syncs, folder_of(self.target.as_str()))?;
+        self.changes.sync_with(&self.syncs, &file)
     }
 
     // Makes the folders of a name that are missing, and leaves its path in `target`: whether a file stands there. Fails
@@ -166,7 +181,7 @@ where
 
     /// Renames a file, over another where there is one; `false` where there is none at `from`.
     pub fn rename(&mut self, from: &str, to: &str) -> Result<bool, Failed> {
-        self.root.check_change(&self.rt)?;
+        self.begin_change()?;
         if self.look_up(from)?.is_none() {
             return Ok(false);
         }
@@ -181,7 +196,7 @@ where
 
     /// Removes the file at a name; `false` where there is none.
     pub fn remove(&mut self, name: &str) -> Result<bool, Failed> {
-        self.root.check_change(&self.rt)?;
+        self.begin_change()?;
         if self.look_up(name)?.is_none() {
             return Ok(false);
         }
@@ -191,23 +206,37 @@ where
         Ok(true)
     }
 
-    /// The names of the files that begin with the prefix.
+    /// The names of the files that begin with the prefix. All of them are those that the call before came by, where that was
+    /// a sync that walked.
     pub fn list(&mut self, alloc: Global, prefix: &str) -> Result<Vec<String>, DiskError> {
-        self.root.check(&self.rt)?;
+        let walked = if prefix.is_empty() {
+            self.walked.take()
+        } else {
+            None
+        };
+        self.begin()?;
+        let mut names = match walked {
+            Some(all) => all,
+            None => self.names_below(alloc, prefix)?,
+        };
+        names.sort()?;
+        Ok(names)
+    }
+
+    // The same, as the folders tell them, in any order.
+    fn names_below(&mut self, alloc: Global, prefix: &str) -> Result<Vec<String>, DiskError> {
         let first = folder_of(prefix);
         let can_be = first.is_empty() || is_plain(first);
         if !can_be || !self.has_folders(prefix)? {
             return Ok(Vec::new(alloc));
         }
         let root = self.root.path.as_str();
-        let mut names = walk_from(&self.rt, alloc, root, first, prefix)?.names;
-        names.sort()?;
-        Ok(names)
+        Ok(walk_from(&self.rt, alloc, root, first, prefix)?.names)
     }
 
     /// Makes each change of a name last. The first time, and once a call failed, what others left too.
     pub fn sync(&mut self) -> Result<(), Failed> {
-        self.root.check(&self.rt)?;
+        self.begin()?;
         if self.is_durable {
             return self.changes.sync(&self.syncs);
         }
@@ -217,10 +246,14 @@ where
         Ok(())
     }
 
-    // Syncs the root, and each folder below it.
-    fn sync_below(&self) -> Result<(), Failed> {
+    // Syncs the root, and each folder below it, and keeps the names that it came by.
+    fn sync_below(&mut self) -> Result<(), Failed> {
         match walk_from(&self.rt, self.alloc, self.root.path.as_str(), "", "") {
-            Ok(found) => self.syncs.sync_folders(&found.folders),
+            Ok(found) => {
+                self.syncs.sync_folders(&found.folders)?;
+                self.walked = Some(found.names);
+                Ok(())
+            }
             Err(_) => Err(Failed),
         }
     }

@@ -10,8 +10,8 @@ use std::rt::Files;
 use std::thread::{Threads, join};
 use std::time::Instant;
 
-// How many folders are synced at once.
-const AT_ONCE: usize = 16;
+// How many threads sync folders at once, beside the caller's.
+const BESIDE: usize = 15;
 
 // A sync that takes more microseconds is slow: beside it a thread costs little.
 const SLOW: u128 = 500;
@@ -28,10 +28,13 @@ pub fn sync_each<R: Files>(rt: &R, folders: &[String]) -> Result<(), Failed> {
 pub trait SyncFolders {
     /// Syncs each of the folders at these paths, and takes no memory. Fails where one was not synced.
     fn sync_folders(&self, folders: &[String]) -> Result<(), Failed>;
+
+    /// The same, and syncs an open file beside them.
+    fn sync_with<F: OpenFile>(&self, file: &F, folders: &[String]) -> Result<(), Failed>;
 }
 
-/// Syncs the host's folders: in threads, several at once, where the last sync was slow, and before the first. Else, and where
-/// no thread can be made, one after another.
+/// Syncs the host's files and folders: in threads, several at once, where the last sync was slow, and before the first. Else,
+/// and where no thread can be made, one after another.
 #[derive(Drop)]
 pub struct AtOnce<T> {
     rt: HostRuntime,
@@ -48,14 +51,10 @@ impl<T: Threads> AtOnce<T> {
         }
     }
 
-    // Syncs the folders, one after another, and keeps whether the last of them was slow.
-    fn sync_timed(&self, folders: &[String]) -> Result<(), Failed> {
-        let Some((last, others)) = folders.split_last() else {
-            return Ok(());
-        };
-        sync_each(&self.rt, others)?;
+    // Syncs a file, and keeps whether that was slow.
+    fn sync_timed<F: OpenFile>(&self, file: &F) -> Result<(), Failed> {
         let begun = Instant::now(&self.rt);
-        fs::open(&self.rt, last.as_str())?.sync_all()?;
+        file.sync_all()?;
         self.is_slow.set(is_slow(self.rt, begun));
         Ok(())
     }
@@ -74,31 +73,44 @@ fn is_slow(rt: HostRuntime, begun: io::Result<Instant>) -> bool {
 
 impl<T: Threads> SyncFolders for AtOnce<T> {
     fn sync_folders(&self, folders: &[String]) -> Result<(), Failed> {
+        let Some((last, others)) = folders.split_last() else {
+            return Ok(());
+        };
+        let last = fs::open(&self.rt, last.as_str())?;
+        self.sync_with(&last, others)
+    }
+
+    fn sync_with<F: OpenFile>(&self, file: &F, folders: &[String]) -> Result<(), Failed> {
         if self.is_slow.get() {
-            let size = folders.len().div_ceil(AT_ONCE).max(1);
-            sync_parts(self, size, folders)
-        } else {
-            self.sync_timed(folders)
+            let size = folders.len().div_ceil(BESIDE).max(1);
+            return sync_parts(self, file, size, folders);
         }
+        self.sync_timed(file)?;
+        sync_each(&self.rt, folders)
     }
 }
 
-// Syncs so many folders in a thread of their own, and the rest in the same way.
+// Syncs so many folders in a thread of their own, the rest in the same way, and the file in this one.
 #[cycle(parts)]
-fn sync_parts<T: Threads>(syncs: &AtOnce<T>, size: usize, folders: &[String]) -> Result<(), Failed>
+fn sync_parts<T: Threads, F: OpenFile>(
+    syncs: &AtOnce<T>,
+    file: &F,
+    size: usize,
+    folders: &[String],
+) -> Result<(), Failed>
     requires { 0 < size }
 {
-    if folders.len() <= size {
-        return syncs.sync_timed(folders);
+    if folders.is_empty() {
+        return syncs.sync_timed(file);
     }
-    let (first, rest) = folders.split_at(size);
+    let (first, rest) = folders.split_at(size.min(folders.len()));
     let rt = syncs.rt;
     let (these, others) = join(
         &syncs.threads,
         || sync_each(&rt, first),
         || -> Result<(), Failed>
             requires { 0 < size }
-        { sync_parts(syncs, size, rest) },
+        { sync_parts(syncs, file, size, rest) },
     );
     these.and(others)
 }
